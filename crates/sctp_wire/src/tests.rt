@@ -20,8 +20,7 @@ fn items(rt: HostRuntime) -> Result<(), Fail> {
 fn zero_is_let_through_by_a_method_alone(rt: HostRuntime) {
     let dtls = Policy {
         disable_checksum_verification: false,
-        zero_checksum_alternate_error_detection_method:
-            ZERO_CHECKSUM_ALTERNATE_ERROR_DETECTION_METHOD_LOWER_LAYER_DTLS,
+        zero_checksum_alternate_error_detection_method: ZERO_CHECKSUM_ALTERNATE_ERROR_DETECTION_METHOD_LOWER_LAYER_DTLS,
     };
     let disabled = Policy {
         disable_checksum_verification: true,
