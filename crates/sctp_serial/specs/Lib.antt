@@ -1,0 +1,4 @@
+pub mod Serial
+pub mod Unwrapped
+pub mod Keys
+pub mod Time

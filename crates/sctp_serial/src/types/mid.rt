@@ -1,0 +1,106 @@
+//! Numbers of messages on a stream, with interleaving.
+
+ghost use Rattle.std.specs.Prelude.{◌≡◌, ◌+◌, ◌-◌, ◌%◌, ◌^◌, Some, refl};
+ghost use Rattle.std.specs.Fmt.{decimal};
+ghost use Rattle.std.proofs.Common.{arith};
+
+use crate::SerialNumber;
+use std::fmt;
+use std::ops::{Add, AddAssign, Sub, SubAssign};
+
+/// A message identifier (RFC 8260 section 2.1).
+#[derive(Clone, Copy, PartialEq, Eq, Hash, Default)]
+pub struct Mid(pub u32);
+
+impl Mid {
+    /// The number `other` steps further on.
+    pub fn add_to(self, other: u32) -> Mid
+        ensures { result.0 ≡ (self.0 + other) % 2 ^ 32 }
+    {
+        Mid(self.0.wrapping_add(other))
+    }
+}
+
+impl SerialNumber for Mid {
+    type DistanceType = u32;
+
+    ghost SPACE = { 2 ^ 32 };
+
+    const SPACE: u64 = 1 << 32;
+
+    ghost number = { λ n. n.0 };
+
+    ghost distance = { λ d. d };
+
+    fn distance_to(self, other: Mid) -> u32 {
+        let ahead = self.0.wrapping_sub(other.0);
+        let behind = other.0.wrapping_sub(self.0);
+        ahead.min(behind)
+    }
+
+    fn steps_from(self, other: Mid) -> u64 {
+        self.0.wrapping_sub(other.0) as u64
+    }
+
+    fn wrapped(first: Mid, n: u64) -> Mid {
+        first + (n % (1 << 32)) as u32
+    }
+
+    ghost space_fits = { (Prim.omega arith, Prim.omega arith, refl) };
+
+    ghost eq_by_number = { λ a b. refl };
+}
+
+impl Add<u32> for Mid {
+    type Output = Mid;
+
+    ghost add_gives = { λ a n b. b.0 ≡ (a.0 + n) % 2 ^ 32 };
+
+    fn add(self, other: u32) -> Mid {
+        self.add_to(other)
+    }
+}
+
+impl Sub<u32> for Mid {
+    type Output = Mid;
+
+    ghost sub_gives = { λ a n b. b.0 ≡ (a.0 + 2 ^ 32 - n) % 2 ^ 32 };
+
+    fn sub(self, other: u32) -> Mid {
+        Mid(self.0.wrapping_sub(other))
+    }
+}
+
+impl AddAssign<u32> for Mid {
+    ghost add_assign_gives = { λ a n b. b.0 ≡ (a.0 + n) % 2 ^ 32 };
+
+    fn add_assign(&mut self, other: u32) {
+        self.0 = self.0.wrapping_add(other);
+    }
+}
+
+impl SubAssign<u32> for Mid {
+    ghost sub_assign_gives = { λ a n b. b.0 ≡ (a.0 + 2 ^ 32 - n) % 2 ^ 32 };
+
+    fn sub_assign(&mut self, other: u32) {
+        self.0 = self.0.wrapping_sub(other);
+    }
+}
+
+impl fmt::Display for Mid {
+    ghost output = { λ n. Some (decimal n.0) };
+
+    fn fmt<W: fmt::Write>(&self, f: &mut fmt::Formatter<W>) -> fmt::Result {
+        let number = self.0;
+        write!(f, "{number}")
+    }
+}
+
+impl fmt::Debug for Mid {
+    ghost debug_output = { λ n. Some (decimal n.0) };
+
+    fn fmt<W: fmt::Write>(&self, f: &mut fmt::Formatter<W>) -> fmt::Result {
+        let number = self.0;
+        write!(f, "{number}")
+    }
+}
