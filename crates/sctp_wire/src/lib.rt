@@ -3,11 +3,20 @@
 
 mod checksum;
 mod error;
+mod field;
 mod item;
+mod read;
+mod serialize;
 
 pub use checksum::{Checksum, Policy};
 pub use error::ChunkParseError;
+pub use field::{Entry, entries_from_bytes, push_entries, push_u16, push_u32, u16_at, u32_at};
 pub use item::{RawItem, one_item};
+pub use read::{FromItem, items_from_bytes};
+pub use serialize::{
+    MAX_VALUE_SIZE, SerializableTlv, padding_len, parameters_serialize_to,
+    parameters_serialized_size, write_item_header, write_parameter_header,
+};
 pub use sctp_serial::{
     Message, PpId, Ssn, StreamId, Tsn,
     ZERO_CHECKSUM_ALTERNATE_ERROR_DETECTION_METHOD_LOWER_LAYER_DTLS,
