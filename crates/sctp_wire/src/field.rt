@@ -1,6 +1,6 @@
 //! Fields: numbers of two and four bytes, the most significant byte first, and lists of entries of one width.
 
-ghost use Rattle.std.specs.Prelude.{◌≡◌, ◌≢◌, ◌⊎◌, ℕ, ◌+◌, ◌%◌, ◌<◌, List, ◌++◌, length, IfOk, OnErr, IfErr, OnOk};
+ghost use Rattle.std.specs.Prelude.{◌≡◌, ◌≢◌, ◌⊎◌, ℕ, ◌+◌, ◌%◌, ◌<◌, List, [], ◌++◌, length, IfOk, OnErr, IfErr, OnOk};
 ghost use Rattle.std.specs.List.{flat_map};
 ghost use Rattle.std.proofs.Common.{arith};
 ghost use Rattle.sctp_wire.specs.Fields.{be16, be32, length_be16, length_be32};
@@ -35,6 +35,18 @@ pub fn u32_at(bytes: &[u8]) -> Result<(u32, &[u8]), ChunkParseError>
         return Err(ChunkParseError::InvalidLength);
     };
     Ok((u32::from_be_bytes(*front), rest))
+}
+
+/// `InvalidLength` where bytes are left behind the last field.
+pub fn ends_here(rest: &[u8]) -> Result<(), ChunkParseError>
+    ensures ok { OnOk result (rest.now ≡ []) }
+    ensures more { OnErr result (0 < length rest.now) }
+    ensures fault { IfErr result (λ e. e ≡ ChunkParseError.InvalidLength) }
+{
+    if !rest.is_empty() {
+        return Err(ChunkParseError::InvalidLength);
+    }
+    Ok(())
 }
 
 /// Appends the two bytes of a number.
