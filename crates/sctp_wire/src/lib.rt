@@ -3,11 +3,30 @@
 
 mod checksum;
 mod error;
+mod field;
 mod item;
+mod parameter;
+mod read;
+mod reset;
+mod serialize;
 
 pub use checksum::{Checksum, Policy};
 pub use error::ChunkParseError;
-pub use item::{RawItem, one_item};
+pub use field::{Entry, ends_here, entries_from_bytes, push_entries, push_u16, push_u32, u16_at, u32_at};
+pub use item::{RawItem, RawParameter, one_item};
+pub use parameter::{
+    ForwardTsnSupportedParameter, HeartbeatInfoParameter, StateCookieParameter,
+    SupportedExtensionsParameter, UnknownParameter, ZeroChecksumAcceptableParameter,
+};
+pub use read::{FromItem, items_from_bytes};
+pub use reset::{
+    IncomingSsnResetRequestParameter, OutgoingSsnResetRequestParameter,
+    ReconfigurationResponseParameter, ReconfigurationResponseResult,
+};
+pub use serialize::{
+    MAX_VALUE_SIZE, SerializableTlv, padding_len, parameters_serialize_to,
+    parameters_serialized_size, write_item_header, write_parameter_header,
+};
 pub use sctp_serial::{
     Message, PpId, Ssn, StreamId, Tsn,
     ZERO_CHECKSUM_ALTERNATE_ERROR_DETECTION_METHOD_LOWER_LAYER_DTLS,

@@ -1,0 +1,25 @@
+-- Numbers at the front of bytes.
+use Rattle.std.proofs.Common.{◌≡◌, ℕ, ◌+◌, ◌^◌, ◌<◌, ◌≤◌, List, ◌++◌, length, get_or, take, drop, sym, ap, ◌∙◌, arith, inl, inr}
+use Rattle.std.specs.Int.{w16, w32, from_be_bytes}
+use Rattle.std.proofs.lemmas.Nat.{be_bytes_2, be_bytes_4}
+use Rattle.std.proofs.lemmas.Bool.{cases_lt}
+use Rattle.std.proofs.lemmas.List.{take-append-drop, length-take-le, get_or-take, get_or_past, length-take}
+use Rattle.sctp_wire.specs.Fields.{be16, be32}
+use Rattle.sctp_wire.proofs.ItemLemmas.{IsBytes}
+
+IsBytes-take : (n : ℕ) (bytes : List ℕ) → IsBytes bytes → IsBytes (take n bytes)
+IsBytes-take n bytes h i =
+    elim (cases_lt i n) [
+      | inl lt ↦ rw (get_or-take n bytes i 0 lt) (h i)
+      | inr le ↦ rw (get_or_past (take n bytes) i 0 (omega (arith, length-take n bytes))) (omega arith)
+    ]
+
+pub be16_front : (bytes : List ℕ) (n : ℕ) → IsBytes bytes → 2 ≤ length bytes → n ≡ from_be_bytes w16 (take 2 bytes) → bytes ≡ be16 n ++ drop 2 bytes
+unfolding be16
+be16_front bytes n fits long e =
+    sym (ap (λ (x : List ℕ). x ++ drop 2 bytes) (be_bytes_2 (take 2 bytes) n (length-take-le 2 bytes long) (IsBytes-take 2 bytes fits) e) ∙ take-append-drop 2 bytes)
+
+pub be32_front : (bytes : List ℕ) (n : ℕ) → IsBytes bytes → 4 ≤ length bytes → n ≡ from_be_bytes w32 (take 4 bytes) → bytes ≡ be32 n ++ drop 4 bytes
+unfolding be32
+be32_front bytes n fits long e =
+    sym (ap (λ (x : List ℕ). x ++ drop 4 bytes) (be_bytes_4 (take 4 bytes) n (length-take-le 4 bytes long) (IsBytes-take 4 bytes fits) e) ∙ take-append-drop 4 bytes)

@@ -1,0 +1,6 @@
+use Rattle.std.proofs.Common.{◌≡◌, ◌++◌, take}
+use Rattle.std.specs.List.{flat_map}
+use Rattle.sctp_wire.proofs.field.push_entries.Given as goal
+
+abbrev pub invariant-loop-entry : goal.invariant-loop-entry
+invariant-loop-entry g l = l.output.items ≡ l.initial.output.items ++ flat_map g.E.Entry.bytes_of (take l.entry-index l.entries)

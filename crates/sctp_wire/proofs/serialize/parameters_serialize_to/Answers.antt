@@ -1,0 +1,25 @@
+use Rattle.std.proofs.Common.{◌≡◌, ◌∙◌, refl, sym, subst, take, map, length, arith}
+use Rattle.std.proofs.lemmas.List.{append-nil}
+use Rattle.sctp_wire.specs.Item.{padding}
+use Rattle.sctp_wire.specs.Serialize.{IsEncodable, inner_items}
+use Rattle.sctp_wire.proofs.SerializeLemmas.{written_more, padding_more, taken_more}
+use Rattle.sctp_wire.proofs.serialize.parameters_serialize_to.Goals as goal
+
+pub loop-parameter-init : goal.loop-parameter-init
+unfolding inner_items
+loop-parameter-init g c = record { wrote = sym (append-nil _); between = refl }
+
+pub loop-parameter-preserved : goal.loop-parameter-preserved
+loop-parameter-preserved g c =
+    let f = g.T.SerializableTlv.item_of in
+    let i = c.loop-parameter.parameter-index in
+    let x = c.parameter-item.result in
+    let before = map f (take i c.args.parameters.now) in
+    let more = taken_more f c.args.parameters.now i x c.loop-parameter-test.true c.parameter-item.is in
+    let fit : IsEncodable (f x) = subst (λ y. IsEncodable (f y)) (sym c.parameter-item.is) (c.requires.fit i x c.loop-parameter-test.true) in
+    let pad : c.padding_len-padding.result ≡ padding (length (f x).value) = omega arith in
+    record {
+      wrote = written_more c.args.output.now.items _ _ _ before _ (f x) c.loop-parameter.padding c.loop-parameter.invariant.wrote c.loop-parameter.invariant.between
+        c.in_ok-push_zeros.ensures c.in_ok-push_item.ensures more;
+      between = pad ∙ padding_more before _ (f x) more;
+    }

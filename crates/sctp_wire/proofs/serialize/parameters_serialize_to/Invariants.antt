@@ -1,0 +1,10 @@
+use Rattle.std.proofs.Common.{◌≡◌, ◌++◌, length, map, take}
+use Rattle.sctp_wire.specs.Item.{padding}
+use Rattle.sctp_wire.specs.Serialize.{inner_items}
+use Rattle.sctp_wire.proofs.serialize.parameters_serialize_to.Given as goal
+
+abbrev pub invariant-loop-parameter : goal.invariant-loop-parameter
+invariant-loop-parameter g l = record {
+  wrote : l.output.items ≡ l.initial.output.items ++ inner_items (map g.T.SerializableTlv.item_of (take l.parameter-index l.parameters));
+  between : l.padding ≡ padding (length (inner_items (map g.T.SerializableTlv.item_of (take l.parameter-index l.parameters))));
+}

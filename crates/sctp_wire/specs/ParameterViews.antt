@@ -1,0 +1,51 @@
+-- What the program's parameters say, without where they lie in memory.
+use Rattle.std.specs.Prelude.{ℕ}
+use Rattle.sctp_wire.specs.declared.parameter.HeartbeatInfoParameter.{HeartbeatInfoParameter}
+use Rattle.sctp_wire.specs.declared.parameter.StateCookieParameter.{StateCookieParameter}
+use Rattle.sctp_wire.specs.declared.parameter.SupportedExtensionsParameter.{SupportedExtensionsParameter}
+use Rattle.sctp_wire.specs.declared.parameter.ForwardTsnSupportedParameter.{ForwardTsnSupportedParameter}
+use Rattle.sctp_wire.specs.declared.parameter.ZeroChecksumAcceptableParameter.{ZeroChecksumAcceptableParameter}
+use Rattle.sctp_wire.specs.declared.parameter.UnknownParameter.{UnknownParameter}
+use Rattle.sctp_wire.specs.declared.reset.OutgoingSsnResetRequestParameter.{OutgoingSsnResetRequestParameter}
+use Rattle.sctp_wire.specs.declared.reset.IncomingSsnResetRequestParameter.{IncomingSsnResetRequestParameter}
+use Rattle.sctp_wire.specs.declared.reset.ReconfigurationResponseParameter.{ReconfigurationResponseParameter}
+use Rattle.sctp_wire.specs.declared.reset.ReconfigurationResponseResult.{ReconfigurationResponseResult}
+use Rattle.sctp_wire.specs.declared.reset.ReconfigurationResponseResult.TheVariants.{SuccessNothingToDo, SuccessPerformed, Denied, ErrorWrongSSN, ErrorRequestAlreadyInProgress, ErrorBadSequenceNumber, InProgress}
+use Rattle.sctp_wire.specs.Parameter.{ParameterTree, heartbeat_info, state_cookie, outgoing_reset_request, incoming_reset_request, reset_response, supported_extensions, forward_tsn_supported, zero_checksum_acceptable, unknown_parameter}
+
+abbrev pub heartbeat_info_tree : HeartbeatInfoParameter → ParameterTree
+heartbeat_info_tree p = heartbeat_info p.info.items
+
+abbrev pub state_cookie_tree : StateCookieParameter → ParameterTree
+state_cookie_tree p = state_cookie p.cookie.items
+
+abbrev pub outgoing_tree : OutgoingSsnResetRequestParameter → ParameterTree
+outgoing_tree p = outgoing_reset_request p.request_seq_nbr p.response_seq_nbr p.sender_last_assigned_tsn p.streams.items
+
+abbrev pub incoming_tree : IncomingSsnResetRequestParameter → ParameterTree
+incoming_tree p = incoming_reset_request p.request_seq_nbr p.streams.items
+
+-- the number of a result (RFC 6525 section 4.4)
+abbrev pub result_number : ReconfigurationResponseResult → ℕ
+result_number SuccessNothingToDo = 0
+result_number SuccessPerformed = 1
+result_number Denied = 2
+result_number ErrorWrongSSN = 3
+result_number ErrorRequestAlreadyInProgress = 4
+result_number ErrorBadSequenceNumber = 5
+result_number InProgress = 6
+
+abbrev pub response_tree : ReconfigurationResponseParameter → ParameterTree
+response_tree p = reset_response p.response_seq_nbr (result_number p.result) p.sender_next_tsn p.receiver_next_tsn
+
+abbrev pub supported_extensions_tree : SupportedExtensionsParameter → ParameterTree
+supported_extensions_tree p = supported_extensions p.chunk_types.items
+
+abbrev pub forward_tsn_supported_tree : ForwardTsnSupportedParameter → ParameterTree
+forward_tsn_supported_tree p = forward_tsn_supported
+
+abbrev pub zero_checksum_acceptable_tree : ZeroChecksumAcceptableParameter → ParameterTree
+zero_checksum_acceptable_tree p = zero_checksum_acceptable p.method.0
+
+abbrev pub unknown_parameter_tree : UnknownParameter → ParameterTree
+unknown_parameter_tree p = unknown_parameter p.typ p.value.items

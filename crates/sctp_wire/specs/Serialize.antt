@@ -1,0 +1,25 @@
+-- The bytes of written items (RFC 9260 section 3.2).
+use Rattle.std.specs.Prelude.{ℕ, ◌+◌, ◌<◌, ◌^◌, ◌/◌, ◌%◌, ◌*◌, List, [], ◌∷◌, ◌++◌, length, replicate}
+use Rattle.sctp_wire.specs.Item.{Item, item_bytes, padding}
+
+-- the length of an item fits its field
+abbrev pub IsEncodable : Item → Type 0
+IsEncodable i = 4 + length i.value < 2 ^ 16
+
+-- an item, and zeros up to a multiple of 4
+unfoldable pub padded_item : Item → List ℕ
+padded_item i = item_bytes i ++ replicate (padding (length i.value)) 0
+
+-- Items inside an item: the padding of the last one isn't part of the value around it.
+unfoldable pub inner_items : List Item → List ℕ
+inner_items [] = []
+inner_items (i ∷ []) = item_bytes i
+inner_items (i ∷ j ∷ is) = padded_item i ++ inner_items (j ∷ is)
+
+-- the item of a parameter or a cause: its two first bytes are one number, the type
+abbrev pub typed : ℕ → List ℕ → Item
+typed typ value = record { first = typ / 256; second = typ % 256; value = value }
+
+-- the type of a parameter or a cause
+abbrev pub type_of : Item → ℕ
+type_of i = 256 * i.first + i.second

@@ -1,0 +1,285 @@
+//! The parameters of INIT, INIT ACK and HEARTBEAT, and parameters of no known type.
+
+ghost use Rattle.std.specs.Prelude.{◌≡◌, ◌+◌, ◌^◌, ◌-◌, min, true, [], ◌++◌, IfOk, IfErr};
+ghost use Rattle.sctp_wire.specs.Parameter.{SaysParameter, RefusesParameterAs, parameter_item, parameter_value};
+ghost use Rattle.sctp_wire.specs.Serialize.{typed};
+ghost use Rattle.sctp_wire.specs.ParameterViews.{heartbeat_info_tree, state_cookie_tree, supported_extensions_tree, forward_tsn_supported_tree, zero_checksum_acceptable_tree, unknown_parameter_tree};
+
+use crate::field::{ends_here, push_u32, u32_at};
+use crate::item::RawParameter;
+use crate::serialize::SerializableTlv;
+use crate::ChunkParseError;
+use sctp_serial::ZeroChecksumAlternateErrorDetectionMethod;
+use std::alloc::{AllocError, Global};
+
+/// What a HEARTBEAT asks to be sent back (RFC 9260 section 3.3.5).
+#[derive(Debug, Drop)]
+pub struct HeartbeatInfoParameter {
+    pub info: Vec<u8>,
+}
+
+#[tactic(auto, unfolding(crate::specs::Parameter::parameter_value))]
+impl HeartbeatInfoParameter {
+    pub const TYPE: u16 = 1;
+
+    /// What the parameter says; `InvalidType` where it is of another type.
+    pub fn try_from(alloc: Global, raw: RawParameter<'_>) -> Result<HeartbeatInfoParameter, ChunkParseError>
+        ensures ok { IfOk result (λ p. SaysParameter raw.entry.typ raw.entry.value.now (heartbeat_info_tree p)) }
+        ensures refused { IfErr result (RefusesParameterAs 1 raw.entry.typ raw.entry.value.now) }
+    {
+        let value = raw.value_as(Self::TYPE)?;
+        Ok(HeartbeatInfoParameter {
+            info: Vec::from_slice(alloc, value)?,
+        })
+    }
+}
+
+#[tactic(auto, unfolding(crate::specs::Parameter::parameter_value))]
+impl SerializableTlv for HeartbeatInfoParameter {
+    ghost item_of = { λ p. parameter_item (heartbeat_info_tree p) };
+
+    ghost parts_agree = { λ p. true };
+
+    fn kind(&self) -> [u8; 2] {
+        Self::TYPE.to_be_bytes()
+    }
+
+    fn value_size(&self) -> usize {
+        self.info.len()
+    }
+
+    fn is_whole(&self) -> bool {
+        true
+    }
+
+    fn push_value(&self, output: &mut Vec<u8>) -> Result<(), AllocError> {
+        output.extend_from_slice(&self.info)
+    }
+}
+
+/// The cookie of an INIT ACK (RFC 9260 section 3.3.3).
+#[derive(Debug, Drop)]
+pub struct StateCookieParameter {
+    pub cookie: Vec<u8>,
+}
+
+#[tactic(auto, unfolding(crate::specs::Parameter::parameter_value))]
+impl StateCookieParameter {
+    pub const TYPE: u16 = 7;
+
+    /// What the parameter says; `InvalidType` where it is of another type.
+    pub fn try_from(alloc: Global, raw: RawParameter<'_>) -> Result<StateCookieParameter, ChunkParseError>
+        ensures ok { IfOk result (λ p. SaysParameter raw.entry.typ raw.entry.value.now (state_cookie_tree p)) }
+        ensures refused { IfErr result (RefusesParameterAs 7 raw.entry.typ raw.entry.value.now) }
+    {
+        let value = raw.value_as(Self::TYPE)?;
+        Ok(StateCookieParameter {
+            cookie: Vec::from_slice(alloc, value)?,
+        })
+    }
+}
+
+#[tactic(auto, unfolding(crate::specs::Parameter::parameter_value))]
+impl SerializableTlv for StateCookieParameter {
+    ghost item_of = { λ p. parameter_item (state_cookie_tree p) };
+
+    ghost parts_agree = { λ p. true };
+
+    fn kind(&self) -> [u8; 2] {
+        Self::TYPE.to_be_bytes()
+    }
+
+    fn value_size(&self) -> usize {
+        self.cookie.len()
+    }
+
+    fn is_whole(&self) -> bool {
+        true
+    }
+
+    fn push_value(&self, output: &mut Vec<u8>) -> Result<(), AllocError> {
+        output.extend_from_slice(&self.cookie)
+    }
+}
+
+/// The types of further chunks that an endpoint understands (RFC 5061 section 4.2.7).
+#[derive(Debug, Drop)]
+pub struct SupportedExtensionsParameter {
+    pub chunk_types: Vec<u8>,
+}
+
+#[tactic(auto, unfolding(crate::specs::Parameter::parameter_value))]
+impl SupportedExtensionsParameter {
+    pub const TYPE: u16 = 0x8008;
+
+    /// What the parameter says; `InvalidType` where it is of another type.
+    pub fn try_from(
+        alloc: Global,
+        raw: RawParameter<'_>,
+    ) -> Result<SupportedExtensionsParameter, ChunkParseError>
+        ensures ok { IfOk result (λ p. SaysParameter raw.entry.typ raw.entry.value.now (supported_extensions_tree p)) }
+        ensures refused { IfErr result (RefusesParameterAs 0x8008 raw.entry.typ raw.entry.value.now) }
+    {
+        let value = raw.value_as(Self::TYPE)?;
+        Ok(SupportedExtensionsParameter {
+            chunk_types: Vec::from_slice(alloc, value)?,
+        })
+    }
+}
+
+#[tactic(auto, unfolding(crate::specs::Parameter::parameter_value))]
+impl SerializableTlv for SupportedExtensionsParameter {
+    ghost item_of = { λ p. parameter_item (supported_extensions_tree p) };
+
+    ghost parts_agree = { λ p. true };
+
+    fn kind(&self) -> [u8; 2] {
+        Self::TYPE.to_be_bytes()
+    }
+
+    fn value_size(&self) -> usize {
+        self.chunk_types.len()
+    }
+
+    fn is_whole(&self) -> bool {
+        true
+    }
+
+    fn push_value(&self, output: &mut Vec<u8>) -> Result<(), AllocError> {
+        output.extend_from_slice(&self.chunk_types)
+    }
+}
+
+/// An endpoint understands FORWARD-TSN (RFC 3758 section 3.1).
+#[derive(Clone, Copy, Debug, PartialEq, Eq, Default)]
+pub struct ForwardTsnSupportedParameter {}
+
+#[tactic(auto, unfolding(crate::specs::Parameter::parameter_value))]
+impl ForwardTsnSupportedParameter {
+    pub const TYPE: u16 = 0xC000;
+
+    /// What the parameter says; `InvalidType` where it is of another type, `InvalidLength` where it has a value.
+    pub fn try_from(raw: RawParameter<'_>) -> Result<ForwardTsnSupportedParameter, ChunkParseError>
+        ensures ok { IfOk result (λ p. SaysParameter raw.entry.typ raw.entry.value.now (forward_tsn_supported_tree p)) }
+        ensures refused { IfErr result (RefusesParameterAs 0xC000 raw.entry.typ raw.entry.value.now) }
+    {
+        let value = raw.value_as(Self::TYPE)?;
+        ends_here(value)?;
+        Ok(ForwardTsnSupportedParameter {})
+    }
+}
+
+#[tactic(auto, unfolding(crate::specs::Parameter::parameter_value))]
+impl SerializableTlv for ForwardTsnSupportedParameter {
+    ghost item_of = { λ p. parameter_item (forward_tsn_supported_tree p) };
+
+    ghost parts_agree = { λ p. true };
+
+    fn kind(&self) -> [u8; 2] {
+        Self::TYPE.to_be_bytes()
+    }
+
+    fn value_size(&self) -> usize {
+        0
+    }
+
+    fn is_whole(&self) -> bool {
+        true
+    }
+
+    fn push_value(&self, _output: &mut Vec<u8>) -> Result<(), AllocError> {
+        Ok(())
+    }
+}
+
+/// An endpoint finds damage by this method, and takes packets without a checksum (RFC 9653 section 3).
+#[derive(Clone, Copy, Debug, PartialEq, Eq)]
+pub struct ZeroChecksumAcceptableParameter {
+    pub method: ZeroChecksumAlternateErrorDetectionMethod,
+}
+
+#[tactic(auto, unfolding(crate::specs::Parameter::parameter_value))]
+impl ZeroChecksumAcceptableParameter {
+    pub const TYPE: u16 = 0x8001;
+
+    /// What the parameter says; `InvalidType` where it is of another type, `InvalidLength` where its value has not
+    /// four bytes.
+    pub fn try_from(raw: RawParameter<'_>) -> Result<ZeroChecksumAcceptableParameter, ChunkParseError>
+        ensures ok { IfOk result (λ p. SaysParameter raw.entry.typ raw.entry.value.now (zero_checksum_acceptable_tree p)) }
+        ensures refused { IfErr result (RefusesParameterAs 0x8001 raw.entry.typ raw.entry.value.now) }
+    {
+        let value = raw.value_as(Self::TYPE)?;
+        let (method, rest) = u32_at(value)?;
+        ends_here(rest)?;
+        Ok(ZeroChecksumAcceptableParameter {
+            method: ZeroChecksumAlternateErrorDetectionMethod(method),
+        })
+    }
+}
+
+#[tactic(auto, unfolding(crate::specs::Parameter::parameter_value))]
+impl SerializableTlv for ZeroChecksumAcceptableParameter {
+    ghost item_of = { λ p. parameter_item (zero_checksum_acceptable_tree p) };
+
+    ghost parts_agree = { λ p. true };
+
+    fn kind(&self) -> [u8; 2] {
+        Self::TYPE.to_be_bytes()
+    }
+
+    #[tactic(auto, using(crate::proofs::ParameterLemmas::length_zero_checksum))]
+    fn value_size(&self) -> usize {
+        4
+    }
+
+    fn is_whole(&self) -> bool {
+        true
+    }
+
+    fn push_value(&self, output: &mut Vec<u8>) -> Result<(), AllocError> {
+        push_u32(output, self.method.0)
+    }
+}
+
+/// A parameter or a cause that is kept as it came.
+#[derive(Debug, Drop)]
+pub struct UnknownParameter {
+    pub typ: u16,
+    pub value: Vec<u8>,
+}
+
+impl UnknownParameter {
+    /// The parameter, of whatever type; only memory may lack.
+    pub fn try_from(alloc: Global, raw: RawParameter<'_>) -> Result<UnknownParameter, ChunkParseError>
+        ensures typ { IfOk result (λ p. p.typ ≡ raw.entry.typ) }
+        ensures value { IfOk result (λ p. p.value.items ≡ raw.entry.value.now) }
+        ensures refused { IfErr result (λ e. e ≡ ChunkParseError.Memory) }
+    {
+        Ok(UnknownParameter {
+            typ: raw.typ,
+            value: Vec::from_slice(alloc, raw.value)?,
+        })
+    }
+}
+
+impl SerializableTlv for UnknownParameter {
+    ghost item_of = { λ p. typed p.typ p.value.items };
+
+    ghost parts_agree = { λ p. true };
+
+    fn kind(&self) -> [u8; 2] {
+        self.typ.to_be_bytes()
+    }
+
+    fn value_size(&self) -> usize {
+        self.value.len()
+    }
+
+    fn is_whole(&self) -> bool {
+        true
+    }
+
+    fn push_value(&self, output: &mut Vec<u8>) -> Result<(), AllocError> {
+        output.extend_from_slice(&self.value)
+    }
+}
