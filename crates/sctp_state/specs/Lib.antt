@@ -1,0 +1,4 @@
+pub mod Numbers
+pub mod Options
+pub mod Rtt
+pub mod Timers

@@ -1,0 +1,193 @@
+//! What a socket is made with, and what a message is sent with.
+
+ghost use Rattle.std.specs.Prelude.{◌≡◌, ℕ, ◌*◌, ◌≤◌, ◌↔◌, IsTrue};
+ghost use Rattle.std.specs.Duration.{as_nanos};
+ghost use Rattle.sctp_state.specs.Options.{options_of, defaults, IsValid, HasValidSizes, HasValidTimes, HasValidWindows};
+
+use sctp_serial::{
+    LifecycleId, ZERO_CHECKSUM_ALTERNATE_ERROR_DETECTION_METHOD_NONE, ZeroChecksumAlternateErrorDetectionMethod,
+};
+use std::time::Duration;
+
+/// What a message is sent with. The default is an ordered, reliable message without a lifecycle.
+#[derive(Clone, Copy, Debug, Default, PartialEq, Eq)]
+pub struct SendOptions {
+    /// Whether the message may overtake others of its stream.
+    pub unordered: bool,
+    /// How long the message is worth sending, counted from its acceptance; with partial reliability it is given up
+    /// after that (RFC 3758 section 4.1).
+    pub lifetime: Option<Duration>,
+    /// How often a fragment of the message is sent again; with partial reliability the message is given up after that
+    /// (RFC 7496 section 3.2).
+    pub max_retransmissions: Option<u16>,
+    /// The number by which lifecycle events name the message.
+    pub lifecycle_id: Option<LifecycleId>,
+}
+
+/// What a socket is made with. Sizes are in bytes.
+#[derive(Clone, Drop)]
+pub struct Options {
+    /// The source port of packets that are sent. Ports of received packets aren't compared.
+    pub local_port: u16,
+    /// The destination port of packets that are sent.
+    pub remote_port: u16,
+    /// How many streams the peer may send on.
+    pub announced_maximum_incoming_streams: u16,
+    /// How many streams this end would send on.
+    pub announced_maximum_outgoing_streams: u16,
+    /// No packet that is sent is larger.
+    pub mtu: usize,
+    /// No message that is accepted is larger.
+    pub max_message_size: usize,
+    /// The priority of a stream for which none is set.
+    pub default_stream_priority: u16,
+    /// How much of received messages is held; the window that is announced to the peer.
+    pub max_receiver_window_buffer_size: usize,
+    /// A queue that holds as much takes no further message.
+    pub max_send_buffer_size: usize,
+    /// A stream that holds as much takes no further message.
+    pub per_stream_send_queue_limit: usize,
+    /// An event tells when the queued amount of all streams falls to this.
+    pub total_buffered_amount_low_threshold: usize,
+    /// An event tells when the queued amount of a stream falls to this, where none is set for the stream.
+    pub default_stream_buffered_amount_low_threshold: usize,
+    /// A round trip time above this isn't taken as a sample.
+    pub rtt_max: Duration,
+    /// The retransmission timeout before the first sample.
+    pub rto_initial: Duration,
+    /// The greatest retransmission timeout.
+    pub rto_max: Duration,
+    /// The least retransmission timeout. It should exceed the peer's delay of acknowledgements.
+    pub rto_min: Duration,
+    /// How long an INIT ACK is waited for at first (RFC 9260 section 5.1).
+    pub t1_init_timeout: Duration,
+    /// How long a COOKIE ACK is waited for at first (RFC 9260 section 5.1).
+    pub t1_cookie_timeout: Duration,
+    /// Not read: a shutdown waits for the retransmission timeout.
+    pub t2_shutdown_timeout: Duration,
+    /// The longest wait of the retransmission timer, where set.
+    pub max_timer_backoff_duration: Option<Duration>,
+    /// How long a connection is idle before it is tested. With zero it isn't (RFC 9260 section 8.3).
+    pub heartbeat_interval: Duration,
+    /// The longest delay of an acknowledgement; half the retransmission timeout, where that is less.
+    pub delayed_ack_max_timeout: Duration,
+    /// Twice the least variance that a round trip time is taken to have.
+    pub min_rtt_variance: Duration,
+    /// The congestion window at first, in packets of the largest size (RFC 9260 section 7.2.1).
+    pub cwnd_mtus_initial: usize,
+    /// The least congestion window after a loss, in such packets (RFC 9260 section 7.2.3).
+    pub cwnd_mtus_min: usize,
+    /// With a congestion window of as many packets, no small fragment is sent just to fill it.
+    pub avoid_fragmentation_cwnd_mtus: usize,
+    /// With a smaller congestion window the peer is asked not to delay its acknowledgement (RFC 7053).
+    pub immediate_sack_under_cwnd_mtus: usize,
+    /// How many packets are sent at once at most. At 0 or less nothing is sent.
+    pub max_burst: i32,
+    /// How many errors in a row an association outlives, and how often a SHUTDOWN is sent again.
+    pub max_retransmissions: Option<u32>,
+    /// How often an INIT or a COOKIE ECHO is sent again.
+    pub max_init_retransmits: Option<u32>,
+    /// Whether messages may be given up, where the peer agrees (RFC 3758).
+    pub enable_partial_reliability: bool,
+    /// Whether messages may be interleaved, where the peer agrees (RFC 8260).
+    pub enable_message_interleaving: bool,
+    /// Not read.
+    pub heartbeat_interval_include_rtt: bool,
+    /// What finds damage in place of the checksum, where the peer agrees (RFC 9653).
+    pub zero_checksum_alternate_error_detection_method: ZeroChecksumAlternateErrorDetectionMethod,
+    /// Whether packets are taken whatever their checksum. For tests.
+    pub disable_checksum_verification: bool,
+    /// Whether a socket may be handed over while messages are queued or unacknowledged.
+    pub enable_handover_with_outstanding_data: bool,
+}
+
+impl Default for Options {
+    fn default() -> Options
+        ensures { options_of result ≡ defaults }
+    {
+        Options {
+            local_port: 5000,
+            remote_port: 5000,
+            announced_maximum_incoming_streams: 65_535,
+            announced_maximum_outgoing_streams: 65_535,
+            mtu: 1191,
+            max_message_size: 262_144,
+            default_stream_priority: 256,
+            max_receiver_window_buffer_size: 5_242_880,
+            max_send_buffer_size: 2_000_000,
+            per_stream_send_queue_limit: 2_000_000,
+            total_buffered_amount_low_threshold: 1_800_000,
+            default_stream_buffered_amount_low_threshold: 0,
+            rtt_max: Duration::from_secs(60),
+            rto_initial: Duration::from_millis(500),
+            rto_max: Duration::from_secs(60),
+            rto_min: Duration::from_millis(400),
+            t1_init_timeout: Duration::from_secs(1),
+            t1_cookie_timeout: Duration::from_secs(1),
+            t2_shutdown_timeout: Duration::from_secs(1),
+            max_timer_backoff_duration: None,
+            heartbeat_interval: Duration::from_secs(30),
+            delayed_ack_max_timeout: Duration::from_millis(200),
+            min_rtt_variance: Duration::from_millis(220),
+            cwnd_mtus_initial: 10,
+            cwnd_mtus_min: 4,
+            avoid_fragmentation_cwnd_mtus: 6,
+            immediate_sack_under_cwnd_mtus: 10,
+            max_burst: 4,
+            max_retransmissions: Some(10),
+            max_init_retransmits: Some(8),
+            enable_partial_reliability: true,
+            enable_message_interleaving: false,
+            heartbeat_interval_include_rtt: true,
+            zero_checksum_alternate_error_detection_method: ZERO_CHECKSUM_ALTERNATE_ERROR_DETECTION_METHOD_NONE,
+            disable_checksum_verification: false,
+            enable_handover_with_outstanding_data: false,
+        }
+    }
+}
+
+impl Options {
+    /// Whether a socket can be made with these options.
+    pub fn is_valid(&self) -> bool
+        ensures { IsTrue result ↔ IsValid (options_of self.now) }
+    {
+        self.has_valid_sizes() && self.has_valid_times() && self.has_valid_windows()
+    }
+
+    fn has_valid_sizes(&self) -> bool
+        ensures { IsTrue result ↔ HasValidSizes (options_of self.now) }
+    {
+        let most = u32::MAX as usize;
+        256 <= self.mtu
+            && self.mtu <= 65_535
+            && self.max_receiver_window_buffer_size <= most
+            && self.max_send_buffer_size <= most
+            && self.per_stream_send_queue_limit <= most
+            && self.max_message_size <= most
+    }
+
+    fn has_valid_times(&self) -> bool
+        ensures { IsTrue result ↔ HasValidTimes (options_of self.now) }
+    {
+        let least = 1_000_000;
+        self.rto_min.as_nanos() <= self.rto_max.as_nanos()
+            && least <= self.rto_min.as_nanos()
+            && least <= self.rto_initial.as_nanos()
+            && least <= self.t1_init_timeout.as_nanos()
+            && least <= self.t1_cookie_timeout.as_nanos()
+            && least <= self.delayed_ack_max_timeout.as_nanos()
+    }
+
+    fn has_valid_windows(&self) -> bool
+        ensures { IsTrue result ↔ HasValidWindows (options_of self.now) }
+    {
+        let most = 65_535;
+        1 <= self.cwnd_mtus_initial
+            && self.cwnd_mtus_initial <= most
+            && 1 <= self.cwnd_mtus_min
+            && self.cwnd_mtus_min <= most
+            && 1 <= self.avoid_fragmentation_cwnd_mtus
+            && self.avoid_fragmentation_cwnd_mtus <= most
+            && self.immediate_sack_under_cwnd_mtus <= most
+    }
+}
