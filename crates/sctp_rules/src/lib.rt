@@ -1,0 +1,2 @@
+//! The rules of an association.
+#![tactic(auto)]
