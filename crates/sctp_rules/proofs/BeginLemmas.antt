@@ -3,8 +3,9 @@ use Rattle.std.proofs.Common.{◌≡◌, ◌≢◌, ℕ, suc, ◌<◌, ◌≤◌
 use Rattle.std.proofs.lemmas.Bool.{cases_lt, cases_Bool, eq-eqb, eqb-true, and_from, and_parts, cond-true, cond-false}
 use Rattle.sctp_rules.specs.State.{Message, Sender, fragment, place_of, count, ordered_of, stream_of}
 use Rattle.sctp_rules.specs.Rules.{Settled, Waits, begins, same}
-use Rattle.sctp_rules.specs.Kept.{Outgoing, Later, InRuns}
+use Rattle.sctp_rules.specs.Kept.{Outgoing, InRuns}
 use Rattle.sctp_rules.proofs.ToolsLemmas.{put_at, put_off, put_true, put_keeps, not_both, same_is, same_self}
+use Rattle.sctp_rules.proofs.LaterLemmas.{Later}
 
 module _ (message : ℕ → Message) (mixed : Bool) (o : Sender) (i : Outgoing message o) (p : ℕ) (w : Waits o p)
     (first : (q : ℕ) → q < p → stream_of message q ≡ stream_of message p → Settled o q) where

@@ -5,8 +5,9 @@ use Rattle.std.proofs.lemmas.List.{map_push}
 use Rattle.sctp_rules.specs.State.{Message, Sender, Receiver, ReadyMessage, place_of, count, has, gathered, ordered_of, stream_of}
 use Rattle.sctp_rules.specs.Rules.{Ripe, delivers}
 use Rattle.sctp_rules.specs.Claims.{ready_message}
-use Rattle.sctp_rules.specs.Kept.{Outgoing, Incoming, Onward, Done, Apart}
+use Rattle.sctp_rules.specs.Kept.{Outgoing, Incoming, Done, Apart}
 use Rattle.sctp_rules.proofs.ToolsLemmas.{not_both, has_push, has_keeps, has_last, has_at, pairs_push}
+use Rattle.sctp_rules.proofs.LaterLemmas.{Onward}
 
 -- on a stream, a number belongs to one ordered message
 module _ (message : ℕ → Message) (o : Sender) (out : Outgoing message o) where

@@ -3,9 +3,10 @@ use Rattle.std.proofs.Common.{◌≡◌, ℕ, ◌<◌, ◌≤◌, Bool, true, fa
 use Rattle.std.proofs.lemmas.Bool.{cases_lt, cases_eq, cases_Bool, and_parts, and_left, and_right, and_cases, eqb-true, eq-eqb, not-false, not_from_true}
 use Rattle.sctp_rules.specs.State.{Message, Sender, Receiver, fragment, place_of, count, has, stream_of, ordered_of}
 use Rattle.sctp_rules.specs.Rules.{Resettable, forgets}
-use Rattle.sctp_rules.specs.Kept.{Outgoing, Incoming, Onward, Done, Passed, SackTrue}
+use Rattle.sctp_rules.specs.Kept.{Outgoing, Incoming, Done, Passed, SackTrue}
 use Rattle.sctp_rules.proofs.ToolsLemmas.{put_at, put_off, not_both}
 use Rattle.sctp_rules.proofs.SackLemmas.{sack_true}
+use Rattle.sctp_rules.proofs.LaterLemmas.{Onward}
 
 module _ (message : ℕ → Message) (mixed : Bool) (o : Sender) (out : Outgoing message o) (i : Receiver) (inc : Incoming message o i)
     (s c : ℕ) (r : Resettable message o i s c) where

@@ -2,8 +2,9 @@
 use Rattle.std.proofs.Common.{◌≡◌, ◌≢◌, ℕ, ◌<◌, true, false, inl, inr, refl, sym, ap, ◌∙◌, subst, arith}
 use Rattle.sctp_rules.specs.State.{Message, Sender}
 use Rattle.sctp_rules.specs.Rules.{Settled, gives_up, accepts}
-use Rattle.sctp_rules.specs.Kept.{Outgoing, Later, InRuns}
+use Rattle.sctp_rules.specs.Kept.{Outgoing, InRuns}
 use Rattle.sctp_rules.proofs.ToolsLemmas.{put_off, put_keeps, put_true, not_both}
+use Rattle.sctp_rules.proofs.LaterLemmas.{Later}
 
 module _ (message : ℕ → Message) (o : Sender) (i : Outgoing message o) where
   settled_given : (p q : ℕ) → Settled o q → Settled (gives_up o p) q

@@ -3,7 +3,7 @@ use Rattle.std.proofs.Common.{◌≡◌, ℕ, ◌<◌, Bool, true, false, not, �
 use Rattle.std.proofs.lemmas.Bool.{cases_Bool, and_parts, not-true, cond-true, cond-false}
 use Rattle.sctp_rules.specs.State.{Message, Sender, Receiver, Transfer, fragment, place_of, has, gathered, is_empty, IsAmong, start}
 use Rattle.sctp_rules.specs.Rules.{Event, Accept, Begin, Number, Close, GiveUp, DataComes, LateComes, Deliver, SendSack, Leave, SendForward, ForwardComes, Forget, Allowed, after, Happens, run, report, part, end_of}
-use Rattle.sctp_rules.specs.Kept.{Outgoing, Incoming, InRuns, Later, Onward, Kept, Indexed, SackTrue, ForwardTrue}
+use Rattle.sctp_rules.specs.Kept.{Outgoing, Incoming, InRuns, Kept, Indexed, SackTrue, ForwardTrue}
 use Rattle.sctp_rules.proofs.ToolsLemmas.{not_both, has_push}
 use Rattle.sctp_rules.proofs.IndexedLemmas.{indexed_none, indexed_push}
 use Rattle.sctp_rules.proofs.StaysLemmas.{later_same, onward_same, incoming_stays, sack_stays, forward_stays}
@@ -16,6 +16,7 @@ use Rattle.sctp_rules.proofs.SkipLemmas.{skips_onward, skips_incoming}
 use Rattle.sctp_rules.proofs.SackLemmas.{sack_true}
 use Rattle.sctp_rules.proofs.ForgetLemmas.{forgets_incoming, forgets_onward}
 use Rattle.sctp_rules.proofs.DueLemmas.{forward_true}
+use Rattle.sctp_rules.proofs.LaterLemmas.{Later, Onward}
 
 -- what is left of a message is nothing where its last fragment is numbered
 pub none_left : (bytes : List ℕ) → is_empty bytes ≡ true → bytes ≡ []

@@ -1,3 +1,4 @@
+pub mod LaterLemmas
 pub mod ToolsLemmas
 pub mod IndexedLemmas
 pub mod BeginLemmas
@@ -20,3 +21,4 @@ pub mod WholeLemmas
 pub mod WindowsLemmas
 pub mod SendingLemmas
 pub mod ForgetLemmas
+pub mod QueueLemmas

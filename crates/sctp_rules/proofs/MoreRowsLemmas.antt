@@ -1,12 +1,14 @@
 -- A chunk is added, a forward point comes, the sender goes on, and a SACK takes several items away.
 use Rattle.std.proofs.Common.{◌≡◌, ℕ, zero, suc, ◌+◌, ◌<◌, ◌≤◌, Bool, true, false, not, cond, ◌&&◌, ◌||◌, inl, inr, Option, Some, None, List, [], ◌++◌, replicate, refl, sym, ap, ◌∙◌, subst, arith, eqb, ltb, append-nil, append_assoc}
-use Rattle.std.proofs.lemmas.Bool.{cases_eq, and_parts, and_from, cond-false, not-true, not_from_false}
+use Rattle.std.proofs.lemmas.Bool.{cases_eq, and_parts, and_from, or_left, or_right, cond-true, cond-false, not-true, not_from_false}
 use Rattle.sctp_rules.specs.State.{Message, Fragment, ForwardPoint, Sender, Receiver, Transfer, fragment, place_of, count, ordered_of, stream_of}
-use Rattle.sctp_rules.specs.Rules.{Leave, Happens, after, run, report, drops, skips, takes, covers, raised}
-use Rattle.sctp_rules.specs.Reassembly.{Chunk, MessageKey, chunk_with, chunk_of, message_key, Queue, Added, undropped, Forwarded, Sees, KeyLaws}
+use Rattle.sctp_rules.specs.Rules.{Leave, Happens, after, run, report, drops, skips, takes, forgets, covers, raised, floor}
+use Rattle.sctp_rules.specs.Reassembly.{Chunk, MessageKey, chunk_with, chunk_of, message_key, Queue, Added, IsLate, undropped, Forwarded, unforgotten, Forgotten, Sees, KeyLaws}
 use Rattle.sctp_rules.specs.State.{IsAmong}
-use Rattle.sctp_rules.specs.Kept.{Outgoing, Incoming, Later}
-use Rattle.sctp_rules.proofs.ToolsLemmas.{put_at, put_true, put_keeps}
+use Rattle.sctp_rules.specs.Kept.{Outgoing, Incoming}
+use Rattle.sctp_rules.proofs.ToolsLemmas.{put_at, put_off, put_true, put_keeps}
+use Rattle.sctp_rules.proofs.LaterLemmas.{Later}
+use Rattle.sctp_rules.specs.Joints.{reports_of}
 
 cond_none : (b : Bool) (v w : Chunk) → cond b None (Some v) ≡ Some w → (b ≡ false) × (v ≡ w)
 cond_none true v w e = cc
@@ -82,6 +84,54 @@ module _ (Key : Type 0) (succ : Key → Key) (message : ℕ → Message) (mixed 
     ready_is = z.ready ∙ s.ready_is;
   }
 
+  unforgotten_some : (a : ℕ) (c : Option Chunk) (w : Chunk) → unforgotten Key succ a c ≡ Some w → (c ≡ Some w) × (eqb w.stream a ≡ false)
+  unforgotten_some a None w e = cc
+  unforgotten_some a (Some v) w e = let x = cond_none (eqb v.stream a) v w e in (ap Some x.1, subst (λ z. eqb z.stream a ≡ false) x.1 x.0)
+
+  -- a stream was reset, and its next number is the sender's count
+  pub sees_forgotten : (a : ℕ) → i.next a ≡ o.counts true a → Forgotten Key succ q r a (o.counts true a) (o.counts false a) → Sees Key succ message mixed o (forgets message o i a) key r
+  sees_forgotten a aligned z = record {
+    holds = λ u h.
+        let p = and_parts (i.held u) (not (eqb (stream_of message (place_of o u)) a)) h in
+        z.chunks (key u) ∙ (ap (unforgotten Key succ a) (s.holds u p.0)
+        ∙ cond-false (eqb (stream_of message (place_of o u)) a) None (Some (chunk_of message mixed o u)) (not-true (eqb (stream_of message (place_of o u)) a) p.1));
+    held = λ κ w e.
+        let x = unforgotten_some a (q.chunks κ) w (sym (z.chunks κ) ∙ e) in
+        let y = s.held κ w x.0 in
+        let n = ap (λ c. eqb c.stream a) (sym y.3) ∙ x.1 in
+        (y.0, and_from (i.held y.0) (not (eqb (stream_of message (place_of o y.0)) a)) y.1 (not_from_false (eqb (stream_of message (place_of o y.0)) a) n), y.2, y.3);
+    next_is = λ b.
+        z.next b ∙ elim (cases_eq b a) [
+          | inl e ↦ put_at q.next a (o.counts true a) b e ∙ (sym aligned ∙ ap i.next (sym e))
+          | inr d ↦ put_off q.next a (o.counts true a) b d ∙ s.next_is b
+        ];
+    passed_is = λ m b.
+        z.passed b ∙ elim (cases_eq b a) [
+          | inl e ↦ put_at q.passed_below a (o.counts false a) b e ∙ sym (put_at i.passed_below a (o.counts false a) b e)
+          | inr d ↦ put_off q.passed_below a (o.counts false a) b d ∙ (s.passed_is m b ∙ sym (put_off i.passed_below a (o.counts false a) b d))
+        ];
+    ready_is = z.ready ∙ s.ready_is;
+  }
+
+  -- what the queue calls late is behind the floor
+  pub late_below : (t : ℕ) → IsLate Key succ mixed q (chunk_of message mixed o t) → o.number (place_of o t) < floor i (ordered_of message (place_of o t)) (stream_of message (place_of o t))
+  late_below t h =
+      let p = place_of o t in
+      elim h [
+        | inl a ↦
+            let n : (chunk_of message mixed o t).number ≡ o.number p = cond-true (ordered_of message p || mixed) (o.number p) 0 (or_left (ordered_of message p) mixed a.0) in
+            let e = s.next_is (stream_of message p) in
+            let b = a.1 in
+            let l : o.number p < i.next (stream_of message p) = omega (arith, n, e, b) in
+            subst (λ z. o.number p < floor i z (stream_of message p)) (sym a.0) l
+        | inr a ↦
+            let n : (chunk_of message mixed o t).number ≡ o.number p = cond-true (ordered_of message p || mixed) (o.number p) 0 (or_right (ordered_of message p) mixed a.0) in
+            let e = s.passed_is a.0 (stream_of message p) in
+            let b = a.2 in
+            let l : o.number p < i.passed_below (stream_of message p) = omega (arith, n, e, b) in
+            subst (λ z. o.number p < floor i z (stream_of message p)) (sym a.1) l
+      ]
+
 -- the sender's steps change no chunk and no key
 module _ (Key : Type 0) (succ : Key → Key) (message : ℕ → Message) (mixed : Bool) (o o' : Sender) (out : Outgoing message o) (l : Later message o o') (i : Receiver) (inc : Incoming message o i) where
   abbrev chunk_from : Message → ℕ → Fragment → Chunk
@@ -108,10 +158,6 @@ module _ (Key : Type 0) (succ : Key → Key) (message : ℕ → Message) (mixed 
 
 -- a SACK takes all items below its point away, one after another
 module _ (message : ℕ → Message) (mixed : Bool) where
-  abbrev pub reports_of : Sender → ℕ → ℕ → List ℕ
-  reports_of o t zero = []
-  reports_of o t (suc n) = report o t ++ reports_of o (suc t) n
-
   pub leave_all : (n c : ℕ) (x : Transfer) → IsAmong c x.sacks → x.acknowledged + n ≤ c
       → Happens message mixed x (replicate n (Leave c)) × (run message mixed x (replicate n (Leave c)) ≡ record x { acknowledged = x.acknowledged + n; reports = x.reports ++ reports_of x.sender x.acknowledged n })
   leave_all zero c x a h =

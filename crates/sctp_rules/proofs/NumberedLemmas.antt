@@ -4,8 +4,9 @@ use Rattle.std.proofs.lemmas.Bool.{cases_eq, cases_lt, not-true, not-false}
 use Rattle.std.proofs.lemmas.List.{get_or_append_left, get_or_push}
 use Rattle.sctp_rules.specs.State.{Message, Fragment, Sender, blank, fragment, place_of, count, gathered, stream_of}
 use Rattle.sctp_rules.specs.Rules.{Settled, numbers}
-use Rattle.sctp_rules.specs.Kept.{Outgoing, Later, InRuns}
+use Rattle.sctp_rules.specs.Kept.{Outgoing, InRuns}
 use Rattle.sctp_rules.proofs.ToolsLemmas.{put_at, put_off, not_both, at_push, each_push, pairs_push, gathered_push, gathered_off}
+use Rattle.sctp_rules.proofs.LaterLemmas.{Later}
 
 module _ (message : ℕ → Message) (o : Sender) (i : Outgoing message o) (f : Fragment) (is_partly : o.partly f.place ≡ true)
     (fin : f.is_end ≡ true → f.placeholder ≡ false → gathered f.place o.numbered ++ f.payload ≡ (message f.place).payload) where

@@ -3,8 +3,9 @@ use Rattle.std.proofs.Common.{◌≡◌, ◌≢◌, ℕ, ◌<◌, true, false, i
 use Rattle.std.proofs.lemmas.Bool.{cases_eq, cases_Bool}
 use Rattle.sctp_rules.specs.State.{Message, Sender, Receiver, fragment, place_of, count, has, stream_of, ordered_of}
 use Rattle.sctp_rules.specs.Rules.{takes, marks, floor}
-use Rattle.sctp_rules.specs.Kept.{Outgoing, Incoming, Onward, Passed}
+use Rattle.sctp_rules.specs.Kept.{Outgoing, Incoming, Passed}
 use Rattle.sctp_rules.proofs.ToolsLemmas.{put_at, put_off, put_true, put_keeps, not_both}
+use Rattle.sctp_rules.proofs.LaterLemmas.{Onward}
 
 module _ (message : ℕ → Message) (o : Sender) (i : Receiver) (inc : Incoming message o i) (t : ℕ) (within : t < count o)
     (real : (fragment o t).placeholder ≡ false) (fresh : i.seen t ≡ false) where

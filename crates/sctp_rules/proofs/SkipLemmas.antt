@@ -3,8 +3,9 @@ use Rattle.std.proofs.Common.{◌≡◌, ℕ, ◌<◌, ◌≤◌, Bool, true, fa
 use Rattle.std.proofs.lemmas.Bool.{cases_lt, cases_Bool, or_cases, or_right, and_parts, and_left, and_cases, not-true, not-false, ltb-true}
 use Rattle.sctp_rules.specs.State.{Message, ForwardPoint, Sender, Receiver, place_of, count, has, ordered_of, stream_of}
 use Rattle.sctp_rules.specs.Rules.{covers, drops, skips}
-use Rattle.sctp_rules.specs.Kept.{Outgoing, Incoming, Onward, Done, ForwardTrue}
+use Rattle.sctp_rules.specs.Kept.{Outgoing, Incoming, Done, ForwardTrue}
 use Rattle.sctp_rules.proofs.ToolsLemmas.{not_both, raised_up, raised_covers, raised_cases}
+use Rattle.sctp_rules.proofs.LaterLemmas.{Onward}
 
 module _ (message : ℕ → Message) (mixed : Bool) (o : Sender) (out : Outgoing message o) (i : Receiver) (inc : Incoming message o i) (f : ForwardPoint) (ft : ForwardTrue message mixed o i f) where
   abbrev new : Receiver

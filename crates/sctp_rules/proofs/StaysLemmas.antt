@@ -3,8 +3,9 @@ use Rattle.std.proofs.Common.{◌≡◌, ℕ, ◌<◌, ◌≤◌, Bool, true, fa
 use Rattle.std.proofs.lemmas.Bool.{cases_lt}
 use Rattle.sctp_rules.specs.State.{Message, ForwardPoint, Sender, Receiver, place_of, count, has, ordered_of, stream_of}
 use Rattle.sctp_rules.specs.Rules.{covers}
-use Rattle.sctp_rules.specs.Kept.{Outgoing, Incoming, Later, Onward, Done, Passed, SackTrue, ForwardTrue}
+use Rattle.sctp_rules.specs.Kept.{Outgoing, Incoming, Done, Passed, SackTrue, ForwardTrue}
 use Rattle.sctp_rules.proofs.ToolsLemmas.{not_both}
+use Rattle.sctp_rules.proofs.LaterLemmas.{Later, Onward}
 
 module _ (message : ℕ → Message) where
   pub later_same : (o : Sender) → Later message o o

@@ -1,43 +1,89 @@
--- Whole rows of the receiver.
-use Rattle.std.proofs.Common.{◌≡◌, ℕ, suc, ◌<◌, Bool, true, false, List, ◌∷◌, map, refl, ltb}
+-- Whole rows of the receiver are sequences of the rules, over any key that meets the keys' laws.
+use Rattle.std.proofs.Common.{◌≡◌, ℕ, suc, ◌<◌, Bool, true, false, List, [], ◌∷◌, map, refl, ◌∙◌, subst, sym, ap, ltb}
 use Rattle.sctp_rules.specs.State.{Message, ForwardPoint, Transfer, fragment, count, IsAmong}
-use Rattle.sctp_rules.specs.Rules.{Event, DataComes, Deliver, ForwardComes, Ripe, Happens, after, run}
-use Rattle.sctp_rules.specs.Reassembly.{chunk_of, Queue, Readied, Added, Forwarded, Sees, KeyLaws, MessageKey, own_key, message_key, next_index, never_below}
+use Rattle.sctp_rules.specs.Rules.{Event, DataComes, LateComes, Deliver, ForwardComes, Forget, SendSack, Allowed, Ripe, Resettable, Happens, after, run}
+use Rattle.sctp_rules.specs.Reassembly.{Chunk, chunk_of, Queue, ReadyRun, IsLate, Readied, Added, Forwarded, Forgotten, Sees, KeyLaws, MessageKey, own_key, message_key, next_index, never_below}
 use Rattle.sctp_rules.specs.Kept.{Kept}
+use Rattle.sctp_rules.specs.Joints.{Leads}
 use Rattle.sctp_rules.proofs.KeepsLemmas.{keeps, all_kept}
 use Rattle.sctp_rules.proofs.KeysLemmas.{own_keys, message_keys}
-use Rattle.sctp_rules.proofs.MoreRowsLemmas.{sees_added, sees_forwarded}
-use Rattle.sctp_rules.proofs.RowsLemmas.{readied}
+use Rattle.sctp_rules.proofs.ForgetLemmas.{reset_aligned}
+use Rattle.sctp_rules.proofs.MoreRowsLemmas.{sees_added, sees_forwarded, sees_forgotten, late_below}
+use Rattle.sctp_rules.proofs.RowsLemmas.{readied, none_ripe}
+
+module _ (message : ℕ → Message) (mixed : Bool) where
+  delivered_stays : (ps : List ℕ) (x : Transfer) → run message mixed x (map Deliver ps) ≡ record x { receiver = (run message mixed x (map Deliver ps)).receiver }
+  delivered_stays [] x = refl
+  delivered_stays (p ∷ ps) x = delivered_stays ps (after message mixed x (Deliver p))
+
+  delivered_seen : (ps : List ℕ) (x : Transfer) (t : ℕ) → (run message mixed x (map Deliver ps)).receiver.seen t ≡ x.receiver.seen t
+  delivered_seen [] x t = refl
+  delivered_seen (p ∷ ps) x t = delivered_seen ps (after message mixed x (Deliver p)) t
 
 module _ (Key : Type 0) (succ : Key → Key) (message : ℕ → Message) (mixed : Bool) (x : Transfer) (k : Kept message mixed x)
-    (key : ℕ → Key) (below : Key → ℕ → Bool) (laws : KeyLaws Key succ mixed x.sender key below) (q m r : Queue Key succ) (s : Sees Key succ message mixed x.sender x.receiver key q)
-    (more : Readied Key succ m r) where
-  -- where the rules lead, with the queue there and nothing more that is ripe
-  pub record Leads (es : List Event) : Type 0 where
-    pub may : Happens message mixed x es
-    pub kept : Kept message mixed (run message mixed x es)
-    pub sees : Sees Key succ message mixed (run message mixed x es).sender (run message mixed x es).receiver key r
-    pub full : (p : ℕ) → Ripe message (run message mixed x es).sender (run message mixed x es).receiver p → ⊥
+    (key : ℕ → Key) (below : Key → ℕ → Bool) (laws : KeyLaws Key succ mixed x.sender key below) (q : Queue Key succ) (s : Sees Key succ message mixed x.sender x.receiver key q) where
+  -- what a first event and the deliveries after it lead to
+  leads : (e : Event) (ps : List ℕ) (m r : Queue Key succ) → Allowed message mixed x e → Kept message mixed (after message mixed x e)
+      → after message mixed x e ≡ record x { receiver = (after message mixed x e).receiver }
+      → Happens message mixed (after message mixed x e) (map Deliver ps)
+      → Sees Key succ message mixed (run message mixed (after message mixed x e) (map Deliver ps)).sender (run message mixed (after message mixed x e) (map Deliver ps)).receiver key r
+      → ((p : ℕ) → Ripe message (run message mixed (after message mixed x e) (map Deliver ps)).sender (run message mixed (after message mixed x e) (map Deliver ps)).receiver p → ⊥)
+      → Leads Key succ message mixed key x e (map Deliver ps) r
+  leads e ps m r a ky stays h sees full =
+      let y = run message mixed (after message mixed x e) (map Deliver ps) in
+      let rest : y ≡ record x { receiver = y.receiver } = delivered_stays message mixed ps (after message mixed x e) ∙ ap (λ z. let w : Transfer = record z { receiver = y.receiver } in w) stays in
+      let same = ap (λ z. z.sender) rest in
+      record {
+        may = (a, h);
+        kept = all_kept message mixed (map Deliver ps) (after message mixed x e) ky h;
+        sees = subst (λ o. Sees Key succ message mixed o y.receiver key r) same sees;
+        full = subst (λ o. (p : ℕ) → Ripe message o y.receiver p → ⊥) same full;
+        seen_is = delivered_seen message mixed ps (after message mixed x e);
+        rest_stays = rest;
+      }
 
   -- a chunk that was not seen
-  pub data_row : (t : ℕ) → t < count x.sender → (fragment x.sender t).placeholder ≡ false → x.receiver.seen t ≡ false → Added Key succ q m (key t) (chunk_of message mixed x.sender t)
-      → (ps : List ℕ) × Leads (DataComes t ∷ map Deliver ps)
-  data_row t h f n z =
-      let y = after message mixed x (DataComes t) in
+  pub new_chunk : (m r : Queue Key succ) (t : ℕ) → t < count x.sender → (fragment x.sender t).placeholder ≡ false → x.receiver.seen t ≡ false
+      → Added Key succ q m (key t) (chunk_of message mixed x.sender t) → Readied Key succ m r
+      → (ps : List ℕ) × Leads Key succ message mixed key x (DataComes t) (map Deliver ps) r
+  new_chunk m r t h f n z more =
       let ky = keeps message mixed x k (DataComes t) (h, f, n) in
       let sy = sees_added Key succ message mixed x.sender x.receiver k.incoming key below laws q m s t h z in
-      let d = readied Key succ message mixed key below m r more y ky laws sy in
-      (d.0, record { may = ((h, f, n), d.1); kept = all_kept message mixed (map Deliver d.0) y ky d.1; sees = d.2; full = d.3 })
+      let d = readied Key succ message mixed key below m r more (after message mixed x (DataComes t)) ky laws sy in
+      (d.0, leads (DataComes t) d.0 m r (h, f, n) ky refl d.1 d.2 d.3)
+
+  -- a chunk that was not seen and is not kept
+  pub late_chunk : (t : ℕ) → t < count x.sender → x.receiver.seen t ≡ false → IsLate Key succ mixed q (chunk_of message mixed x.sender t)
+      → ((κ : Key) (n : ℕ) (w : ℕ → Chunk) → ReadyRun Key succ q κ n w → ⊥)
+      → Leads Key succ message mixed key x (LateComes t) [] q
+  late_chunk t h n l none =
+      let a : Allowed message mixed x (LateComes t) = (h, n, late_below Key succ message mixed x.sender x.receiver k.incoming key below laws q q s t l) in
+      let sy : Sees Key succ message mixed x.sender (after message mixed x (LateComes t)).receiver key q =
+      record { holds = s.holds; held = s.held; next_is = s.next_is; passed_is = s.passed_is; ready_is = s.ready_is } in
+      let ky = keeps message mixed x k (LateComes t) a in
+      leads (LateComes t) [] q q a ky refl tt sy (none_ripe Key succ message mixed (after message mixed x (LateComes t)) ky key below laws q sy none)
 
   -- a forward point that was sent
-  pub forward_row : (f : ForwardPoint) → IsAmong f x.forward_points → Forwarded Key succ mixed below q m f
-      → (ps : List ℕ) × Leads (ForwardComes f ∷ map Deliver ps)
-  forward_row f a z =
-      let y = after message mixed x (ForwardComes f) in
+  pub point_comes : (m r : Queue Key succ) (f : ForwardPoint) → IsAmong f x.forward_points → Forwarded Key succ mixed below q m f → Readied Key succ m r
+      → (ps : List ℕ) × Leads Key succ message mixed key x (ForwardComes f) (map Deliver ps) r
+  point_comes m r f a z more =
       let ky = keeps message mixed x k (ForwardComes f) a in
       let sy = sees_forwarded Key succ message mixed x.sender x.receiver k.incoming key below laws q m s f (k.forwards_true f a).only_ordered z in
-      let d = readied Key succ message mixed key below m r more y ky laws sy in
-      (d.0, record { may = (a, d.1); kept = all_kept message mixed (map Deliver d.0) y ky d.1; sees = d.2; full = d.3 })
+      let d = readied Key succ message mixed key below m r more (after message mixed x (ForwardComes f)) ky laws sy in
+      (d.0, leads (ForwardComes f) d.0 m r a ky refl d.1 d.2 d.3)
+
+  -- a reset request is performed
+  pub stream_reset : (r : Queue Key succ) (a c : ℕ) → Resettable message x.sender x.receiver a c
+      → Forgotten Key succ q r a (x.sender.counts true a) (x.sender.counts false a) → ((κ : Key) (n : ℕ) (w : ℕ → Chunk) → ReadyRun Key succ r κ n w → ⊥)
+      → Leads Key succ message mixed key x (Forget a c) [] r
+  stream_reset r a c h z none =
+      let ky = keeps message mixed x k (Forget a c) h in
+      let sy = sees_forgotten Key succ message mixed x.sender x.receiver k.incoming key below laws q r s a (reset_aligned message mixed x.sender k.outgoing x.receiver k.incoming a c h) z in
+      leads (Forget a c) [] r r h ky refl tt sy (none_ripe Key succ message mixed (after message mixed x (Forget a c)) ky key below laws r sy none)
+
+  -- a SACK is made of the tracker's front
+  pub sack_made : (c : ℕ) → ((t : ℕ) → t < c → x.receiver.seen t ≡ true) → ((κ : Key) (n : ℕ) (w : ℕ → Chunk) → ReadyRun Key succ q κ n w → ⊥) → Allowed message mixed x (SendSack c)
+  sack_made c seen none = (seen, none_ripe Key succ message mixed x k key below laws q s none)
 
 -- the laws of both kinds of keys
 pub plain_laws : (message : ℕ → Message) (x : Transfer) → Kept message false x → KeyLaws ℕ suc false x.sender own_key ltb
