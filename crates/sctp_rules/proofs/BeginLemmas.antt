@@ -21,10 +21,10 @@ module _ (message : ℕ → Message) (mixed : Bool) (o : Sender) (i : Outgoing m
   pub number_at : (q : ℕ) → q ≡ p → new.number q ≡ o.counts (ordered_of message p) (stream_of message p)
   number_at q e = put_at o.number p (o.counts (ordered_of message p) (stream_of message p)) q e
 
-  unsettled : Settled o p → ⊥
+  pub unsettled : Settled o p → ⊥
   unsettled x = elim x.gone [ inl b ↦ not_both b w.not_begun | inr g ↦ not_both g w.not_given ]
 
-  moved : (q : ℕ) → q ≢ p → Settled o q → Settled new q
+  pub moved : (q : ℕ) → q ≢ p → Settled o q → Settled new q
   moved q d x = record {
     not_partly = put_off o.partly p true q d ∙ x.not_partly;
     gone = elim x.gone [ inl b ↦ inl (put_keeps o.begun p q b) | inr g ↦ inr g ];

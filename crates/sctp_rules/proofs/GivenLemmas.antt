@@ -7,7 +7,7 @@ use Rattle.sctp_rules.proofs.ToolsLemmas.{put_off, put_keeps, put_true, not_both
 use Rattle.sctp_rules.proofs.LaterLemmas.{Later}
 
 module _ (message : ℕ → Message) (o : Sender) (i : Outgoing message o) where
-  settled_given : (p q : ℕ) → Settled o q → Settled (gives_up o p) q
+  pub settled_given : (p q : ℕ) → Settled o q → Settled (gives_up o p) q
   settled_given p q x = record {
     not_partly = x.not_partly;
     gone = elim x.gone [ inl b ↦ inl b | inr g ↦ inr (put_keeps o.given_up p q g) ];

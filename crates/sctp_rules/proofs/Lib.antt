@@ -22,3 +22,5 @@ pub mod WindowsLemmas
 pub mod SendingLemmas
 pub mod ForgetLemmas
 pub mod QueueLemmas
+pub mod StepLemmas
+pub mod EpochLemmas
