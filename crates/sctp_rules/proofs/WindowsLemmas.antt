@@ -1,19 +1,13 @@
 -- Where the numbers lie that the receiver and the sender compare.
-use Rattle.std.proofs.Common.{◌≡◌, ℕ, suc, ◌+◌, ◌^◌, ◌<◌, ◌≤◌, Bool, true, false, inl, inr, refl, sym, ap, ◌∙◌, subst, arith}
-use Rattle.std.proofs.lemmas.Bool.{cases_lt, cases_Bool}
+use Rattle.std.proofs.Common.{◌≡◌, ℕ, suc, ◌+◌, ◌-◌, ◌%◌, ◌^◌, ◌<◌, ◌≤◌, Bool, true, false, inl, inr, refl, sym, ap, ◌∙◌, subst, arith, ltb}
+use Rattle.std.proofs.lemmas.Bool.{cases_lt, cases_Bool, cond-true, cond-false, lt-ltb, le-ltb}
 use Rattle.sctp_rules.specs.State.{Message, ForwardPoint, Transfer, place_of, count, IsAmong, ordered_of, stream_of}
 use Rattle.sctp_rules.specs.Rules.{Ripe, covers}
+use Rattle.sctp_rules.specs.Windows.{Windows, IsNear, IsTimely, IsFront, wire, nearest}
 use Rattle.sctp_rules.specs.Kept.{Kept, Done, SackTrue}
 use Rattle.sctp_rules.proofs.ToolsLemmas.{not_both}
 use Rattle.sctp_rules.proofs.DeliverLemmas.{lower_place}
 use Rattle.sctp_rules.proofs.SackLemmas.{end_before, sack_true}
-
--- no item is kept while 2^30 later ones are numbered; and on each ordered stream, the numbered messages from the
--- first with a kept item on are fewer than 32,000
-pub record Narrow (message : ℕ → Message) (x : Transfer) : Type 0 where
-  pub items : x.acknowledged < count x.sender → count x.sender ≤ x.acknowledged + 2 ^ 30
-  pub messages : (t : ℕ) → x.acknowledged ≤ t → t < count x.sender → ordered_of message (place_of x.sender t) ≡ true
-      → x.sender.counts true (stream_of message (place_of x.sender t)) < x.sender.number (place_of x.sender t) + 32000
 
 module _ (message : ℕ → Message) (mixed : Bool) (x : Transfer) (k : Kept message mixed x) where
   -- the receiver's front lies from the sender's left end to its count
@@ -31,25 +25,27 @@ module _ (message : ℕ → Message) (mixed : Bool) (x : Transfer) (k : Kept mes
       let a = k.acknowledged_true.behind z.0 (all z.0 z.1 z.2) z.3 (ap (ordered_of message) z.2 ∙ o) in
       (subst (λ n. x.sender.number n < x.receiver.next (stream_of message n)) z.2 a, k.incoming.next_counts (stream_of message p))
 
-  module _ (narrow : Narrow message x) where
-    -- a fragment that was kept when n were numbered, and is given before 2^30 more are
-    pub data_window : (f t n : ℕ) → x.receiver.seen f ≡ false → ((u : ℕ) → u < f → x.receiver.seen u ≡ true) → t < n → n ≤ t + 2 ^ 30 → n ≤ count x.sender → count x.sender < n + 2 ^ 30
-        → (t < f + 2 ^ 31) × (f < t + 2 ^ 31)
-    data_window f t n nf below a b c d =
-        let w = front_window f nf below in
+  module _ (windows : Windows message x) where
+    -- a fragment that was kept when n were numbered comes in time
+    pub data_window : (f t n : ℕ) → IsFront x.receiver f → t < n → n ≤ t + 2 ^ 30 → IsTimely x n → IsNear (2 ^ 31) f t
+    data_window f t n front a b timely =
+        let w = front_window f front.0 front.1 in
         let lo = w.0 in
         let hi = w.1 in
+        let c = timely.0 in
+        let d = timely.1 in
         elim (cases_lt x.acknowledged (count x.sender)) [
-          | inl l ↦ let i = narrow.items l in (omega (arith, a, b, c, d, lo, hi, i), omega (arith, a, b, c, d, lo, hi, i))
+          | inl l ↦ let i = windows.items l in (omega (arith, a, b, c, d, lo, hi, i), omega (arith, a, b, c, d, lo, hi, i))
           | inr g ↦ (omega (arith, a, b, c, d, lo, hi, g), omega (arith, a, b, c, d, lo, hi, g))
         ]
 
-    -- a cumulative point that was sent when n were numbered and the sender's left end was at most it
-    pub sack_window : (c old n : ℕ) → old ≤ c → c ≤ n → n ≤ old + 2 ^ 30 → n ≤ count x.sender → count x.sender < n + 2 ^ 30 → x.acknowledged ≤ count x.sender
-        → (x.acknowledged < c + 2 ^ 31) × (c < x.acknowledged + 2 ^ 31)
-    sack_window c old n a b e g h lc =
+    -- a cumulative point that was sent when n were numbered and the sender's own point was at most it
+    pub sack_window : (c own n : ℕ) → own ≤ c → c ≤ n → n ≤ own + 2 ^ 30 → IsTimely x n → x.acknowledged ≤ count x.sender → IsNear (2 ^ 31) x.acknowledged c
+    sack_window c own n a b e timely lc =
+        let g = timely.0 in
+        let h = timely.1 in
         elim (cases_lt x.acknowledged (count x.sender)) [
-          | inl l ↦ let i = narrow.items l in (omega (arith, a, b, e, g, h, i), omega (arith, a, b, e, g, h, i))
+          | inl l ↦ let i = windows.items l in (omega (arith, a, b, e, g, h, i), omega (arith, a, b, e, g, h, i))
           | inr q ↦ (omega (arith, a, b, e, g, h, q, lc), omega (arith, a, b, e, g, h, q, lc))
         ]
 
@@ -72,24 +68,24 @@ module _ (message : ℕ → Message) (mixed : Bool) (x : Transfer) (k : Kept mes
               let v = subst (λ y. x.sender.number (place_of x.sender z.0) < x.receiver.next y) zs (k.acknowledged_true.behind z.0 a z.3 zo) in
               absurd (omega (arith, v, zn))
           | inr g ↦
-              let v = subst (λ y. x.sender.counts true y < x.sender.number (place_of x.sender z.0) + 32000) zs (narrow.messages z.0 g (omega (arith, zl, h)) zo) in
+              let v = subst (λ y. x.sender.counts true y < x.sender.number (place_of x.sender z.0) + 32000) zs (windows.messages z.0 g (omega (arith, zl, h)) zo) in
               omega (arith, v, zn)
         ]
 
     -- the number of a kept ordered fragment, against its stream's next number
     pub number_window : (t : ℕ) → x.acknowledged ≤ t → t < count x.sender → ordered_of message (place_of x.sender t) ≡ true
-        → (x.sender.number (place_of x.sender t) < x.receiver.next (stream_of message (place_of x.sender t)) + 32000) × (x.receiver.next (stream_of message (place_of x.sender t)) < x.sender.number (place_of x.sender t) + 32000)
+        → IsNear 32000 (x.receiver.next (stream_of message (place_of x.sender t))) (x.sender.number (place_of x.sender t))
     number_window t lo hi o =
         let p = place_of x.sender t in
-        let m = narrow.messages t lo hi o in
+        let m = windows.messages t lo hi o in
         let c = k.incoming.next_counts (stream_of message p) in
         let b = k.outgoing.place_begun t hi in
         let n = subst (λ z. x.sender.number p < x.sender.counts z (stream_of message p)) o (k.outgoing.counted p b) in (
+          omega (arith, m, c),
           elim (cases_lt (x.receiver.next (stream_of message p)) (x.sender.number p)) [
             | inl l ↦ let v = next_kept p t hi refl o l in omega (arith, v, n)
             | inr g ↦ omega (arith, g)
           ],
-          omega (arith, m, c),
         )
 
     -- the number that a forward point names for a stream, where the point lies ahead of the receiver's front
@@ -146,7 +142,7 @@ module _ (message : ℕ → Message) (mixed : Bool) (x : Transfer) (k : Kept mes
                       ] in
                       elim (cases_lt z.0 x.acknowledged) [
                         | inr g ↦
-                            let v = subst (λ y. x.sender.counts true y < x.sender.number (place_of x.sender z.0) + 32000) zs (narrow.messages z.0 g z.1 zo) in
+                            let v = subst (λ y. x.sender.counts true y < x.sender.number (place_of x.sender z.0) + 32000) zs (windows.messages z.0 g z.1 zo) in
                             omega (arith, v, zn, nc)
                         | inl b ↦
                             let v = greatest (x.sender.number (place_of x.sender z.0)) (r.further z.0 after_it (omega (arith, b, ahead)) zo zs) in
@@ -155,3 +151,32 @@ module _ (message : ℕ → Message) (mixed : Bool) (x : Transfer) (k : Kept mes
                 ]
           ],
         )
+
+-- the acknowledged point never passes the count
+pub acknowledged_within : (message : ℕ → Message) (mixed : Bool) (x : Transfer) → Kept message mixed x → x.acknowledged ≤ count x.sender
+acknowledged_within message mixed x k =
+    elim (cases_lt (count x.sender) x.acknowledged) [
+      | inr g ↦ g
+      | inl l ↦ let a = k.incoming.seen_below (count x.sender) (k.acknowledged_true.all_seen (count x.sender) l) in absurd (omega (arith, a))
+    ]
+
+-- a number less than half its space away is read as it was meant
+pub words_read : (first near n : ℕ) → IsNear (2 ^ 31) near n → 2 ^ 32 ≤ near → nearest (2 ^ 32) first near (wire (2 ^ 32) first n) ≡ n
+words_read first near n d far =
+    let a = d.0 in
+    let b = d.1 in
+    let ahead = (wire (2 ^ 32) first n + (2 ^ 32 - wire (2 ^ 32) first near)) % 2 ^ 32 in
+    elim (cases_lt ahead (2 ^ 31)) [
+      | inl p ↦ let e : near + ahead ≡ n = omega (arith, a, b, far, p) in cond-true (ltb ahead (2 ^ 31)) (near + ahead) ((near + ahead) - 2 ^ 32) (lt-ltb ahead (2 ^ 31) p) ∙ e
+      | inr p ↦ let e : (near + ahead) - 2 ^ 32 ≡ n = omega (arith, a, b, far, p) in cond-false (ltb ahead (2 ^ 31)) (near + ahead) ((near + ahead) - 2 ^ 32) (le-ltb ahead (2 ^ 31) p) ∙ e
+    ]
+
+pub halves_read : (first near n : ℕ) → IsNear (2 ^ 15) near n → 2 ^ 16 ≤ near → nearest (2 ^ 16) first near (wire (2 ^ 16) first n) ≡ n
+halves_read first near n d far =
+    let a = d.0 in
+    let b = d.1 in
+    let ahead = (wire (2 ^ 16) first n + (2 ^ 16 - wire (2 ^ 16) first near)) % 2 ^ 16 in
+    elim (cases_lt ahead (2 ^ 15)) [
+      | inl p ↦ let e : near + ahead ≡ n = omega (arith, a, b, far, p) in cond-true (ltb ahead (2 ^ 15)) (near + ahead) ((near + ahead) - 2 ^ 16) (lt-ltb ahead (2 ^ 15) p) ∙ e
+      | inr p ↦ let e : (near + ahead) - 2 ^ 16 ≡ n = omega (arith, a, b, far, p) in cond-false (ltb ahead (2 ^ 15)) (near + ahead) ((near + ahead) - 2 ^ 16) (le-ltb ahead (2 ^ 15) p) ∙ e
+    ]
