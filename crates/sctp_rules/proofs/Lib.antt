@@ -24,3 +24,4 @@ pub mod ForgetLemmas
 pub mod QueueLemmas
 pub mod StepLemmas
 pub mod EpochLemmas
+pub mod HandshakeLemmas
