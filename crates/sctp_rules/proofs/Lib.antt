@@ -25,3 +25,5 @@ pub mod QueueLemmas
 pub mod StepLemmas
 pub mod EpochLemmas
 pub mod HandshakeLemmas
+pub mod AgreementLemmas
+pub mod RenamingLemmas
