@@ -5,7 +5,7 @@ use Rattle.sctp_rules.specs.Rules.{Event, Accept, Begin, Number, Close, GiveUp, 
 use Rattle.sctp_rules.specs.Claims.{Grows}
 
 module _ (message : ℕ → Message) (mixed : Bool) where
-  one : (x : Transfer) (e : Event) → Grows x (after message mixed x e)
+  pub one : (x : Transfer) (e : Event) → Grows x (after message mixed x e)
   one x Accept = ([], sym (append-nil x.receiver.places))
   one x (Begin p) = ([], sym (append-nil x.receiver.places))
   one x (Number p b m) = ([], sym (append-nil x.receiver.places))

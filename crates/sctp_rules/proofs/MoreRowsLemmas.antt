@@ -137,7 +137,7 @@ module _ (Key : Type 0) (succ : Key → Key) (message : ℕ → Message) (mixed 
   abbrev chunk_from : Message → ℕ → Fragment → Chunk
   chunk_from m n f = chunk_with mixed m n f.index f.is_end f.payload
 
-  chunk_same : (t : ℕ) → t < count o → chunk_of message mixed o' t ≡ chunk_of message mixed o t
+  pub chunk_same : (t : ℕ) → t < count o → chunk_of message mixed o' t ≡ chunk_of message mixed o t
   chunk_same t h =
       ap (λ f. chunk_from (message f.place) (o'.number f.place) f) (l.same_fragment t h)
       ∙ ap (λ n. chunk_from (message (place_of o t)) n (fragment o t)) (l.number_stays (place_of o t) (out.place_begun t h))

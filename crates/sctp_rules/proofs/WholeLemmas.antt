@@ -1,14 +1,15 @@
 -- Whole rows of the receiver are sequences of the rules, over any key that meets the keys' laws.
-use Rattle.std.proofs.Common.{◌≡◌, ℕ, suc, ◌<◌, Bool, true, false, List, [], ◌∷◌, map, refl, ◌∙◌, subst, sym, ap, ltb}
+use Rattle.std.proofs.Common.{◌≡◌, ℕ, suc, ◌<◌, Bool, true, false, List, [], ◌∷◌, map, refl, ◌∙◌, subst, sym, ap, arith}
 use Rattle.sctp_rules.specs.State.{Message, ForwardPoint, Transfer, fragment, count, IsAmong}
 use Rattle.sctp_rules.specs.Rules.{Event, DataComes, LateComes, Deliver, ForwardComes, Forget, SendSack, Allowed, Ripe, Resettable, Happens, after, run}
-use Rattle.sctp_rules.specs.Reassembly.{Chunk, chunk_of, Queue, ReadyRun, IsLate, Readied, Added, Forwarded, Forgotten, Sees, KeyLaws, MessageKey, own_key, message_key, next_index, never_below}
+use Rattle.sctp_rules.specs.Reassembly.{Chunk, chunk_of, Queue, ReadyRun, IsLate, Readied, Added, Forwarded, Forgotten, Sees, KeyLaws, KeyOf, next_of, key_of, below_of}
 use Rattle.sctp_rules.specs.Kept.{Kept}
-use Rattle.sctp_rules.specs.Joints.{Leads}
+use Rattle.sctp_rules.specs.Joints.{Leads, Shows}
 use Rattle.sctp_rules.proofs.KeepsLemmas.{keeps, all_kept}
 use Rattle.sctp_rules.proofs.KeysLemmas.{own_keys, message_keys}
+use Rattle.sctp_rules.proofs.StepLemmas.{later}
 use Rattle.sctp_rules.proofs.ForgetLemmas.{reset_aligned}
-use Rattle.sctp_rules.proofs.MoreRowsLemmas.{sees_added, sees_forwarded, sees_forgotten, late_below}
+use Rattle.sctp_rules.proofs.MoreRowsLemmas.{sees_added, sees_forwarded, sees_forgotten, late_below, sees_later, chunk_same, message_key_same}
 use Rattle.sctp_rules.proofs.RowsLemmas.{readied, none_ripe}
 
 module _ (message : ℕ → Message) (mixed : Bool) where
@@ -86,8 +87,31 @@ module _ (Key : Type 0) (succ : Key → Key) (message : ℕ → Message) (mixed 
   sack_made c seen none = (seen, none_ripe Key succ message mixed x k key below laws q s none)
 
 -- the laws of both kinds of keys
-pub plain_laws : (message : ℕ → Message) (x : Transfer) → Kept message false x → KeyLaws ℕ suc false x.sender own_key ltb
-plain_laws message x k = own_keys message x.sender k.outgoing k.indexed (k.runs refl)
+pub key_laws : (message : ℕ → Message) (mixed : Bool) (x : Transfer) → Kept message mixed x → KeyLaws (KeyOf mixed) (next_of mixed) mixed x.sender (key_of mixed message x.sender) (below_of mixed)
+key_laws message false x k = own_keys message x.sender k.outgoing k.indexed (k.runs refl)
+key_laws message true x k = message_keys message x.sender k.outgoing k.indexed
 
-pub mixed_laws : (message : ℕ → Message) (x : Transfer) → Kept message true x → KeyLaws MessageKey next_index true x.sender (message_key message x.sender) never_below
-mixed_laws message x k = message_keys message x.sender k.outgoing k.indexed
+-- a fragment's key stays
+pub key_stays : (message : ℕ → Message) (mixed : Bool) (x : Transfer) (e : Event) → Kept message mixed x → Allowed message mixed x e → (t : ℕ) → t < count x.sender
+    → key_of mixed message (after message mixed x e).sender t ≡ key_of mixed message x.sender t
+key_stays message false x e k a t h = refl
+key_stays message true x e k a t h = message_key_same message x.sender (after message true x e).sender k.outgoing (later message true x k e a) t h
+
+-- a sender's step changes nothing that the queue sees
+pub still_sees : (message : ℕ → Message) (mixed : Bool) (x : Transfer) (e : Event) → Kept message mixed x → Allowed message mixed x e → (after message mixed x e).receiver ≡ x.receiver
+    → (q : Queue (KeyOf mixed) (next_of mixed)) → Shows message mixed x q → Shows message mixed (after message mixed x e) q
+still_sees message mixed x e k a same q s =
+    let y = after message mixed x e in
+    let z = sees_later (KeyOf mixed) (next_of mixed) message mixed x.sender y.sender k.outgoing (later message mixed x k e a) x.receiver k.incoming
+    (key_of mixed message x.sender) (key_of mixed message y.sender) (key_stays message mixed x e k a) q s in
+    subst (λ i. Sees (KeyOf mixed) (next_of mixed) message mixed y.sender i (key_of mixed message y.sender) q) (sym same) z
+
+-- a fragment is carried by the same chunk ever after
+pub chunk_stays : (message : ℕ → Message) (mixed : Bool) (x : Transfer) (e : Event) → Kept message mixed x → Allowed message mixed x e → (t : ℕ) → t < count x.sender
+    → (t < count (after message mixed x e).sender) × (fragment (after message mixed x e).sender t ≡ fragment x.sender t)
+    × (chunk_of message mixed (after message mixed x e).sender t ≡ chunk_of message mixed x.sender t)
+chunk_stays message mixed x e k a t h =
+    let y = after message mixed x e in
+    let l = later message mixed x k e a in
+    let c = l.count_grows in
+    (omega (arith, h, c), l.same_fragment t h, chunk_same ℕ suc message mixed x.sender y.sender k.outgoing l x.receiver k.incoming t h)

@@ -2,7 +2,7 @@
 use Rattle.std.specs.Prelude.{◌≡◌, ℕ, suc, Bool, Option, List, zero, [], ◌∷◌, ◌++◌}
 use Rattle.sctp_rules.specs.State.{Message, Sender, Transfer}
 use Rattle.sctp_rules.specs.Rules.{Event, Happens, after, run, Ripe, report}
-use Rattle.sctp_rules.specs.Reassembly.{Queue, Sees}
+use Rattle.sctp_rules.specs.Reassembly.{Queue, Sees, KeyOf, next_of, key_of}
 use Rattle.sctp_rules.specs.Sending.{Waiting, Queued}
 use Rattle.sctp_rules.specs.Kept.{Kept}
 
@@ -14,6 +14,14 @@ pub record Leads (Key : Type 0) (succ : Key → Key) (message : ℕ → Message)
   pub full : (p : ℕ) → Ripe message x.sender (run message mixed x (e ∷ es)).receiver p → ⊥
   pub seen_is : (t : ℕ) → (run message mixed x (e ∷ es)).receiver.seen t ≡ (after message mixed x e).receiver.seen t
   pub rest_stays : run message mixed x (e ∷ es) ≡ record x { receiver = (run message mixed x (e ∷ es)).receiver }
+
+-- the same in either mode, and what the queue shows of x
+module _ (message : ℕ → Message) (mixed : Bool) (x : Transfer) where
+  abbrev pub Shows : Queue (KeyOf mixed) (next_of mixed) → Type 0
+  Shows q = Sees (KeyOf mixed) (next_of mixed) message mixed x.sender x.receiver (key_of mixed message x.sender) q
+
+  abbrev pub LeadsTo : Event → List Event → Queue (KeyOf mixed) (next_of mixed) → Type 0
+  LeadsTo e es r = Leads (KeyOf mixed) (next_of mixed) message mixed (key_of mixed message x.sender) x e es r
 
 -- the sender's events may happen, and lead to the send queue r
 pub record Sends (message : ℕ → Message) (mixed : Bool) (x : Transfer) (es : List Event) (r : ℕ → Option Waiting) : Type 0 where

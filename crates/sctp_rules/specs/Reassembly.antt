@@ -59,6 +59,23 @@ next_index κ = record κ { index = suc κ.index }
 abbrev pub never_below : MessageKey → ℕ → Bool
 never_below κ n = false
 
+-- the keys of either mode, the next key, each fragment's key, and whether a key is one below a TSN
+abbrev pub KeyOf : Bool → Type 0
+KeyOf false = ℕ
+KeyOf true = MessageKey
+
+abbrev pub next_of : (mixed : Bool) → KeyOf mixed → KeyOf mixed
+next_of false = suc
+next_of true = next_index
+
+abbrev pub key_of : (mixed : Bool) → (ℕ → Message) → Sender → ℕ → KeyOf mixed
+key_of false message o = own_key
+key_of true message o = message_key message o
+
+abbrev pub below_of : (mixed : Bool) → KeyOf mixed → ℕ → Bool
+below_of false = nat_lt
+below_of true = never_below
+
 module _ (Key : Type 0) (succ : Key → Key) where
   pub record Queue : Type 0 where
     pub chunks : Key → Option Chunk
@@ -142,3 +159,7 @@ module _ (Key : Type 0) (succ : Key → Key) where
     pub follows : (t u : ℕ) → t < count o → u < count o → (fragment o t).is_end ≡ false → key u ≡ succ (key t) → (place_of o u ≡ place_of o t) × ((fragment o u).index ≡ suc (fragment o t).index)
     pub leads : (t u : ℕ) → t < count o → u < count o → place_of o u ≡ place_of o t → (fragment o u).index ≡ suc (fragment o t).index → key u ≡ succ (key t)
     pub below_is : mixed ≡ false → (t n : ℕ) → below (key t) n ≡ nat_lt t n
+
+-- no run is left to make ready
+abbrev pub IsSettled : (mixed : Bool) → Queue (KeyOf mixed) (next_of mixed) → Type 0
+IsSettled mixed q = (κ : KeyOf mixed) (n : ℕ) (w : ℕ → Chunk) → ReadyRun (KeyOf mixed) (next_of mixed) q κ n w → ⊥
