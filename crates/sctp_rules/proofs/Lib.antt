@@ -27,3 +27,4 @@ pub mod EpochLemmas
 pub mod HandshakeLemmas
 pub mod AgreementLemmas
 pub mod RenamingLemmas
+pub mod PlainRunLemmas

@@ -7,6 +7,7 @@ pub mod handshake;
 pub mod receiver;
 pub mod renaming;
 pub mod resets;
+pub mod runs;
 pub mod sender;
 pub mod transfer;
 pub mod windows;
