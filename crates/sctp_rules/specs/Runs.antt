@@ -1,5 +1,5 @@
 -- One run of each machine, in which something is lost, overtaken and given up.
-use Rattle.std.specs.Prelude.{ℕ, zero, suc, ◌*◌, Bool, true, false, List, [], ◌∷◌}
+use Rattle.std.specs.Prelude.{ℕ, zero, suc, ◌+◌, ◌-◌, ◌*◌, Bool, true, false, List, [], ◌∷◌}
 use Rattle.sctp_rules.specs.State.{Message, ForwardPoint}
 use Rattle.sctp_rules.specs.Rules.{Event, Accept, Begin, Number, Close, GiveUp, DataComes, LateComes, Deliver, SendSack, Leave, SendForward, ForwardComes}
 use Rattle.sctp_rules.specs.Resets.{Request, ResetEvent, Transfers, ResetStream, SendRequest, Perform, Commit}
@@ -70,3 +70,17 @@ openings =
 
 abbrev pub between : ℕ → ℕ → handshake.Association
 between m p = record { mine = drawn m; peer = drawn p }
+
+-- other tags, first TSNs and ties: each 1000 more, and no tie stays no tie
+abbrev pub more : ℕ → ℕ
+more n = n + 1000
+
+abbrev pub other_tsn : ℕ → ℕ → ℕ
+other_tsn tag tsn = tsn + 1000
+
+abbrev pub other_tie : ℕ → ℕ
+other_tie zero = zero
+other_tie (suc n) = suc (n + 1000)
+
+abbrev pub between_others : ℕ → ℕ → handshake.Association
+between_others m p = record { mine = record { tag = m; tsn = (m - 1000) * 10 + 1000 }; peer = record { tag = p; tsn = (p - 1000) * 10 + 1000 } }

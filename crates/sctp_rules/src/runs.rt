@@ -3,9 +3,10 @@
 ghost use Rattle.std.specs.Prelude.{◌≡◌, List, [], ◌∷◌, false, true, ℕ};
 ghost use Rattle.sctp_rules.specs.Handshake as handshake;
 ghost use Rattle.sctp_rules.specs.Handshake.{CookieWait, Connected, Established, NoneTwice, ShutdownAckSent};
+ghost use Rattle.sctp_rules.specs.Renaming.{IsOneToOne, events};
 ghost use Rattle.sctp_rules.specs.Resets.{MayAll, first_epoch, go_all};
 ghost use Rattle.sctp_rules.specs.Rules.{Happens, run};
-ghost use Rattle.sctp_rules.specs.Runs.{alike, between, drawn, openings, plain_run, reset_run, three, woven, woven_run};
+ghost use Rattle.sctp_rules.specs.Runs.{alike, between, between_others, drawn, more, openings, other_tie, other_tsn, plain_run, reset_run, three, woven, woven_run};
 ghost use Rattle.sctp_rules.specs.State.{count, start};
 
 /// DATA: a fragment is lost, two messages overtake its message, which is given up, and a forward point passes it. All of
@@ -43,4 +44,13 @@ pub fn opens_twice()
     ensures connected_b { (handshake.run openings handshake.start).b.connected ≡ between 7 8 ∷ between 6 5 ∷ [] }
     ensures state_a { (handshake.run openings handshake.start).a.state ≡ Connected ShutdownAckSent (between 8 7) 24 }
     ensures state_b { (handshake.run openings handshake.start).b.state ≡ CookieWait (drawn 9) }
+{}
+
+/// The same handshake with other tags, first TSNs and ties: different ones stay different, and the renamed run connects
+/// the renamed ends.
+pub fn opens_twice_renamed()
+    ensures tags { IsOneToOne more }
+    ensures ties { IsOneToOne other_tie }
+    ensures connected_a { (handshake.run (events more other_tsn other_tie openings) handshake.start).a.connected
+        ≡ between_others 1008 1007 ∷ between_others 1005 1006 ∷ [] }
 {}
