@@ -2,7 +2,7 @@
 use Rattle.std.proofs.Common.{◌≡◌, ℕ, Bool, true, false, cond, List, [], ◌∷◌, Option, Some, None, refl, ap, sym, subst, ◌∙◌, ◌⊎◌, inl, inr}
 use Rattle.std.specs.Prelude.{slice_get, ◌==◌, ⊤, not}
 use Rattle.sctp_rules.specs.State.{IsAmong}
-use Rattle.sctp_rules.specs.Handshake.{Draw, Association, Cookie, association_of, Phase, Established, ShutdownPending, ShutdownSent, ShutdownReceived, ShutdownAckSent, State, Closed, CookieWait, CookieEchoed, Connected, Packet, Init, InitAck, CookieEcho, CookieAck, ShutdownAck, Endpoint, holds, emits, connects, init_comes, init_ack_comes, opens, restarts, resolves, establishes, cookie_echo_comes, cookie_ack_comes, closes, shutdown_ack_comes, packet_comes, resends, shuts, Event, Connect, Receive, Resend, Shut, Close, acts, World, start, happens, run, AreDistinct, NoneTwice, AgreesWith, Agreement, TellsWhatItHolds}
+use Rattle.sctp_rules.specs.Handshake.{Draw, Association, Cookie, association_of, Phase, established, shutdown_pending, shutdown_sent, shutdown_received, shutdown_ack_sent, State, closed, cookie_wait, cookie_echoed, connected, Packet, init, init_ack, cookie_echo, cookie_ack, shutdown_ack, Endpoint, holds, emits, connects, init_comes, init_ack_comes, opens, restarts, resolves, establishes, cookie_echo_comes, cookie_ack_comes, closes, shutdown_ack_comes, packet_comes, resends, shuts, Event, connect, receive, resend, shut, close, acts, World, start, happens, run, AreDistinct, NoneTwice, AgreesWith, Agreement, TellsWhatItHolds}
 use Rattle.sctp_rules.proofs.HandshakeLemmas.{Half, half_other, half_agrees, acts_any}
 
 -- one step draws at most one tag, and an OnConnected is of what is then held
@@ -24,41 +24,41 @@ either x v w true f g = f
 either x v w false f g = g
 
 steps_connects : (x : Endpoint) (d : Draw) (s : State) → Steps x (connects x d s)
-steps_connects x d Closed = steps_drawn x _ d refl refl
-steps_connects x d (CookieWait m) = steps_quiet x x refl refl
-steps_connects x d (CookieEchoed a t k) = steps_quiet x x refl refl
-steps_connects x d (Connected phase a t) = steps_quiet x x refl refl
+steps_connects x d closed = steps_drawn x _ d refl refl
+steps_connects x d (cookie_wait m) = steps_quiet x x refl refl
+steps_connects x d (cookie_echoed a t k) = steps_quiet x x refl refl
+steps_connects x d (connected phase a t) = steps_quiet x x refl refl
 
 steps_init : (x : Endpoint) (d : Draw) (s : State) (y : Draw) → Steps x (init_comes x d s y)
-steps_init x d Closed y = steps_drawn x _ d refl refl
-steps_init x d (CookieWait m) y = steps_quiet x _ refl refl
-steps_init x d (CookieEchoed a t k) y = steps_quiet x _ refl refl
-steps_init x d (Connected Established a t) y = steps_drawn x _ d refl refl
-steps_init x d (Connected ShutdownPending a t) y = steps_drawn x _ d refl refl
-steps_init x d (Connected ShutdownSent a t) y = steps_drawn x _ d refl refl
-steps_init x d (Connected ShutdownReceived a t) y = steps_drawn x _ d refl refl
-steps_init x d (Connected ShutdownAckSent a t) y = steps_quiet x _ refl refl
+steps_init x d closed y = steps_drawn x _ d refl refl
+steps_init x d (cookie_wait m) y = steps_quiet x _ refl refl
+steps_init x d (cookie_echoed a t k) y = steps_quiet x _ refl refl
+steps_init x d (connected established a t) y = steps_drawn x _ d refl refl
+steps_init x d (connected shutdown_pending a t) y = steps_drawn x _ d refl refl
+steps_init x d (connected shutdown_sent a t) y = steps_drawn x _ d refl refl
+steps_init x d (connected shutdown_received a t) y = steps_drawn x _ d refl refl
+steps_init x d (connected shutdown_ack_sent a t) y = steps_quiet x _ refl refl
 
 steps_init_ack : (x : Endpoint) (tie : ℕ) (s : State) (v : ℕ) (y : Draw) (c : Cookie) → Steps x (init_ack_comes x tie s v y c)
-steps_init_ack x tie Closed v y c = steps_quiet x x refl refl
-steps_init_ack x tie (CookieEchoed a t k) v y c = steps_quiet x x refl refl
-steps_init_ack x tie (Connected phase a t) v y c = steps_quiet x x refl refl
-steps_init_ack x tie (CookieWait m) v y c =
-    either x (record x { state = CookieEchoed (record { mine = m; peer = y }) tie c; held = record { mine = m; peer = y } ∷ x.held; packets = CookieEcho y.tag c ∷ x.packets }) x (v == m.tag)
+steps_init_ack x tie closed v y c = steps_quiet x x refl refl
+steps_init_ack x tie (cookie_echoed a t k) v y c = steps_quiet x x refl refl
+steps_init_ack x tie (connected phase a t) v y c = steps_quiet x x refl refl
+steps_init_ack x tie (cookie_wait m) v y c =
+    either x (record x { state = cookie_echoed (record { mine = m; peer = y }) tie c; held = record { mine = m; peer = y } ∷ x.held; packets = cookie_echo y.tag c ∷ x.packets }) x (v == m.tag)
     (steps_quiet x _ refl refl) (steps_quiet x x refl refl)
 
 steps_opens : (x : Endpoint) (tie : ℕ) (c : Cookie) → Steps x (opens x tie c)
 steps_opens x tie c = steps_told x (opens x tie c) (association_of c) refl refl refl
 
 steps_restarts : (x : Endpoint) (tie : ℕ) (c : Cookie) (s : State) → Steps x (restarts x tie c s)
-steps_restarts x tie c Closed = steps_opens x tie c
-steps_restarts x tie c (CookieWait m) = steps_opens x tie c
-steps_restarts x tie c (CookieEchoed a t k) = steps_opens x tie c
-steps_restarts x tie c (Connected Established a t) = steps_opens x tie c
-steps_restarts x tie c (Connected ShutdownPending a t) = steps_opens x tie c
-steps_restarts x tie c (Connected ShutdownSent a t) = steps_opens x tie c
-steps_restarts x tie c (Connected ShutdownReceived a t) = steps_opens x tie c
-steps_restarts x tie c (Connected ShutdownAckSent a t) = steps_quiet x _ refl refl
+steps_restarts x tie c closed = steps_opens x tie c
+steps_restarts x tie c (cookie_wait m) = steps_opens x tie c
+steps_restarts x tie c (cookie_echoed a t k) = steps_opens x tie c
+steps_restarts x tie c (connected established a t) = steps_opens x tie c
+steps_restarts x tie c (connected shutdown_pending a t) = steps_opens x tie c
+steps_restarts x tie c (connected shutdown_sent a t) = steps_opens x tie c
+steps_restarts x tie c (connected shutdown_received a t) = steps_opens x tie c
+steps_restarts x tie c (connected shutdown_ack_sent a t) = steps_quiet x _ refl refl
 
 steps_resolves : (x : Endpoint) (tie : ℕ) (c : Cookie) (kept : Endpoint) (v p ties : Bool) → Steps x kept → Steps x (resolves x tie c kept v p ties)
 steps_resolves x tie c kept true true true f = steps_restarts x tie c x.state
@@ -68,63 +68,63 @@ steps_resolves x tie c kept true false r f = steps_quiet x x refl refl
 steps_resolves x tie c kept false false r f = f
 
 steps_echo : (x : Endpoint) (tie : ℕ) (s : State) (v : ℕ) (c : Cookie) → Steps x (cookie_echo_comes x tie s v c)
-steps_echo x tie Closed v c = either x (opens x tie c) x (v == c.mine.tag) (steps_opens x tie c) (steps_quiet x x refl refl)
-steps_echo x tie (CookieWait m) v c = either x (opens x tie c) x (v == c.mine.tag) (steps_opens x tie c) (steps_quiet x x refl refl)
-steps_echo x tie (CookieEchoed a t k) v c =
-    steps_resolves x tie c (emits (establishes x a t) (CookieAck c.peer.tag)) (not (v == a.mine.tag)) (not (c.peer.tag == a.peer.tag)) (c.tie == t) (steps_told x _ a refl refl refl)
-steps_echo x tie (Connected phase a t) v c =
-    steps_resolves x tie c (emits x (CookieAck c.peer.tag)) (not (v == a.mine.tag)) (not (c.peer.tag == a.peer.tag)) (c.tie == t) (steps_quiet x _ refl refl)
+steps_echo x tie closed v c = either x (opens x tie c) x (v == c.mine.tag) (steps_opens x tie c) (steps_quiet x x refl refl)
+steps_echo x tie (cookie_wait m) v c = either x (opens x tie c) x (v == c.mine.tag) (steps_opens x tie c) (steps_quiet x x refl refl)
+steps_echo x tie (cookie_echoed a t k) v c =
+    steps_resolves x tie c (emits (establishes x a t) (cookie_ack c.peer.tag)) (not (v == a.mine.tag)) (not (c.peer.tag == a.peer.tag)) (c.tie == t) (steps_told x _ a refl refl refl)
+steps_echo x tie (connected phase a t) v c =
+    steps_resolves x tie c (emits x (cookie_ack c.peer.tag)) (not (v == a.mine.tag)) (not (c.peer.tag == a.peer.tag)) (c.tie == t) (steps_quiet x _ refl refl)
 
 steps_acked : (x : Endpoint) (s : State) (v : ℕ) → Steps x (cookie_ack_comes x s v)
-steps_acked x Closed v = steps_quiet x x refl refl
-steps_acked x (CookieWait m) v = steps_quiet x x refl refl
-steps_acked x (Connected phase a t) v = steps_quiet x x refl refl
-steps_acked x (CookieEchoed a t k) v = either x (establishes x a t) x (v == a.mine.tag) (steps_told x _ a refl refl refl) (steps_quiet x x refl refl)
+steps_acked x closed v = steps_quiet x x refl refl
+steps_acked x (cookie_wait m) v = steps_quiet x x refl refl
+steps_acked x (connected phase a t) v = steps_quiet x x refl refl
+steps_acked x (cookie_echoed a t k) v = either x (establishes x a t) x (v == a.mine.tag) (steps_told x _ a refl refl refl) (steps_quiet x x refl refl)
 
 steps_shut_ack : (x : Endpoint) (s : State) (v : ℕ) → Steps x (shutdown_ack_comes x s v)
-steps_shut_ack x Closed v = steps_quiet x x refl refl
-steps_shut_ack x (CookieWait m) v = steps_quiet x x refl refl
-steps_shut_ack x (CookieEchoed a t k) v = steps_quiet x x refl refl
-steps_shut_ack x (Connected Established a t) v = steps_quiet x x refl refl
-steps_shut_ack x (Connected ShutdownPending a t) v = steps_quiet x x refl refl
-steps_shut_ack x (Connected ShutdownSent a t) v = either x (closes x) x (v == a.mine.tag) (steps_quiet x _ refl refl) (steps_quiet x x refl refl)
-steps_shut_ack x (Connected ShutdownReceived a t) v = steps_quiet x x refl refl
-steps_shut_ack x (Connected ShutdownAckSent a t) v = either x (closes x) x (v == a.mine.tag) (steps_quiet x _ refl refl) (steps_quiet x x refl refl)
+steps_shut_ack x closed v = steps_quiet x x refl refl
+steps_shut_ack x (cookie_wait m) v = steps_quiet x x refl refl
+steps_shut_ack x (cookie_echoed a t k) v = steps_quiet x x refl refl
+steps_shut_ack x (connected established a t) v = steps_quiet x x refl refl
+steps_shut_ack x (connected shutdown_pending a t) v = steps_quiet x x refl refl
+steps_shut_ack x (connected shutdown_sent a t) v = either x (closes x) x (v == a.mine.tag) (steps_quiet x _ refl refl) (steps_quiet x x refl refl)
+steps_shut_ack x (connected shutdown_received a t) v = steps_quiet x x refl refl
+steps_shut_ack x (connected shutdown_ack_sent a t) v = either x (closes x) x (v == a.mine.tag) (steps_quiet x _ refl refl) (steps_quiet x x refl refl)
 
 steps_packet : (x : Endpoint) (d : Draw) (tie : ℕ) (o : Option Packet) → Steps x (packet_comes x d tie o)
 steps_packet x d tie None = steps_quiet x x refl refl
-steps_packet x d tie (Some (Init y)) = steps_init x d x.state y
-steps_packet x d tie (Some (InitAck v y c)) = steps_init_ack x tie x.state v y c
-steps_packet x d tie (Some (CookieEcho v c)) = steps_echo x tie x.state v c
-steps_packet x d tie (Some (CookieAck v)) = steps_acked x x.state v
-steps_packet x d tie (Some (ShutdownAck v)) = steps_shut_ack x x.state v
+steps_packet x d tie (Some (init y)) = steps_init x d x.state y
+steps_packet x d tie (Some (init_ack v y c)) = steps_init_ack x tie x.state v y c
+steps_packet x d tie (Some (cookie_echo v c)) = steps_echo x tie x.state v c
+steps_packet x d tie (Some (cookie_ack v)) = steps_acked x x.state v
+steps_packet x d tie (Some (shutdown_ack v)) = steps_shut_ack x x.state v
 
 steps_resends : (x : Endpoint) (s : State) → Steps x (resends x s)
-steps_resends x Closed = steps_quiet x x refl refl
-steps_resends x (CookieWait m) = steps_quiet x _ refl refl
-steps_resends x (CookieEchoed a t k) = steps_quiet x _ refl refl
-steps_resends x (Connected phase a t) = steps_quiet x x refl refl
+steps_resends x closed = steps_quiet x x refl refl
+steps_resends x (cookie_wait m) = steps_quiet x _ refl refl
+steps_resends x (cookie_echoed a t k) = steps_quiet x _ refl refl
+steps_resends x (connected phase a t) = steps_quiet x x refl refl
 
 steps_shuts : (x : Endpoint) (phase : Phase) (s : State) → Steps x (shuts x phase s)
-steps_shuts x phase Closed = steps_quiet x x refl refl
-steps_shuts x phase (CookieWait m) = steps_quiet x _ refl refl
-steps_shuts x Established (CookieEchoed a t k) = steps_quiet x x refl refl
-steps_shuts x Established (Connected old a t) = steps_quiet x x refl refl
-steps_shuts x ShutdownPending (CookieEchoed a t k) = steps_quiet x _ refl refl
-steps_shuts x ShutdownPending (Connected old a t) = steps_quiet x _ refl refl
-steps_shuts x ShutdownSent (CookieEchoed a t k) = steps_quiet x _ refl refl
-steps_shuts x ShutdownSent (Connected old a t) = steps_quiet x _ refl refl
-steps_shuts x ShutdownReceived (CookieEchoed a t k) = steps_quiet x _ refl refl
-steps_shuts x ShutdownReceived (Connected old a t) = steps_quiet x _ refl refl
-steps_shuts x ShutdownAckSent (CookieEchoed a t k) = steps_quiet x _ refl refl
-steps_shuts x ShutdownAckSent (Connected old a t) = steps_quiet x _ refl refl
+steps_shuts x phase closed = steps_quiet x x refl refl
+steps_shuts x phase (cookie_wait m) = steps_quiet x _ refl refl
+steps_shuts x established (cookie_echoed a t k) = steps_quiet x x refl refl
+steps_shuts x established (connected old a t) = steps_quiet x x refl refl
+steps_shuts x shutdown_pending (cookie_echoed a t k) = steps_quiet x _ refl refl
+steps_shuts x shutdown_pending (connected old a t) = steps_quiet x _ refl refl
+steps_shuts x shutdown_sent (cookie_echoed a t k) = steps_quiet x _ refl refl
+steps_shuts x shutdown_sent (connected old a t) = steps_quiet x _ refl refl
+steps_shuts x shutdown_received (cookie_echoed a t k) = steps_quiet x _ refl refl
+steps_shuts x shutdown_received (connected old a t) = steps_quiet x _ refl refl
+steps_shuts x shutdown_ack_sent (cookie_echoed a t k) = steps_quiet x _ refl refl
+steps_shuts x shutdown_ack_sent (connected old a t) = steps_quiet x _ refl refl
 
 steps_any : (x : Endpoint) (ps : List Packet) (e : Event) → Steps x (acts x ps e)
-steps_any x ps (Connect d) = steps_connects x d x.state
-steps_any x ps (Receive k d tie) = steps_packet x d tie (slice_get ps k)
-steps_any x ps Resend = steps_resends x x.state
-steps_any x ps (Shut phase) = steps_shuts x phase x.state
-steps_any x ps Close = steps_quiet x _ refl refl
+steps_any x ps (connect d) = steps_connects x d x.state
+steps_any x ps (receive k d tie) = steps_packet x d tie (slice_get ps k)
+steps_any x ps resend = steps_resends x x.state
+steps_any x ps (shut phase) = steps_shuts x phase x.state
+steps_any x ps close = steps_quiet x _ refl refl
 
 pub tells : (x : Endpoint) (ps : List Packet) (e : Event) → TellsWhatItHolds x (acts x ps e)
 tells x ps e = (steps_any x ps e).tells

@@ -2,13 +2,13 @@
 use Rattle.std.proofs.Common.{◌≡◌, ◌≢◌, ℕ, suc, ◌<◌, ◌≤◌, Bool, true, false, cond, ◌&&◌, inl, inr, refl, sym, ap, ◌∙◌, subst, arith, eqb}
 use Rattle.std.proofs.lemmas.Bool.{cases_lt, cases_Bool, eq-eqb, eqb-true, and_from, and_parts, cond-true, cond-false}
 use Rattle.sctp_rules.specs.State.{Message, Sender, fragment, place_of, count, ordered_of, stream_of}
-use Rattle.sctp_rules.specs.Rules.{Settled, Waits, begins, same}
+use Rattle.sctp_rules.specs.Rules.{IsSettled, Waits, begins, same}
 use Rattle.sctp_rules.specs.Kept.{Outgoing, InRuns}
 use Rattle.sctp_rules.proofs.ToolsLemmas.{put_at, put_off, put_true, put_keeps, not_both, same_is, same_self}
 use Rattle.sctp_rules.proofs.LaterLemmas.{Later}
 
 module _ (message : ℕ → Message) (mixed : Bool) (o : Sender) (i : Outgoing message o) (p : ℕ) (w : Waits o p)
-    (first : (q : ℕ) → q < p → stream_of message q ≡ stream_of message p → Settled o q) where
+    (first : (q : ℕ) → q < p → stream_of message q ≡ stream_of message p → IsSettled o q) where
   abbrev new : Sender
   new = begins message o p
 
@@ -21,10 +21,10 @@ module _ (message : ℕ → Message) (mixed : Bool) (o : Sender) (i : Outgoing m
   pub number_at : (q : ℕ) → q ≡ p → new.number q ≡ o.counts (ordered_of message p) (stream_of message p)
   number_at q e = put_at o.number p (o.counts (ordered_of message p) (stream_of message p)) q e
 
-  pub unsettled : Settled o p → ⊥
+  pub unsettled : IsSettled o p → ⊥
   unsettled x = elim x.gone [ inl b ↦ not_both b w.not_begun | inr g ↦ not_both g w.not_given ]
 
-  pub moved : (q : ℕ) → q ≢ p → Settled o q → Settled new q
+  pub moved : (q : ℕ) → q ≢ p → IsSettled o q → IsSettled new q
   moved q d x = record {
     not_partly = put_off o.partly p true q d ∙ x.not_partly;
     gone = elim x.gone [ inl b ↦ inl (put_keeps o.begun p q b) | inr g ↦ inr g ];
@@ -43,11 +43,11 @@ module _ (message : ℕ → Message) (mixed : Bool) (o : Sender) (i : Outgoing m
   partly_begun : (q : ℕ) → new.partly q ≡ true → new.begun q ≡ true
   partly_begun q b = elim (put_true o.partly p q b) [ inl e ↦ put_at o.begun p true q e | inr h ↦ put_keeps o.begun p q (i.partly_begun q h) ]
 
-  settled : (a q : ℕ) → new.begun a ≡ true → q < a → stream_of message q ≡ stream_of message a → Settled new q
+  settled : (a q : ℕ) → new.begun a ≡ true → q < a → stream_of message q ≡ stream_of message a → IsSettled new q
   settled a q b l s =
       elim (put_true o.begun p a b) [
         | inl e ↦ let lt : q < p = omega (arith, e, l) in let d : q ≢ p = omega (arith, lt) in moved q d (first q lt (s ∙ ap (stream_of message) e))
-        | inr h ↦ moved q (λ e. unsettled (subst (λ n. Settled o n) e (i.settled a q h l s))) (i.settled a q h l s)
+        | inr h ↦ moved q (λ e. unsettled (subst (λ n. IsSettled o n) e (i.settled a q h l s))) (i.settled a q h l s)
       ]
 
   rises : (a b : ℕ) → new.begun a ≡ true → new.begun b ≡ true → ordered_of message a ≡ ordered_of message b → stream_of message a ≡ stream_of message b → a < b → new.number a < new.number b
@@ -56,7 +56,7 @@ module _ (message : ℕ → Message) (mixed : Bool) (o : Sender) (i : Outgoing m
         | inl e ↦
             elim (put_true o.begun p b bb) [
               | inl f ↦ absurd (omega (arith, e, f, l))
-              | inr h ↦ absurd (unsettled (subst (λ n. Settled o n) e (i.settled b a h l s)))
+              | inr h ↦ absurd (unsettled (subst (λ n. IsSettled o n) e (i.settled b a h l s)))
             ]
         | inr g ↦
             elim (put_true o.begun p b bb) [

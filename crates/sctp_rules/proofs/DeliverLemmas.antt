@@ -3,9 +3,9 @@ use Rattle.std.proofs.Common.{◌≡◌, ◌≢◌, ℕ, suc, ◌<◌, ◌≤◌
 use Rattle.std.proofs.lemmas.Bool.{cases_eq, cases_order, cases_Bool, eq-eqb, eqb-true, and_from, and_parts, and_cases, and_left, and_right, cond-true, cond-false, not-false, not_from_true, false_from_ne_true}
 use Rattle.std.proofs.lemmas.List.{map_push}
 use Rattle.sctp_rules.specs.State.{Message, Sender, Receiver, ReadyMessage, place_of, count, has, gathered, ordered_of, stream_of}
-use Rattle.sctp_rules.specs.Rules.{Ripe, delivers}
+use Rattle.sctp_rules.specs.Rules.{IsRipe, delivers}
 use Rattle.sctp_rules.specs.Claims.{ready_message}
-use Rattle.sctp_rules.specs.Kept.{Outgoing, Incoming, Done, Apart}
+use Rattle.sctp_rules.specs.Kept.{Outgoing, Incoming, IsDone, Apart}
 use Rattle.sctp_rules.proofs.ToolsLemmas.{not_both, has_push, has_keeps, has_last, has_at, pairs_push}
 use Rattle.sctp_rules.proofs.LaterLemmas.{Onward}
 
@@ -27,7 +27,7 @@ module _ (message : ℕ → Message) (o : Sender) (out : Outgoing message o) whe
         | inr (inr g) ↦ let r = out.rises q p bq bp (sym k) (sym s) g in absurd (omega (arith, n, r))
       ]
 
-module _ (message : ℕ → Message) (mixed : Bool) (o : Sender) (out : Outgoing message o) (i : Receiver) (inc : Incoming message o i) (p : ℕ) (ripe : Ripe message o i p) where
+module _ (message : ℕ → Message) (mixed : Bool) (o : Sender) (out : Outgoing message o) (i : Receiver) (inc : Incoming message o i) (p : ℕ) (ripe : IsRipe message o i p) where
   abbrev new : Receiver
   new = delivers message o i p
 
@@ -67,7 +67,7 @@ module _ (message : ℕ → Message) (mixed : Bool) (o : Sender) (out : Outgoing
   old_ready : (q : ℕ) → has q i.places ≡ true → has q new.places ≡ true
   old_ready q h = has_keeps q i.places (p ∷ []) h
 
-  done_up : (q : ℕ) → Done o i q → Done o new q
+  done_up : (q : ℕ) → IsDone o i q → IsDone o new q
   done_up q d = elim d [ inl r ↦ inl (old_ready q r) | inr g ↦ inr g ]
 
   passed : (t : ℕ) → i.seen t ≡ true → new.held t ≡ false → (has (place_of o t) new.places ≡ true) ⊎ ((o.given_up (place_of o t) ≡ true) × (ordered_of message (place_of o t) ≡ true → o.number (place_of o t) < new.next (stream_of message (place_of o t))))
@@ -83,7 +83,7 @@ module _ (message : ℕ → Message) (mixed : Bool) (o : Sender) (out : Outgoing
             inl (subst (λ z. has z new.places ≡ true) (sym e) (has_last p i.places))
       ]
 
-  below_next : (q : ℕ) → o.begun q ≡ true → ordered_of message q ≡ true → o.number q < new.next (stream_of message q) → Done o new q
+  below_next : (q : ℕ) → o.begun q ≡ true → ordered_of message q ≡ true → o.number q < new.next (stream_of message q) → IsDone o new q
   below_next q b k n =
       elim (cases_Bool (ordered_of message p && eqb (stream_of message q) (stream_of message p))) [
         | inr h ↦ done_up q (inc.below_next q b k (subst (λ z. o.number q < z) (off_stream (stream_of message q) h) n))

@@ -2,8 +2,8 @@
 use Rattle.std.proofs.Common.{◌≡◌, ℕ, zero, suc, ◌+◌, ◌-◌, ◌<◌, ◌≤◌, Bool, true, false, ◌⊎◌, inl, inr, refl, sym, ap, ◌∙◌, subst, arith}
 use Rattle.std.proofs.lemmas.Bool.{cases_lt, cases_eq, cases_Bool, or_left}
 use Rattle.sctp_rules.specs.State.{Message, ForwardPoint, Sender, Receiver, fragment, place_of, count, ordered_of, stream_of}
-use Rattle.sctp_rules.specs.Rules.{Due, covers}
-use Rattle.sctp_rules.specs.Kept.{Outgoing, InRuns, Done, SackTrue, ForwardTrue}
+use Rattle.sctp_rules.specs.Rules.{IsDue, covers}
+use Rattle.sctp_rules.specs.Kept.{Outgoing, InRuns, IsDone, SackTrue, ForwardTrue}
 use Rattle.sctp_rules.proofs.DeliverLemmas.{one_place, lower_place}
 use Rattle.sctp_rules.proofs.SackLemmas.{end_before}
 
@@ -25,8 +25,8 @@ module _ (message : ℕ → Message) (o : Sender) (r : InRuns message o) (t : �
       ]
 
 module _ (message : ℕ → Message) (mixed : Bool) (o : Sender) (out : Outgoing message o) (i : Receiver) (runs : mixed ≡ false → InRuns message o)
-    (left : ℕ) (lt : SackTrue message o i left) (f : ForwardPoint) (due : Due message mixed o left f) where
-  named_done : (p : ℕ) → o.begun p ≡ true → covers f.entries (ordered_of message p) (stream_of message p) (o.number p) ≡ true → Done o i p
+    (left : ℕ) (lt : SackTrue message o i left) (f : ForwardPoint) (due : IsDue message mixed o left f) where
+  named_done : (p : ℕ) → o.begun p ≡ true → covers f.entries (ordered_of message p) (stream_of message p) (o.number p) ≡ true → IsDone o i p
   named_done p b c =
       let x = due.sound (ordered_of message p) (stream_of message p) (o.number p) c in
       let q = place_of o x.0 in
@@ -41,12 +41,12 @@ module _ (message : ℕ → Message) (mixed : Bool) (o : Sender) (out : Outgoing
             let l = lower_place message o out p q b bq (sym x.3) (sym x.4) (omega (arith, le, d)) in
             let y = end_before message o out p q x.0 b l (sym x.4) h refl in
             elim (cases_lt y.0 left) [
-              | inl a ↦ subst (λ z. Done o i z) y.2 (lt.done y.0 a y.3)
+              | inl a ↦ subst (λ z. IsDone o i z) y.2 (lt.done y.0 a y.3)
               | inr g ↦ let yl = y.1 in inr (sym (ap o.given_up y.2) ∙ due.all_given y.0 g (omega (arith, yl, up)))
             ]
       ]
 
-  unordered_done : mixed ≡ false → (t : ℕ) → t < f.upto → ordered_of message (place_of o t) ≡ false → Done o i (place_of o t)
+  unordered_done : mixed ≡ false → (t : ℕ) → t < f.upto → ordered_of message (place_of o t) ≡ false → IsDone o i (place_of o t)
   unordered_done m t h k =
       elim (cases_lt t left) [
         | inr g ↦ inr (due.all_given t g h)
@@ -55,7 +55,7 @@ module _ (message : ℕ → Message) (mixed : Bool) (o : Sender) (out : Outgoing
             let a = due.ahead in
             let w = due.within in
             elim (goes_on message o (runs m) t (left - t) (omega (arith, e, a, w))) [
-              | inl x ↦ let xl = x.1 in subst (λ z. Done o i z) x.2 (lt.done x.0 (omega (arith, xl, e)) x.3)
+              | inl x ↦ let xl = x.1 in subst (λ z. IsDone o i z) x.2 (lt.done x.0 (omega (arith, xl, e)) x.3)
               | inr y ↦
                   let z = sym (ap (place_of o) e) ∙ y in
                   inr (sym (ap o.given_up z) ∙ due.all_given left (omega arith) a)

@@ -2,9 +2,9 @@
 use Rattle.std.proofs.Common.{◌≡◌, ◌≢◌, ℕ, suc, ◌<◌, ◌≤◌, Bool, true, false, ◌⊎◌, inl, inr, List, [], ◌∷◌, refl, sym, ap, ◌∙◌, subst, arith}
 use Rattle.std.proofs.lemmas.Bool.{cases_lt, cases_eq}
 use Rattle.sctp_rules.specs.State.{Message, Transfer, IsAmong, put, count, place_of, fragment, stream_of}
-use Rattle.sctp_rules.specs.Rules.{Event, Accept, Begin, Number, Close, GiveUp, DataComes, LateComes, Deliver, SendSack, Leave, SendForward, ForwardComes, Forget, Settled, Resettable, Ripe, Allowed, after}
+use Rattle.sctp_rules.specs.Rules.{Event, accept, begin, number, close, give_up, data_comes, late_comes, deliver, send_sack, leave, send_forward, forward_comes, forget, IsSettled, IsResettable, IsRipe, IsAllowed, after}
 use Rattle.sctp_rules.specs.Kept.{Kept}
-use Rattle.sctp_rules.specs.Resets.{Request, Epochs, ResetEvent, Transfers, ResetStream, SendRequest, Perform, Commit, first_epoch, InEpoch, MayReset, epochs_after, goes, MayAll, go_all, RequestTrue, InOrder, EachInItsEpoch}
+use Rattle.sctp_rules.specs.Resets.{Request, Epochs, ResetEvent, transfers, reset_stream, send_request, perform, commit, first_epoch, InEpoch, MayReset, epochs_after, goes, MayAll, go_all, RequestTrue, InOrder, EachInItsEpoch}
 use Rattle.sctp_rules.proofs.ToolsLemmas.{put_at, put_off, put_true, not_both}
 use Rattle.sctp_rules.proofs.KeepsLemmas.{keeps, at_start}
 use Rattle.sctp_rules.proofs.BeginLemmas.{unsettled}
@@ -16,12 +16,12 @@ module _ (message : ℕ → Message) (mixed : Bool) (x : Epochs) (k : InOrder me
   st p = stream_of message p
 
   -- a rule of the transfer, where new places and newly begun messages keep the order
-  module _ (e : Event) (a : Allowed message mixed x.transfer e) (epoch : ℕ → ℕ)
+  module _ (e : Event) (a : IsAllowed message mixed x.transfer e) (epoch : ℕ → ℕ)
       (grows : x.transfer.sender.accepted ≤ (after message mixed x.transfer e).sender.accepted)
       (same : (p : ℕ) → p < x.transfer.sender.accepted → epoch p ≡ x.epoch p)
       (new : (p : ℕ) → p < (after message mixed x.transfer e).sender.accepted → (p < x.transfer.sender.accepted) ⊎ (epoch p ≡ x.raised (st p)))
       (begins : (p : ℕ) → (after message mixed x.transfer e).sender.begun p ≡ true
-          → (x.transfer.sender.begun p ≡ true) ⊎ ((epoch p ≤ x.opened (st p)) × (p < x.transfer.sender.accepted) × (Settled x.transfer.sender p → ⊥))) where
+          → (x.transfer.sender.begun p ≡ true) ⊎ ((epoch p ≤ x.opened (st p)) × (p < x.transfer.sender.accepted) × (IsSettled x.transfer.sender p → ⊥))) where
     abbrev y : Epochs
     y = record x { transfer = after message mixed x.transfer e; epoch = epoch }
 
@@ -89,43 +89,43 @@ module _ (message : ℕ → Message) (mixed : Bool) (x : Epochs) (k : InOrder me
     }
 
   -- a rule that accepts nothing and begins nothing
-  plain : (e : Event) (a : Allowed message mixed x.transfer e) → (after message mixed x.transfer e).sender.accepted ≡ x.transfer.sender.accepted
+  plain : (e : Event) (a : IsAllowed message mixed x.transfer e) → (after message mixed x.transfer e).sender.accepted ≡ x.transfer.sender.accepted
       → ((p : ℕ) → (after message mixed x.transfer e).sender.begun p ≡ x.transfer.sender.begun p)
       → InOrder message mixed (record x { transfer = after message mixed x.transfer e })
   plain e a n b =
       moves e a x.epoch (omega (arith, n)) (λ p h. refl) (λ p h. inl (subst (λ z. p < z) n h)) (λ p h. inl (sym (b p) ∙ h))
 
-  transfers : (e : Event) → Allowed message mixed x.transfer e → InEpoch message mixed x e → InOrder message mixed (goes message mixed x (Transfers e))
-  transfers Accept a i =
+  transfer_rule : (e : Event) → IsAllowed message mixed x.transfer e → InEpoch message mixed x e → InOrder message mixed (goes message mixed x (transfers e))
+  transfer_rule accept a i =
       let n = x.transfer.sender.accepted in
-      moves Accept a (put x.epoch n (x.raised (st n))) (omega arith)
+      moves accept a (put x.epoch n (x.raised (st n))) (omega arith)
       (λ p h. put_off x.epoch n (x.raised (st n)) p (omega (arith, h)))
       (λ p h. elim (cases_eq p n) [
         | inl q ↦ inr (put_at x.epoch n (x.raised (st n)) p q ∙ ap (λ z. x.raised (st z)) (sym q))
         | inr d ↦ inl (omega (arith, h, d))
       ])
       (λ p b. inl b)
-  transfers (Begin p) a i =
-      moves (Begin p) a x.epoch (omega arith) (λ q h. refl) (λ q h. inl h)
+  transfer_rule (begin p) a i =
+      moves (begin p) a x.epoch (omega arith) (λ q h. refl) (λ q h. inl h)
       (λ q b. elim (put_true x.transfer.sender.begun p q b) [
-        | inl f ↦ inr (subst (λ z. (x.epoch z ≤ x.opened (st z)) × (z < x.transfer.sender.accepted) × (Settled x.transfer.sender z → ⊥)) (sym f)
+        | inl f ↦ inr (subst (λ z. (x.epoch z ≤ x.opened (st z)) × (z < x.transfer.sender.accepted) × (IsSettled x.transfer.sender z → ⊥)) (sym f)
             (i, a.0.below, unsettled message mixed x.transfer.sender k.kept.outgoing p a.0 a.1))
         | inr o ↦ inl o
       ])
-  transfers (Number p bytes more) a i = plain (Number p bytes more) a refl (λ q. refl)
-  transfers (Close p) a i = plain (Close p) a refl (λ q. refl)
-  transfers (GiveUp p) a i = plain (GiveUp p) a refl (λ q. refl)
-  transfers (DataComes t) a i = plain (DataComes t) a refl (λ q. refl)
-  transfers (LateComes t) a i = plain (LateComes t) a refl (λ q. refl)
-  transfers (Deliver p) a i = plain (Deliver p) a refl (λ q. refl)
-  transfers (SendSack c) a i = plain (SendSack c) a refl (λ q. refl)
-  transfers (Leave c) a i = plain (Leave c) a refl (λ q. refl)
-  transfers (SendForward f) a i = plain (SendForward f) a refl (λ q. refl)
-  transfers (ForwardComes f) a i = plain (ForwardComes f) a refl (λ q. refl)
-  transfers (Forget s c) a i = absurd i
+  transfer_rule (number p bytes more) a i = plain (number p bytes more) a refl (λ q. refl)
+  transfer_rule (close p) a i = plain (close p) a refl (λ q. refl)
+  transfer_rule (give_up p) a i = plain (give_up p) a refl (λ q. refl)
+  transfer_rule (data_comes t) a i = plain (data_comes t) a refl (λ q. refl)
+  transfer_rule (late_comes t) a i = plain (late_comes t) a refl (λ q. refl)
+  transfer_rule (deliver p) a i = plain (deliver p) a refl (λ q. refl)
+  transfer_rule (send_sack c) a i = plain (send_sack c) a refl (λ q. refl)
+  transfer_rule (leave c) a i = plain (leave c) a refl (λ q. refl)
+  transfer_rule (send_forward f) a i = plain (send_forward f) a refl (λ q. refl)
+  transfer_rule (forward_comes f) a i = plain (forward_comes f) a refl (λ q. refl)
+  transfer_rule (forget s c) a i = absurd i
 
   -- all that the receiver's side of a reset asks
-  resettable : (r : Request) → MayReset message mixed x (Perform r) → Resettable message x.transfer.sender x.transfer.receiver r.stream r.upto
+  resettable : (r : Request) → MayReset message mixed x (perform r) → IsResettable message x.transfer.sender x.transfer.receiver r.stream r.upto
   resettable r a =
       let asked = k.asked r a.0 in
       let next = a.1 in
@@ -147,10 +147,10 @@ module _ (message : ℕ → Message) (mixed : Bool) (x : Epochs) (k : InOrder me
           let h = subst (λ z. x.epoch p ≤ x.opened z) s (k.begun p b) in
           absurd (not_both e ((k.asked r a.0).settled p (k.kept.outgoing.begun_below p b) s (omega (arith, c, h, next))).not_partly)
 
-  performs : (r : Request) → MayReset message mixed x (Perform r) → InOrder message mixed (goes message mixed x (Perform r))
+  performs : (r : Request) → MayReset message mixed x (perform r) → InOrder message mixed (goes message mixed x (perform r))
   performs r a =
       let ok = resettable r a in
-      let z = plain (Forget r.stream r.upto) ok refl (λ q. refl) in
+      let z = plain (forget r.stream r.upto) ok refl (λ q. refl) in
       let next = a.1 in
       record {
         kept = z.kept;
@@ -191,7 +191,7 @@ module _ (message : ℕ → Message) (mixed : Bool) (x : Epochs) (k : InOrder me
             ];
       }
 
-  resets : (s : ℕ) → MayReset message mixed x (ResetStream s) → InOrder message mixed (goes message mixed x (ResetStream s))
+  resets : (s : ℕ) → MayReset message mixed x (reset_stream s) → InOrder message mixed (goes message mixed x (reset_stream s))
   resets s a =
       let up : ((b : ℕ) → x.raised b ≤ put x.raised s (suc (x.raised s)) b) =
       (λ b. elim (cases_eq b s) [
@@ -220,7 +220,7 @@ module _ (message : ℕ → Message) (mixed : Bool) (x : Epochs) (k : InOrder me
         over = k.over;
       }
 
-  requests : (s : ℕ) → MayReset message mixed x (SendRequest s) → InOrder message mixed (goes message mixed x (SendRequest s))
+  requests : (s : ℕ) → MayReset message mixed x (send_request s) → InOrder message mixed (goes message mixed x (send_request s))
   requests s a = record {
     kept = k.kept;
     chain = k.chain;
@@ -228,7 +228,7 @@ module _ (message : ℕ → Message) (mixed : Bool) (x : Epochs) (k : InOrder me
     begun = k.begun;
     asked = λ r m.
         elim m [
-          | inl e ↦ subst (λ z. RequestTrue message mixed (goes message mixed x (SendRequest s)) z) (sym e)
+          | inl e ↦ subst (λ z. RequestTrue message mixed (goes message mixed x (send_request s)) z) (sym e)
               (record { begins = omega arith; settled = a.1; below = λ t h q b. h })
           | inr o ↦ let y = k.asked r o in record { begins = y.begins; settled = y.settled; below = y.below }
         ];
@@ -236,7 +236,7 @@ module _ (message : ℕ → Message) (mixed : Bool) (x : Epochs) (k : InOrder me
     over = k.over;
   }
 
-  commits : (s : ℕ) → MayReset message mixed x (Commit s) → InOrder message mixed (goes message mixed x (Commit s))
+  commits : (s : ℕ) → MayReset message mixed x (commit s) → InOrder message mixed (goes message mixed x (commit s))
   commits s a = record {
     kept = k.kept;
     chain = λ b.
@@ -268,11 +268,11 @@ module _ (message : ℕ → Message) (mixed : Bool) (x : Epochs) (k : InOrder me
   }
 
   pub keeps_order : (e : ResetEvent) → MayReset message mixed x e → InOrder message mixed (goes message mixed x e)
-  keeps_order (Transfers e) a = transfers e a.0 a.1
-  keeps_order (ResetStream s) a = resets s a
-  keeps_order (SendRequest s) a = requests s a
-  keeps_order (Perform r) a = performs r a
-  keeps_order (Commit s) a = commits s a
+  keeps_order (transfers e) a = transfer_rule e a.0 a.1
+  keeps_order (reset_stream s) a = resets s a
+  keeps_order (send_request s) a = requests s a
+  keeps_order (perform r) a = performs r a
+  keeps_order (commit s) a = commits s a
 
   pub in_its_epoch : EachInItsEpoch message mixed x
   in_its_epoch p ripe =

@@ -2,14 +2,14 @@
 use Rattle.std.proofs.Common.{◌≡◌, ℕ, ◌<◌, ◌≤◌, Bool, true, false, not, ◌⊎◌, inl, inr, refl, sym, ap, ◌∙◌, subst, arith, eqb}
 use Rattle.std.proofs.lemmas.Bool.{cases_lt, cases_eq, cases_Bool, and_parts, and_left, and_right, and_cases, eqb-true, eq-eqb, not-false, not_from_true}
 use Rattle.sctp_rules.specs.State.{Message, Sender, Receiver, fragment, place_of, count, has, stream_of, ordered_of}
-use Rattle.sctp_rules.specs.Rules.{Resettable, forgets}
-use Rattle.sctp_rules.specs.Kept.{Outgoing, Incoming, Done, Passed, SackTrue}
+use Rattle.sctp_rules.specs.Rules.{IsResettable, forgets}
+use Rattle.sctp_rules.specs.Kept.{Outgoing, Incoming, IsDone, IsPassed, SackTrue}
 use Rattle.sctp_rules.proofs.ToolsLemmas.{put_at, put_off, not_both}
 use Rattle.sctp_rules.proofs.SackLemmas.{sack_true}
 use Rattle.sctp_rules.proofs.LaterLemmas.{Onward}
 
 module _ (message : ℕ → Message) (mixed : Bool) (o : Sender) (out : Outgoing message o) (i : Receiver) (inc : Incoming message o i)
-    (s c : ℕ) (r : Resettable message o i s c) where
+    (s c : ℕ) (r : IsResettable message o i s c) where
   truth : SackTrue message o i c
   truth = sack_true message mixed o out i inc c r.all_seen r.none_ripe
 
@@ -35,15 +35,15 @@ module _ (message : ℕ → Message) (mixed : Bool) (o : Sender) (out : Outgoing
       ]
 
   -- each of its numbered messages is ready or given up
-  pub reset_done : (p : ℕ) → o.begun p ≡ true → stream_of message p ≡ s → Done o i p
+  pub reset_done : (p : ℕ) → o.begun p ≡ true → stream_of message p ≡ s → IsDone o i p
   reset_done p b e =
       let z = end_at p b e in
-      subst (λ y. Done o i y) z.2 (truth.done z.0 z.1 z.3)
+      subst (λ y. IsDone o i y) z.2 (truth.done z.0 z.1 z.3)
 
   abbrev new : Receiver
   new = forgets message o i s
 
-  passed_at : (t : ℕ) → t < count o → stream_of message (place_of o t) ≡ s → (has (place_of o t) i.places ≡ true) ⊎ Passed message o i (place_of o t)
+  passed_at : (t : ℕ) → t < count o → stream_of message (place_of o t) ≡ s → (has (place_of o t) i.places ≡ true) ⊎ IsPassed message o i (place_of o t)
   passed_at t h e =
       let b = out.place_begun t h in
       elim (reset_done (place_of o t) b e) [
@@ -53,14 +53,14 @@ module _ (message : ℕ → Message) (mixed : Bool) (o : Sender) (out : Outgoing
             inr (g, λ k. subst (λ y. o.number y < i.next (stream_of message y)) z.2 (truth.behind z.0 z.1 z.3 (ap (ordered_of message) z.2 ∙ k)))
       ]
 
-  passed : (t : ℕ) → i.seen t ≡ true → new.held t ≡ false → (has (place_of o t) i.places ≡ true) ⊎ Passed message o i (place_of o t)
+  passed : (t : ℕ) → i.seen t ≡ true → new.held t ≡ false → (has (place_of o t) i.places ≡ true) ⊎ IsPassed message o i (place_of o t)
   passed t y h =
       elim (and_cases (i.held t) (not (eqb (stream_of message (place_of o t)) s)) h) [
         | inl a ↦ inc.passed t y a
         | inr b ↦ passed_at t (inc.seen_below t y) (eqb-true (stream_of message (place_of o t)) s (not-false (eqb (stream_of message (place_of o t)) s) b))
       ]
 
-  below_passed : (p : ℕ) → o.begun p ≡ true → ordered_of message p ≡ false → o.number p < new.passed_below (stream_of message p) → Done o i p
+  below_passed : (p : ℕ) → o.begun p ≡ true → ordered_of message p ≡ false → o.number p < new.passed_below (stream_of message p) → IsDone o i p
   below_passed p b k n =
       elim (cases_eq (stream_of message p) s) [
         | inl e ↦ reset_done p b e

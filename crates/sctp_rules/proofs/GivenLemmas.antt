@@ -1,13 +1,13 @@
 -- A message is given up, and a message is accepted.
 use Rattle.std.proofs.Common.{◌≡◌, ◌≢◌, ℕ, ◌<◌, true, false, inl, inr, refl, sym, ap, ◌∙◌, subst, arith}
 use Rattle.sctp_rules.specs.State.{Message, Sender}
-use Rattle.sctp_rules.specs.Rules.{Settled, gives_up, accepts}
+use Rattle.sctp_rules.specs.Rules.{IsSettled, gives_up, accepts}
 use Rattle.sctp_rules.specs.Kept.{Outgoing, InRuns}
 use Rattle.sctp_rules.proofs.ToolsLemmas.{put_off, put_keeps, put_true, not_both}
 use Rattle.sctp_rules.proofs.LaterLemmas.{Later}
 
 module _ (message : ℕ → Message) (o : Sender) (i : Outgoing message o) where
-  pub settled_given : (p q : ℕ) → Settled o q → Settled (gives_up o p) q
+  pub settled_given : (p q : ℕ) → IsSettled o q → IsSettled (gives_up o p) q
   settled_given p q x = record {
     not_partly = x.not_partly;
     gone = elim x.gone [ inl b ↦ inl b | inr g ↦ inr (put_keeps o.given_up p q g) ];

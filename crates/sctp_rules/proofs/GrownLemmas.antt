@@ -1,24 +1,24 @@
 -- What became ready only grows at its back.
 use Rattle.std.proofs.Common.{◌≡◌, ℕ, Bool, List, [], ◌∷◌, ◌++◌, refl, sym, ap, ◌∙◌, append-nil, append_assoc}
 use Rattle.sctp_rules.specs.State.{Message, Transfer, start}
-use Rattle.sctp_rules.specs.Rules.{Event, Accept, Begin, Number, Close, GiveUp, DataComes, LateComes, Deliver, SendSack, Leave, SendForward, ForwardComes, Forget, after, run}
+use Rattle.sctp_rules.specs.Rules.{Event, accept, begin, number, close, give_up, data_comes, late_comes, deliver, send_sack, leave, send_forward, forward_comes, forget, after, run}
 use Rattle.sctp_rules.specs.Claims.{Grows}
 
 module _ (message : ℕ → Message) (mixed : Bool) where
   pub one : (x : Transfer) (e : Event) → Grows x (after message mixed x e)
-  one x Accept = ([], sym (append-nil x.receiver.places))
-  one x (Begin p) = ([], sym (append-nil x.receiver.places))
-  one x (Number p b m) = ([], sym (append-nil x.receiver.places))
-  one x (Close p) = ([], sym (append-nil x.receiver.places))
-  one x (GiveUp p) = ([], sym (append-nil x.receiver.places))
-  one x (DataComes t) = ([], sym (append-nil x.receiver.places))
-  one x (LateComes t) = ([], sym (append-nil x.receiver.places))
-  one x (Deliver p) = (p ∷ [], refl)
-  one x (SendSack c) = ([], sym (append-nil x.receiver.places))
-  one x (Leave c) = ([], sym (append-nil x.receiver.places))
-  one x (SendForward f) = ([], sym (append-nil x.receiver.places))
-  one x (ForwardComes f) = ([], sym (append-nil x.receiver.places))
-  one x (Forget s c) = ([], sym (append-nil x.receiver.places))
+  one x accept = ([], sym (append-nil x.receiver.places))
+  one x (begin p) = ([], sym (append-nil x.receiver.places))
+  one x (number p b m) = ([], sym (append-nil x.receiver.places))
+  one x (close p) = ([], sym (append-nil x.receiver.places))
+  one x (give_up p) = ([], sym (append-nil x.receiver.places))
+  one x (data_comes t) = ([], sym (append-nil x.receiver.places))
+  one x (late_comes t) = ([], sym (append-nil x.receiver.places))
+  one x (deliver p) = (p ∷ [], refl)
+  one x (send_sack c) = ([], sym (append-nil x.receiver.places))
+  one x (leave c) = ([], sym (append-nil x.receiver.places))
+  one x (send_forward f) = ([], sym (append-nil x.receiver.places))
+  one x (forward_comes f) = ([], sym (append-nil x.receiver.places))
+  one x (forget s c) = ([], sym (append-nil x.receiver.places))
 
   all : (es : List Event) (x : Transfer) → Grows x (run message mixed x es)
   all [] x = ([], sym (append-nil x.receiver.places))

@@ -4,7 +4,7 @@ use Rattle.std.proofs.lemmas.Bool.{cases_eq, cases_lt, eq-eqb, ne_eqb, cond-true
 use Rattle.std.proofs.lemmas.List.{get_or_append_left, get_or_push}
 use Rattle.sctp_rules.specs.State.{Fragment, blank, gathered, parts}
 use Rattle.sctp_rules.specs.Reassembly.{joined}
-use Rattle.sctp_rules.specs.Kept.{at, Indexed}
+use Rattle.sctp_rules.specs.Kept.{at, IsIndexed}
 use Rattle.sctp_rules.proofs.ToolsLemmas.{at_push, each_push, pairs_push, gathered_push, gathered_off}
 
 pub joined_same : (f g : ℕ → List ℕ) (n : ℕ) → ((j : ℕ) → j < n → f j ≡ g j) → joined f n ≡ joined g n
@@ -24,7 +24,7 @@ parts_off p (g ∷ fs) f e =
     let ih = parts_off p fs f e in
     elim (eqb g.place p) as (λ b. cond b (suc (parts p (fs ++ f ∷ []))) (parts p (fs ++ f ∷ [])) ≡ cond b (suc (parts p fs)) (parts p fs)) [ true ↦ ap suc ih | false ↦ ih ]
 
-pub indexed_none : Indexed []
+pub indexed_none : IsIndexed []
 indexed_none = record {
   index_below = λ t h. absurd (omega arith);
   index_found = λ p j h. absurd (omega arith);
@@ -32,7 +32,7 @@ indexed_none = record {
   joins = λ p ts h. refl;
 }
 
-module _ (fs : List Fragment) (x : Indexed fs) (f : Fragment) (counted : f.index ≡ parts f.place fs) where
+module _ (fs : List Fragment) (x : IsIndexed fs) (f : Fragment) (counted : f.index ≡ parts f.place fs) where
   abbrev more : List Fragment
   more = fs ++ f ∷ []
 
@@ -109,7 +109,7 @@ module _ (fs : List Fragment) (x : Indexed fs) (f : Fragment) (counted : f.index
             ∙ ap (joined (λ j. (at more (ts j)).payload)) (sym a)))
       ]
 
-  pub indexed_push : Indexed more
+  pub indexed_push : IsIndexed more
   indexed_push = record {
     index_below = each_push blank (λ t z. z.index < parts z.place more) fs f
         (λ t h. let a = x.index_below t h in let b = parts_up (at fs t).place in omega (arith, a, b))

@@ -2,8 +2,8 @@
 use Rattle.std.proofs.Common.{◌≡◌, ℕ, ◌<◌, Bool, true, false, not, ◌&&◌, ◌⊎◌, inl, inr, List, [], ◌∷◌, ◌++◌, refl, sym, ap, ◌∙◌, subst, arith, append-nil}
 use Rattle.std.proofs.lemmas.Bool.{cases_Bool, and_parts, not-true, cond-true, cond-false}
 use Rattle.sctp_rules.specs.State.{Message, Sender, Receiver, Transfer, fragment, place_of, has, gathered, is_empty, IsAmong, start}
-use Rattle.sctp_rules.specs.Rules.{Event, Accept, Begin, Number, Close, GiveUp, DataComes, LateComes, Deliver, SendSack, Leave, SendForward, ForwardComes, Forget, Allowed, after, Happens, run, report, part, end_of}
-use Rattle.sctp_rules.specs.Kept.{Outgoing, Incoming, InRuns, Kept, Indexed, SackTrue, ForwardTrue}
+use Rattle.sctp_rules.specs.Rules.{Event, accept, begin, number, close, give_up, data_comes, late_comes, deliver, send_sack, leave, send_forward, forward_comes, forget, IsAllowed, after, Happens, run, report, part, end_of}
+use Rattle.sctp_rules.specs.Kept.{Outgoing, Incoming, InRuns, Kept, IsIndexed, SackTrue, ForwardTrue}
 use Rattle.sctp_rules.proofs.ToolsLemmas.{not_both, has_push}
 use Rattle.sctp_rules.proofs.IndexedLemmas.{indexed_none, indexed_push}
 use Rattle.sctp_rules.proofs.StaysLemmas.{later_same, onward_same, incoming_stays, sack_stays, forward_stays}
@@ -24,7 +24,7 @@ none_left [] h = refl
 none_left (x ∷ xs) h = cc
 
 module _ (message : ℕ → Message) (mixed : Bool) (x : Transfer) (k : Kept message mixed x) where
-  out_moves : (o' : Sender) → Outgoing message o' → Later message x.sender o' → (mixed ≡ false → InRuns message o') → Indexed o'.numbered → Kept message mixed (record x { sender = o' })
+  out_moves : (o' : Sender) → Outgoing message o' → Later message x.sender o' → (mixed ≡ false → InRuns message o') → IsIndexed o'.numbered → Kept message mixed (record x { sender = o' })
   out_moves o' out l r n = record {
     outgoing = out;
     indexed = n;
@@ -67,7 +67,7 @@ module _ (message : ℕ → Message) (mixed : Bool) (x : Transfer) (k : Kept mes
             inl (subst (λ z. has p z ≡ true) (append-nil qs) h2)
       ]
 
-  leaves : (c : ℕ) → IsAmong c x.sacks → x.acknowledged < c → Kept message mixed (after message mixed x (Leave c))
+  leaves : (c : ℕ) → IsAmong c x.sacks → x.acknowledged < c → Kept message mixed (after message mixed x (leave c))
   leaves c a l = record {
     outgoing = k.outgoing;
     incoming = k.incoming;
@@ -89,27 +89,27 @@ module _ (message : ℕ → Message) (mixed : Bool) (x : Transfer) (k : Kept mes
         ];
   }
 
-  pub keeps : (e : Event) → Allowed message mixed x e → Kept message mixed (after message mixed x e)
-  keeps Accept a = out_moves _ (accepts_outgoing message x.sender k.outgoing) (accepts_later message x.sender k.outgoing) (λ m. accepts_runs message x.sender k.outgoing (k.runs m)) k.indexed
-  keeps (Begin p) a =
+  pub keeps : (e : Event) → IsAllowed message mixed x e → Kept message mixed (after message mixed x e)
+  keeps accept a = out_moves _ (accepts_outgoing message x.sender k.outgoing) (accepts_later message x.sender k.outgoing) (λ m. accepts_runs message x.sender k.outgoing (k.runs m)) k.indexed
+  keeps (begin p) a =
       out_moves _ (begins_outgoing message mixed x.sender k.outgoing p a.0 a.1) (begins_later message mixed x.sender k.outgoing p a.0 a.1)
       (λ m. begins_runs message mixed x.sender k.outgoing p a.0 a.1 m a.2 (k.runs m)) k.indexed
-  keeps (Number p bytes more) a =
+  keeps (number p bytes more) a =
       let f = part x.sender p bytes more in
       let fin : f.is_end ≡ true → f.placeholder ≡ false → gathered p x.sender.numbered ++ bytes ≡ (message p).payload =
       (λ l nf. ap (λ z. gathered p x.sender.numbered ++ z) (sym (append-nil bytes) ∙ ap (λ z. bytes ++ z) (sym (none_left more l))) ∙ a.1) in
       out_moves _ (numbers_outgoing message x.sender k.outgoing f a.0 fin) (numbers_later message x.sender k.outgoing f a.0 fin) (λ m. numbers_runs message x.sender k.outgoing f a.0 fin (k.runs m)) (indexed_push x.sender.numbered k.indexed f refl)
-  keeps (Close p) a =
+  keeps (close p) a =
       let f = end_of x.sender p in
       let fin : f.is_end ≡ true → f.placeholder ≡ false → gathered p x.sender.numbered ++ [] ≡ (message p).payload = (λ l nf. cc) in
       out_moves _ (numbers_outgoing message x.sender k.outgoing f a fin) (numbers_later message x.sender k.outgoing f a fin) (λ m. numbers_runs message x.sender k.outgoing f a fin (k.runs m)) (indexed_push x.sender.numbered k.indexed f refl)
-  keeps (GiveUp p) a = out_moves _ (gives_outgoing message x.sender k.outgoing p a.0 a.1) (gives_later message x.sender k.outgoing p) (λ m. gives_runs message x.sender k.outgoing p (k.runs m)) k.indexed
-  keeps (DataComes t) a = into_moves _ (takes_incoming message x.sender x.receiver k.incoming t a.0 a.1 a.2) (takes_onward message x.sender x.receiver k.incoming t a.0 a.1 a.2)
-  keeps (LateComes t) a =
+  keeps (give_up p) a = out_moves _ (gives_outgoing message x.sender k.outgoing p a.0 a.1) (gives_later message x.sender k.outgoing p) (λ m. gives_runs message x.sender k.outgoing p (k.runs m)) k.indexed
+  keeps (data_comes t) a = into_moves _ (takes_incoming message x.sender x.receiver k.incoming t a.0 a.1 a.2) (takes_onward message x.sender x.receiver k.incoming t a.0 a.1 a.2)
+  keeps (late_comes t) a =
       let given = late_passed message x.sender k.outgoing x.receiver k.incoming t a.0 a.1 a.2 in
       into_moves _ (marks_incoming message x.sender x.receiver k.incoming t a.0 a.1 given) (marks_onward message x.sender x.receiver k.incoming t a.0 a.1 given)
-  keeps (Deliver p) a = into_moves _ (delivers_incoming message mixed x.sender k.outgoing x.receiver k.incoming p a) (delivers_onward message mixed x.sender k.outgoing x.receiver k.incoming p a)
-  keeps (SendSack c) a = record {
+  keeps (deliver p) a = into_moves _ (delivers_incoming message mixed x.sender k.outgoing x.receiver k.incoming p a) (delivers_onward message mixed x.sender k.outgoing x.receiver k.incoming p a)
+  keeps (send_sack c) a = record {
     outgoing = k.outgoing;
     incoming = k.incoming;
     indexed = k.indexed;
@@ -123,8 +123,8 @@ module _ (message : ℕ → Message) (mixed : Bool) (x : Transfer) (k : Kept mes
     forwards_true = k.forwards_true;
     reports_true = k.reports_true;
   }
-  keeps (Leave c) a = leaves c a.0 a.1
-  keeps (SendForward f) a = record {
+  keeps (leave c) a = leaves c a.0 a.1
+  keeps (send_forward f) a = record {
     outgoing = k.outgoing;
     incoming = k.incoming;
     indexed = k.indexed;
@@ -138,10 +138,10 @@ module _ (message : ℕ → Message) (mixed : Bool) (x : Transfer) (k : Kept mes
         ];
     reports_true = k.reports_true;
   }
-  keeps (ForwardComes f) a =
+  keeps (forward_comes f) a =
       let ft = k.forwards_true f a in
       into_moves _ (skips_incoming message mixed x.sender k.outgoing x.receiver k.incoming f ft) (skips_onward message mixed x.sender k.outgoing x.receiver k.incoming f ft)
-  keeps (Forget s c) a =
+  keeps (forget s c) a =
       into_moves _ (forgets_incoming message mixed x.sender k.outgoing x.receiver k.incoming s c a) (forgets_onward message mixed x.sender k.outgoing x.receiver k.incoming s c a)
 
 module _ (message : ℕ → Message) (mixed : Bool) where

@@ -4,7 +4,7 @@ use Rattle.std.proofs.lemmas.Bool.{cases_lt, cases_eq, cases_order}
 use Rattle.sctp_rules.specs.State.{Message, Sender, fragment, place_of, count, ordered_of, stream_of}
 use Rattle.sctp_rules.specs.Reassembly.{MessageKey, KeyLaws, own_key, message_key, next_index, never_below}
 use Rattle.sctp_rules.specs.Kept.{Outgoing, InRuns}
-use Rattle.sctp_rules.specs.Kept.{Indexed}
+use Rattle.sctp_rules.specs.Kept.{IsIndexed}
 use Rattle.sctp_rules.proofs.DeliverLemmas.{one_place}
 use Rattle.sctp_rules.proofs.DueLemmas.{goes_on}
 
@@ -37,7 +37,7 @@ decide_key κ μ =
       ]
     ]
 
-module _ (message : ℕ → Message) (o : Sender) (out : Outgoing message o) (x : Indexed o.numbered) where
+module _ (message : ℕ → Message) (o : Sender) (out : Outgoing message o) (x : IsIndexed o.numbered) where
   same_index : (t u : ℕ) → t < count o → u < count o → place_of o t ≡ place_of o u → (fragment o t).index ≡ (fragment o u).index → t ≡ u
   same_index t u ht hu e n =
       elim (cases_order t u) [

@@ -2,7 +2,7 @@
 use Rattle.std.proofs.Common.{◌≡◌, ℕ, zero, suc, ◌+◌, ◌<◌, ◌≤◌, Bool, true, false, not, cond, ◌&&◌, ◌||◌, inl, inr, Option, Some, None, List, [], ◌++◌, replicate, refl, sym, ap, ◌∙◌, subst, arith, eqb, ltb, append-nil, append_assoc}
 use Rattle.std.proofs.lemmas.Bool.{cases_eq, and_parts, and_from, or_left, or_right, cond-true, cond-false, not-true, not_from_false}
 use Rattle.sctp_rules.specs.State.{Message, Fragment, ForwardPoint, Sender, Receiver, Transfer, fragment, place_of, count, ordered_of, stream_of}
-use Rattle.sctp_rules.specs.Rules.{Leave, Happens, after, run, report, drops, skips, takes, forgets, covers, raised, floor}
+use Rattle.sctp_rules.specs.Rules.{leave, Happens, after, run, report, drops, skips, takes, forgets, covers, raised, floor}
 use Rattle.sctp_rules.specs.Reassembly.{Chunk, MessageKey, chunk_with, chunk_of, message_key, Queue, Added, IsLate, undropped, Forwarded, unforgotten, Forgotten, Sees, KeyLaws}
 use Rattle.sctp_rules.specs.State.{IsAmong}
 use Rattle.sctp_rules.specs.Kept.{Outgoing, Incoming}
@@ -159,12 +159,12 @@ module _ (Key : Type 0) (succ : Key → Key) (message : ℕ → Message) (mixed 
 -- a SACK takes all items below its point away, one after another
 module _ (message : ℕ → Message) (mixed : Bool) where
   pub leave_all : (n c : ℕ) (x : Transfer) → IsAmong c x.sacks → x.acknowledged + n ≤ c
-      → Happens message mixed x (replicate n (Leave c)) × (run message mixed x (replicate n (Leave c)) ≡ record x { acknowledged = x.acknowledged + n; reports = x.reports ++ reports_of x.sender x.acknowledged n })
+      → Happens message mixed x (replicate n (leave c)) × (run message mixed x (replicate n (leave c)) ≡ record x { acknowledged = x.acknowledged + n; reports = x.reports ++ reports_of x.sender x.acknowledged n })
   leave_all zero c x a h =
       let e : x.acknowledged ≡ x.acknowledged + 0 = omega arith in
       (tt, ap (λ z. let y : Transfer = record x { acknowledged = z } in y) e ∙ ap (λ z. let y : Transfer = record x { acknowledged = x.acknowledged + 0; reports = z } in y) (sym (append-nil x.reports)))
   leave_all (suc n) c x a h =
-      let ih = leave_all n c (after message mixed x (Leave c)) a (omega (arith, h)) in
+      let ih = leave_all n c (after message mixed x (leave c)) a (omega (arith, h)) in
       let e : suc x.acknowledged + n ≡ x.acknowledged + suc n = omega arith in
       let lt : x.acknowledged < c = omega (arith, h) in (
         ((a, lt), ih.0),

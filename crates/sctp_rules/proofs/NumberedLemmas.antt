@@ -3,7 +3,7 @@ use Rattle.std.proofs.Common.{◌≡◌, ◌≢◌, ℕ, suc, ◌<◌, ◌≤◌
 use Rattle.std.proofs.lemmas.Bool.{cases_eq, cases_lt, not-true, not-false}
 use Rattle.std.proofs.lemmas.List.{get_or_append_left, get_or_push}
 use Rattle.sctp_rules.specs.State.{Message, Fragment, Sender, blank, fragment, place_of, count, gathered, stream_of}
-use Rattle.sctp_rules.specs.Rules.{Settled, numbers}
+use Rattle.sctp_rules.specs.Rules.{IsSettled, numbers}
 use Rattle.sctp_rules.specs.Kept.{Outgoing, InRuns}
 use Rattle.sctp_rules.proofs.ToolsLemmas.{put_at, put_off, not_both, at_push, each_push, pairs_push, gathered_push, gathered_off}
 use Rattle.sctp_rules.proofs.LaterLemmas.{Later}
@@ -43,7 +43,7 @@ module _ (message : ℕ → Message) (o : Sender) (i : Outgoing message o) (f : 
         | inr g ↦ g
       ]
 
-  settled : (a q : ℕ) → o.begun a ≡ true → q < a → stream_of message q ≡ stream_of message a → Settled new q
+  settled : (a q : ℕ) → o.begun a ≡ true → q < a → stream_of message q ≡ stream_of message a → IsSettled new q
   settled a q b l s =
       let x = i.settled a q b l s in
       let d : q ≢ f.place = λ e. not_both is_partly (sym (ap o.partly e) ∙ x.not_partly) in

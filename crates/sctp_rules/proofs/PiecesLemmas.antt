@@ -5,7 +5,7 @@ use Rattle.sctp_rules.specs.State.{Message, Sender, Receiver, fragment, place_of
 use Rattle.sctp_rules.specs.Rules.{Complete}
 use Rattle.sctp_rules.specs.Reassembly.{joined}
 use Rattle.sctp_rules.specs.Kept.{Outgoing, Incoming}
-use Rattle.sctp_rules.specs.Kept.{Indexed}
+use Rattle.sctp_rules.specs.Kept.{IsIndexed}
 
 pub record Pieces (o : Sender) (i : Receiver) (p n : ℕ) (ts : ℕ → ℕ) : Type 0 where
   pub held : (j : ℕ) → j ≤ n → i.held (ts j) ≡ true
@@ -13,7 +13,7 @@ pub record Pieces (o : Sender) (i : Receiver) (p n : ℕ) (ts : ℕ → ℕ) : T
   pub index_is : (j : ℕ) → j ≤ n → (fragment o (ts j)).index ≡ j
   pub ends : (fragment o (ts n)).is_end ≡ true
 
-module _ (message : ℕ → Message) (mixed : Bool) (o : Sender) (out : Outgoing message o) (x : Indexed o.numbered) (i : Receiver) (inc : Incoming message o i) where
+module _ (message : ℕ → Message) (mixed : Bool) (o : Sender) (out : Outgoing message o) (x : IsIndexed o.numbered) (i : Receiver) (inc : Incoming message o i) where
   pub within : (t : ℕ) → i.held t ≡ true → t < count o
   within t h = inc.seen_below t (inc.held_seen t h)
 

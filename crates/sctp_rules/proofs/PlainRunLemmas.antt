@@ -3,7 +3,7 @@ use Rattle.std.proofs.Common.{◌≡◌, ℕ, zero, suc, ◌<◌, ◌≤◌, Boo
 use Rattle.std.proofs.lemmas.Bool.{or_cases, and_parts, eqb-true, leb-true}
 use Rattle.std.proofs.lemmas.Bool.Decides.{nat_tests}
 use Rattle.sctp_rules.specs.State.{Message, ForwardPoint, Transfer, fragment, place_of, start, count}
-use Rattle.sctp_rules.specs.Rules.{Event, Begin, Settled, Ripe, Due, Allowed, Happens, covers, run}
+use Rattle.sctp_rules.specs.Rules.{Event, begin, IsSettled, IsRipe, IsDue, IsAllowed, Happens, covers, run}
 use Rattle.sctp_rules.specs.Runs.{three, over_two, plain_run}
 
 at_zero : {A : Type 0} (f : ℕ → A) (v : A) (t : ℕ) → f 0 ≡ v → t < 1 → f t ≡ v
@@ -20,7 +20,7 @@ abbrev before : ℕ → Transfer
 before n = run three false start (take n plain_run)
 
 -- message 2 is complete
-ripe_two : Ripe three (before 12).sender (before 12).receiver 2
+ripe_two : IsRipe three (before 12).sender (before 12).receiver 2
 ripe_two = record {
   complete = record {
     ended = (3, omega arith, refl, refl);
@@ -30,7 +30,7 @@ ripe_two = record {
 }
 
 -- with the first of message 0's two fragments nothing is ripe: message 1 is held, and not the next
-none_at_first : (p : ℕ) → Ripe three (before 14).sender (before 14).receiver p → ⊥
+none_at_first : (p : ℕ) → IsRipe three (before 14).sender (before 14).receiver p → ⊥
 none_at_first p r =
     let e = r.complete.ended in
     four (λ t. place_of (before 14).sender t ≡ p → (fragment (before 14).sender t).is_end ≡ true → ⊥)
@@ -40,7 +40,7 @@ none_at_first p r =
     (λ a l. let h = r.complete.all_held 3 (omega arith) a in cc)
     e.0 e.1 e.2 e.3
 
-due_first : Due three false (before 17).sender (before 17).acknowledged over_two
+due_first : IsDue three false (before 17).sender (before 17).acknowledged over_two
 due_first =
     let one : ((t : ℕ) → 1 ≤ t → t < 2 → t ≡ 1) = (λ t lo hi. omega (arith, lo, hi)) in
     record {
@@ -63,7 +63,7 @@ due_first =
               (1, omega arith, omega arith, sym a.0, eqb-true 0 s b.0, leb-true n 0 b.1)
         ]
 
-ripe_one : Ripe three (before 19).sender (before 19).receiver 1
+ripe_one : IsRipe three (before 19).sender (before 19).receiver 1
 ripe_one = record {
   complete = record {
     ended = (2, omega arith, refl, refl);
@@ -72,27 +72,27 @@ ripe_one = record {
   in_turn = λ e. refl;
 }
 
-none_at_last : (p : ℕ) → Ripe three (before 20).sender (before 20).receiver p → ⊥
+none_at_last : (p : ℕ) → IsRipe three (before 20).sender (before 20).receiver p → ⊥
 none_at_last p r =
     let e = r.complete.ended in
     let h = r.complete.all_held e.0 e.1 e.2 in
     let n = four (λ t. (before 20).receiver.held t ≡ false) refl refl refl refl e.0 e.1 in
     cc
 
-may_begin_zero : Allowed three false (before 3) (Begin 0)
+may_begin_zero : IsAllowed three false (before 3) (begin 0)
 may_begin_zero = (record { below = omega arith; not_begun = refl; not_given = refl }, (λ q l s. absurd (omega (arith, l))), (λ m q. refl))
 
-may_begin_one : Allowed three false (before 6) (Begin 1)
+may_begin_one : IsAllowed three false (before 6) (begin 1)
 may_begin_one = (
   record { below = omega arith; not_begun = refl; not_given = refl },
-  (λ q l s. let z : 0 ≡ q = omega (arith, l) in subst (λ n. Settled (before 6).sender n) z (record { not_partly = refl; gone = inl refl })),
+  (λ q l s. let z : 0 ≡ q = omega (arith, l) in subst (λ n. IsSettled (before 6).sender n) z (record { not_partly = refl; gone = inl refl })),
   (λ m q. idle q),
 )
   where
     idle : (q : ℕ) → (before 6).sender.partly q ≡ false
     idle q = grind (arith, nat_tests)
 
-may_begin_two : Allowed three false (before 8) (Begin 2)
+may_begin_two : IsAllowed three false (before 8) (begin 2)
 may_begin_two = (
   record { below = omega arith; not_begun = refl; not_given = refl },
   (λ q l s. other q l s),
@@ -102,7 +102,7 @@ may_begin_two = (
     idle : (q : ℕ) → (before 8).sender.partly q ≡ false
     idle q = grind (arith, nat_tests)
 
-    other : (q : ℕ) → q < 2 → (three q).stream ≡ 1 → Settled (before 8).sender q
+    other : (q : ℕ) → q < 2 → (three q).stream ≡ 1 → IsSettled (before 8).sender q
     other zero l s = absurd (omega (arith, s))
     other (suc zero) l s = absurd (omega (arith, s))
     other (suc (suc n)) l s = absurd (omega (arith, l))

@@ -3,7 +3,7 @@ use Rattle.std.proofs.Common.{◌≡◌, ◌≢◌, ℕ, ◌<◌, true, false, i
 use Rattle.std.proofs.lemmas.Bool.{cases_eq, cases_Bool}
 use Rattle.sctp_rules.specs.State.{Message, Sender, Receiver, fragment, place_of, count, has, stream_of, ordered_of}
 use Rattle.sctp_rules.specs.Rules.{takes, marks, floor}
-use Rattle.sctp_rules.specs.Kept.{Outgoing, Incoming, Passed}
+use Rattle.sctp_rules.specs.Kept.{Outgoing, Incoming, IsPassed}
 use Rattle.sctp_rules.proofs.ToolsLemmas.{put_at, put_off, put_true, put_keeps, not_both}
 use Rattle.sctp_rules.proofs.LaterLemmas.{Onward}
 
@@ -39,7 +39,7 @@ module _ (message : ℕ → Message) (o : Sender) (i : Receiver) (inc : Incoming
 
 -- a fragment of a message that was given up comes too late
 module _ (message : ℕ → Message) (o : Sender) (i : Receiver) (inc : Incoming message o i) (t : ℕ) (within : t < count o) (fresh : i.seen t ≡ false)
-    (given : Passed message o i (place_of o t)) where
+    (given : IsPassed message o i (place_of o t)) where
   pub marks_onward : Onward message i (marks i t)
   marks_onward = record { seen_stays = λ u h. put_keeps i.seen t u h; ready_stays = λ p h. h; next_stays = λ s. omega arith }
 
@@ -50,7 +50,7 @@ module _ (message : ℕ → Message) (o : Sender) (i : Receiver) (inc : Incoming
     held_real = inc.held_real;
     passed = λ u s h.
         elim (cases_eq u t) [
-          | inl e ↦ inr (subst (λ z. Passed message o i (place_of o z)) (sym e) given)
+          | inl e ↦ inr (subst (λ z. IsPassed message o i (place_of o z)) (sym e) given)
           | inr d ↦ inc.passed u (sym (put_off i.seen t true u d) ∙ s) h
         ];
     below_next = inc.below_next;
@@ -67,7 +67,7 @@ module _ (message : ℕ → Message) (o : Sender) (i : Receiver) (inc : Incoming
 
 -- a number below the floor is that of a message that became ready or was given up, and its fragment was not seen
 pub late_passed : (message : ℕ → Message) (o : Sender) (out : Outgoing message o) (i : Receiver) → Incoming message o i → (t : ℕ) → t < count o → i.seen t ≡ false
-    → o.number (place_of o t) < floor i (ordered_of message (place_of o t)) (stream_of message (place_of o t)) → Passed message o i (place_of o t)
+    → o.number (place_of o t) < floor i (ordered_of message (place_of o t)) (stream_of message (place_of o t)) → IsPassed message o i (place_of o t)
 late_passed message o out i inc t h fresh below =
     let p = place_of o t in
     let begun = out.place_begun t h in

@@ -2,7 +2,7 @@
 use Rattle.std.proofs.Common.{◌≡◌, ℕ, zero, suc, ◌<◌, ◌≤◌, Bool, true, false, not, cond, ◌&&◌, ◌||◌, inl, inr, Option, Some, None, List, [], ◌∷◌, ◌++◌, map, refl, sym, ap, ◌∙◌, arith, eqb}
 use Rattle.std.proofs.lemmas.Bool.{cases_lt, cases_eq, and_parts, and_from, or_left, cond-true, eq-eqb, eqb-true, not_from_false, not-true, false_from_ne_true}
 use Rattle.sctp_rules.specs.State.{Message, Transfer, fragment, place_of, count, gathered, ordered_of, stream_of}
-use Rattle.sctp_rules.specs.Rules.{Deliver, Ripe, Happens, after, run}
+use Rattle.sctp_rules.specs.Rules.{deliver, IsRipe, Happens, after, run}
 use Rattle.sctp_rules.specs.Reassembly.{joined, Chunk, chunk_of, Queue, nth, ReadyRun, RunTaken, Readied, no_more, one_more, Sees, KeyLaws}
 use Rattle.sctp_rules.specs.Kept.{Kept}
 use Rattle.sctp_rules.proofs.ToolsLemmas.{not_both}
@@ -61,7 +61,7 @@ module _ (Key : Type 0) (succ : Key → Key) (message : ℕ → Message) (mixed 
     chunk_zero : w 0 ≡ chunk_of message mixed x.sender (ts 0)
     chunk_zero = chunk_at 0 (omega arith)
 
-    ripe : Ripe message x.sender x.receiver (place_of x.sender (ts 0))
+    ripe : IsRipe message x.sender x.receiver (place_of x.sender (ts 0))
     ripe = record {
       complete = pieces_complete message mixed x.sender k.outgoing k.indexed x.receiver k.incoming (place_of x.sender (ts 0)) n ts pieces;
       in_turn = λ h.
@@ -69,7 +69,7 @@ module _ (Key : Type 0) (succ : Key → Key) (message : ℕ → Message) (mixed 
     }
 
     abbrev delivered : Transfer
-    delivered = after message mixed x (Deliver (place_of x.sender (ts 0)))
+    delivered = after message mixed x (deliver (place_of x.sender (ts 0)))
 
     sees_delivered : (r : Queue Key succ) → RunTaken Key succ q r κ n w → Sees Key succ message mixed delivered.sender delivered.receiver key r
     sees_delivered r z = record {
@@ -112,7 +112,7 @@ module _ (Key : Type 0) (succ : Key → Key) (message : ℕ → Message) (mixed 
             ∙ sym (pieces_payload message mixed x.sender k.outgoing k.indexed x.receiver k.incoming (place_of x.sender (ts 0)) n ts pieces)
 
   -- with no run that is ready, no message is ripe
-  pub none_ripe : ((κ : Key) (n : ℕ) (w : ℕ → Chunk) → ReadyRun Key succ q κ n w → ⊥) → (p : ℕ) → Ripe message x.sender x.receiver p → ⊥
+  pub none_ripe : ((κ : Key) (n : ℕ) (w : ℕ → Chunk) → ReadyRun Key succ q κ n w → ⊥) → (p : ℕ) → IsRipe message x.sender x.receiver p → ⊥
   none_ripe none p r =
       let c = complete_pieces message mixed x.sender k.outgoing k.indexed x.receiver k.incoming p r.complete in
       let n = c.0 in
@@ -149,11 +149,11 @@ module _ (Key : Type 0) (succ : Key → Key) (message : ℕ → Message) (mixed 
 -- what became ready in the queue became ready by the rules, and nothing more is ripe
 pub readied : (Key : Type 0) (succ : Key → Key) (message : ℕ → Message) (mixed : Bool) (key : ℕ → Key) (below : Key → ℕ → Bool) (q r : Queue Key succ) → Readied Key succ q r
     → (x : Transfer) → Kept message mixed x → KeyLaws Key succ mixed x.sender key below → Sees Key succ message mixed x.sender x.receiver key q
-    → (ps : List ℕ) × Happens message mixed x (map Deliver ps) × Sees Key succ message mixed (run message mixed x (map Deliver ps)).sender (run message mixed x (map Deliver ps)).receiver key r
-    × ((p : ℕ) → Ripe message (run message mixed x (map Deliver ps)).sender (run message mixed x (map Deliver ps)).receiver p → ⊥)
+    → (ps : List ℕ) × Happens message mixed x (map deliver ps) × Sees Key succ message mixed (run message mixed x (map deliver ps)).sender (run message mixed x (map deliver ps)).receiver key r
+    × ((p : ℕ) → IsRipe message (run message mixed x (map deliver ps)).sender (run message mixed x (map deliver ps)).receiver p → ⊥)
 readied Key succ message mixed key below q r (no_more none) x k laws s = ([], tt, s, none_ripe Key succ message mixed x k key below laws q s none)
 readied Key succ message mixed key below q r (one_more m κ n w y z more) x k laws s =
     let p = place_of x.sender (ts Key succ message mixed x k key below laws q s κ n w y 0) in
     let ok = ripe Key succ message mixed x k key below laws q s κ n w y in
-    let rest = readied Key succ message mixed key below m r more (after message mixed x (Deliver p)) (keeps message mixed x k (Deliver p) ok) laws (sees_delivered Key succ message mixed x k key below laws q s κ n w y m z) in
+    let rest = readied Key succ message mixed key below m r more (after message mixed x (deliver p)) (keeps message mixed x k (deliver p) ok) laws (sees_delivered Key succ message mixed x k key below laws q s κ n w y m z) in
     (p ∷ rest.0, (ok, rest.1), rest.2, rest.3)

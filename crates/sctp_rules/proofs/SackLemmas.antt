@@ -2,8 +2,8 @@
 use Rattle.std.proofs.Common.{◌≡◌, ℕ, ◌<◌, Bool, true, false, inl, inr, refl, sym, ap, ◌∙◌, subst, arith}
 use Rattle.std.proofs.lemmas.Bool.{cases_order, cases_Bool}
 use Rattle.sctp_rules.specs.State.{Message, Sender, Receiver, fragment, place_of, count, has, ordered_of, stream_of}
-use Rattle.sctp_rules.specs.Rules.{Complete, Ripe}
-use Rattle.sctp_rules.specs.Kept.{Outgoing, Incoming, Passed, SackTrue}
+use Rattle.sctp_rules.specs.Rules.{Complete, IsRipe}
+use Rattle.sctp_rules.specs.Kept.{Outgoing, Incoming, IsPassed, SackTrue}
 use Rattle.sctp_rules.proofs.ToolsLemmas.{not_both}
 use Rattle.sctp_rules.proofs.DeliverLemmas.{lower_place}
 
@@ -25,9 +25,9 @@ module _ (message : ℕ → Message) (o : Sender) (out : Outgoing message o) whe
       ]
 
 module _ (message : ℕ → Message) (mixed : Bool) (o : Sender) (out : Outgoing message o) (i : Receiver) (inc : Incoming message o i)
-    (c : ℕ) (all_seen : (t : ℕ) → t < c → i.seen t ≡ true) (full : (p : ℕ) → Ripe message o i p → ⊥) where
+    (c : ℕ) (all_seen : (t : ℕ) → t < c → i.seen t ≡ true) (full : (p : ℕ) → IsRipe message o i p → ⊥) where
   -- a message whose end is below, which neither became ready nor passed, is complete
-  complete : (p t : ℕ) → t < c → place_of o t ≡ p → (fragment o t).is_end ≡ true → has p i.places ≡ false → (Passed message o i p → ⊥) → Complete message o i p
+  complete : (p t : ℕ) → t < c → place_of o t ≡ p → (fragment o t).is_end ≡ true → has p i.places ≡ false → (IsPassed message o i p → ⊥) → Complete message o i p
   complete p t h e l n g = record {
     ended = (t, inc.seen_below t (all_seen t h), e, l);
     all_held = λ u hu eu.
@@ -38,7 +38,7 @@ module _ (message : ℕ → Message) (mixed : Bool) (o : Sender) (out : Outgoing
           | inr y ↦
               elim (inc.passed u s y) [
                 | inl r ↦ absurd (not_both r (ap (λ z. has z i.places) eu ∙ n))
-                | inr x ↦ absurd (g (subst (λ z. Passed message o i z) eu x))
+                | inr x ↦ absurd (g (subst (λ z. IsPassed message o i z) eu x))
               ]
         ];
   }

@@ -2,7 +2,7 @@
 use Rattle.std.proofs.Common.{◌≡◌, ◌≢◌, ℕ, suc, ◌<◌, Bool, true, false, not, cond, inl, inr, Option, Some, None, List, [], ◌∷◌, ◌++◌, length, get_or, refl, sym, ap, ◌∙◌, subst, arith, eqb, append_assoc}
 use Rattle.std.proofs.lemmas.Bool.{cases_eq, cond-false, ne_eqb, false_from_ne_true}
 use Rattle.sctp_rules.specs.State.{Message, Fragment, Sender, blank, place_of, gathered, is_empty, put, stream_of}
-use Rattle.sctp_rules.specs.Rules.{Waits, Settled, accepts, begins, numbers, gives_up, part, end_of}
+use Rattle.sctp_rules.specs.Rules.{Waits, IsSettled, accepts, begins, numbers, gives_up, part, end_of}
 use Rattle.sctp_rules.specs.Sending.{Waiting, Queued}
 use Rattle.sctp_rules.specs.Kept.{Outgoing}
 use Rattle.sctp_rules.proofs.ToolsLemmas.{put_at, put_off, put_keeps, not_both, gathered_push, gathered_off}
@@ -62,7 +62,7 @@ module _ (message : ℕ → Message) (mixed : Bool) (o : Sender) (out : Outgoing
   -- what may begin: a message that waits, the first of its stream in the queue
   pub may_begin : (p : ℕ) (w : Waiting) → queue p ≡ Some w → w.begun ≡ false → ((a : ℕ) → a < p → stream_of message a ≡ stream_of message p → queue a ≡ None)
       → (mixed ≡ false → (a : ℕ) (v : Waiting) → queue a ≡ Some v → v.begun ≡ false)
-      → Waits o p × ((a : ℕ) → a < p → stream_of message a ≡ stream_of message p → Settled o a) × (mixed ≡ false → (a : ℕ) → o.partly a ≡ false)
+      → Waits o p × ((a : ℕ) → a < p → stream_of message a ≡ stream_of message p → IsSettled o a) × (mixed ≡ false → (a : ℕ) → o.partly a ≡ false)
   may_begin p w e b first none =
       let x = q.waits p w e b in
       let l = x.below in (

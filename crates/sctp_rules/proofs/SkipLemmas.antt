@@ -3,7 +3,7 @@ use Rattle.std.proofs.Common.{◌≡◌, ℕ, ◌<◌, ◌≤◌, Bool, true, fa
 use Rattle.std.proofs.lemmas.Bool.{cases_lt, cases_Bool, or_cases, or_right, and_parts, and_left, and_cases, not-true, not-false, ltb-true}
 use Rattle.sctp_rules.specs.State.{Message, ForwardPoint, Sender, Receiver, place_of, count, has, ordered_of, stream_of}
 use Rattle.sctp_rules.specs.Rules.{covers, drops, skips}
-use Rattle.sctp_rules.specs.Kept.{Outgoing, Incoming, Done, ForwardTrue}
+use Rattle.sctp_rules.specs.Kept.{Outgoing, Incoming, IsDone, ForwardTrue}
 use Rattle.sctp_rules.proofs.ToolsLemmas.{not_both, raised_up, raised_covers, raised_cases}
 use Rattle.sctp_rules.proofs.LaterLemmas.{Onward}
 
@@ -68,14 +68,14 @@ module _ (message : ℕ → Message) (mixed : Bool) (o : Sender) (out : Outgoing
                 ]
           ]
 
-  below_next : (q : ℕ) → o.begun q ≡ true → ordered_of message q ≡ true → o.number q < new.next (stream_of message q) → Done o i q
+  below_next : (q : ℕ) → o.begun q ≡ true → ordered_of message q ≡ true → o.number q < new.next (stream_of message q) → IsDone o i q
   below_next q b k n =
       elim (raised_cases f.entries true (stream_of message q) (i.next (stream_of message q)) (o.number q) n) [
         | inl l ↦ inc.below_next q b k l
         | inr c ↦ ft.named_done q b (subst (λ z. covers f.entries z (stream_of message q) (o.number q) ≡ true) (sym k) c)
       ]
 
-  below_passed : (q : ℕ) → o.begun q ≡ true → ordered_of message q ≡ false → o.number q < new.passed_below (stream_of message q) → Done o i q
+  below_passed : (q : ℕ) → o.begun q ≡ true → ordered_of message q ≡ false → o.number q < new.passed_below (stream_of message q) → IsDone o i q
   below_passed q b k n =
       elim (raised_cases f.entries false (stream_of message q) (i.passed_below (stream_of message q)) (o.number q) n) [
         | inl l ↦ inc.below_passed q b k l

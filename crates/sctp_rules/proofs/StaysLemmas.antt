@@ -3,7 +3,7 @@ use Rattle.std.proofs.Common.{◌≡◌, ℕ, ◌<◌, ◌≤◌, Bool, true, fa
 use Rattle.std.proofs.lemmas.Bool.{cases_lt}
 use Rattle.sctp_rules.specs.State.{Message, ForwardPoint, Sender, Receiver, place_of, count, has, ordered_of, stream_of}
 use Rattle.sctp_rules.specs.Rules.{covers}
-use Rattle.sctp_rules.specs.Kept.{Outgoing, Incoming, Done, Passed, SackTrue, ForwardTrue}
+use Rattle.sctp_rules.specs.Kept.{Outgoing, Incoming, IsDone, IsPassed, SackTrue, ForwardTrue}
 use Rattle.sctp_rules.proofs.ToolsLemmas.{not_both}
 use Rattle.sctp_rules.proofs.LaterLemmas.{Later, Onward}
 
@@ -31,12 +31,12 @@ module _ (message : ℕ → Message) (o o' : Sender) (out : Outgoing message o) 
   number_of : (t : ℕ) → t < count o → o'.number (place_of o t) ≡ o.number (place_of o t)
   number_of t h = l.number_stays (place_of o t) (out.place_begun t h)
 
-  passed_stays : (i : Receiver) (t : ℕ) → t < count o → Passed message o i (place_of o t) → Passed message o' i (place_of o' t)
+  passed_stays : (i : Receiver) (t : ℕ) → t < count o → IsPassed message o i (place_of o t) → IsPassed message o' i (place_of o' t)
   passed_stays i t h x =
       let n = number_of t h in
-      let y : Passed message o' i (place_of o t) =
+      let y : IsPassed message o' i (place_of o t) =
       (l.given_stays (place_of o t) x.0, λ k. let b = x.1 k in subst (λ z. z < i.next (stream_of message (place_of o t))) (sym n) b) in
-      subst (λ z. Passed message o' i z) (sym (place_same t h)) y
+      subst (λ z. IsPassed message o' i z) (sym (place_same t h)) y
 
   module _ (i : Receiver) (inc : Incoming message o i) where
     old_part : (t : ℕ) → t < count o' → has (place_of o' t) i.places ≡ true → t < count o
@@ -94,11 +94,11 @@ module _ (message : ℕ → Message) (o o' : Sender) (out : Outgoing message o) 
     }
 
     module _ (i' : Receiver) (w : Onward message i i') where
-      done_stays : (p : ℕ) → Done o i p → Done o' i' p
+      done_stays : (p : ℕ) → IsDone o i p → IsDone o' i' p
       done_stays p d = elim d [ inl r ↦ inl (w.ready_stays p r) | inr g ↦ inr (l.given_stays p g) ]
 
-      done_at : (t : ℕ) → t < count o → Done o i (place_of o t) → Done o' i' (place_of o' t)
-      done_at t h d = subst (λ z. Done o' i' z) (sym (place_same t h)) (done_stays (place_of o t) d)
+      done_at : (t : ℕ) → t < count o → IsDone o i (place_of o t) → IsDone o' i' (place_of o' t)
+      done_at t h d = subst (λ z. IsDone o' i' z) (sym (place_same t h)) (done_stays (place_of o t) d)
 
       pub sack_stays : (c : ℕ) → SackTrue message o i c → SackTrue message o' i' c
       sack_stays c s = record {

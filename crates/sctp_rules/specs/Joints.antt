@@ -1,7 +1,7 @@
 -- Where a row of code leads by the rules.
 use Rattle.std.specs.Prelude.{◌≡◌, ℕ, suc, Bool, Option, List, zero, [], ◌∷◌, ◌++◌}
 use Rattle.sctp_rules.specs.State.{Message, Sender, Transfer}
-use Rattle.sctp_rules.specs.Rules.{Event, Happens, after, run, Ripe, report}
+use Rattle.sctp_rules.specs.Rules.{Event, Happens, after, run, IsRipe, report}
 use Rattle.sctp_rules.specs.Reassembly.{Queue, Sees, KeyOf, next_of, key_of}
 use Rattle.sctp_rules.specs.Sending.{Waiting, Queued}
 use Rattle.sctp_rules.specs.Kept.{Kept}
@@ -11,7 +11,7 @@ pub record Leads (Key : Type 0) (succ : Key → Key) (message : ℕ → Message)
   pub may : Happens message mixed x (e ∷ es)
   pub kept : Kept message mixed (run message mixed x (e ∷ es))
   pub sees : Sees Key succ message mixed x.sender (run message mixed x (e ∷ es)).receiver key r
-  pub full : (p : ℕ) → Ripe message x.sender (run message mixed x (e ∷ es)).receiver p → ⊥
+  pub full : (p : ℕ) → IsRipe message x.sender (run message mixed x (e ∷ es)).receiver p → ⊥
   pub seen_is : (t : ℕ) → (run message mixed x (e ∷ es)).receiver.seen t ≡ (after message mixed x e).receiver.seen t
   pub rest_stays : run message mixed x (e ∷ es) ≡ record x { receiver = (run message mixed x (e ∷ es)).receiver }
 

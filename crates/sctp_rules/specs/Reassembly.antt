@@ -161,5 +161,5 @@ module _ (Key : Type 0) (succ : Key → Key) where
     pub below_is : mixed ≡ false → (t n : ℕ) → below (key t) n ≡ nat_lt t n
 
 -- no run is left to make ready
-abbrev pub IsSettled : (mixed : Bool) → Queue (KeyOf mixed) (next_of mixed) → Type 0
-IsSettled mixed q = (κ : KeyOf mixed) (n : ℕ) (w : ℕ → Chunk) → ReadyRun (KeyOf mixed) (next_of mixed) q κ n w → ⊥
+abbrev pub NoneReady : (mixed : Bool) → Queue (KeyOf mixed) (next_of mixed) → Type 0
+NoneReady mixed q = (κ : KeyOf mixed) (n : ℕ) (w : ℕ → Chunk) → ReadyRun (KeyOf mixed) (next_of mixed) q κ n w → ⊥

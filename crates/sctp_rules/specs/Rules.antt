@@ -4,19 +4,19 @@ use Rattle.std.specs.Prelude.{◌≡◌, ℕ, suc, ◌<◌, ◌≤◌, ◌==◌,
 use Rattle.sctp_rules.specs.State.{Message, Fragment, Entry, ForwardPoint, Sender, Receiver, Transfer, fragment, place_of, count, put, IsAmong, gathered, parts, is_empty, stream_of, ordered_of}
 
 pub data Event : Type 0 where
-  Accept : Event  -- the next message goes into the send queue
-  Begin : (p : ℕ) → Event  -- a message takes its SSN or MID
-  Number : (p : ℕ) (bytes more : List ℕ) → Event  -- its next fragment takes a TSN, and `more` is left of it
-  Close : (p : ℕ) → Event  -- a placeholder end takes a TSN
-  GiveUp : (p : ℕ) → Event
-  DataComes : (t : ℕ) → Event
-  LateComes : (t : ℕ) → Event  -- a fragment of a message that was given up: seen, and not held
-  Deliver : (p : ℕ) → Event  -- a message becomes ready
-  SendSack : (c : ℕ) → Event  -- its cumulative TSN ack is fragment c, less 1
-  Leave : (c : ℕ) → Event  -- that SACK has come, and one fragment leaves the sender
-  SendForward : (f : ForwardPoint) → Event
-  ForwardComes : (f : ForwardPoint) → Event
-  Forget : (s c : ℕ) → Event  -- an outgoing reset request of stream s is performed (RFC 6525 section 5.2.2)
+  accept : Event  -- the next message goes into the send queue
+  begin : (p : ℕ) → Event  -- a message takes its SSN or MID
+  number : (p : ℕ) (bytes more : List ℕ) → Event  -- its next fragment takes a TSN, and `more` is left of it
+  close : (p : ℕ) → Event  -- a placeholder end takes a TSN
+  give_up : (p : ℕ) → Event
+  data_comes : (t : ℕ) → Event
+  late_comes : (t : ℕ) → Event  -- a fragment of a message that was given up: seen, and not held
+  deliver : (p : ℕ) → Event  -- a message becomes ready
+  send_sack : (c : ℕ) → Event  -- its cumulative TSN ack is fragment c, less 1
+  leave : (c : ℕ) → Event  -- that SACK has come, and one fragment leaves the sender
+  send_forward : (f : ForwardPoint) → Event
+  forward_comes : (f : ForwardPoint) → Event
+  forget : (s c : ℕ) → Event  -- an outgoing reset request of stream s is performed (RFC 6525 section 5.2.2)
 
 -- not numbered, and not given up
 pub record Waits (o : Sender) (p : ℕ) : Type 0 where
@@ -25,7 +25,7 @@ pub record Waits (o : Sender) (p : ℕ) : Type 0 where
   pub not_given : o.given_up p ≡ false
 
 -- out of the send queue
-pub record Settled (o : Sender) (p : ℕ) : Type 0 where
+pub record IsSettled (o : Sender) (p : ℕ) : Type 0 where
   pub not_partly : o.partly p ≡ false
   pub gone : (o.begun p ≡ true) ⊎ (o.given_up p ≡ true)
 
@@ -88,7 +88,7 @@ module _ (message : ℕ → Message) where
     pub all_held : (t : ℕ) → t < count o → place_of o t ≡ p → i.held t ≡ true
 
   -- it can become ready
-  pub record Ripe (o : Sender) (i : Receiver) (p : ℕ) : Type 0 where
+  pub record IsRipe (o : Sender) (i : Receiver) (p : ℕ) : Type 0 where
     pub complete : Complete o i p
     pub in_turn : ordered_of message p ≡ true → o.number p ≡ i.next (stream_of message p)
 
@@ -108,9 +108,9 @@ module _ (message : ℕ → Message) where
   }
 
   -- all fragments of the stream are below c, all below c are seen, and nothing is left to make ready or partly sent
-  pub record Resettable (o : Sender) (i : Receiver) (s c : ℕ) : Type 0 where
+  pub record IsResettable (o : Sender) (i : Receiver) (s c : ℕ) : Type 0 where
     pub all_seen : (t : ℕ) → t < c → i.seen t ≡ true
-    pub none_ripe : (p : ℕ) → Ripe o i p → ⊥
+    pub none_ripe : (p : ℕ) → IsRipe o i p → ⊥
     pub all_below : (t : ℕ) → t < count o → stream_of message (place_of o t) ≡ s → t < c
     pub none_partly : (p : ℕ) → stream_of message p ≡ s → o.partly p ≡ false
 
@@ -130,7 +130,7 @@ module _ (message : ℕ → Message) (mixed : Bool) where
   }
 
   -- a forward point that may be sent (RFC 3758 section 3.5)
-  pub record Due (o : Sender) (acknowledged : ℕ) (f : ForwardPoint) : Type 0 where
+  pub record IsDue (o : Sender) (acknowledged : ℕ) (f : ForwardPoint) : Type 0 where
     pub ahead : acknowledged < f.upto
     pub within : f.upto ≤ count o
     pub all_given : (t : ℕ) → acknowledged ≤ t → t < f.upto → o.given_up (place_of o t) ≡ true
@@ -142,44 +142,44 @@ module _ (message : ℕ → Message) (mixed : Bool) where
     pub only_ordered : mixed ≡ false → (s n : ℕ) → covers f.entries false s n ≡ false
 
   -- may this happen now?
-  abbrev pub Allowed : Transfer → Event → Type 0
-  Allowed x Accept = Unit {0}
-  Allowed x (Begin p) =
-      Waits x.sender p × ((q : ℕ) → q < p → stream_of message q ≡ stream_of message p → Settled x.sender q)
+  abbrev pub IsAllowed : Transfer → Event → Type 0
+  IsAllowed x accept = Unit {0}
+  IsAllowed x (begin p) =
+      Waits x.sender p × ((q : ℕ) → q < p → stream_of message q ≡ stream_of message p → IsSettled x.sender q)
       × (mixed ≡ false → (q : ℕ) → x.sender.partly q ≡ false)
-  Allowed x (Number p bytes more) = (x.sender.partly p ≡ true) × (gathered p x.sender.numbered ++ (bytes ++ more) ≡ (message p).payload)
-  Allowed x (Close p) = x.sender.partly p ≡ true
-  Allowed x (GiveUp p) = (p < x.sender.accepted) × (x.sender.partly p ≡ false)
-  Allowed x (DataComes t) = (t < count x.sender) × ((fragment x.sender t).placeholder ≡ false) × (x.receiver.seen t ≡ false)
-  Allowed x (LateComes t) =
+  IsAllowed x (number p bytes more) = (x.sender.partly p ≡ true) × (gathered p x.sender.numbered ++ (bytes ++ more) ≡ (message p).payload)
+  IsAllowed x (close p) = x.sender.partly p ≡ true
+  IsAllowed x (give_up p) = (p < x.sender.accepted) × (x.sender.partly p ≡ false)
+  IsAllowed x (data_comes t) = (t < count x.sender) × ((fragment x.sender t).placeholder ≡ false) × (x.receiver.seen t ≡ false)
+  IsAllowed x (late_comes t) =
       (t < count x.sender) × (x.receiver.seen t ≡ false)
       × (x.sender.number (place_of x.sender t) < floor x.receiver (ordered_of message (place_of x.sender t)) (stream_of message (place_of x.sender t)))
-  Allowed x (Deliver p) = Ripe message x.sender x.receiver p
-  Allowed x (SendSack c) = ((t : ℕ) → t < c → x.receiver.seen t ≡ true) × ((p : ℕ) → Ripe message x.sender x.receiver p → ⊥)
-  Allowed x (Leave c) = IsAmong c x.sacks × (x.acknowledged < c)
-  Allowed x (SendForward f) = Due x.sender x.acknowledged f
-  Allowed x (ForwardComes f) = IsAmong f x.forward_points
-  Allowed x (Forget s c) = Resettable message x.sender x.receiver s c
+  IsAllowed x (deliver p) = IsRipe message x.sender x.receiver p
+  IsAllowed x (send_sack c) = ((t : ℕ) → t < c → x.receiver.seen t ≡ true) × ((p : ℕ) → IsRipe message x.sender x.receiver p → ⊥)
+  IsAllowed x (leave c) = IsAmong c x.sacks × (x.acknowledged < c)
+  IsAllowed x (send_forward f) = IsDue x.sender x.acknowledged f
+  IsAllowed x (forward_comes f) = IsAmong f x.forward_points
+  IsAllowed x (forget s c) = IsResettable message x.sender x.receiver s c
 
   abbrev pub after : Transfer → Event → Transfer
-  after x Accept = record x { sender = accepts x.sender }
-  after x (Begin p) = record x { sender = begins message x.sender p }
-  after x (Number p bytes more) = record x { sender = numbers x.sender (part x.sender p bytes more) }
-  after x (Close p) = record x { sender = numbers x.sender (end_of x.sender p) }
-  after x (GiveUp p) = record x { sender = gives_up x.sender p }
-  after x (DataComes t) = record x { receiver = takes x.receiver t }
-  after x (LateComes t) = record x { receiver = marks x.receiver t }
-  after x (Deliver p) = record x { receiver = delivers message x.sender x.receiver p }
-  after x (SendSack c) = record x { sacks = c ∷ x.sacks }
-  after x (Leave c) = record x { acknowledged = suc x.acknowledged; reports = x.reports ++ report x.sender x.acknowledged }
-  after x (SendForward f) = record x { forward_points = f ∷ x.forward_points }
-  after x (ForwardComes f) = record x { receiver = skips x.sender x.receiver f }
-  after x (Forget s c) = record x { receiver = forgets message x.sender x.receiver s }
+  after x accept = record x { sender = accepts x.sender }
+  after x (begin p) = record x { sender = begins message x.sender p }
+  after x (number p bytes more) = record x { sender = numbers x.sender (part x.sender p bytes more) }
+  after x (close p) = record x { sender = numbers x.sender (end_of x.sender p) }
+  after x (give_up p) = record x { sender = gives_up x.sender p }
+  after x (data_comes t) = record x { receiver = takes x.receiver t }
+  after x (late_comes t) = record x { receiver = marks x.receiver t }
+  after x (deliver p) = record x { receiver = delivers message x.sender x.receiver p }
+  after x (send_sack c) = record x { sacks = c ∷ x.sacks }
+  after x (leave c) = record x { acknowledged = suc x.acknowledged; reports = x.reports ++ report x.sender x.acknowledged }
+  after x (send_forward f) = record x { forward_points = f ∷ x.forward_points }
+  after x (forward_comes f) = record x { receiver = skips x.sender x.receiver f }
+  after x (forget s c) = record x { receiver = forgets message x.sender x.receiver s }
 
   -- a whole schedule may happen from this state
   abbrev pub Happens : Transfer → List Event → Type 0
   Happens x [] = Unit {0}
-  Happens x (e ∷ es) = Allowed x e × Happens (after x e) es
+  Happens x (e ∷ es) = IsAllowed x e × Happens (after x e) es
 
   abbrev pub run : Transfer → List Event → Transfer
   run x [] = x

@@ -2,9 +2,9 @@
 //! the stream's last reset.
 
 ghost use Rattle.std.specs.Prelude.{◌≡◌, Bool, List, true, ℕ};
-ghost use Rattle.sctp_rules.specs.Kept.{Done, Kept};
+ghost use Rattle.sctp_rules.specs.Kept.{IsDone, Kept};
 ghost use Rattle.sctp_rules.specs.Resets.{EachInItsEpoch, Epochs, InOrder, MayAll, MayReset, ResetEvent, first_epoch, go_all, goes};
-ghost use Rattle.sctp_rules.specs.Rules.{Resettable};
+ghost use Rattle.sctp_rules.specs.Rules.{IsResettable};
 ghost use Rattle.sctp_rules.specs.State.{Message, Transfer, stream_of};
 
 /// Where all fragments of stream `s` are seen, nothing is left to make ready and none of its messages is partly sent, the
@@ -12,9 +12,9 @@ ghost use Rattle.sctp_rules.specs.State.{Message, Transfer, stream_of};
 /// messages is ready or was given up.
 pub fn counts_are_aligned()
     ensures aligned { (message : ℕ → Message) (mixed : Bool) (x : Transfer) (s c : ℕ) → Kept message mixed x →
-        Resettable message x.sender x.receiver s c → x.receiver.next s ≡ x.sender.counts true s }
+        IsResettable message x.sender x.receiver s c → x.receiver.next s ≡ x.sender.counts true s }
     ensures done { (message : ℕ → Message) (mixed : Bool) (x : Transfer) (s c p : ℕ) → Kept message mixed x →
-        Resettable message x.sender x.receiver s c → x.sender.begun p ≡ true → stream_of message p ≡ s → Done x.sender x.receiver p }
+        IsResettable message x.sender x.receiver s c → x.sender.begun p ≡ true → stream_of message p ≡ s → IsDone x.sender x.receiver p }
 {}
 
 /// Along every schedule with stream resets, a message that may become ready, ordered or not, is of the epoch that the

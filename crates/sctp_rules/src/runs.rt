@@ -2,7 +2,7 @@
 
 ghost use Rattle.std.specs.Prelude.{◌≡◌, List, [], ◌∷◌, false, true, ℕ};
 ghost use Rattle.sctp_rules.specs.Handshake as handshake;
-ghost use Rattle.sctp_rules.specs.Handshake.{CookieWait, Connected, Established, NoneTwice, ShutdownAckSent};
+ghost use Rattle.sctp_rules.specs.Handshake.{cookie_wait, connected, established, NoneTwice, shutdown_ack_sent};
 ghost use Rattle.sctp_rules.specs.Renaming.{IsOneToOne, events};
 ghost use Rattle.sctp_rules.specs.Resets.{MayAll, first_epoch, go_all};
 ghost use Rattle.sctp_rules.specs.Rules.{Happens, run};
@@ -42,8 +42,8 @@ pub fn opens_twice()
     ensures once { NoneTwice (handshake.run openings handshake.start) }
     ensures connected_a { (handshake.run openings handshake.start).a.connected ≡ between 8 7 ∷ between 5 6 ∷ [] }
     ensures connected_b { (handshake.run openings handshake.start).b.connected ≡ between 7 8 ∷ between 6 5 ∷ [] }
-    ensures state_a { (handshake.run openings handshake.start).a.state ≡ Connected ShutdownAckSent (between 8 7) 24 }
-    ensures state_b { (handshake.run openings handshake.start).b.state ≡ CookieWait (drawn 9) }
+    ensures state_a { (handshake.run openings handshake.start).a.state ≡ connected shutdown_ack_sent (between 8 7) 24 }
+    ensures state_b { (handshake.run openings handshake.start).b.state ≡ cookie_wait (drawn 9) }
 {}
 
 /// The same handshake with other tags, first TSNs and ties: different ones stay different, and the renamed run connects

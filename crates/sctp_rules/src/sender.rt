@@ -4,7 +4,7 @@
 ghost use Rattle.std.specs.Prelude.{◌≡◌, ◌+◌, ◌<◌, ◌≤◌, ◌++◌, Bool, List, None, Option, Some, [], ◌∷◌, cond, false, replicate, true, ℕ};
 ghost use Rattle.sctp_rules.specs.Joints.{Sends, reports_of};
 ghost use Rattle.sctp_rules.specs.Kept.{Kept};
-ghost use Rattle.sctp_rules.specs.Rules.{Accept, Begin, Close, GiveUp, Happens, Leave, Number, run};
+ghost use Rattle.sctp_rules.specs.Rules.{accept, begin, close, give_up, Happens, leave, number, run};
 ghost use Rattle.sctp_rules.specs.Sending.{Queued, Waiting};
 ghost use Rattle.sctp_rules.specs.State.{IsAmong, Message, Transfer, is_empty, put, stream_of};
 
@@ -12,7 +12,7 @@ ghost use Rattle.sctp_rules.specs.State.{IsAmong, Message, Transfer, is_empty, p
 pub fn message_is_accepted()
     ensures sends { (message : ℕ → Message) (mixed : Bool) (x : Transfer) (queue : ℕ → Option Waiting) →
         Kept message mixed x → Queued message x.sender queue →
-        Sends message mixed x (Accept ∷ [])
+        Sends message mixed x (accept ∷ [])
             (put queue x.sender.accepted (Some (record { begun = false; rest = (message x.sender.accepted).payload }))) }
 {}
 
@@ -23,7 +23,7 @@ pub fn first_fragment()
         Kept message mixed x → Queued message x.sender queue → queue p ≡ Some w → w.begun ≡ false → w.rest ≡ bytes ++ more →
         ((a : ℕ) → a < p → stream_of message a ≡ stream_of message p → queue a ≡ None) →
         (mixed ≡ false → (a : ℕ) (v : Waiting) → queue a ≡ Some v → v.begun ≡ false) →
-        Sends message mixed x (Begin p ∷ Number p bytes more ∷ [])
+        Sends message mixed x (begin p ∷ number p bytes more ∷ [])
             (put queue p (cond (is_empty more) None (Some (record { begun = true; rest = more })))) }
 {}
 
@@ -31,7 +31,7 @@ pub fn first_fragment()
 pub fn next_fragment()
     ensures sends { (message : ℕ → Message) (mixed : Bool) (x : Transfer) (queue : ℕ → Option Waiting) (p : ℕ) (w : Waiting) (bytes more : List ℕ) →
         Kept message mixed x → Queued message x.sender queue → queue p ≡ Some w → w.begun ≡ true → w.rest ≡ bytes ++ more →
-        Sends message mixed x (Number p bytes more ∷ [])
+        Sends message mixed x (number p bytes more ∷ [])
             (put queue p (cond (is_empty more) None (Some (record { begun = true; rest = more })))) }
 {}
 
@@ -39,28 +39,28 @@ pub fn next_fragment()
 pub fn unsent_is_given_up()
     ensures sends { (message : ℕ → Message) (mixed : Bool) (x : Transfer) (queue : ℕ → Option Waiting) (p : ℕ) (w : Waiting) →
         Kept message mixed x → Queued message x.sender queue → queue p ≡ Some w → w.begun ≡ false →
-        Sends message mixed x (GiveUp p ∷ []) (put queue p None) }
+        Sends message mixed x (give_up p ∷ []) (put queue p None) }
 {}
 
 /// A message is given up that is partly sent: a placeholder end takes the next TSN, and the rest leaves the queue.
 pub fn partly_sent_is_given_up()
     ensures sends { (message : ℕ → Message) (mixed : Bool) (x : Transfer) (queue : ℕ → Option Waiting) (p : ℕ) (w : Waiting) →
         Kept message mixed x → Queued message x.sender queue → queue p ≡ Some w → w.begun ≡ true →
-        Sends message mixed x (Close p ∷ GiveUp p ∷ []) (put queue p None) }
+        Sends message mixed x (close p ∷ give_up p ∷ []) (put queue p None) }
 {}
 
 /// A message is given up all of whose fragments have a TSN.
 pub fn sent_is_given_up()
     ensures sends { (message : ℕ → Message) (mixed : Bool) (x : Transfer) (queue : ℕ → Option Waiting) (p : ℕ) →
         Kept message mixed x → Queued message x.sender queue → p < x.sender.accepted → queue p ≡ None →
-        Sends message mixed x (GiveUp p ∷ []) queue }
+        Sends message mixed x (give_up p ∷ []) queue }
 {}
 
 /// A SACK that was ever sent takes all fragments below its point away, with the reports in the order of their TSNs.
 pub fn sack_comes()
     ensures may { (message : ℕ → Message) (mixed : Bool) (x : Transfer) (n c : ℕ) → IsAmong c x.sacks → x.acknowledged + n ≤ c →
-        Happens message mixed x (replicate n (Leave c)) }
+        Happens message mixed x (replicate n (leave c)) }
     ensures leads { (message : ℕ → Message) (mixed : Bool) (x : Transfer) (n c : ℕ) → IsAmong c x.sacks → x.acknowledged + n ≤ c →
-        run message mixed x (replicate n (Leave c))
+        run message mixed x (replicate n (leave c))
             ≡ record x { acknowledged = x.acknowledged + n; reports = x.reports ++ reports_of x.sender x.acknowledged n } }
 {}

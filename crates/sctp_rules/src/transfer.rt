@@ -3,7 +3,7 @@
 ghost use Rattle.std.specs.Prelude.{Bool, List, ℕ, ◌++◌};
 ghost use Rattle.sctp_rules.specs.Claims.{Claims, Grows};
 ghost use Rattle.sctp_rules.specs.Kept.{Kept};
-ghost use Rattle.sctp_rules.specs.Rules.{Allowed, Event, Happens, after, run};
+ghost use Rattle.sctp_rules.specs.Rules.{IsAllowed, Event, Happens, after, run};
 ghost use Rattle.sctp_rules.specs.State.{Message, Transfer, start};
 
 /// Whatever is lost, repeated, delayed or reordered in one direction of an association, with DATA or with I-DATA: what
@@ -26,7 +26,7 @@ pub fn always()
 pub fn keeps()
     ensures first { (message : ℕ → Message) (mixed : Bool) → Kept message mixed start }
     ensures step { (message : ℕ → Message) (mixed : Bool) (x : Transfer) (e : Event) →
-        Kept message mixed x → Allowed message mixed x e → Kept message mixed (after message mixed x e) }
+        Kept message mixed x → IsAllowed message mixed x e → Kept message mixed (after message mixed x e) }
     ensures claims { (message : ℕ → Message) (mixed : Bool) (x : Transfer) → Kept message mixed x → Claims message x }
     ensures grows { (message : ℕ → Message) (mixed : Bool) (x : Transfer) (e : Event) → Grows x (after message mixed x e) }
 {}
