@@ -21,7 +21,7 @@ module _ (message : ℕ → Message) (mixed : Bool) (x : Epochs) (k : InOrder me
       (same : (p : ℕ) → p < x.transfer.sender.accepted → epoch p ≡ x.epoch p)
       (new : (p : ℕ) → p < (after message mixed x.transfer e).sender.accepted → (p < x.transfer.sender.accepted) ⊎ (epoch p ≡ x.raised (st p)))
       (begins : (p : ℕ) → (after message mixed x.transfer e).sender.begun p ≡ true
-          → (x.transfer.sender.begun p ≡ true) ⊎ ((epoch p ≤ x.opened (st p)) × (p < x.transfer.sender.accepted) × (IsSettled x.transfer.sender p → ⊥))) where
+      → (x.transfer.sender.begun p ≡ true) ⊎ ((epoch p ≤ x.opened (st p)) × (p < x.transfer.sender.accepted) × (IsSettled x.transfer.sender p → ⊥))) where
     abbrev y : Epochs
     y = record x { transfer = after message mixed x.transfer e; epoch = epoch }
 
@@ -184,9 +184,13 @@ module _ (message : ℕ → Message) (mixed : Bool) (x : Epochs) (k : InOrder me
             elim (cases_eq (st p) r.stream) [
               | inl e ↦
                   let u = k.kept.outgoing.ended p b (ok.none_partly p e) in
-                  let s = ap st u.2 ∙ e in
-                  (u.0, u.1, u.2, a.2 u.0 (ok.all_below u.0 u.1 s),
-                    none_held message mixed x.transfer.sender k.kept.outgoing x.transfer.receiver k.kept.incoming r.stream r.upto ok u.0 s)
+                  let s = ap st u.2 ∙ e in (
+                    u.0,
+                    u.1,
+                    u.2,
+                    a.2 u.0 (ok.all_below u.0 u.1 s),
+                    none_held message mixed x.transfer.sender k.kept.outgoing x.transfer.receiver k.kept.incoming r.stream r.upto ok u.0 s,
+                  )
               | inr d ↦ z.over p b (subst (λ w. x.epoch p < w) (put_off x.performed r.stream r.epoch (st p) d) h)
             ];
       }
@@ -204,15 +208,17 @@ module _ (message : ℕ → Message) (mixed : Bool) (x : Epochs) (k : InOrder me
             let c = k.chain b in
             let c1 = c.1 in
             let c2 = c.2 in
-            let u = up b in
-            (c.0, omega (arith, c1, u),
+            let u = up b in (
+              c.0,
+              omega (arith, c1, u),
               elim (cases_eq b s) [
                 | inl e ↦
                     let at = put_at x.raised s (suc (x.raised s)) b e in
                     let q = ap x.opened e in
                     omega (arith, at, a, q)
                 | inr d ↦ let off = put_off x.raised s (suc (x.raised s)) b d in omega (arith, off, c2)
-              ]);
+              ],
+            );
         placed = λ p h. let i = k.placed p h in let u = up (st p) in omega (arith, i, u);
         begun = k.begun;
         asked = λ r m. let y = k.asked r m in record { begins = let i = y.begins in let u = up r.stream in omega (arith, i, u); settled = y.settled; below = y.below };

@@ -2,7 +2,7 @@
 use Rattle.std.proofs.Common.{◌≡◌, ℕ, suc, ◌+◌, ◌-◌, ◌<◌, Bool, true, false, ◌⊎◌, inl, inr, refl, sym, ap, ◌∙◌, subst, arith, ltb}
 use Rattle.std.proofs.lemmas.Bool.{cases_lt, cases_eq, cases_order}
 use Rattle.sctp_rules.specs.State.{Message, Sender, fragment, place_of, count, ordered_of, stream_of}
-use Rattle.sctp_rules.specs.Reassembly.{MessageKey, KeyLaws, own_key, message_key, next_index, never_below}
+use Rattle.sctp_rules.specs.Reassembly.{MessageKey, KeyLaws, message_key, next_index}
 use Rattle.sctp_rules.specs.Kept.{Outgoing, InRuns}
 use Rattle.sctp_rules.specs.Kept.{IsIndexed}
 use Rattle.sctp_rules.proofs.DeliverLemmas.{one_place}
@@ -50,7 +50,7 @@ module _ (message : ℕ → Message) (o : Sender) (out : Outgoing message o) (x 
   key_place : (t u : ℕ) → t < count o → u < count o → ordered_of message (place_of o t) ≡ ordered_of message (place_of o u) → stream_of message (place_of o t) ≡ stream_of message (place_of o u) → o.number (place_of o t) ≡ o.number (place_of o u) → place_of o t ≡ place_of o u
   key_place t u ht hu k s n = one_place message o out (place_of o t) (place_of o u) (out.place_begun t ht) (out.place_begun u hu) k s n
 
-  pub message_keys : KeyLaws MessageKey next_index true o (message_key message o) never_below
+  pub message_keys : KeyLaws MessageKey next_index true o (message_key message o) (λ κ n. false)
   message_keys = record {
     decide = decide_key;
     one = λ t u ht hu e. same_index t u ht hu (key_place t u ht hu (ap (λ z. z.ordered) e) (ap (λ z. z.stream) e) (ap (λ z. z.number) e)) (ap (λ z. z.index) e);
@@ -112,7 +112,7 @@ module _ (message : ℕ → Message) (o : Sender) (out : Outgoing message o) (x 
               ]
         ]
 
-    pub own_keys : KeyLaws ℕ suc false o own_key ltb
+    pub own_keys : KeyLaws ℕ suc false o (λ t. t) ltb
     own_keys = record {
       decide = cases_eq;
       one = λ t u ht hu e. e;

@@ -42,22 +42,11 @@ pub record MessageKey : Type 0 where
   pub number : ℕ
   pub index : ℕ
 
-abbrev pub own_key : ℕ → ℕ
-own_key t = t
-
 abbrev pub message_key : (ℕ → Message) → Sender → ℕ → MessageKey
-message_key message o t = record {
-  ordered = (message (place_of o t)).ordered;
-  stream = (message (place_of o t)).stream;
-  number = o.number (place_of o t);
-  index = (fragment o t).index;
-}
+message_key message o t = record { ordered = (message (place_of o t)).ordered; stream = (message (place_of o t)).stream; number = o.number (place_of o t); index = (fragment o t).index }
 
 abbrev pub next_index : MessageKey → MessageKey
 next_index κ = record κ { index = suc κ.index }
-
-abbrev pub never_below : MessageKey → ℕ → Bool
-never_below κ n = false
 
 -- the keys of either mode, the next key, each fragment's key, and whether a key is one below a TSN
 abbrev pub KeyOf : Bool → Type 0
@@ -69,12 +58,12 @@ next_of false = suc
 next_of true = next_index
 
 abbrev pub key_of : (mixed : Bool) → (ℕ → Message) → Sender → ℕ → KeyOf mixed
-key_of false message o = own_key
+key_of false message o = λ t. t
 key_of true message o = message_key message o
 
 abbrev pub below_of : (mixed : Bool) → KeyOf mixed → ℕ → Bool
 below_of false = nat_lt
-below_of true = never_below
+below_of true = λ κ n. false
 
 module _ (Key : Type 0) (succ : Key → Key) where
   pub record Queue : Type 0 where

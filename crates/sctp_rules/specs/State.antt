@@ -103,15 +103,7 @@ is_empty [] = true
 is_empty (x ∷ xs) = false
 
 abbrev pub new_sender : Sender
-new_sender = record {
-  accepted = 0;
-  begun = λ p. false;
-  partly = λ p. false;
-  given_up = λ p. false;
-  number = λ p. 0;
-  counts = λ kind s. 0;
-  numbered = [];
-}
+new_sender = record { accepted = 0; begun = λ p. false; partly = λ p. false; given_up = λ p. false; number = λ p. 0; counts = λ kind s. 0; numbered = [] }
 
 abbrev pub new_receiver : Receiver
 new_receiver = record { seen = λ t. false; held = λ t. false; next = λ s. 0; passed_below = λ s. 0; places = []; ready = [] }

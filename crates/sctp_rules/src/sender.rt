@@ -13,7 +13,7 @@ pub fn message_is_accepted()
     ensures sends { (message : ℕ → Message) (mixed : Bool) (x : Transfer) (queue : ℕ → Option Waiting) →
         Kept message mixed x → Queued message x.sender queue →
         Sends message mixed x (accept ∷ [])
-            (put queue x.sender.accepted (Some (record { begun = false; rest = (message x.sender.accepted).payload }))) }
+        (put queue x.sender.accepted (Some (record { begun = false; rest = (message x.sender.accepted).payload }))) }
 {}
 
 /// The first message of its stream gets its number, and its first bytes a TSN. Without interleaving no other message may
@@ -24,7 +24,7 @@ pub fn first_fragment()
         ((a : ℕ) → a < p → stream_of message a ≡ stream_of message p → queue a ≡ None) →
         (mixed ≡ false → (a : ℕ) (v : Waiting) → queue a ≡ Some v → v.begun ≡ false) →
         Sends message mixed x (begin p ∷ number p bytes more ∷ [])
-            (put queue p (cond (is_empty more) None (Some (record { begun = true; rest = more })))) }
+        (put queue p (cond (is_empty more) None (Some (record { begun = true; rest = more })))) }
 {}
 
 /// The next bytes of a message that is partly sent get a TSN.
@@ -32,7 +32,7 @@ pub fn next_fragment()
     ensures sends { (message : ℕ → Message) (mixed : Bool) (x : Transfer) (queue : ℕ → Option Waiting) (p : ℕ) (w : Waiting) (bytes more : List ℕ) →
         Kept message mixed x → Queued message x.sender queue → queue p ≡ Some w → w.begun ≡ true → w.rest ≡ bytes ++ more →
         Sends message mixed x (number p bytes more ∷ [])
-            (put queue p (cond (is_empty more) None (Some (record { begun = true; rest = more })))) }
+        (put queue p (cond (is_empty more) None (Some (record { begun = true; rest = more })))) }
 {}
 
 /// A message is given up before any of it was sent: it leaves the queue.
@@ -62,5 +62,5 @@ pub fn sack_comes()
         Happens message mixed x (replicate n (leave c)) }
     ensures leads { (message : ℕ → Message) (mixed : Bool) (x : Transfer) (n c : ℕ) → IsAmong c x.sacks → x.acknowledged + n ≤ c →
         run message mixed x (replicate n (leave c))
-            ≡ record x { acknowledged = x.acknowledged + n; reports = x.reports ++ reports_of x.sender x.acknowledged n } }
+        ≡ record x { acknowledged = x.acknowledged + n; reports = x.reports ++ reports_of x.sender x.acknowledged n } }
 {}
