@@ -10,9 +10,9 @@ use Rattle.sctp_rules.proofs.StaysLemmas.{later_same, onward_same, incoming_stay
 use Rattle.sctp_rules.proofs.BeginLemmas.{begins_outgoing, begins_later, begins_runs}
 use Rattle.sctp_rules.proofs.NumberedLemmas.{numbers_outgoing, numbers_later, numbers_runs}
 use Rattle.sctp_rules.proofs.GivenLemmas.{gives_outgoing, gives_later, gives_runs, accepts_outgoing, accepts_later, accepts_runs}
-use Rattle.sctp_rules.proofs.ReceiveLemmas.{takes_onward, takes_incoming, marks_onward, marks_incoming, late_passed}
+use Rattle.sctp_rules.proofs.DataLemmas.{takes_onward, takes_incoming, marks_onward, marks_incoming, late_passed}
 use Rattle.sctp_rules.proofs.DeliverLemmas.{delivers_onward, delivers_incoming}
-use Rattle.sctp_rules.proofs.SkipLemmas.{skips_onward, skips_incoming}
+use Rattle.sctp_rules.proofs.ForwardLemmas.{skips_onward, skips_incoming}
 use Rattle.sctp_rules.proofs.SackLemmas.{sack_true}
 use Rattle.sctp_rules.proofs.ForgetLemmas.{forgets_incoming, forgets_onward}
 use Rattle.sctp_rules.proofs.DueLemmas.{forward_true}
@@ -24,8 +24,8 @@ none_left [] h = refl
 none_left (x ∷ xs) h = cc
 
 module _ (message : ℕ → Message) (mixed : Bool) (x : Transfer) (k : Kept message mixed x) where
-  out_moves : (o' : Sender) → Outgoing message o' → Later message x.sender o' → (mixed ≡ false → InRuns message o') → IsIndexed o'.numbered → Kept message mixed (record x { sender = o' })
-  out_moves o' out l r n = record {
+  sender_moves : (o' : Sender) → Outgoing message o' → Later message x.sender o' → (mixed ≡ false → InRuns message o') → IsIndexed o'.numbered → Kept message mixed (record x { sender = o' })
+  sender_moves o' out l r n = record {
     outgoing = out;
     indexed = n;
     incoming = incoming_stays message x.sender o' k.outgoing l x.receiver k.incoming;
@@ -36,8 +36,8 @@ module _ (message : ℕ → Message) (mixed : Bool) (x : Transfer) (k : Kept mes
     reports_true = k.reports_true;
   }
 
-  into_moves : (i' : Receiver) → Incoming message x.sender i' → Onward message x.receiver i' → Kept message mixed (record x { receiver = i' })
-  into_moves i' inc w = record {
+  receiver_moves : (i' : Receiver) → Incoming message x.sender i' → Onward message x.receiver i' → Kept message mixed (record x { receiver = i' })
+  receiver_moves i' inc w = record {
     outgoing = k.outgoing;
     indexed = k.indexed;
     incoming = inc;
@@ -90,25 +90,25 @@ module _ (message : ℕ → Message) (mixed : Bool) (x : Transfer) (k : Kept mes
   }
 
   pub keeps : (e : Event) → IsAllowed message mixed x e → Kept message mixed (after message mixed x e)
-  keeps accept a = out_moves _ (accepts_outgoing message x.sender k.outgoing) (accepts_later message x.sender k.outgoing) (λ m. accepts_runs message x.sender k.outgoing (k.runs m)) k.indexed
+  keeps accept a = sender_moves _ (accepts_outgoing message x.sender k.outgoing) (accepts_later message x.sender k.outgoing) (λ m. accepts_runs message x.sender k.outgoing (k.runs m)) k.indexed
   keeps (begin p) a =
-      out_moves _ (begins_outgoing message mixed x.sender k.outgoing p a.0 a.1) (begins_later message mixed x.sender k.outgoing p a.0 a.1)
+      sender_moves _ (begins_outgoing message mixed x.sender k.outgoing p a.0 a.1) (begins_later message mixed x.sender k.outgoing p a.0 a.1)
       (λ m. begins_runs message mixed x.sender k.outgoing p a.0 a.1 m a.2 (k.runs m)) k.indexed
   keeps (number p bytes more) a =
       let f = part x.sender p bytes more in
       let fin : f.is_end ≡ true → f.placeholder ≡ false → gathered p x.sender.numbered ++ bytes ≡ (message p).payload =
       (λ l nf. ap (λ z. gathered p x.sender.numbered ++ z) (sym (append-nil bytes) ∙ ap (λ z. bytes ++ z) (sym (none_left more l))) ∙ a.1) in
-      out_moves _ (numbers_outgoing message x.sender k.outgoing f a.0 fin) (numbers_later message x.sender k.outgoing f a.0 fin) (λ m. numbers_runs message x.sender k.outgoing f a.0 fin (k.runs m)) (indexed_push x.sender.numbered k.indexed f refl)
+      sender_moves _ (numbers_outgoing message x.sender k.outgoing f a.0 fin) (numbers_later message x.sender k.outgoing f a.0 fin) (λ m. numbers_runs message x.sender k.outgoing f a.0 fin (k.runs m)) (indexed_push x.sender.numbered k.indexed f refl)
   keeps (close p) a =
       let f = end_of x.sender p in
       let fin : f.is_end ≡ true → f.placeholder ≡ false → gathered p x.sender.numbered ++ [] ≡ (message p).payload = (λ l nf. cc) in
-      out_moves _ (numbers_outgoing message x.sender k.outgoing f a fin) (numbers_later message x.sender k.outgoing f a fin) (λ m. numbers_runs message x.sender k.outgoing f a fin (k.runs m)) (indexed_push x.sender.numbered k.indexed f refl)
-  keeps (give_up p) a = out_moves _ (gives_outgoing message x.sender k.outgoing p a.0 a.1) (gives_later message x.sender k.outgoing p) (λ m. gives_runs message x.sender k.outgoing p (k.runs m)) k.indexed
-  keeps (data_comes t) a = into_moves _ (takes_incoming message x.sender x.receiver k.incoming t a.0 a.1 a.2) (takes_onward message x.sender x.receiver k.incoming t a.0 a.1 a.2)
+      sender_moves _ (numbers_outgoing message x.sender k.outgoing f a fin) (numbers_later message x.sender k.outgoing f a fin) (λ m. numbers_runs message x.sender k.outgoing f a fin (k.runs m)) (indexed_push x.sender.numbered k.indexed f refl)
+  keeps (give_up p) a = sender_moves _ (gives_outgoing message x.sender k.outgoing p a.0 a.1) (gives_later message x.sender k.outgoing p) (λ m. gives_runs message x.sender k.outgoing p (k.runs m)) k.indexed
+  keeps (data_comes t) a = receiver_moves _ (takes_incoming message x.sender x.receiver k.incoming t a.0 a.1 a.2) (takes_onward message x.sender x.receiver k.incoming t a.0 a.1 a.2)
   keeps (late_comes t) a =
       let given = late_passed message x.sender k.outgoing x.receiver k.incoming t a.0 a.1 a.2 in
-      into_moves _ (marks_incoming message x.sender x.receiver k.incoming t a.0 a.1 given) (marks_onward message x.sender x.receiver k.incoming t a.0 a.1 given)
-  keeps (deliver p) a = into_moves _ (delivers_incoming message mixed x.sender k.outgoing x.receiver k.incoming p a) (delivers_onward message mixed x.sender k.outgoing x.receiver k.incoming p a)
+      receiver_moves _ (marks_incoming message x.sender x.receiver k.incoming t a.0 a.1 given) (marks_onward message x.sender x.receiver k.incoming t a.0 a.1 given)
+  keeps (deliver p) a = receiver_moves _ (delivers_incoming message mixed x.sender k.outgoing x.receiver k.incoming p a) (delivers_onward message mixed x.sender k.outgoing x.receiver k.incoming p a)
   keeps (send_sack c) a = record {
     outgoing = k.outgoing;
     incoming = k.incoming;
@@ -140,9 +140,9 @@ module _ (message : ℕ → Message) (mixed : Bool) (x : Transfer) (k : Kept mes
   }
   keeps (forward_comes f) a =
       let ft = k.forwards_true f a in
-      into_moves _ (skips_incoming message mixed x.sender k.outgoing x.receiver k.incoming f ft) (skips_onward message mixed x.sender k.outgoing x.receiver k.incoming f ft)
+      receiver_moves _ (skips_incoming message mixed x.sender k.outgoing x.receiver k.incoming f ft) (skips_onward message mixed x.sender k.outgoing x.receiver k.incoming f ft)
   keeps (forget s c) a =
-      into_moves _ (forgets_incoming message mixed x.sender k.outgoing x.receiver k.incoming s c a) (forgets_onward message mixed x.sender k.outgoing x.receiver k.incoming s c a)
+      receiver_moves _ (forgets_incoming message mixed x.sender k.outgoing x.receiver k.incoming s c a) (forgets_onward message mixed x.sender k.outgoing x.receiver k.incoming s c a)
 
 module _ (message : ℕ → Message) (mixed : Bool) where
   pub at_start : Kept message mixed start

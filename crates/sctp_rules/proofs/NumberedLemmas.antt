@@ -16,11 +16,11 @@ module _ (message : ℕ → Message) (o : Sender) (i : Outgoing message o) (f : 
   longer : count new ≡ suc (count o)
   longer = omega (arith, length-append o.numbered (f ∷ []))
 
-  pub frag_old : (t : ℕ) → t < count o → fragment new t ≡ fragment o t
-  frag_old t h = get_or_append_left o.numbered (f ∷ []) blank t h
+  pub fragment_old : (t : ℕ) → t < count o → fragment new t ≡ fragment o t
+  fragment_old t h = get_or_append_left o.numbered (f ∷ []) blank t h
 
-  frag_new : fragment new (count o) ≡ f
-  frag_new = get_or_push o.numbered f blank (count o) refl
+  fragment_new : fragment new (count o) ≡ f
+  fragment_new = get_or_push o.numbered f blank (count o) refl
 
   partly_begun : (q : ℕ) → new.partly q ≡ true → o.begun q ≡ true
   partly_begun q b =
@@ -55,12 +55,12 @@ module _ (message : ℕ → Message) (o : Sender) (i : Outgoing message o) (f : 
         | inl e ↦ (
           count o,
           omega (arith, longer),
-          ap (λ z. z.place) frag_new ∙ sym e,
-          ap (λ z. z.is_end) frag_new ∙ not-false f.is_end (sym (put_at o.partly f.place (not f.is_end) a e) ∙ np),
+          ap (λ z. z.place) fragment_new ∙ sym e,
+          ap (λ z. z.is_end) fragment_new ∙ not-false f.is_end (sym (put_at o.partly f.place (not f.is_end) a e) ∙ np),
         )
         | inr d ↦
             let x = i.ended a b (sym (put_off o.partly f.place (not f.is_end) a d) ∙ np) in
-            (x.0, omega (arith, longer, x.1), ap (λ z. z.place) (frag_old x.0 x.1) ∙ x.2, ap (λ z. z.is_end) (frag_old x.0 x.1) ∙ x.3)
+            (x.0, omega (arith, longer, x.1), ap (λ z. z.place) (fragment_old x.0 x.1) ∙ x.2, ap (λ z. z.is_end) (fragment_old x.0 x.1) ∙ x.3)
       ]
 
   -- no fragment of the message is its end yet
@@ -115,7 +115,7 @@ module _ (message : ℕ → Message) (o : Sender) (i : Outgoing message o) (f : 
   pub numbers_later : Later message o new
   numbers_later = record {
     count_grows = omega (arith, longer);
-    same_fragment = frag_old;
+    same_fragment = fragment_old;
     given_stays = λ q h. h;
     begun_stays = λ q h. h;
     number_stays = λ q h. refl;
@@ -126,21 +126,21 @@ module _ (message : ℕ → Message) (o : Sender) (i : Outgoing message o) (f : 
         put_off o.partly f.place (not f.is_end) q d ∙ e;
     new_part = λ t g l.
         let e : t ≡ count o = omega (arith, g, l, longer) in
-        ap (λ z. o.partly (place_of new z)) e ∙ (ap (λ z. o.partly z.place) frag_new ∙ is_partly);
+        ap (λ z. o.partly (place_of new z)) e ∙ (ap (λ z. o.partly z.place) fragment_new ∙ is_partly);
   }
 
   pub numbers_runs : InRuns message o → InRuns message new
   numbers_runs r = record {
     next_same = λ t h l.
         let ht : t < count o = omega (arith, h, longer) in
-        let l' = sym (ap (λ z. z.is_end) (frag_old t ht)) ∙ l in
+        let l' = sym (ap (λ z. z.is_end) (fragment_old t ht)) ∙ l in
         elim (at_push o.numbered f blank (suc t) h) [
-          | inl a ↦ ap (λ z. z.place) a.1 ∙ (r.next_same t a.0 l' ∙ sym (ap (λ z. z.place) (frag_old t ht)))
-          | inr a ↦ ap (λ z. z.place) a.1 ∙ (sym (r.single (place_of o t) f.place (r.tail_partly t a.0 l') is_partly) ∙ sym (ap (λ z. z.place) (frag_old t ht)))
+          | inl a ↦ ap (λ z. z.place) a.1 ∙ (r.next_same t a.0 l' ∙ sym (ap (λ z. z.place) (fragment_old t ht)))
+          | inr a ↦ ap (λ z. z.place) a.1 ∙ (sym (r.single (place_of o t) f.place (r.tail_partly t a.0 l') is_partly) ∙ sym (ap (λ z. z.place) (fragment_old t ht)))
         ];
     tail_partly = λ t h l.
         let e : t ≡ count o = omega (arith, h, longer) in
-        let e2 = ap (fragment new) e ∙ frag_new in
+        let e2 = ap (fragment new) e ∙ fragment_new in
         let nl = sym (ap (λ z. z.is_end) e2) ∙ l in
         ap (λ z. new.partly z.place) e2 ∙ (put_at o.partly f.place (not f.is_end) f.place refl ∙ ap not nl);
     single = λ a b pa pb. r.single a b (was a pa) (was b pb);

@@ -43,7 +43,7 @@ pub fn forward_point_comes()
 pub fn stream_is_reset()
     ensures leads { (message : ℕ → Message) (mixed : Bool) (x : Transfer) (q r : Queue (KeyOf mixed) (next_of mixed)) (s c : ℕ) →
         Kept message mixed x → Shows message mixed x q → IsResettable message x.sender x.receiver s c →
-        Forgotten (KeyOf mixed) (next_of mixed) q r s (x.sender.counts true s) (x.sender.counts false s) → NoneReady mixed r →
+        Forgotten (KeyOf mixed) (next_of mixed) q r s (x.sender.counts true s) (x.sender.counts false s) → NoneReady mixed q →
         LeadsTo message mixed x (forget s c) [] r }
 {}
 

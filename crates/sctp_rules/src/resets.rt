@@ -2,6 +2,7 @@
 //! the stream's last reset.
 
 ghost use Rattle.std.specs.Prelude.{◌≡◌, Bool, List, true, ℕ};
+ghost use Rattle.sctp_rules.specs.Claims.{Claims};
 ghost use Rattle.sctp_rules.specs.Kept.{IsDone, Kept};
 ghost use Rattle.sctp_rules.specs.Resets.{EachInItsEpoch, Epochs, InOrder, MayAll, MayReset, ResetEvent, first_epoch, go_all, goes};
 ghost use Rattle.sctp_rules.specs.Rules.{IsResettable};
@@ -20,10 +21,14 @@ pub fn counts_are_aligned()
 /// Along every schedule with stream resets, a message that may become ready, ordered or not, is of the epoch that the
 /// receiver is in: as many resets of its stream were performed as were asked for before its acceptance.
 ///
+/// The claims of the transfer hold with resets too, over all epochs of a stream.
+///
 /// Denied requests are left out: between two ends that follow the rules none is denied.
 pub fn each_in_its_epoch()
-    ensures always { (message : ℕ → Message) (mixed : Bool) (events : List ResetEvent) →
+    ensures epochs { (message : ℕ → Message) (mixed : Bool) (events : List ResetEvent) →
         MayAll message mixed first_epoch events → EachInItsEpoch message mixed (go_all message mixed first_epoch events) }
+    ensures transfer { (message : ℕ → Message) (mixed : Bool) (events : List ResetEvent) →
+        MayAll message mixed first_epoch events → Claims message (go_all message mixed first_epoch events).transfer }
 {}
 
 /// The invariant of the rules with resets holds at first, each step keeps it, and it gives the claim. It contains the

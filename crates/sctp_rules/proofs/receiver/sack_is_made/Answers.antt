@@ -1,5 +1,5 @@
 use Rattle.sctp_rules.specs.Reassembly.{KeyOf, next_of, key_of, below_of}
-use Rattle.sctp_rules.proofs.WholeLemmas.{key_laws, sack_made}
+use Rattle.sctp_rules.proofs.ReceiverRowLemmas.{key_laws, sack_made}
 use Rattle.sctp_rules.proofs.receiver.sack_is_made.Goals as goal
 
 pub returns : goal.returns

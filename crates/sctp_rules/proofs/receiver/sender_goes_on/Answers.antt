@@ -1,4 +1,4 @@
-use Rattle.sctp_rules.proofs.WholeLemmas.{still_sees, chunk_stays, key_stays}
+use Rattle.sctp_rules.proofs.ReceiverRowLemmas.{still_sees, chunk_stays, key_stays}
 use Rattle.sctp_rules.proofs.receiver.sender_goes_on.Goals as goal
 
 pub returns-clause-shows : goal.returns-clause-shows

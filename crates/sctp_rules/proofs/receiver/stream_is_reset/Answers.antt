@@ -1,5 +1,5 @@
 use Rattle.sctp_rules.specs.Reassembly.{KeyOf, next_of, key_of, below_of}
-use Rattle.sctp_rules.proofs.WholeLemmas.{key_laws, stream_reset}
+use Rattle.sctp_rules.proofs.ReceiverRowLemmas.{key_laws, stream_reset}
 use Rattle.sctp_rules.proofs.receiver.stream_is_reset.Goals as goal
 
 pub returns : goal.returns

@@ -1,4 +1,4 @@
-use Rattle.sctp_rules.proofs.QueueLemmas.{first_fragment}
+use Rattle.sctp_rules.proofs.SenderRowLemmas.{first_fragment}
 use Rattle.sctp_rules.proofs.sender.first_fragment.Goals as goal
 
 pub returns : goal.returns

@@ -1,4 +1,4 @@
-use Rattle.sctp_rules.proofs.QueueLemmas.{accepted}
+use Rattle.sctp_rules.proofs.SenderRowLemmas.{accepted}
 use Rattle.sctp_rules.proofs.sender.message_is_accepted.Goals as goal
 
 pub returns : goal.returns

@@ -1,4 +1,4 @@
-use Rattle.sctp_rules.proofs.QueueLemmas.{next_fragment}
+use Rattle.sctp_rules.proofs.SenderRowLemmas.{next_fragment}
 use Rattle.sctp_rules.proofs.sender.next_fragment.Goals as goal
 
 pub returns : goal.returns

@@ -1,4 +1,4 @@
-use Rattle.sctp_rules.proofs.QueueLemmas.{rest_dropped}
+use Rattle.sctp_rules.proofs.SenderRowLemmas.{rest_dropped}
 use Rattle.sctp_rules.proofs.sender.partly_sent_is_given_up.Goals as goal
 
 pub returns : goal.returns

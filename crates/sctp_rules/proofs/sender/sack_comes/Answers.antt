@@ -1,4 +1,4 @@
-use Rattle.sctp_rules.proofs.MoreRowsLemmas.{leave_all}
+use Rattle.sctp_rules.proofs.ShowsLemmas.{leave_all}
 use Rattle.sctp_rules.proofs.sender.sack_comes.Goals as goal
 
 pub returns-clause-may : goal.returns-clause-may

@@ -1,4 +1,4 @@
-use Rattle.sctp_rules.proofs.QueueLemmas.{sent_given_up}
+use Rattle.sctp_rules.proofs.SenderRowLemmas.{sent_given_up}
 use Rattle.sctp_rules.proofs.sender.sent_is_given_up.Goals as goal
 
 pub returns : goal.returns

@@ -1,4 +1,4 @@
-use Rattle.sctp_rules.proofs.QueueLemmas.{unsent_dropped}
+use Rattle.sctp_rules.proofs.SenderRowLemmas.{unsent_dropped}
 use Rattle.sctp_rules.proofs.sender.unsent_is_given_up.Goals as goal
 
 pub returns : goal.returns

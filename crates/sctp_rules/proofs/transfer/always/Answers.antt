@@ -1,5 +1,5 @@
-use Rattle.sctp_rules.proofs.ClaimedLemmas.{always}
-use Rattle.sctp_rules.proofs.GrownLemmas.{grown}
+use Rattle.sctp_rules.proofs.ClaimsLemmas.{always}
+use Rattle.sctp_rules.proofs.GrowsLemmas.{grown}
 use Rattle.sctp_rules.proofs.transfer.always.Goals as goal
 
 pub returns-clause-claims : goal.returns-clause-claims

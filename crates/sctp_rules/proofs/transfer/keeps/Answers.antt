@@ -1,5 +1,5 @@
-use Rattle.sctp_rules.proofs.ClaimedLemmas.{claimed}
-use Rattle.sctp_rules.proofs.GrownLemmas.{one}
+use Rattle.sctp_rules.proofs.ClaimsLemmas.{claimed}
+use Rattle.sctp_rules.proofs.GrowsLemmas.{one}
 use Rattle.sctp_rules.proofs.KeepsLemmas.{at_start, keeps}
 use Rattle.sctp_rules.proofs.transfer.keeps.Goals as goal
 

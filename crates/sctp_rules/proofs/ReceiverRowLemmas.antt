@@ -1,16 +1,18 @@
 -- Whole rows of the receiver are sequences of the rules, over any key that meets the keys' laws.
-use Rattle.std.proofs.Common.{◌≡◌, ℕ, suc, ◌<◌, Bool, true, false, List, [], ◌∷◌, map, refl, ◌∙◌, subst, sym, ap, arith}
+use Rattle.std.proofs.Common.{◌≡◌, ◌≢◌, ℕ, suc, ◌<◌, ◌≤◌, Bool, true, false, Option, Some, List, [], ◌∷◌, map, refl, ◌∙◌, subst, sym, ap, arith, eqb}
 use Rattle.sctp_rules.specs.State.{Message, ForwardPoint, Transfer, fragment, count, IsAmong}
 use Rattle.sctp_rules.specs.Rules.{Event, data_comes, late_comes, deliver, forward_comes, forget, send_sack, IsAllowed, IsRipe, IsResettable, Happens, after, run}
-use Rattle.sctp_rules.specs.Reassembly.{Chunk, chunk_of, Queue, ReadyRun, IsLate, Readied, Added, Forwarded, Forgotten, Sees, KeyLaws, KeyOf, next_of, key_of, below_of}
+use Rattle.sctp_rules.specs.Reassembly.{Chunk, chunk_of, Queue, nth, ReadyRun, IsLate, Readied, Added, Forwarded, Forgotten, Sees, KeyLaws, KeyOf, next_of, key_of, below_of}
 use Rattle.sctp_rules.specs.Kept.{Kept}
 use Rattle.sctp_rules.specs.Joints.{Leads, Shows}
 use Rattle.sctp_rules.proofs.KeepsLemmas.{keeps, all_kept}
+use Rattle.std.proofs.lemmas.Bool.{eq-eqb}
+use Rattle.sctp_rules.proofs.ToolsLemmas.{put_off, not_both}
 use Rattle.sctp_rules.proofs.KeysLemmas.{own_keys, message_keys}
 use Rattle.sctp_rules.proofs.StepLemmas.{later}
 use Rattle.sctp_rules.proofs.ForgetLemmas.{reset_aligned}
-use Rattle.sctp_rules.proofs.MoreRowsLemmas.{sees_added, sees_forwarded, sees_forgotten, late_below, sees_later, chunk_same, message_key_same}
-use Rattle.sctp_rules.proofs.RowsLemmas.{readied, none_ripe}
+use Rattle.sctp_rules.proofs.ShowsLemmas.{unforgotten_some, sees_added, sees_forwarded, sees_forgotten, late_below, sees_later, chunk_same, message_key_same}
+use Rattle.sctp_rules.proofs.ReadiedLemmas.{readied, none_ripe}
 
 module _ (message : ℕ → Message) (mixed : Bool) where
   delivered_stays : (ps : List ℕ) (x : Transfer) → run message mixed x (map deliver ps) ≡ record x { receiver = (run message mixed x (map deliver ps)).receiver }
@@ -73,14 +75,30 @@ module _ (Key : Type 0) (succ : Key → Key) (message : ℕ → Message) (mixed 
       let d = readied Key succ message mixed key below m r more (after message mixed x (forward_comes f)) ky laws sy in
       (d.0, leads (forward_comes f) d.0 m r a ky refl d.1 d.2 d.3)
 
-  -- a reset request is performed
+  -- a reset request is performed. What is left in the queue was there before
   pub stream_reset : (r : Queue Key succ) (a c : ℕ) → IsResettable message x.sender x.receiver a c
-      → Forgotten Key succ q r a (x.sender.counts true a) (x.sender.counts false a) → ((κ : Key) (n : ℕ) (w : ℕ → Chunk) → ReadyRun Key succ r κ n w → ⊥)
+      → Forgotten Key succ q r a (x.sender.counts true a) (x.sender.counts false a) → ((κ : Key) (n : ℕ) (w : ℕ → Chunk) → ReadyRun Key succ q κ n w → ⊥)
       → Leads Key succ message mixed key x (forget a c) [] r
   stream_reset r a c h z none =
       let ky = keeps message mixed x k (forget a c) h in
       let sy = sees_forgotten Key succ message mixed x.sender x.receiver k.incoming key below laws q r s a (reset_aligned message mixed x.sender k.outgoing x.receiver k.incoming a c h) z in
-      leads (forget a c) [] r r h ky refl tt sy (none_ripe Key succ message mixed (after message mixed x (forget a c)) ky key below laws r sy none)
+      leads (forget a c) [] r r h ky refl tt sy (none_ripe Key succ message mixed (after message mixed x (forget a c)) ky key below laws r sy
+      (λ κ n w y. none κ n w (was_ready r a c z κ n w y)))
+    where
+      was_ready : (r : Queue Key succ) (a c : ℕ) → Forgotten Key succ q r a (x.sender.counts true a) (x.sender.counts false a)
+          → (κ : Key) (n : ℕ) (w : ℕ → Chunk) → ReadyRun Key succ r κ n w → ReadyRun Key succ q κ n w
+      was_ready r a c z κ n w y =
+          let left : (j : ℕ) → j ≤ n → (q.chunks (nth Key succ κ j) ≡ Some (w j)) × (eqb (w j).stream a ≡ false) =
+          (λ j l. unforgotten_some Key succ message mixed x.sender x.receiver k.incoming key below laws q r s a (q.chunks (nth Key succ κ j)) (w j) (sym (z.chunks (nth Key succ κ j)) ∙ y.held j l)) in
+          record {
+            held = λ j l. (left j l).0;
+            begins = y.begins;
+            ends = y.ends;
+            inner = y.inner;
+            in_turn = λ o.
+                let other : (w 0).stream ≢ a = λ e. not_both (eq-eqb ((w 0).stream) a e) (left 0 (omega arith)).1 in
+                y.in_turn o ∙ (z.next ((w 0).stream) ∙ put_off q.next a (x.sender.counts true a) ((w 0).stream) other);
+          }
 
   -- a SACK is made of the tracker's front
   pub sack_made : (c : ℕ) → ((t : ℕ) → t < c → x.receiver.seen t ≡ true) → ((κ : Key) (n : ℕ) (w : ℕ → Chunk) → ReadyRun Key succ q κ n w → ⊥) → IsAllowed message mixed x (send_sack c)

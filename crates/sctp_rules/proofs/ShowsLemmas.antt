@@ -84,7 +84,7 @@ module _ (Key : Type 0) (succ : Key → Key) (message : ℕ → Message) (mixed 
     ready_is = z.ready ∙ s.ready_is;
   }
 
-  unforgotten_some : (a : ℕ) (c : Option Chunk) (w : Chunk) → unforgotten Key succ a c ≡ Some w → (c ≡ Some w) × (eqb w.stream a ≡ false)
+  pub unforgotten_some : (a : ℕ) (c : Option Chunk) (w : Chunk) → unforgotten Key succ a c ≡ Some w → (c ≡ Some w) × (eqb w.stream a ≡ false)
   unforgotten_some a None w e = cc
   unforgotten_some a (Some v) w e = let x = cond_none (eqb v.stream a) v w e in (ap Some x.1, subst (λ z. eqb z.stream a ≡ false) x.1 x.0)
 
