@@ -40,7 +40,7 @@ module _ (Key : Type 0) (succ : Key → Key) (message : ℕ → Message) (mixed 
         may = (a, h);
         kept = all_kept message mixed (map deliver ps) (after message mixed x e) ky h;
         sees = subst (λ o. Sees Key succ message mixed o y.receiver key r) same sees;
-        full = subst (λ o. (p : ℕ) → IsRipe message o y.receiver p → ⊥) same full;
+        none_ripe = subst (λ o. (p : ℕ) → IsRipe message o y.receiver p → ⊥) same full;
         seen_is = delivered_seen message mixed ps (after message mixed x e);
         rest_stays = rest;
       }

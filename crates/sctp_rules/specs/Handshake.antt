@@ -88,7 +88,12 @@ init_ack_comes e tie s v y c = e
 
 -- a new control block from the cookie
 abbrev pub opens : Endpoint → ℕ → Cookie → Endpoint
-opens e tie c = record e { state = connected established (association_of c) tie; held = association_of c ∷ e.held; connected = association_of c ∷ e.connected; packets = cookie_ack c.peer.tag ∷ e.packets }
+opens e tie c = record e {
+  state = connected established (association_of c) tie;
+  held = association_of c ∷ e.held;
+  connected = association_of c ∷ e.connected;
+  packets = cookie_ack c.peer.tag ∷ e.packets;
+}
 
 -- the peer has restarted (section 5.2.4.1)
 abbrev pub restarts : Endpoint → ℕ → Cookie → State → Endpoint

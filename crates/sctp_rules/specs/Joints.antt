@@ -11,7 +11,7 @@ pub record Leads (Key : Type 0) (succ : Key → Key) (message : ℕ → Message)
   pub may : Happens message mixed x (e ∷ es)
   pub kept : Kept message mixed (run message mixed x (e ∷ es))
   pub sees : Sees Key succ message mixed x.sender (run message mixed x (e ∷ es)).receiver key r
-  pub full : (p : ℕ) → IsRipe message x.sender (run message mixed x (e ∷ es)).receiver p → ⊥
+  pub none_ripe : (p : ℕ) → IsRipe message x.sender (run message mixed x (e ∷ es)).receiver p → ⊥
   pub seen_is : (t : ℕ) → (run message mixed x (e ∷ es)).receiver.seen t ≡ (after message mixed x e).receiver.seen t
   pub rest_stays : run message mixed x (e ∷ es) ≡ record x { receiver = (run message mixed x (e ∷ es)).receiver }
 

@@ -31,13 +31,16 @@ module _ (message : ℕ → Message) where
     pub fifo : (t u : ℕ) → t < u → u < count o → stream_of message (place_of o t) ≡ stream_of message (place_of o u) → place_of o t ≤ place_of o u
     pub settled : (p q : ℕ) → o.begun p ≡ true → q < p → stream_of message q ≡ stream_of message p → IsSettled o q
     -- the numbers of a stream and kind rise with the places, without gaps, below the count
-    pub rises : (p q : ℕ) → o.begun p ≡ true → o.begun q ≡ true → ordered_of message p ≡ ordered_of message q → stream_of message p ≡ stream_of message q → p < q → o.number p < o.number q
+    pub rises : (p q : ℕ) → o.begun p ≡ true → o.begun q ≡ true → ordered_of message p ≡ ordered_of message q → stream_of message p ≡ stream_of message q
+        → p < q → o.number p < o.number q
     pub counted : (p : ℕ) → o.begun p ≡ true → o.number p < o.counts (ordered_of message p) (stream_of message p)
-    pub dense : (kind : Bool) (s k : ℕ) → k < o.counts kind s → (p : ℕ) × (o.begun p ≡ true) × (ordered_of message p ≡ kind) × (stream_of message p ≡ s) × (o.number p ≡ k)
+    pub dense : (kind : Bool) (s k : ℕ) → k < o.counts kind s
+        → (p : ℕ) × (o.begun p ≡ true) × (ordered_of message p ≡ kind) × (stream_of message p ≡ s) × (o.number p ≡ k)
     pub ended : (p : ℕ) → o.begun p ≡ true → o.partly p ≡ false → (t : ℕ) × (t < count o) × (place_of o t ≡ p) × ((fragment o t).is_end ≡ true)
     pub last_ends : (t u : ℕ) → t < count o → u < count o → place_of o t ≡ place_of o u → (fragment o t).is_end ≡ true → u ≤ t
     pub partly_no_last : (t : ℕ) → t < count o → o.partly (place_of o t) ≡ true → (fragment o t).is_end ≡ false
-    pub whole : (t : ℕ) → t < count o → (fragment o t).is_end ≡ true → (fragment o t).placeholder ≡ false → gathered (place_of o t) o.numbered ≡ (message (place_of o t)).payload
+    pub whole : (t : ℕ) → t < count o → (fragment o t).is_end ≡ true → (fragment o t).placeholder ≡ false
+        → gathered (place_of o t) o.numbered ≡ (message (place_of o t)).payload
 
   -- two places of which the first became ready first
   pub record Apart (p q : ℕ) : Type 0 where
@@ -70,7 +73,8 @@ module _ (message : ℕ → Message) where
     pub all_seen : (t : ℕ) → t < c → i.seen t ≡ true
     pub done : (t : ℕ) → t < c → (fragment o t).is_end ≡ true → IsDone o i (place_of o t)
     -- an ordered message that ends below is behind its stream's next number
-    pub behind : (t : ℕ) → t < c → (fragment o t).is_end ≡ true → ordered_of message (place_of o t) ≡ true → o.number (place_of o t) < i.next (stream_of message (place_of o t))
+    pub behind : (t : ℕ) → t < c → (fragment o t).is_end ≡ true → ordered_of message (place_of o t) ≡ true
+        → o.number (place_of o t) < i.next (stream_of message (place_of o t))
 
   -- an entry for an ordered stream stands for a fragment from which on the stream's are named
   pub record Reach (o : Sender) (f : ForwardPoint) (s n : ℕ) : Type 0 where
@@ -79,12 +83,14 @@ module _ (message : ℕ → Message) where
     pub is_ordered : ordered_of message (place_of o at) ≡ true
     pub on_stream : stream_of message (place_of o at) ≡ s
     pub above : n ≤ o.number (place_of o at)
-    pub further : (t : ℕ) → at ≤ t → t < f.upto → ordered_of message (place_of o t) ≡ true → stream_of message (place_of o t) ≡ s → covers f.entries true s (o.number (place_of o t)) ≡ true
+    pub further : (t : ℕ) → at ≤ t → t < f.upto → ordered_of message (place_of o t) ≡ true → stream_of message (place_of o t) ≡ s
+        → covers f.entries true s (o.number (place_of o t)) ≡ true
 
   -- what a forward point says
   pub record ForwardTrue (mixed : Bool) (o : Sender) (i : Receiver) (f : ForwardPoint) : Type 0 where
     pub within : f.upto ≤ count o
-    pub reached : (t : ℕ) → t < f.upto → (i.seen t ≡ true) ⊎ ((o.given_up (place_of o t) ≡ true) × (ordered_of message (place_of o t) ≡ true → covers f.entries true (stream_of message (place_of o t)) (o.number (place_of o t)) ≡ true))
+    pub reached : (t : ℕ) → t < f.upto → (i.seen t ≡ true)
+        ⊎ ((o.given_up (place_of o t) ≡ true) × (ordered_of message (place_of o t) ≡ true → covers f.entries true (stream_of message (place_of o t)) (o.number (place_of o t)) ≡ true))
     pub named_done : (p : ℕ) → o.begun p ≡ true → covers f.entries (ordered_of message p) (stream_of message p) (o.number p) ≡ true → IsDone o i p
     pub named_counts : (kind : Bool) (s n : ℕ) → covers f.entries kind s n ≡ true → n < o.counts kind s
     pub only_ordered : mixed ≡ false → (s n : ℕ) → covers f.entries false s n ≡ false

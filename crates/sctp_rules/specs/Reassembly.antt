@@ -43,7 +43,12 @@ pub record MessageKey : Type 0 where
   pub index : ℕ
 
 abbrev pub message_key : (ℕ → Message) → Sender → ℕ → MessageKey
-message_key message o t = record { ordered = (message (place_of o t)).ordered; stream = (message (place_of o t)).stream; number = o.number (place_of o t); index = (fragment o t).index }
+message_key message o t = record {
+  ordered = (message (place_of o t)).ordered;
+  stream = (message (place_of o t)).stream;
+  number = o.number (place_of o t);
+  index = (fragment o t).index;
+}
 
 abbrev pub next_index : MessageKey → MessageKey
 next_index κ = record κ { index = suc κ.index }
@@ -90,7 +95,8 @@ module _ (Key : Type 0) (succ : Key → Key) where
     pub kept : (κ' : Key) → ((j : ℕ) → j ≤ n → κ' ≡ nth κ j → ⊥) → r.chunks κ' ≡ q.chunks κ'
     pub next : (s : ℕ) → r.next s ≡ cond ((w 0).ordered && (s == (w 0).stream)) (suc (w 0).number) (q.next s)
     pub passed : (s : ℕ) → r.passed_below s ≡ q.passed_below s
-    pub ready : r.ready ≡ q.ready ++ record { stream = (w 0).stream; protocol_id = (w 0).protocol_id; payload = joined (λ j. (w j).payload) (suc n) } ∷ []
+    pub ready :
+        r.ready ≡ q.ready ++ record { stream = (w 0).stream; protocol_id = (w 0).protocol_id; payload = joined (λ j. (w j).payload) (suc n) } ∷ []
 
   -- run after run became ready, until none is left
   pub data Readied : Queue → Queue → Type 0 where
@@ -145,7 +151,8 @@ module _ (Key : Type 0) (succ : Key → Key) where
   pub record KeyLaws (mixed : Bool) (o : Sender) (key : ℕ → Key) (below : Key → ℕ → Bool) : Type 0 where
     pub decide : (κ κ' : Key) → (κ ≡ κ') ⊎ (κ ≡ κ' → ⊥)
     pub one : (t u : ℕ) → t < count o → u < count o → key t ≡ key u → t ≡ u
-    pub follows : (t u : ℕ) → t < count o → u < count o → (fragment o t).is_end ≡ false → key u ≡ succ (key t) → (place_of o u ≡ place_of o t) × ((fragment o u).index ≡ suc (fragment o t).index)
+    pub follows : (t u : ℕ) → t < count o → u < count o → (fragment o t).is_end ≡ false → key u ≡ succ (key t)
+        → (place_of o u ≡ place_of o t) × ((fragment o u).index ≡ suc (fragment o t).index)
     pub leads : (t u : ℕ) → t < count o → u < count o → place_of o u ≡ place_of o t → (fragment o u).index ≡ suc (fragment o t).index → key u ≡ succ (key t)
     pub below_is : mixed ≡ false → (t n : ℕ) → below (key t) n ≡ nat_lt t n
 

@@ -31,7 +31,13 @@ module _ (tag : ℕ → ℕ) (tsn : ℕ → ℕ → ℕ) (tie : ℕ → ℕ) whe
   packet (shutdown_ack v) = shutdown_ack (tag v)
 
   abbrev pub endpoint : Endpoint → Endpoint
-  endpoint x = record { state = state x.state; drawn = map draw x.drawn; held = map association x.held; connected = map association x.connected; packets = map packet x.packets }
+  endpoint x = record {
+    state = state x.state;
+    drawn = map draw x.drawn;
+    held = map association x.held;
+    connected = map association x.connected;
+    packets = map packet x.packets;
+  }
 
   abbrev pub event : Event → Event
   event (connect d) = connect (draw d)

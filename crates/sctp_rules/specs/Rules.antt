@@ -12,8 +12,8 @@ pub data Event : Type 0 where
   data_comes : (t : ℕ) → Event
   late_comes : (t : ℕ) → Event  -- a fragment of a message that was given up: seen, and not held
   deliver : (p : ℕ) → Event  -- a message becomes ready
-  send_sack : (c : ℕ) → Event  -- its cumulative TSN ack is fragment c, less 1
-  leave : (c : ℕ) → Event  -- that SACK has come, and one fragment leaves the sender
+  send_sack : (c : ℕ) → Event  -- it acknowledges the fragments below c
+  leave : (c : ℕ) → Event  -- such a SACK has come, and one fragment leaves the sender
   send_forward : (f : ForwardPoint) → Event
   forward_comes : (f : ForwardPoint) → Event
   forget : (s c : ℕ) → Event  -- an outgoing reset request of stream s is performed (RFC 6525 section 5.2.2)
@@ -69,7 +69,7 @@ takes i t = record i { seen = put i.seen t true; held = put i.held t true }
 abbrev pub marks : Receiver → ℕ → Receiver
 marks i t = record i { seen = put i.seen t true }
 
--- what the fragment at t reports as it leaves (RFC 9260 section 6.3.2, lifecycle of its message)
+-- the fragment at t reports its message as delivered as it leaves, where it is the end and the message was not given up
 abbrev pub report : Sender → ℕ → List ℕ
 report o t = cond ((fragment o t).is_end && not (o.given_up (place_of o t))) (place_of o t ∷ []) []
 

@@ -28,7 +28,7 @@ pub record Entry : Type 0 where
   pub stream : ℕ
   pub number : ℕ
 
--- FORWARD-TSN or I-FORWARD-TSN (RFC 3758 section 3.2, RFC 8260 section 2.3): each fragment below `upto` counts as seen
+-- FORWARD-TSN or I-FORWARD-TSN (RFC 3758 section 3.2, RFC 8260 section 2.3.1): each fragment below `upto` counts as seen
 pub record ForwardPoint : Type 0 where
   pub upto : ℕ
   pub entries : List Entry

@@ -2,7 +2,7 @@
 use Rattle.std.specs.Prelude.{◌≡◌, ℕ, ◌+◌, ◌-◌, ◌%◌, ◌/◌, ◌^◌, ◌<◌, ◌≤◌, nat_lt, if◌then◌else◌, true, false}
 use Rattle.sctp_rules.specs.State.{Message, Receiver, Transfer, place_of, count, stream_of, ordered_of}
 
--- how n is written where 0 is written `first` (RFC 9260 section 1.6)
+-- how n is written where 0 is written `first` (serial numbers, RFC 1982)
 abbrev pub wire : ℕ → ℕ → ℕ → ℕ
 wire space first n = (first + n) % space
 
