@@ -1,8 +1,7 @@
 -- Over every schedule of the handshake.
-use Rattle.std.proofs.Common.{◌≡◌, ℕ, Bool, true, false, cond, List, [], ◌∷◌, Option, Some, None, refl, ap, sym, subst, ◌∙◌, ◌⊎◌, inl, inr}
-use Rattle.std.specs.Prelude.{slice_get, ◌==◌, ⊤, not}
-use Rattle.sctp_rules.specs.State.{IsAmong}
-use Rattle.sctp_rules.specs.Handshake.{Draw, Association, Cookie, association_of, Phase, established, shutdown_pending, shutdown_sent, shutdown_received, shutdown_ack_sent, State, closed, cookie_wait, cookie_echoed, connected, Packet, init, init_ack, cookie_echo, cookie_ack, shutdown_ack, Endpoint, holds, emits, connects, init_comes, init_ack_comes, opens, restarts, resolves, establishes, cookie_echo_comes, cookie_ack_comes, closes, shutdown_ack_comes, packet_comes, resends, shuts, Event, connect, receive, resend, shut, close, acts, World, start, happens, run, AreDistinct, NoneTwice, AgreesWith, Agreement, TellsWhatItHolds}
+use Rattle.std.proofs.Common.{◌≡◌, ℕ, Bool, true, false, cond, List, [], ◌∷◌, Option, Some, None, refl, subst, ◌⊎◌, inl, inr}
+use Rattle.std.specs.Prelude.{slice_get, ◌==◌, not}
+use Rattle.sctp_rules.specs.Handshake.{Draw, Association, Cookie, association_of, Phase, established, shutdown_pending, shutdown_sent, shutdown_received, shutdown_ack_sent, State, closed, cookie_wait, cookie_echoed, connected, Packet, init, init_ack, cookie_echo, cookie_ack, shutdown_ack, Endpoint, holds, emits, connects, init_comes, init_ack_comes, opens, restarts, resolves, establishes, cookie_echo_comes, cookie_ack_comes, closes, shutdown_ack_comes, packet_comes, resends, shuts, Event, connect, receive, resend, shut, close, acts, World, start, happens, run, AreDistinct, NoneTwice, Agreement, TellsWhatItHolds}
 use Rattle.sctp_rules.proofs.HandshakeLemmas.{Half, half_other, half_agrees, acts_any}
 
 -- one step draws at most one tag, and an OnConnected is of what is then held

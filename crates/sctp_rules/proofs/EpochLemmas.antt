@@ -1,10 +1,9 @@
 -- Each message becomes ready in its epoch.
-use Rattle.std.proofs.Common.{◌≡◌, ◌≢◌, ℕ, suc, ◌<◌, ◌≤◌, Bool, true, false, ◌⊎◌, inl, inr, List, [], ◌∷◌, refl, sym, ap, ◌∙◌, subst, arith}
+use Rattle.std.proofs.Common.{◌≡◌, ℕ, suc, ◌<◌, ◌≤◌, Bool, true, false, ◌⊎◌, inl, inr, List, [], ◌∷◌, refl, sym, ap, ◌∙◌, subst, arith}
 use Rattle.std.proofs.lemmas.Bool.{cases_lt, cases_eq}
-use Rattle.sctp_rules.specs.State.{Message, Transfer, IsAmong, put, count, place_of, fragment, stream_of}
-use Rattle.sctp_rules.specs.Rules.{Event, accept, begin, number, close, give_up, data_comes, late_comes, deliver, send_sack, leave, send_forward, forward_comes, forget, IsSettled, IsResettable, IsRipe, IsAllowed, after}
-use Rattle.sctp_rules.specs.Kept.{Kept}
-use Rattle.sctp_rules.specs.Resets.{Request, Epochs, ResetEvent, transfers, reset_stream, send_request, perform, commit, first_epoch, InEpoch, MayReset, epochs_after, goes, MayAll, go_all, RequestTrue, InOrder, EachInItsEpoch}
+use Rattle.sctp_rules.specs.State.{Message, IsAmong, put, count, place_of, stream_of}
+use Rattle.sctp_rules.specs.Rules.{Event, accept, begin, number, close, give_up, data_comes, late_comes, deliver, send_sack, leave, send_forward, forward_comes, forget, IsSettled, IsResettable, IsAllowed, after}
+use Rattle.sctp_rules.specs.Resets.{Request, Epochs, ResetEvent, transfers, reset_stream, send_request, perform, commit, first_epoch, InEpoch, MayReset, goes, MayAll, go_all, RequestTrue, InOrder, EachInItsEpoch}
 use Rattle.sctp_rules.proofs.ToolsLemmas.{put_at, put_off, put_true, not_both}
 use Rattle.sctp_rules.proofs.KeepsLemmas.{keeps, at_start}
 use Rattle.sctp_rules.proofs.BeginLemmas.{unsettled}

@@ -1,10 +1,10 @@
 -- A stream is reset: all its fragments are seen, and nothing is left to make ready or partly sent.
-use Rattle.std.proofs.Common.{◌≡◌, ℕ, ◌<◌, ◌≤◌, Bool, true, false, not, ◌⊎◌, inl, inr, refl, sym, ap, ◌∙◌, subst, arith, eqb}
-use Rattle.std.proofs.lemmas.Bool.{cases_lt, cases_eq, cases_Bool, and_parts, and_left, and_right, and_cases, eqb-true, eq-eqb, not-false, not_from_true}
+use Rattle.std.proofs.Common.{◌≡◌, ℕ, ◌<◌, ◌≤◌, Bool, true, false, not, ◌⊎◌, inl, inr, ap, ◌∙◌, subst, arith, eqb}
+use Rattle.std.proofs.lemmas.Bool.{cases_lt, cases_eq, and_parts, and_left, and_right, and_cases, eqb-true, eq-eqb, not-false, not_from_true}
 use Rattle.sctp_rules.specs.State.{Message, Sender, Receiver, fragment, place_of, count, has, stream_of, ordered_of}
 use Rattle.sctp_rules.specs.Rules.{IsResettable, forgets}
 use Rattle.sctp_rules.specs.Kept.{Outgoing, Incoming, IsDone, IsPassed, SackTrue}
-use Rattle.sctp_rules.proofs.ToolsLemmas.{put_at, put_off, not_both}
+use Rattle.sctp_rules.proofs.ToolsLemmas.{put_at, put_off}
 use Rattle.sctp_rules.proofs.SackLemmas.{sack_true}
 use Rattle.sctp_rules.proofs.LaterLemmas.{Onward}
 

@@ -1,9 +1,9 @@
 -- The runs may happen.
-use Rattle.std.proofs.Common.{◌≡◌, ℕ, zero, suc, ◌<◌, ◌≤◌, Bool, true, false, ◌&&◌, inl, inr, List, [], ◌∷◌, take, refl, sym, ap, ◌∙◌, subst, arith, eqb, leb}
+use Rattle.std.proofs.Common.{◌≡◌, ℕ, zero, suc, ◌<◌, ◌≤◌, Bool, true, false, ◌&&◌, inl, inr, take, refl, sym, ap, ◌∙◌, subst, arith, eqb, leb}
 use Rattle.std.proofs.lemmas.Bool.{or_cases, and_parts, eqb-true, leb-true}
 use Rattle.std.proofs.lemmas.Bool.Decides.{nat_tests}
-use Rattle.sctp_rules.specs.State.{Message, ForwardPoint, Transfer, fragment, place_of, start, count}
-use Rattle.sctp_rules.specs.Rules.{Event, begin, IsSettled, IsRipe, IsDue, IsAllowed, Happens, covers, run}
+use Rattle.sctp_rules.specs.State.{Transfer, fragment, place_of, start}
+use Rattle.sctp_rules.specs.Rules.{begin, IsSettled, IsRipe, IsDue, IsAllowed, Happens, covers, run}
 use Rattle.sctp_rules.specs.Runs.{three, over_two, plain_run}
 
 at_zero : {A : Type 0} (f : ℕ → A) (v : A) (t : ℕ) → f 0 ≡ v → t < 1 → f t ≡ v

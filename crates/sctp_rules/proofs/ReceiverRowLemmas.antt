@@ -1,5 +1,5 @@
 -- Whole rows of the receiver are sequences of the rules, over any key that meets the keys' laws.
-use Rattle.std.proofs.Common.{◌≡◌, ◌≢◌, ℕ, suc, ◌<◌, ◌≤◌, Bool, true, false, Option, Some, List, [], ◌∷◌, map, refl, ◌∙◌, subst, sym, ap, arith, eqb}
+use Rattle.std.proofs.Common.{◌≡◌, ◌≢◌, ℕ, suc, ◌<◌, ◌≤◌, Bool, true, false, Some, List, [], ◌∷◌, map, refl, ◌∙◌, subst, sym, ap, arith, eqb}
 use Rattle.sctp_rules.specs.State.{Message, ForwardPoint, Transfer, fragment, count, IsAmong}
 use Rattle.sctp_rules.specs.Rules.{Event, data_comes, late_comes, deliver, forward_comes, forget, send_sack, IsAllowed, IsRipe, IsResettable, Happens, after, run}
 use Rattle.sctp_rules.specs.Reassembly.{Chunk, chunk_of, Queue, nth, ReadyRun, IsLate, Readied, Added, Forwarded, Forgotten, Sees, KeyLaws, KeyOf, next_of, key_of, below_of}

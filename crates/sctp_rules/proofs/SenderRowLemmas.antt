@@ -1,8 +1,8 @@
 -- Whole rows of the send queue are sequences of the rules.
-use Rattle.std.proofs.Common.{◌≡◌, ◌≢◌, ℕ, suc, ◌+◌, ◌<◌, ◌≤◌, Bool, true, false, cond, inl, inr, Option, Some, None, List, [], ◌∷◌, ◌++◌, refl, sym, ap, ◌∙◌, subst, eqb}
+use Rattle.std.proofs.Common.{◌≡◌, ℕ, ◌<◌, Bool, true, false, cond, inl, inr, Option, Some, None, List, [], ◌∷◌, ◌++◌, refl, sym, ◌∙◌}
 use Rattle.std.proofs.lemmas.Bool.{cases_eq}
 use Rattle.sctp_rules.specs.State.{Message, Transfer, is_empty, put, stream_of}
-use Rattle.sctp_rules.specs.Rules.{Event, accept, begin, number, close, give_up, IsSettled, Waits, IsAllowed, Happens, after, run, begins, numbers, part, end_of}
+use Rattle.sctp_rules.specs.Rules.{Event, accept, begin, number, close, give_up, IsAllowed, Happens, after, run}
 use Rattle.sctp_rules.specs.Sending.{Waiting, Queued}
 use Rattle.sctp_rules.specs.Kept.{Kept}
 use Rattle.sctp_rules.specs.Joints.{Sends}

@@ -1,9 +1,8 @@
 -- What stays as any one rule is applied.
-use Rattle.std.proofs.Common.{◌≡◌, ◌≢◌, ℕ, ◌<◌, Bool, true, false, cond, not, ◌&&◌, ◌||◌, inl, inr, List, [], ◌∷◌, ◌++◌, refl, sym, ap, ◌∙◌, subst, arith, eqb, ltb, append-nil}
+use Rattle.std.proofs.Common.{◌≡◌, ◌≢◌, ℕ, Bool, true, false, not, ◌++◌, sym, ap, ◌∙◌, subst, eqb, ltb, append-nil}
 use Rattle.std.proofs.lemmas.Bool.{and_left, or_right}
-use Rattle.sctp_rules.specs.State.{Message, Fragment, Transfer, fragment, place_of, count, is_empty, gathered, stream_of}
-use Rattle.sctp_rules.specs.Rules.{Event, accept, begin, number, close, give_up, data_comes, late_comes, deliver, send_sack, leave, send_forward, forward_comes, forget, IsAllowed, Happens, after, run, IsSettled, part, end_of, drops, numbers}
-use Rattle.sctp_rules.specs.Reassembly.{chunk_with, chunk_of}
+use Rattle.sctp_rules.specs.State.{Message, Fragment, Transfer, place_of, gathered, stream_of}
+use Rattle.sctp_rules.specs.Rules.{Event, accept, begin, number, close, give_up, data_comes, late_comes, deliver, send_sack, leave, send_forward, forward_comes, forget, IsAllowed, after, IsSettled, part, end_of, drops, numbers}
 use Rattle.sctp_rules.specs.Kept.{Kept}
 use Rattle.sctp_rules.proofs.LaterLemmas.{Later}
 use Rattle.sctp_rules.proofs.ToolsLemmas.{put_off, put_keeps, not_both}
@@ -11,7 +10,7 @@ use Rattle.sctp_rules.proofs.StaysLemmas.{later_same}
 use Rattle.sctp_rules.proofs.BeginLemmas.{begins_later, moved, unsettled}
 use Rattle.sctp_rules.proofs.NumberedLemmas.{numbers_later}
 use Rattle.sctp_rules.proofs.GivenLemmas.{gives_later, accepts_later, settled_given}
-use Rattle.sctp_rules.proofs.KeepsLemmas.{keeps, none_left}
+use Rattle.sctp_rules.proofs.KeepsLemmas.{none_left}
 
 module _ (message : ℕ → Message) (mixed : Bool) (x : Transfer) (k : Kept message mixed x) where
   pub later : (e : Event) → IsAllowed message mixed x e → Later message x.sender (after message mixed x e).sender

@@ -2,12 +2,12 @@
 use Rattle.std.proofs.Common.{◌≡◌, ℕ, suc, ◌+◌, ◌-◌, ◌%◌, ◌^◌, ◌<◌, ◌≤◌, Bool, true, false, inl, inr, refl, sym, ap, ◌∙◌, subst, arith, ltb}
 use Rattle.std.proofs.lemmas.Bool.{cases_lt, cases_Bool, cond-true, cond-false, lt-ltb, le-ltb}
 use Rattle.sctp_rules.specs.State.{Message, ForwardPoint, Transfer, place_of, count, IsAmong, ordered_of, stream_of}
-use Rattle.sctp_rules.specs.Rules.{IsRipe, covers}
+use Rattle.sctp_rules.specs.Rules.{covers}
 use Rattle.sctp_rules.specs.Windows.{Windows, IsNear, IsTimely, IsFront, wire, nearest}
-use Rattle.sctp_rules.specs.Kept.{Kept, IsDone, SackTrue}
+use Rattle.sctp_rules.specs.Kept.{Kept}
 use Rattle.sctp_rules.proofs.ToolsLemmas.{not_both}
 use Rattle.sctp_rules.proofs.DeliverLemmas.{lower_place}
-use Rattle.sctp_rules.proofs.SackLemmas.{end_before, sack_true}
+use Rattle.sctp_rules.proofs.SackLemmas.{end_before}
 
 module _ (message : ℕ → Message) (mixed : Bool) (x : Transfer) (k : Kept message mixed x) where
   -- the receiver's front lies from the sender's left end to its count

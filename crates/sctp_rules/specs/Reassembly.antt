@@ -3,7 +3,7 @@
 -- and MID with the FSN (RFC 8260 section 2.1).
 use Rattle.std.specs.Prelude.{◌≡◌, ℕ, zero, suc, ◌<◌, ◌≤◌, ◌==◌, ◌&&◌, ◌||◌, ◌⊎◌, not, nat_lt, Bool, true, false, cond, Option, Some, None, List, [], ◌∷◌, ◌++◌}
 use Rattle.sctp_rules.specs.State.{Message, ReadyMessage, ForwardPoint, Sender, Receiver, fragment, place_of, count, put}
-use Rattle.sctp_rules.specs.Rules.{covers, raised, floor}
+use Rattle.sctp_rules.specs.Rules.{covers, raised}
 
 -- payloads one after another
 abbrev pub joined : (ℕ → List ℕ) → ℕ → List ℕ

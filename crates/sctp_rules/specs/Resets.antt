@@ -1,6 +1,6 @@
 -- Stream resets over the transfer (RFC 6525). A message belongs to the epoch that its stream is in at its acceptance.
 use Rattle.std.specs.Prelude.{◌≡◌, ℕ, suc, ◌<◌, ◌≤◌, Bool, true, false, List, [], ◌∷◌}
-use Rattle.sctp_rules.specs.State.{Message, Transfer, IsAmong, put, count, place_of, fragment, stream_of, start}
+use Rattle.sctp_rules.specs.State.{Message, Transfer, IsAmong, put, count, place_of, stream_of, start}
 use Rattle.sctp_rules.specs.Rules.{Event, accept, begin, forget, IsSettled, IsRipe, IsAllowed, after}
 use Rattle.sctp_rules.specs.Kept.{Kept}
 
