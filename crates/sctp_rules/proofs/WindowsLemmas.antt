@@ -3,7 +3,8 @@ use Rattle.std.proofs.Common.{◌≡◌, ℕ, suc, ◌+◌, ◌-◌, ◌%◌, �
 use Rattle.std.proofs.lemmas.Bool.{cases_lt, cases_Bool, cond-true, cond-false, lt-ltb, le-ltb}
 use Rattle.sctp_rules.specs.State.{Message, ForwardPoint, Transfer, place_of, count, IsAmong, ordered_of, stream_of}
 use Rattle.sctp_rules.specs.Rules.{covers}
-use Rattle.sctp_rules.specs.Windows.{Windows, IsNear, IsTimely, IsFront, wire, nearest}
+use Rattle.sctp_rules.specs.Windows.{Windows, IsNear, IsTimely, IsFront}
+use Rattle.sctp_serial.specs.Unwrapped.{wire, nearest}
 use Rattle.sctp_rules.specs.Kept.{Kept}
 use Rattle.sctp_rules.proofs.ToolsLemmas.{not_both}
 use Rattle.sctp_rules.proofs.DeliverLemmas.{lower_place}
@@ -165,7 +166,7 @@ pub words_read : (first near n : ℕ) → IsNear (2 ^ 31) near n → 2 ^ 32 ≤ 
 words_read first near n d far =
     let a = d.0 in
     let b = d.1 in
-    let ahead = (wire (2 ^ 32) first n + (2 ^ 32 - wire (2 ^ 32) first near)) % 2 ^ 32 in
+    let ahead = (wire (2 ^ 32) first n + 2 ^ 32 - wire (2 ^ 32) first near) % 2 ^ 32 in
     elim (cases_lt ahead (2 ^ 31)) [
       | inl p ↦ let e : near + ahead ≡ n = omega (arith, a, b, far, p) in cond-true (ltb ahead (2 ^ 31)) (near + ahead) ((near + ahead) - 2 ^ 32) (lt-ltb ahead (2 ^ 31) p) ∙ e
       | inr p ↦ let e : (near + ahead) - 2 ^ 32 ≡ n = omega (arith, a, b, far, p) in cond-false (ltb ahead (2 ^ 31)) (near + ahead) ((near + ahead) - 2 ^ 32) (le-ltb ahead (2 ^ 31) p) ∙ e
@@ -175,7 +176,7 @@ pub halves_read : (first near n : ℕ) → IsNear (2 ^ 15) near n → 2 ^ 16 ≤
 halves_read first near n d far =
     let a = d.0 in
     let b = d.1 in
-    let ahead = (wire (2 ^ 16) first n + (2 ^ 16 - wire (2 ^ 16) first near)) % 2 ^ 16 in
+    let ahead = (wire (2 ^ 16) first n + 2 ^ 16 - wire (2 ^ 16) first near) % 2 ^ 16 in
     elim (cases_lt ahead (2 ^ 15)) [
       | inl p ↦ let e : near + ahead ≡ n = omega (arith, a, b, far, p) in cond-true (ltb ahead (2 ^ 15)) (near + ahead) ((near + ahead) - 2 ^ 16) (lt-ltb ahead (2 ^ 15) p) ∙ e
       | inr p ↦ let e : (near + ahead) - 2 ^ 16 ≡ n = omega (arith, a, b, far, p) in cond-false (ltb ahead (2 ^ 15)) (near + ahead) ((near + ahead) - 2 ^ 16) (le-ltb ahead (2 ^ 15) p) ∙ e

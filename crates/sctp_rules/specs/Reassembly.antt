@@ -43,12 +43,8 @@ pub record MessageKey : Type 0 where
   pub index : ℕ
 
 abbrev pub message_key : (ℕ → Message) → Sender → ℕ → MessageKey
-message_key message o t = record {
-  ordered = (message (place_of o t)).ordered;
-  stream = (message (place_of o t)).stream;
-  number = o.number (place_of o t);
-  index = (fragment o t).index;
-}
+message_key message o t =
+    record { ordered = (message (place_of o t)).ordered; stream = (message (place_of o t)).stream; number = o.number (place_of o t); index = (fragment o t).index }
 
 abbrev pub next_index : MessageKey → MessageKey
 next_index κ = record κ { index = suc κ.index }

@@ -1,16 +1,6 @@
--- Reading wire numbers, and the premises under which they are read as they were meant.
-use Rattle.std.specs.Prelude.{◌≡◌, ℕ, ◌+◌, ◌-◌, ◌%◌, ◌/◌, ◌^◌, ◌<◌, ◌≤◌, nat_lt, if◌then◌else◌, true, false}
+-- The premises under which wire numbers are read as they were meant.
+use Rattle.std.specs.Prelude.{◌≡◌, ℕ, ◌+◌, ◌^◌, ◌<◌, ◌≤◌, true, false}
 use Rattle.sctp_rules.specs.State.{Message, Receiver, Transfer, place_of, count, stream_of, ordered_of}
-
--- how n is written where 0 is written `first` (serial numbers, RFC 1982)
-abbrev pub wire : ℕ → ℕ → ℕ → ℕ
-wire space first n = (first + n) % space
-
--- the number nearest to `near` that is written w. Of two that are equally near, the lower one
-abbrev pub nearest : ℕ → ℕ → ℕ → ℕ → ℕ
-nearest space first near w =
-    let ahead = (w + (space - wire space first near)) % space in
-    if nat_lt ahead (space / 2) then near + ahead else (near + ahead) - space
 
 -- less than half the space apart
 abbrev pub IsNear : ℕ → ℕ → ℕ → Type 0

@@ -3,7 +3,7 @@
 ghost use Rattle.std.specs.Prelude.{◌≡◌, ◌^◌, Bool, List, ℕ};
 ghost use Rattle.sctp_rules.specs.Handshake.{Event, World, run};
 ghost use Rattle.sctp_rules.specs.Renaming.{IsOneToOne, events, world};
-ghost use Rattle.sctp_rules.specs.Windows.{nearest, wire};
+ghost use Rattle.sctp_serial.specs.Unwrapped.{nearest, wire};
 
 /// With other tags, first TSNs and ties, where different tags and ties stay different and tie 0 stays 0, every schedule
 /// of the handshake leads to the renamed world: no row sees more of them than whether two are equal. First TSNs may be

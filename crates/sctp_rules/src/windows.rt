@@ -4,7 +4,8 @@ ghost use Rattle.std.specs.Prelude.{◌≡◌, ◌+◌, ◌^◌, ◌<◌, ◌≤
 ghost use Rattle.sctp_rules.specs.Kept.{Kept};
 ghost use Rattle.sctp_rules.specs.Rules.{covers};
 ghost use Rattle.sctp_rules.specs.State.{ForwardPoint, IsAmong, Message, Transfer, count, ordered_of, place_of, stream_of};
-ghost use Rattle.sctp_rules.specs.Windows.{IsFront, IsNear, IsTimely, Windows, nearest, wire};
+ghost use Rattle.sctp_rules.specs.Windows.{IsFront, IsNear, IsTimely, Windows};
+ghost use Rattle.sctp_serial.specs.Unwrapped.{nearest, wire};
 
 /// A number that lies less than half its space from where it is looked for is read as it was meant: TSNs, MIDs and
 /// request numbers of 32 bits (`words`), SSNs of 16 bits (`halves`).
