@@ -1,3 +1,4 @@
+pub mod Events
 pub mod Numbers
 pub mod Options
 pub mod Rtt

@@ -2,12 +2,21 @@
 #![tactic(auto)]
 
 pub mod api;
+pub mod events;
 pub mod retransmission_timeout;
 pub mod timer;
 
-pub use api::{Options, SendOptions};
+pub use api::{
+    BatchFault, BatchSendError, CallError, ErrorKind, GivenUp, GivenUpCause, HandoverError, Metrics, Options,
+    ResetStreamsError, RestoreError, SctpImplementation, SendError, SendOptions, SocketEvent, SocketState,
+};
+pub use events::{EventSink, Events};
 pub use retransmission_timeout::RetransmissionTimeout;
 pub use timer::{BackoffAlgorithm, Timer};
+
+/// Until the records come.
+#[derive(Clone, Default, PartialEq, Drop, Debug)]
+pub struct HandoverReadiness(pub u32);
 
 #[cfg(test)]
 mod tests;
