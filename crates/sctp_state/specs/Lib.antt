@@ -1,5 +1,6 @@
 pub mod Events
 pub mod Numbers
 pub mod Options
+pub mod Readiness
 pub mod Rtt
 pub mod Timers

@@ -1,11 +1,13 @@
 //! What users of a socket set, see and are told.
 
 mod errors;
+pub mod handover;
 mod options;
 
 pub use errors::{
     BatchFault, BatchSendError, CallError, HandoverError, ResetStreamsError, RestoreError, SendError,
 };
+pub use handover::HandoverReadiness;
 pub use options::{Options, SendOptions};
 
 use sctp_serial::{LifecycleId, OutgoingMessageId, StreamId};

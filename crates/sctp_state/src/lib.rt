@@ -7,16 +7,12 @@ pub mod retransmission_timeout;
 pub mod timer;
 
 pub use api::{
-    BatchFault, BatchSendError, CallError, ErrorKind, GivenUp, GivenUpCause, HandoverError, Metrics, Options,
+    BatchFault, BatchSendError, CallError, ErrorKind, GivenUp, GivenUpCause, HandoverError, HandoverReadiness, Metrics, Options,
     ResetStreamsError, RestoreError, SctpImplementation, SendError, SendOptions, SocketEvent, SocketState,
 };
 pub use events::{EventSink, Events};
 pub use retransmission_timeout::RetransmissionTimeout;
 pub use timer::{BackoffAlgorithm, Timer};
-
-/// Until the records come.
-#[derive(Clone, Default, PartialEq, Drop, Debug)]
-pub struct HandoverReadiness(pub u32);
 
 #[cfg(test)]
 mod tests;

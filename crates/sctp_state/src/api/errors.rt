@@ -2,7 +2,7 @@
 
 ghost use Rattle.std.specs.Prelude.{◌≡◌};
 
-use crate::HandoverReadiness;
+use crate::api::handover::HandoverReadiness;
 use std::alloc::AllocError;
 use thiserror::Error;
 

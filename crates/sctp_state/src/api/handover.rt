@@ -1,0 +1,5 @@
+//! The record of a socket that is handed over.
+
+mod readiness;
+
+pub use readiness::HandoverReadiness;
