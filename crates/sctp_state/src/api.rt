@@ -7,7 +7,7 @@ mod options;
 pub use errors::{
     BatchFault, BatchSendError, CallError, HandoverError, ResetStreamsError, RestoreError, SendError,
 };
-pub use handover::HandoverReadiness;
+pub use handover::{HandoverReadiness, SocketHandoverState};
 pub use options::{Options, SendOptions};
 
 use sctp_serial::{LifecycleId, OutgoingMessageId, StreamId};
