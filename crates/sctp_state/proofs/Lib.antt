@@ -1,1 +1,2 @@
 pub mod ReadinessLemmas
+mod Rows

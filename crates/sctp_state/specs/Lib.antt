@@ -1,5 +1,6 @@
 pub mod Events
 pub mod Handover
+pub mod Metrics
 pub mod Numbers
 pub mod Options
 pub mod Readiness

@@ -3,6 +3,7 @@ use Rattle.std.specs.Prelude.{◌≡◌, ℕ, ℤ, pos, negsuc, ◌*◌, ◌≤�
 use Rattle.std.specs.Duration.{as_nanos}
 use Rattle.sctp_state.specs.Numbers.{ms, most_u32}
 use Rattle.sctp_state.specs.declared.api.options.Options as given
+use Rattle.sctp_state.specs.declared.api.options.SendOptions as given_to_send
 
 pub record Options : Type 0 where
   pub local_port : ℕ
@@ -122,3 +123,20 @@ pub record IsValid (o : Options) : Type 0 where
   pub sizes : HasValidSizes o
   pub times : HasValidTimes o
   pub windows : HasValidWindows o
+
+-- ---- what a message is sent with
+
+pub record SendOptions : Type 0 where
+  pub unordered : Bool
+  pub lifetime : Option ℕ              -- in nanoseconds
+  pub max_retransmissions : Option ℕ
+  pub lifecycle_id : Option ℕ
+
+abbrev pub send_options_of : given_to_send.SendOptions → SendOptions
+send_options_of o = record {
+  unordered = o.unordered; lifetime = option_map as_nanos o.lifetime; max_retransmissions = o.max_retransmissions;
+  lifecycle_id = o.lifecycle_id }
+
+-- an ordered message, reliable, without a lifecycle
+abbrev pub plainly : SendOptions
+plainly = record { unordered = false; lifetime = None; max_retransmissions = None; lifecycle_id = None }

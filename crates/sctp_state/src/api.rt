@@ -2,6 +2,7 @@
 
 mod errors;
 pub mod handover;
+pub mod laws;
 mod options;
 
 pub use errors::{

@@ -12,7 +12,7 @@ pub use api::{
 };
 pub use events::{EventSink, Events};
 pub use retransmission_timeout::RetransmissionTimeout;
-pub use timer::{BackoffAlgorithm, Timer};
+pub use timer::{BackoffAlgorithm, MAX_DURATION, MAX_RESTARTS, Timer};
 
 #[cfg(test)]
 mod tests;

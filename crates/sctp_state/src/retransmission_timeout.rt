@@ -1,6 +1,6 @@
 //! How long an answer is waited for, by the round trip times that were measured.
 
-ghost use Rattle.std.specs.Prelude.{◌≡◌, ℕ, ◌+◌, ◌-◌, ◌*◌, ◌/◌, ◌^◌, ◌≤◌, max, min};
+ghost use Rattle.std.specs.Prelude.{◌≡◌, ℕ, ◌+◌, ◌-◌, ◌*◌, ◌/◌, ◌^◌, ◌≤◌, max, min, true};
 ghost use Rattle.std.specs.Duration.{as_nanos, max_nanos};
 ghost use Rattle.sctp_state.specs.Options.{options_of};
 
@@ -37,7 +37,7 @@ impl Model for RetransmissionTimeout {
 }
 
 impl RetransmissionTimeout {
-    ghost use Rattle.sctp_state.specs.Rtt.{unsampled, rto, srtt, observe_rto};
+    ghost use Rattle.sctp_state.specs.Rtt.{unsampled, rto, srtt, observe_rto, IsBetween};
 
     /// No round trip time is known yet.
     pub fn new(options: &Options) -> RetransmissionTimeout
@@ -78,7 +78,8 @@ impl RetransmissionTimeout {
     /// How long to wait: the smoothed round trip time and four times its variance, held between `rto_min` and
     /// `rto_max`; `rto_initial` before the first sample.
     pub fn rto(&self) -> Duration
-        ensures { as_nanos result ≡ rto self.now }
+        ensures value { as_nanos result ≡ rto self.now }
+        ensures held { self.now.is_sampled ≡ true → self.now.rto_min ≤ self.now.rto_max → IsBetween self.now.rto_min self.now.rto_max (as_nanos result) }
     {
         if !self.is_sampled {
             return self.rto_initial;

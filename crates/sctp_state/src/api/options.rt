@@ -25,7 +25,7 @@ pub struct SendOptions {
 }
 
 /// What a socket is made with. Sizes are in bytes.
-#[derive(Clone, Drop)]
+#[derive(Clone, Copy)]
 pub struct Options {
     /// The source port of packets that are sent. Ports of received packets aren't compared.
     pub local_port: u16,
