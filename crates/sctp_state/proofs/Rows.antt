@@ -1,11 +1,11 @@
 -- Worked examples of the definitions, computed.
 use Rattle.std.proofs.Common.{◌≡◌, ℕ, ◌+◌, ◌*◌, true, false, Some, None, List, [], ◌∷◌, codes, refl}
 use Rattle.sctp_state.specs.Numbers.{ms}
-use Rattle.sctp_state.specs.Options.{Options, defaults, IsValid}
+use Rattle.sctp_state.specs.Options.{Options, defaults}
 use Rattle.sctp_state.specs.Readiness.{readiness_text}
-use Rattle.sctp_state.specs.Rtt.{Rtt, observe_rto, rto, srtt, unsampled}
+use Rattle.sctp_state.specs.Rtt.{Rtt, observe_rto, rto, unsampled}
 use Rattle.sctp_state.specs.Timers.{Timer, expire, start, timer}
-use Rattle.sctp_state.specs.Validity.{rises_from, is_valid_connection, is_valid_state}
+use Rattle.sctp_state.specs.Validity.{is_valid_state}
 use Rattle.sctp_state.specs.Handover.{HandoverState, StreamMessage, closed_state, no_message}
 use Rattle.sctp_state.specs.declared.timer.BackoffAlgorithm.TheVariants.{Fixed, Exponential}
 use Rattle.sctp_state.specs.declared.api.handover.HandoverSocketState.TheVariants.{Connected}
@@ -65,8 +65,11 @@ no_reason = refl
 
 abbrev opened : HandoverState
 opened = record closed_state {
-  socket_state = Connected; my_verification_tag = 1; peer_verification_tag = 2;
-  tx = record closed_state.tx { next_tsn = 0; last_cumulative_tsn_ack = 4294967295; cwnd = 1 } }
+  socket_state = Connected;
+  my_verification_tag = 1;
+  peer_verification_tag = 2;
+  tx = record closed_state.tx { next_tsn = 0; last_cumulative_tsn_ack = 4294967295; cwnd = 1 };
+}
 
 closed_is_valid : is_valid_state closed_state ≡ true
 closed_is_valid = refl

@@ -1,5 +1,5 @@
 -- What stands in the way of a handover: bits, with their names.
-use Rattle.std.specs.Prelude.{ℕ, Bool, true, false, not, ◌&&◌, ◌==◌, nat_lt, List, [], ◌∷◌, ◌++◌, map, codes, bit_and, if◌then◌else◌}
+use Rattle.std.specs.Prelude.{ℕ, Bool, true, false, not, ◌&&◌, nat_lt, List, [], ◌∷◌, ◌++◌, map, codes, bit_and}
 use Rattle.std.specs.List.{filter, join_by}
 
 pub record Reason : Type 0 where

@@ -4,8 +4,8 @@ ghost use Rattle.std.specs.Prelude.{◌≡◌, ◌↔◌, IsTrue, IfOk};
 ghost use Rattle.sctp_state.specs.Options.{options_of, plainly, send_options_of};
 
 use crate::{
-    CallError, ErrorKind, HandoverError, HandoverReadiness, Options, ResetStreamsError, RestoreError,
-    SctpImplementation, SendError, SendOptions, SocketState,
+    CallError, ErrorKind, HandoverError, HandoverReadiness, Options, ResetStreamsError,
+    RestoreError, SctpImplementation, SendError, SendOptions, SocketState,
 };
 use std::alloc::AllocError;
 

@@ -21,7 +21,12 @@ fn events_come_first_in_first_out(rt: HostRuntime) -> Result<(), Fail> {
     add_two(&mut events)?;
     events.add(SocketEvent::SendPacket(vec![in rt.alloc(); 1u8, 2]?))?;
     assert!(rt; matches!(take(&mut events), Some(SocketEvent::OnConnected())));
-    assert!(rt; matches!(events.next_event(), Some(SocketEvent::OnBufferedAmountLow(StreamId(7)))));
+    assert!(rt;
+        matches!(
+            events.next_event(),
+            Some(SocketEvent::OnBufferedAmountLow(StreamId(7)))
+        )
+    );
     assert!(rt; matches!(events.next_event(), Some(SocketEvent::SendPacket(_))));
     assert!(rt; take(&mut events).is_none());
     Ok(())

@@ -1,7 +1,7 @@
 use super::*;
 use crate::api::handover::{
-    HandoverOrderedStream, HandoverOutgoingStream, HandoverOutstandingData, HandoverReceive, HandoverSocketState,
-    HandoverStreamMessage, HandoverTransmission,
+    HandoverOrderedStream, HandoverOutgoingStream, HandoverOutstandingData, HandoverReceive,
+    HandoverSocketState, HandoverStreamMessage, HandoverTransmission,
 };
 use std::alloc::{AllocError, Global};
 use std::test::Fail;
@@ -9,7 +9,10 @@ use std::test::Fail;
 #[test]
 fn readiness_prints_its_reasons(rt: HostRuntime) -> Result<(), Fail> {
     let text = format!(in rt.alloc(); "{} {}", HandoverReadiness(66), HandoverReadiness::READY)?;
-    assert_eq!(rt; text.as_str(), "send_queue_not_empty,stream_reset_deferred ");
+    assert_eq!(rt;
+        text.as_str(),
+        "send_queue_not_empty,stream_reset_deferred "
+    );
     let text = format!(in rt.alloc(); "{:?}", HandoverReadiness(4095))?;
     let want = "wrong_connection_state,send_queue_not_empty,pending_stream_reset_request,\
         data_tracker_tsn_blocks_pending,pending_stream_reset,stream_reset_deferred,stream_has_unassembled_chunks,\
@@ -39,7 +42,12 @@ fn connected(alloc: Global) -> SocketHandoverState {
     state
 }
 
-fn message(alloc: Global, stream_id: u16, id: u64, offset: usize) -> Result<HandoverStreamMessage, AllocError> {
+fn message(
+    alloc: Global,
+    stream_id: u16,
+    id: u64,
+    offset: usize,
+) -> Result<HandoverStreamMessage, AllocError> {
     let mut message = HandoverStreamMessage::empty(alloc);
     message.stream_id = stream_id;
     message.message_id = id;
@@ -69,8 +77,14 @@ fn queued_messages(rt: HostRuntime) -> Result<(), Fail> {
     stream.id = 4;
     state.tx.streams.push(stream)?;
     state.tx.next_outgoing_message_id = 2;
-    state.tx.queued_messages.push(message(rt.alloc(), 4, 0, 2)?)?;
-    state.tx.queued_messages.push(message(rt.alloc(), 4, 1, 0)?)?;
+    state
+        .tx
+        .queued_messages
+        .push(message(rt.alloc(), 4, 0, 2)?)?;
+    state
+        .tx
+        .queued_messages
+        .push(message(rt.alloc(), 4, 1, 0)?)?;
     assert!(rt; state.is_valid());
     state.tx.queued_messages[1].remaining_offset = 1;
     assert!(rt; !state.is_valid());
@@ -91,11 +105,17 @@ fn outstanding_data_and_streams(rt: HostRuntime) -> Result<(), Fail> {
     state.tx.outstanding_data[0].is_abandoned = true;
     assert!(rt; !state.is_valid());
     state.tx.outstanding_data[0].is_abandoned = false;
-    state.rx.ordered_streams.push(HandoverOrderedStream { id: 1, next_ssn: 65_536 })?;
+    state.rx.ordered_streams.push(HandoverOrderedStream {
+        id: 1,
+        next_ssn: 65_536,
+    })?;
     assert!(rt; !state.is_valid());
     state.capabilities.message_interleaving = true;
     assert!(rt; state.is_valid());
-    state.rx.ordered_streams.push(HandoverOrderedStream { id: 1, next_ssn: 0 })?;
+    state
+        .rx
+        .ordered_streams
+        .push(HandoverOrderedStream { id: 1, next_ssn: 0 })?;
     assert!(rt; !state.is_valid());
     Ok(())
 }

@@ -6,7 +6,10 @@ use std::time::Duration;
 fn default_sizes(rt: HostRuntime) {
     let o = Options::default();
     assert!(rt; o.local_port == 5000 && o.remote_port == 5000);
-    assert!(rt; o.announced_maximum_incoming_streams == 65_535 && o.announced_maximum_outgoing_streams == 65_535);
+    assert!(rt;
+        o.announced_maximum_incoming_streams == 65_535
+            && o.announced_maximum_outgoing_streams == 65_535
+    );
     assert!(rt; o.mtu == 1191 && o.max_message_size == 262_144 && o.default_stream_priority == 256);
     assert_eq!(rt; o.max_receiver_window_buffer_size, 5_242_880);
     assert!(rt; o.max_send_buffer_size == 2_000_000 && o.per_stream_send_queue_limit == 2_000_000);
@@ -63,7 +66,9 @@ fn options_have_bounds(rt: HostRuntime) {
 #[test]
 fn send_options_are_plain_at_first(rt: HostRuntime) {
     let mut options = api::laws::plain_send_options();
-    assert!(rt; !options.unordered && options.lifetime.is_none() && options.max_retransmissions.is_none());
+    assert!(rt;
+        !options.unordered && options.lifetime.is_none() && options.max_retransmissions.is_none()
+    );
     assert!(rt; options.lifecycle_id.is_none());
     options.lifecycle_id = LifecycleId::new(7);
     assert_eq!(rt; options.lifecycle_id, Some(LifecycleId::from(7)));

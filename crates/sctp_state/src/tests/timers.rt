@@ -34,13 +34,22 @@ fn timer_stops_and_is_capped(rt: HostRuntime) {
     assert_eq!(rt; timer.next_expiry(), SocketTime::infinite_future());
     assert!(rt; !timer.expire(at(9000)));
 
-    let mut capped = second(BackoffAlgorithm::Exponential, None, Some(Duration::from_millis(1500)));
+    let mut capped = second(
+        BackoffAlgorithm::Exponential,
+        None,
+        Some(Duration::from_millis(1500)),
+    );
     assert!(rt; capped.expire(at(1000)) && capped.expire(at(2000)));
     assert_eq!(rt; capped.next_expiry(), at(3500));
     capped.stop();
     assert!(rt; !capped.is_running());
 
-    let mut long = Timer::new(Duration::from_secs(172_800), BackoffAlgorithm::Fixed, None, None);
+    let mut long = Timer::new(
+        Duration::from_secs(172_800),
+        BackoffAlgorithm::Fixed,
+        None,
+        None,
+    );
     long.start(at(0));
     assert!(rt; long.expire(at(172_800_000)));
     assert_eq!(rt; long.next_expiry(), at(172_800_000 + 86_400_000));
@@ -63,7 +72,14 @@ fn timeout_follows_the_samples(rt: HostRuntime) {
     let mut timeout = RetransmissionTimeout::new(&options);
     assert_eq!(rt; timeout.rto().as_millis(), 200);
     assert_eq!(rt; timeout.srtt().as_millis(), 200);
-    let steps: [(u64, u128); 6] = [(124, 372), (128, 314), (123, 268), (125, 234), (127, 234), (60_001, 234)];
+    let steps: [(u64, u128); 6] = [
+        (124, 372),
+        (128, 314),
+        (123, 268),
+        (125, 234),
+        (127, 234),
+        (60_001, 234),
+    ];
     for (sample, rto) in steps {
         timeout.observe_rto(Duration::from_millis(sample));
         assert_eq!(rt; timeout.rto().as_millis(), rto);

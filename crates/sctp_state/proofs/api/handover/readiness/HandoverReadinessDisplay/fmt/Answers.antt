@@ -1,6 +1,6 @@
 use Rattle.std.proofs.Common.{ℕ, List, true, codes, drop, subst}
 use Rattle.std.specs.Fmt.{HasWritten}
-use Rattle.sctp_state.specs.Readiness.{Reason, parts, reasons}
+use Rattle.sctp_state.specs.Readiness.{Reason, reasons}
 use Rattle.sctp_state.proofs.ReadinessLemmas.{parts-true, writes_last, writes_parts}
 use Rattle.sctp_state.proofs.api.handover.readiness.HandoverReadinessDisplay.fmt.Goals as goal
 
