@@ -78,44 +78,64 @@ impl fmt::Display for HandoverReadiness {
 
     fn fmt<W: fmt::Write>(&self, f: &mut fmt::Formatter<W>) -> fmt::Result {
         let r = *self;
-        let first = r.write_reason(f, true, HandoverReadiness(1), "wrong_connection_state")?;
-        let first = r.write_reason(f, first, HandoverReadiness(2), "send_queue_not_empty")?;
+        let first = r.write_reason(
+            f,
+            true,
+            HandoverReadiness::WRONG_CONNECTION_STATE,
+            "wrong_connection_state",
+        )?;
         let first = r.write_reason(
             f,
             first,
-            HandoverReadiness(4),
+            HandoverReadiness::SEND_QUEUE_NOT_EMPTY,
+            "send_queue_not_empty",
+        )?;
+        let first = r.write_reason(
+            f,
+            first,
+            HandoverReadiness::PENDING_STREAM_RESET_REQUEST,
             "pending_stream_reset_request",
         )?;
         let first = r.write_reason(
             f,
             first,
-            HandoverReadiness(8),
+            HandoverReadiness::DATA_TRACKER_TSN_BLOCKS_PENDING,
             "data_tracker_tsn_blocks_pending",
         )?;
-        let first = r.write_reason(f, first, HandoverReadiness(16), "pending_stream_reset")?;
-        let first = r.write_reason(f, first, HandoverReadiness(64), "stream_reset_deferred")?;
         let first = r.write_reason(
             f,
             first,
-            HandoverReadiness(128),
+            HandoverReadiness::PENDING_STREAM_RESET,
+            "pending_stream_reset",
+        )?;
+        let first = r.write_reason(
+            f,
+            first,
+            HandoverReadiness::STREAM_RESET_DEFERRED,
+            "stream_reset_deferred",
+        )?;
+        let first = r.write_reason(
+            f,
+            first,
+            HandoverReadiness::STREAM_HAS_UNASSEMBLED_CHUNKS,
             "stream_has_unassembled_chunks",
         )?;
         let first = r.write_reason(
             f,
             first,
-            HandoverReadiness(512),
+            HandoverReadiness::RETRANSMISSION_QUEUE_OUTSTANDING_DATA,
             "retransmission_queue_outstanding_data",
         )?;
         let first = r.write_reason(
             f,
             first,
-            HandoverReadiness(1024),
+            HandoverReadiness::RETRANSMISSION_QUEUE_FAST_RECOVERY,
             "retransmission_queue_fast_recovery",
         )?;
         r.write_reason(
             f,
             first,
-            HandoverReadiness(2048),
+            HandoverReadiness::RETRANSMISSION_QUEUE_NOT_EMPTY,
             "retransmission_queue_not_empty",
         )?;
         Ok(())

@@ -223,19 +223,19 @@ fn partly_sent_count(messages: &[HandoverStreamMessage]) -> usize
     count
 }
 
-fn is_in_one_state(data: &HandoverOutstandingData) -> bool
-    ensures { result ≡ is_in_one_state (outstanding_data_of data.now) }
+fn is_in_one_state(item: &HandoverOutstandingData) -> bool
+    ensures { result ≡ is_in_one_state (outstanding_data_of item.now) }
 {
-    !(data.acked && data.is_abandoned)
-        && !(data.acked && data.is_to_be_retransmitted)
-        && !(data.is_abandoned && data.is_to_be_retransmitted)
+    !(item.acked && item.is_abandoned)
+        && !(item.acked && item.is_to_be_retransmitted)
+        && !(item.is_abandoned && item.is_to_be_retransmitted)
 }
 
 fn are_in_one_state(items: &[HandoverOutstandingData]) -> bool
     ensures { result ≡ are_in_one_state (map outstanding_data_of items.now) }
 {
-    'items: for data in items {
-        if !is_in_one_state(data) {
+    'items: for item in items {
+        if !is_in_one_state(item) {
             return false;
         }
     }
@@ -257,8 +257,8 @@ fn outstanding_bytes(items: &[HandoverOutstandingData]) -> usize
     ensures { result ≡ min (outstanding_bytes (map outstanding_data_of items.now)) (2 ^ 64 - 1) }
 {
     let mut bytes = 0usize;
-    'items: for data in items {
-        bytes = bytes.saturating_add(data.payload.len());
+    'items: for item in items {
+        bytes = bytes.saturating_add(item.payload.len());
     }
     bytes
 }
