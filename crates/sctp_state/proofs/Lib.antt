@@ -1,2 +1,1 @@
-pub mod ReadinessLemmas
 mod Rows

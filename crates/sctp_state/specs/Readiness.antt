@@ -1,6 +1,8 @@
 -- What stands in the way of a handover: bits, with their names.
-use Rattle.std.specs.Prelude.{ℕ, Bool, true, false, not, ◌&&◌, nat_lt, List, [], ◌∷◌, ◌++◌, map, codes, bit_and}
+use Rattle.std.specs.Prelude.{ℕ, Bool, true, false, nat_lt, List, [], ◌∷◌, ◌++◌, map, codes, bit_and}
 use Rattle.std.specs.List.{filter, join_by}
+use Rattle.std.specs.Borrow.{Bor}
+use Rattle.sctp_state.specs.declared.api.handover.readiness.HandoverReadiness.{HandoverReadiness}
 
 pub record Reason : Type 0 where
   pub bit : ℕ
@@ -27,20 +29,31 @@ shares_bit a b = nat_lt 0 (bit_and a b)
 abbrev pub names_among : ℕ → List Reason → List (List ℕ)
 names_among bits rs = map (λ (r : Reason). r.name) (filter (λ r. shares_bit bits r.bit) rs)
 
--- the names of the set bits, ascending, joined by commas
+-- names joined by commas
+abbrev pub joined : List (List ℕ) → List ℕ
+joined names = join_by (λ name. name) (codes ",") names
+
+-- the names of those reasons whose bit is set
+abbrev pub joined_names : ℕ → List Reason → List ℕ
+joined_names bits rs = joined (names_among bits rs)
+
 abbrev pub readiness_text : ℕ → List ℕ
-readiness_text bits = join_by (λ name. name) (codes ",") (names_among bits reasons)
+readiness_text bits = joined_names bits reasons
 
--- ---- the same, written name by name
+-- reasons as the program has them
+abbrev pub reason_of : HandoverReadiness × Bor (List ℕ) → Reason
+reason_of r = record { bit = r.0.0; name = r.1.now }
 
--- what is written for one reason, where nothing was written before it or something was
+abbrev pub reasons_of : List (HandoverReadiness × Bor (List ℕ)) → List Reason
+reasons_of rs = map reason_of rs
+
+-- what one reason adds to a text, where nothing was written before it or something was
 abbrev pub part : (is_first is_set : Bool) → List ℕ → List ℕ
 part true true name = name
 part false true name = codes "," ++ name
 part true false name = []
 part false false name = []
 
-abbrev pub parts : (is_first : Bool) → ℕ → List Reason → List ℕ
-parts is_first bits [] = []
-parts is_first bits (r ∷ rs) =
-    part is_first (shares_bit bits r.bit) r.name ++ parts (is_first && not (shares_bit bits r.bit)) bits rs
+abbrev pub is_nil : {X : Type 0} → List X → Bool
+is_nil [] = true
+is_nil (x ∷ xs) = false

@@ -1,8 +1,8 @@
 //! Whether a socket can be handed over, and what stands in the way.
 
 ghost use Rattle.std.specs.Prelude.{◌≡◌, ◌<◌, ◌↔◌, IsTrue, Some, IfOk, ◌&&◌, not, bit_and, bit_or, if◌then◌else◌};
-ghost use Rattle.std.specs.Fmt.{HasWritten, IsPlainFormatter};
-ghost use Rattle.sctp_state.specs.Readiness.{part, readiness_text, shares_bit};
+ghost use Rattle.std.specs.Fmt.{HasWritten, IsPlainFormatter, WritesOnOk};
+ghost use Rattle.sctp_state.specs.Readiness.{joined_names, part, readiness_text, reasons_of, shares_bit};
 
 use std::fmt;
 use std::ops::{BitAnd, BitOr};
@@ -11,6 +11,49 @@ use std::ops::{BitAnd, BitOr};
 /// joined by commas.
 #[derive(Clone, Copy, Default, PartialEq, Eq)]
 pub struct HandoverReadiness(pub u32);
+
+const REASONS: [(HandoverReadiness, &str); 10] = [
+    (
+        HandoverReadiness::WRONG_CONNECTION_STATE,
+        "wrong_connection_state",
+    ),
+    (
+        HandoverReadiness::SEND_QUEUE_NOT_EMPTY,
+        "send_queue_not_empty",
+    ),
+    (
+        HandoverReadiness::PENDING_STREAM_RESET_REQUEST,
+        "pending_stream_reset_request",
+    ),
+    (
+        HandoverReadiness::DATA_TRACKER_TSN_BLOCKS_PENDING,
+        "data_tracker_tsn_blocks_pending",
+    ),
+    (
+        HandoverReadiness::PENDING_STREAM_RESET,
+        "pending_stream_reset",
+    ),
+    (
+        HandoverReadiness::STREAM_RESET_DEFERRED,
+        "stream_reset_deferred",
+    ),
+    (
+        HandoverReadiness::STREAM_HAS_UNASSEMBLED_CHUNKS,
+        "stream_has_unassembled_chunks",
+    ),
+    (
+        HandoverReadiness::RETRANSMISSION_QUEUE_OUTSTANDING_DATA,
+        "retransmission_queue_outstanding_data",
+    ),
+    (
+        HandoverReadiness::RETRANSMISSION_QUEUE_FAST_RECOVERY,
+        "retransmission_queue_fast_recovery",
+    ),
+    (
+        HandoverReadiness::RETRANSMISSION_QUEUE_NOT_EMPTY,
+        "retransmission_queue_not_empty",
+    ),
+];
 
 impl HandoverReadiness {
     /// Nothing stands in the way.
@@ -71,74 +114,28 @@ impl HandoverReadiness {
         write!(f, "{name}")?;
         Ok(false)
     }
+
+    // Writes the names of those reasons that are there, joined by commas.
+    fn write_reasons<W: fmt::Write>(
+        self,
+        f: &mut fmt::Formatter<W>,
+        reasons: &[(HandoverReadiness, &str)],
+    ) -> fmt::Result
+        ensures { WritesOnOk W.write_str_gives f.old result (joined_names self.0 (reasons_of reasons.now)) f.new }
+    {
+        let mut is_first = true;
+        'reasons: for (reason, name) in reasons {
+            is_first = self.write_reason(f, is_first, *reason, name)?;
+        }
+        Ok(())
+    }
 }
 
 impl fmt::Display for HandoverReadiness {
     ghost output = { λ r. Some (readiness_text r.0) };
 
     fn fmt<W: fmt::Write>(&self, f: &mut fmt::Formatter<W>) -> fmt::Result {
-        let r = *self;
-        let first = r.write_reason(
-            f,
-            true,
-            HandoverReadiness::WRONG_CONNECTION_STATE,
-            "wrong_connection_state",
-        )?;
-        let first = r.write_reason(
-            f,
-            first,
-            HandoverReadiness::SEND_QUEUE_NOT_EMPTY,
-            "send_queue_not_empty",
-        )?;
-        let first = r.write_reason(
-            f,
-            first,
-            HandoverReadiness::PENDING_STREAM_RESET_REQUEST,
-            "pending_stream_reset_request",
-        )?;
-        let first = r.write_reason(
-            f,
-            first,
-            HandoverReadiness::DATA_TRACKER_TSN_BLOCKS_PENDING,
-            "data_tracker_tsn_blocks_pending",
-        )?;
-        let first = r.write_reason(
-            f,
-            first,
-            HandoverReadiness::PENDING_STREAM_RESET,
-            "pending_stream_reset",
-        )?;
-        let first = r.write_reason(
-            f,
-            first,
-            HandoverReadiness::STREAM_RESET_DEFERRED,
-            "stream_reset_deferred",
-        )?;
-        let first = r.write_reason(
-            f,
-            first,
-            HandoverReadiness::STREAM_HAS_UNASSEMBLED_CHUNKS,
-            "stream_has_unassembled_chunks",
-        )?;
-        let first = r.write_reason(
-            f,
-            first,
-            HandoverReadiness::RETRANSMISSION_QUEUE_OUTSTANDING_DATA,
-            "retransmission_queue_outstanding_data",
-        )?;
-        let first = r.write_reason(
-            f,
-            first,
-            HandoverReadiness::RETRANSMISSION_QUEUE_FAST_RECOVERY,
-            "retransmission_queue_fast_recovery",
-        )?;
-        r.write_reason(
-            f,
-            first,
-            HandoverReadiness::RETRANSMISSION_QUEUE_NOT_EMPTY,
-            "retransmission_queue_not_empty",
-        )?;
-        Ok(())
+        self.write_reasons(f, &REASONS)
     }
 }
 
