@@ -79,6 +79,16 @@ fn other_errors_print(rt: HostRuntime) -> Result<(), Fail> {
 }
 
 #[test]
+fn failed_calls_print(rt: HostRuntime) -> Result<(), Fail> {
+    prints(&rt, &ResetStreamsError::Memory, "out of memory")?;
+    prints(&rt, &ResetStreamsError::Failed, "socket has failed")?;
+    prints(&rt, &HandoverError::Memory, "out of memory")?;
+    prints(&rt, &HandoverError::Failed, "socket has failed")?;
+    prints(&rt, &RestoreError::Memory, "out of memory")?;
+    prints(&rt, &RestoreError::Failed, "socket has failed")
+}
+
+#[test]
 fn errors_compare(rt: HostRuntime) {
     let large = SendError::MessageTooLarge { len: 5, limit: 4 };
     let larger = SendError::MessageTooLarge { len: 6, limit: 4 };

@@ -61,6 +61,9 @@ fn options_have_bounds(rt: HostRuntime) {
     assert!(rt; options.is_valid());
     options.cwnd_mtus_min = 0;
     assert!(rt; !options.is_valid());
+    assert!(rt;
+        matches!(api::laws::copy_of_options(&options), Ok(copy) if copy.cwnd_mtus_min == 0)
+    );
 }
 
 #[test]
