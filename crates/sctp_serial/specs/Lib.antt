@@ -1,3 +1,4 @@
+pub mod Messages
 pub mod Serial
 pub mod Unwrapped
 pub mod Keys

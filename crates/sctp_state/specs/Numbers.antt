@@ -1,5 +1,5 @@
 -- Spans and counts.
-use Rattle.std.specs.Prelude.{ℕ, ◌+◌, ◌-◌, ◌*◌, ◌^◌, min}
+use Rattle.std.specs.Prelude.{ℕ, ◌+◌, ◌-◌, ◌^◌, min}
 
 -- a millisecond, in nanoseconds
 abbrev pub ms : ℕ

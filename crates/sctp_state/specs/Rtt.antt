@@ -1,5 +1,5 @@
 -- Round trip times and the retransmission timeout (RFC 9260 section 6.3.1), in whole nanoseconds.
-use Rattle.std.specs.Prelude.{ℕ, ◌+◌, ◌-◌, ◌*◌, ◌/◌, nat_lt, ◌||◌, min, max, Bool, true, false, if◌then◌else◌}
+use Rattle.std.specs.Prelude.{ℕ, ◌+◌, ◌-◌, ◌*◌, ◌/◌, ◌≤◌, nat_lt, ◌||◌, min, max, Bool, true, false, if◌then◌else◌}
 use Rattle.sctp_state.specs.Options.{Options}
 use Rattle.sctp_state.specs.Timers.{longest}
 
@@ -16,8 +16,15 @@ pub record Rtt : Type 0 where
 
 abbrev pub unsampled : Options → Rtt
 unsampled o = record {
-  rtt_max = o.rtt_max; rto_initial = o.rto_initial; rto_max = o.rto_max; rto_min = o.rto_min;
-  min_rtt_variance = o.min_rtt_variance; is_sampled = false; s8 = 0; v4 = 0 }
+  rtt_max = o.rtt_max;
+  rto_initial = o.rto_initial;
+  rto_max = o.rto_max;
+  rto_min = o.rto_min;
+  min_rtt_variance = o.min_rtt_variance;
+  is_sampled = false;
+  s8 = 0;
+  v4 = 0;
+}
 
 abbrev pub srtt : Rtt → ℕ
 srtt r = if r.is_sampled then r.s8 / 8 else r.rto_initial
@@ -45,3 +52,7 @@ is_dropped sample r = nat_lt r.rtt_max sample || nat_lt longest sample
 abbrev pub observe_rto : ℕ → Rtt → Rtt
 observe_rto sample r =
     if is_dropped sample r then r else (if r.is_sampled then later_sample sample r else first_sample sample r)
+
+-- what a timeout is held to
+abbrev pub IsBetween : ℕ → ℕ → ℕ → Type 0
+IsBetween least most n = (least ≤ n) × (n ≤ most)

@@ -1,5 +1,5 @@
 -- A timer that is asked whether it expired. Moments and spans are in nanoseconds.
-use Rattle.std.specs.Prelude.{ℕ, ◌+◌, ◌-◌, ◌*◌, ◌^◌, ◌==◌, nat_lt, nat_le, min, Bool, true, false, if◌then◌else◌, Option, Some, None, is_some}
+use Rattle.std.specs.Prelude.{ℕ, ◌-◌, ◌*◌, ◌^◌, ◌==◌, nat_lt, nat_le, min, Bool, false, if◌then◌else◌, Option, Some, None, is_some}
 use Rattle.sctp_serial.specs.Time.{forever, later}
 use Rattle.sctp_state.specs.Numbers.{ms, more}
 use Rattle.sctp_state.specs.declared.timer.BackoffAlgorithm.{BackoffAlgorithm}
@@ -8,15 +8,21 @@ use Rattle.sctp_state.specs.declared.timer.BackoffAlgorithm.TheVariants.{Fixed, 
 pub record Timer : Type 0 where
   pub duration : ℕ
   pub backoff : BackoffAlgorithm
-  pub restarts : Option ℕ       -- how often it goes on after an expiry
-  pub most : Option ℕ           -- the longest wait after an expiry
-  pub due : Option ℕ            -- the next expiry, of a timer that runs
-  pub expiries : ℕ              -- since the start
+  pub restarts : Option ℕ  -- how often it goes on after an expiry
+  pub most : Option ℕ  -- the longest wait after an expiry
+  pub due : Option ℕ  -- the next expiry, of a timer that runs
+  pub expiries : ℕ  -- since the start
 
 -- a stopped timer
 abbrev pub timer : ℕ → BackoffAlgorithm → Option ℕ → Option ℕ → Timer
 timer duration backoff restarts most = record {
-  duration = duration; backoff = backoff; restarts = restarts; most = most; due = None; expiries = 0 }
+  duration = duration;
+  backoff = backoff;
+  restarts = restarts;
+  most = most;
+  due = None;
+  expiries = 0;
+}
 
 abbrev pub start : ℕ → Timer → Timer
 start now t = record t { expiries = 0; due = if t.duration == 0 then None else Some (later now t.duration) }

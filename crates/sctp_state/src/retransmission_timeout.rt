@@ -1,6 +1,6 @@
 //! How long an answer is waited for, by the round trip times that were measured.
 
-ghost use Rattle.std.specs.Prelude.{◌≡◌, ℕ, ◌+◌, ◌-◌, ◌*◌, ◌/◌, ◌^◌, ◌≤◌, max, min};
+ghost use Rattle.std.specs.Prelude.{◌≡◌, ℕ, ◌+◌, ◌-◌, ◌*◌, ◌/◌, ◌^◌, ◌≤◌, max, min, true};
 ghost use Rattle.std.specs.Duration.{as_nanos, max_nanos};
 ghost use Rattle.sctp_state.specs.Options.{options_of};
 
@@ -37,7 +37,7 @@ impl Model for RetransmissionTimeout {
 }
 
 impl RetransmissionTimeout {
-    ghost use Rattle.sctp_state.specs.Rtt.{unsampled, rto, srtt, observe_rto};
+    ghost use Rattle.sctp_state.specs.Rtt.{unsampled, rto, srtt, observe_rto, IsBetween};
 
     /// No round trip time is known yet.
     pub fn new(options: &Options) -> RetransmissionTimeout
@@ -66,25 +66,31 @@ impl RetransmissionTimeout {
         if self.is_sampled {
             let srtt = self.scaled_srtt / 8;
             self.scaled_srtt = self.scaled_srtt - srtt + sample;
-            self.scaled_variance = self.scaled_variance - self.scaled_variance / 4 + sample.abs_diff(srtt);
+            self.scaled_variance = self.scaled_variance - self.scaled_variance / 4
+                + sample.abs_diff(srtt);
         } else {
             self.is_sampled = true;
             self.scaled_srtt = 8 * sample;
             self.scaled_variance = 2 * sample;
         }
-        self.scaled_variance = self.scaled_variance.max(self.min_rtt_variance.as_nanos() / 2);
+        self.scaled_variance = self
+            .scaled_variance
+            .max(self.min_rtt_variance.as_nanos() / 2);
     }
 
     /// How long to wait: the smoothed round trip time and four times its variance, held between `rto_min` and
     /// `rto_max`; `rto_initial` before the first sample.
     pub fn rto(&self) -> Duration
-        ensures { as_nanos result ≡ rto self.now }
+        ensures value { as_nanos result ≡ rto self.now }
+        ensures held { self.now.is_sampled ≡ true → self.now.rto_min ≤ self.now.rto_max → IsBetween self.now.rto_min self.now.rto_max (as_nanos result) }
     {
         if !self.is_sampled {
             return self.rto_initial;
         }
         let nanos = self.scaled_srtt / 8 + self.scaled_variance;
-        let nanos = nanos.max(self.rto_min.as_nanos()).min(self.rto_max.as_nanos());
+        let nanos = nanos
+            .max(self.rto_min.as_nanos())
+            .min(self.rto_max.as_nanos());
         Duration::from_nanos_u128(nanos)
     }
 

@@ -5,7 +5,8 @@ ghost use Rattle.std.specs.Duration.{as_nanos};
 ghost use Rattle.sctp_state.specs.Options.{options_of, defaults, IsValid, HasValidSizes, HasValidTimes, HasValidWindows};
 
 use sctp_serial::{
-    LifecycleId, ZERO_CHECKSUM_ALTERNATE_ERROR_DETECTION_METHOD_NONE, ZeroChecksumAlternateErrorDetectionMethod,
+    LifecycleId, ZERO_CHECKSUM_ALTERNATE_ERROR_DETECTION_METHOD_NONE,
+    ZeroChecksumAlternateErrorDetectionMethod,
 };
 use std::time::Duration;
 
@@ -25,7 +26,7 @@ pub struct SendOptions {
 }
 
 /// What a socket is made with. Sizes are in bytes.
-#[derive(Clone, Drop)]
+#[derive(Clone, Copy)]
 pub struct Options {
     /// The source port of packets that are sent. Ports of received packets aren't compared.
     pub local_port: u16,
