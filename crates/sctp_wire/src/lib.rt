@@ -9,6 +9,7 @@ mod parameter;
 mod read;
 mod reset;
 mod serialize;
+mod text;
 
 pub use checksum::{Checksum, Policy};
 pub use error::ChunkParseError;
@@ -32,6 +33,8 @@ pub use sctp_serial::{
     ZERO_CHECKSUM_ALTERNATE_ERROR_DETECTION_METHOD_LOWER_LAYER_DTLS,
     ZERO_CHECKSUM_ALTERNATE_ERROR_DETECTION_METHOD_NONE, ZeroChecksumAlternateErrorDetectionMethod,
 };
+
+pub use text::text_from_bytes;
 
 #[cfg(test)]
 mod tests;
