@@ -3,7 +3,7 @@
 ghost use Rattle.std.specs.Prelude.{◌≡◌, ◌+◌, ◌^◌, ◌-◌, min, true, [], ◌++◌, IfOk, IfErr};
 ghost use Rattle.sctp_wire.specs.Parameter.{SaysParameter, RefusesParameterAs, parameter_item, parameter_value};
 ghost use Rattle.sctp_wire.specs.Serialize.{typed};
-ghost use Rattle.sctp_wire.specs.ParameterViews.{heartbeat_info_tree, state_cookie_tree, supported_extensions_tree, forward_tsn_supported_tree, zero_checksum_acceptable_tree, unknown_parameter_tree};
+ghost use Rattle.sctp_wire.specs.ParameterViews.{heartbeat_info_tree, state_cookie_tree, supported_extensions_tree, forward_tsn_supported_tree, zero_checksum_acceptable_tree};
 
 use crate::field::{ends_here, push_u32, u32_at};
 use crate::item::RawParameter;
