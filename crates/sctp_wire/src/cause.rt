@@ -1,16 +1,19 @@
 //! Error causes, in ABORT and ERROR (RFC 9260 section 3.3.10).
 
-ghost use Rattle.std.specs.Prelude.{◌≡◌, ◌+◌, ◌^◌, ◌-◌, min, true, [], ◌++◌, IfOk, IfErr};
+ghost use Rattle.std.specs.Prelude.{◌≡◌, ◌+◌, ◌^◌, ◌-◌, min, true, [], ◌++◌, IfOk, IfErr, Some};
+ghost use Rattle.sctp_wire.specs.CauseText.{cause_text};
 ghost use Rattle.sctp_wire.specs.Cause.{SaysCause, RefusesCauseAs, cause_item, cause_value};
 ghost use Rattle.sctp_wire.specs.CauseViews.{missing_mandatory_parameter_tree, unrecognized_chunk_tree, no_user_data_tree, cookie_received_tree, user_initiated_abort_tree, protocol_violation_tree};
 
 use crate::field::{Entry, ends_here, entries_from_bytes, push_entries, push_u32, u32_at};
 use crate::item::RawParameter;
 use crate::serialize::SerializableTlv;
+use crate::show::Joined;
 use crate::text::text_from_bytes;
 use crate::ChunkParseError;
 use sctp_serial::Tsn;
 use std::alloc::{AllocError, Global};
+use std::fmt;
 
 /// Parameters that were not there, by their types (RFC 9260 section 3.3.10.2).
 #[derive(Debug, Drop)]
@@ -65,6 +68,19 @@ impl SerializableTlv for MissingMandatoryParameterErrorCause {
     }
 }
 
+#[tactic(auto, unfolding(crate::specs::CauseText::cause_text))]
+impl fmt::Display for MissingMandatoryParameterErrorCause {
+    ghost output = { λ c. Some (cause_text (missing_mandatory_parameter_tree c)) };
+
+    fn fmt<W: fmt::Write>(&self, f: &mut fmt::Formatter<W>) -> fmt::Result {
+        write!(
+            f,
+            "MISSING MANDATORY PARAMETER, missing_parameter_types={}",
+            Joined(&self.missing_parameter_types)
+        )
+    }
+}
+
 /// A chunk of a type that was not understood, its bytes as they came (RFC 9260 section 3.3.10.6).
 #[derive(Debug, Drop)]
 pub struct UnrecognizedChunkErrorCause {
@@ -107,6 +123,15 @@ impl SerializableTlv for UnrecognizedChunkErrorCause {
 
     fn push_value(&self, output: &mut Vec<u8>) -> Result<(), AllocError> {
         output.extend_from_slice(&self.chunk)
+    }
+}
+
+#[tactic(auto, unfolding(crate::specs::CauseText::cause_text))]
+impl fmt::Display for UnrecognizedChunkErrorCause {
+    ghost output = { λ c. Some (cause_text (unrecognized_chunk_tree c)) };
+
+    fn fmt<W: fmt::Write>(&self, f: &mut fmt::Formatter<W>) -> fmt::Result {
+        write!(f, "UNRECOGNIZED CHUNK, chunk={} bytes", self.chunk.len())
     }
 }
 
@@ -157,6 +182,15 @@ impl SerializableTlv for NoUserDataErrorCause {
     }
 }
 
+#[tactic(auto, unfolding(crate::specs::CauseText::cause_text))]
+impl fmt::Display for NoUserDataErrorCause {
+    ghost output = { λ c. Some (cause_text (no_user_data_tree c)) };
+
+    fn fmt<W: fmt::Write>(&self, f: &mut fmt::Formatter<W>) -> fmt::Result {
+        write!(f, "NO USER DATA, tsn={}", self.tsn.0)
+    }
+}
+
 /// A COOKIE ECHO came while the association was shutting down (RFC 9260 section 3.3.10.10).
 #[derive(Clone, Copy, Debug, PartialEq, Eq, Default)]
 pub struct CookieReceivedWhileShuttingDownErrorCause {}
@@ -196,6 +230,15 @@ impl SerializableTlv for CookieReceivedWhileShuttingDownErrorCause {
 
     fn push_value(&self, _output: &mut Vec<u8>) -> Result<(), AllocError> {
         Ok(())
+    }
+}
+
+#[tactic(auto, unfolding(crate::specs::CauseText::cause_text))]
+impl fmt::Display for CookieReceivedWhileShuttingDownErrorCause {
+    ghost output = { λ c. Some (cause_text (cookie_received_tree c)) };
+
+    fn fmt<W: fmt::Write>(&self, f: &mut fmt::Formatter<W>) -> fmt::Result {
+        f.write_str("COOKIE RECEIVED WHILE SHUTTING DOWN")
     }
 }
 
@@ -244,6 +287,15 @@ impl SerializableTlv for UserInitiatedAbortErrorCause {
     }
 }
 
+#[tactic(auto, unfolding(crate::specs::CauseText::cause_text))]
+impl fmt::Display for UserInitiatedAbortErrorCause {
+    ghost output = { λ c. Some (cause_text (user_initiated_abort_tree c)) };
+
+    fn fmt<W: fmt::Write>(&self, f: &mut fmt::Formatter<W>) -> fmt::Result {
+        write!(f, "USER INITIATED ABORT, reason={}", self.reason)
+    }
+}
+
 /// The peer broke the protocol (RFC 9260 section 3.3.10.13).
 #[derive(Debug, Drop)]
 pub struct ProtocolViolationErrorCause {
@@ -286,5 +338,14 @@ impl SerializableTlv for ProtocolViolationErrorCause {
 
     fn push_value(&self, output: &mut Vec<u8>) -> Result<(), AllocError> {
         output.extend_from_slice(self.information.as_bytes())
+    }
+}
+
+#[tactic(auto, unfolding(crate::specs::CauseText::cause_text))]
+impl fmt::Display for ProtocolViolationErrorCause {
+    ghost output = { λ c. Some (cause_text (protocol_violation_tree c)) };
+
+    fn fmt<W: fmt::Write>(&self, f: &mut fmt::Formatter<W>) -> fmt::Result {
+        write!(f, "PROTOCOL VIOLATION, information={}", self.information)
     }
 }

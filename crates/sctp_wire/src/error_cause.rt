@@ -1,6 +1,7 @@
 //! Error causes, by their types.
 
-ghost use Rattle.std.specs.Prelude.{◌≡◌, ◌⊎◌, true, [], map, IfOk, IfErr};
+ghost use Rattle.std.specs.Prelude.{◌≡◌, ◌⊎◌, true, [], map, IfOk, IfErr, Some};
+ghost use Rattle.sctp_wire.specs.CauseText.{cause_text};
 ghost use Rattle.sctp_wire.specs.Item.{Tiles};
 ghost use Rattle.sctp_wire.specs.Refusal.{BreaksAs};
 ghost use Rattle.sctp_wire.specs.Cause.{SaysCause, RefusesCauseAs, IsCause, RefusesCause, cause_item};
@@ -17,6 +18,7 @@ use crate::read::{FromItem, items_from_bytes};
 use crate::serialize::SerializableTlv;
 use crate::ChunkParseError;
 use std::alloc::{AllocError, Global};
+use std::fmt;
 
 /// An error cause of ABORT or ERROR.
 #[derive(Debug, Drop)]
@@ -107,6 +109,25 @@ impl SerializableTlv for ErrorCause {
             ErrorCause::UserInitiatedAbort(it) => it.push_value(output),
             ErrorCause::ProtocolViolation(it) => it.push_value(output),
             ErrorCause::Unknown(it) => it.push_value(output),
+        }
+    }
+}
+
+#[tactic(auto, unfolding(crate::specs::CauseText::cause_text))]
+impl fmt::Display for ErrorCause {
+    ghost output = { λ it. Some (cause_text (cause_tree it)) };
+
+    fn fmt<W: fmt::Write>(&self, f: &mut fmt::Formatter<W>) -> fmt::Result {
+        match self {
+            ErrorCause::MissingMandatoryParameter(it) => it.fmt(f),
+            ErrorCause::UnrecognizedChunk(it) => it.fmt(f),
+            ErrorCause::NoUserData(it) => it.fmt(f),
+            ErrorCause::CookieReceivedWhileShuttingDown(it) => it.fmt(f),
+            ErrorCause::UserInitiatedAbort(it) => it.fmt(f),
+            ErrorCause::ProtocolViolation(it) => it.fmt(f),
+            ErrorCause::Unknown(it) => {
+                write!(f, "UNKNOWN CAUSE, typ={}, value={} bytes", it.typ, it.value.len())
+            }
         }
     }
 }

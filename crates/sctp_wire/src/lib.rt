@@ -12,6 +12,7 @@ mod parameters;
 mod read;
 mod reset;
 mod serialize;
+mod show;
 mod text;
 
 pub use cause::{
@@ -47,6 +48,7 @@ pub use sctp_serial::{
     ZERO_CHECKSUM_ALTERNATE_ERROR_DETECTION_METHOD_NONE, ZeroChecksumAlternateErrorDetectionMethod,
 };
 
+pub use show::{Joined, Listed};
 pub use text::text_from_bytes;
 
 #[cfg(test)]

@@ -1,6 +1,7 @@
 //! Parameters, by their types.
 
-ghost use Rattle.std.specs.Prelude.{◌≡◌, ◌⊎◌, [], map, IfOk, IfErr};
+ghost use Rattle.std.specs.Prelude.{◌≡◌, ◌⊎◌, [], map, IfOk, IfErr, Some};
+ghost use Rattle.sctp_wire.specs.ParameterText.{parameter_text};
 ghost use Rattle.sctp_wire.specs.Item.{Tiles};
 ghost use Rattle.sctp_wire.specs.Refusal.{BreaksAs};
 ghost use Rattle.sctp_wire.specs.Parameter.{SaysParameter, RefusesParameterAs, IsParameter, RefusesParameter, parameter_item, parameter_is_whole};
@@ -19,6 +20,7 @@ use crate::reset::{
 use crate::serialize::SerializableTlv;
 use crate::ChunkParseError;
 use std::alloc::{AllocError, Global};
+use std::fmt;
 
 /// The type of a request to reset all numbers (RFC 6525 section 4.3).
 pub const PARAMETER_TYPE_SSN_TSN_RESET_REQUEST: u16 = 15;
@@ -153,6 +155,28 @@ impl SerializableTlv for Parameter {
             Parameter::ForwardTsnSupported(it) => it.push_value(output),
             Parameter::ZeroChecksumAcceptable(it) => it.push_value(output),
             Parameter::Unknown(it) => it.push_value(output),
+        }
+    }
+}
+
+#[tactic(auto, unfolding(crate::specs::ParameterText::parameter_text))]
+impl fmt::Display for Parameter {
+    ghost output = { λ it. Some (parameter_text (parameter_tree it)) };
+
+    fn fmt<W: fmt::Write>(&self, f: &mut fmt::Formatter<W>) -> fmt::Result {
+        match self {
+            Parameter::HeartbeatInfo(it) => it.fmt(f),
+            Parameter::StateCookie(it) => it.fmt(f),
+            Parameter::OutgoingSsnResetRequest(it) => it.fmt(f),
+            Parameter::IncomingSsnResetRequest(it) => it.fmt(f),
+            Parameter::SsnTsnResetRequest(it) => it.fmt(f),
+            Parameter::ReconfigurationResponse(it) => it.fmt(f),
+            Parameter::AddOutgoingStreamsRequest(it) => it.fmt(f),
+            Parameter::AddIncomingStreamsRequest(it) => it.fmt(f),
+            Parameter::SupportedExtensions(it) => it.fmt(f),
+            Parameter::ForwardTsnSupported(it) => it.fmt(f),
+            Parameter::ZeroChecksumAcceptable(it) => it.fmt(f),
+            Parameter::Unknown(it) => it.fmt(f),
         }
     }
 }
