@@ -4,7 +4,7 @@ ghost use Rattle.std.specs.Prelude.{◌≡◌, ◌++◌, ℕ, List, [], map, All
 ghost use Rattle.std.specs.List.{flat_map};
 ghost use Rattle.sctp_wire.specs.declared.error.ChunkParseError.{ChunkParseError};
 ghost use Rattle.sctp_wire.specs.Item.{Item, Tiles};
-ghost use Rattle.sctp_wire.specs.Serialize.{inner_items, padded_item};
+ghost use Rattle.sctp_wire.specs.Serialize.{IsEncodable, inner_items, padded_item};
 ghost use Rattle.sctp_wire.specs.Parameter.{ParameterTree, IsParameter, RefusesParameter, parameter_item};
 ghost use Rattle.sctp_wire.specs.Cause.{CauseTree, IsCause, RefusesCause, cause_item};
 ghost use Rattle.sctp_wire.specs.ReadBack.{ParameterReadsBack, CauseReadsBack};
@@ -33,8 +33,8 @@ pub fn parameter_is_not_refused()
         → fault ≡ ChunkParseError.Memory }
 {}
 
-/// An item that stands for a cause is refused for want of memory alone.
+/// An item that stands for a cause, its length within its field, is refused for want of memory alone.
 pub fn cause_is_not_refused()
-    ensures { (i : Item) (t : CauseTree) (fault : ChunkParseError) → IsCause i t → RefusesCause i fault
+    ensures { (i : Item) (t : CauseTree) (fault : ChunkParseError) → IsEncodable i → IsCause i t → RefusesCause i fault
         → fault ≡ ChunkParseError.Memory }
 {}
