@@ -23,7 +23,7 @@ use Rattle.sctp_wire.proofs.CauseLemmas.{length_missing, length_no_user_data}
 use Rattle.sctp_wire.proofs.SerializeLemmas.{length_entries}
 
 pub parameter_written : (t : ParameterTree) → ParameterReadsBack t → IsEncodable (parameter_item t) × IsParameter (parameter_item t) t
-parameter_written t h = (h.fits, record { typed = sym (type_of_typed (parameter_type t) (parameter_value t)); valued = refl; whole = h.whole; of_its_variant = h.of_its_variant })
+parameter_written t h = (h.encodable, record { fits = h.fits; typed = sym (type_of_typed (parameter_type t) (parameter_value t)); valued = refl; whole = h.whole; of_its_variant = h.of_its_variant })
 
 -- a text reads as itself
 pub text_of_text : (text : List ℕ) → IsUtf8 text → IsTextOf text text
@@ -40,7 +40,7 @@ cause_read (protocol_violation information) h = text_of_text information h.text
 cause_read (unknown_cause typ value) h = refl
 
 pub cause_written : (t : CauseTree) → CauseReadsBack t → IsEncodable (cause_item t) × IsCause (cause_item t) t
-cause_written t h = (h.fits, record { typed = sym (type_of_typed (cause_type t) (cause_value t)); valued = cause_read t h; of_its_variant = h.of_its_variant })
+cause_written t h = (h.encodable, record { fits = h.fits; typed = sym (type_of_typed (cause_type t) (cause_value t)); valued = cause_read t h; of_its_variant = h.of_its_variant })
 
 neither : (a b : Bool) → (a || b) ≡ false → (a ≡ false) × (b ≡ false)
 neither true b e = cc
@@ -134,22 +134,22 @@ unknown_cause_shape typ e =
 cause_shape_at : (typ k : ℕ) (value : List ℕ) → typ ≡ k → HasShape (cause_shape k) value → HasShape (cause_shape typ) value
 cause_shape_at typ k value e h = subst (λ (n : ℕ). HasShape (cause_shape n) value) (sym e) h
 
-pub cause_shaped : (typ : ℕ) (value : List ℕ) (t : CauseTree) → 4 + length value < 2 ^ 16 → SaysCause typ value t → HasShape (cause_shape typ) value
+pub cause_shaped : (typ : ℕ) (value : List ℕ) (t : CauseTree) → SaysCause typ value t → HasShape (cause_shape typ) value
 unfolding cause_value
-cause_shaped typ value (missing_mandatory_parameter types) small s =
+cause_shaped typ value (missing_mandatory_parameter types) s =
     cause_shape_at typ 2 value s.typed (length types, flat_map be16 types,
-      omega (arith, ap length s.valued, length_missing types), s.valued, omega (arith, length_entries be16 2 length_be16 types))
-cause_shaped typ value (unrecognized_chunk chunk) small s = cause_shape_at typ 6 value s.typed tt
-cause_shaped typ value (no_user_data tsn) small s = cause_shape_at typ 9 value s.typed (ap length s.valued ∙ length_no_user_data tsn)
-cause_shaped typ value cookie_received_while_shutting_down small s = cause_shape_at typ 10 value s.typed (ap length s.valued)
-cause_shaped typ value (user_initiated_abort reason) small s = cause_shape_at typ 12 value s.typed tt
-cause_shaped typ value (protocol_violation information) small s = cause_shape_at typ 13 value s.typed tt
-cause_shaped typ value (unknown_cause kept bytes) small s =
+      s.fits.0, s.valued, omega (arith, length_entries be16 2 length_be16 types))
+cause_shaped typ value (unrecognized_chunk chunk) s = cause_shape_at typ 6 value s.typed tt
+cause_shaped typ value (no_user_data tsn) s = cause_shape_at typ 9 value s.typed (ap length s.valued ∙ length_no_user_data tsn)
+cause_shaped typ value cookie_received_while_shutting_down s = cause_shape_at typ 10 value s.typed (ap length s.valued)
+cause_shaped typ value (user_initiated_abort reason) s = cause_shape_at typ 12 value s.typed tt
+cause_shaped typ value (protocol_violation information) s = cause_shape_at typ 13 value s.typed tt
+cause_shaped typ value (unknown_cause kept bytes) s =
     cause_shape_at typ kept value s.typed (subst (λ (shape : Shape). HasShape shape value) (sym (unknown_cause_shape kept s.of_its_variant)) tt)
 
-pub cause_stands : (i : Item) (t : CauseTree) (fault : ChunkParseError) → IsEncodable i → IsCause i t → RefusesCause i fault → fault ≡ Memory
-cause_stands i t InvalidLength small s r = absurd (r.1 (cause_shaped (type_of i) i.value t small s))
-cause_stands i t InvalidType small s r = absurd (r refl)
-cause_stands i t InvalidPadding small s r = absurd r
-cause_stands i t InvalidValue small s r = absurd r.2
-cause_stands i t Memory small s r = refl
+pub cause_stands : (i : Item) (t : CauseTree) (fault : ChunkParseError) → IsCause i t → RefusesCause i fault → fault ≡ Memory
+cause_stands i t InvalidLength s r = absurd (r.1 (cause_shaped (type_of i) i.value t s))
+cause_stands i t InvalidType s r = absurd (r refl)
+cause_stands i t InvalidPadding s r = absurd r
+cause_stands i t InvalidValue s r = absurd r.2
+cause_stands i t Memory s r = refl
