@@ -101,3 +101,13 @@ fn id_fits(id: u16)
 {
     let _ = id;
 }
+
+/// An item stands for at most one parameter.
+pub fn one_parameter()
+    ensures { (i : Item) (t u : ParameterTree) → IsParameter i t → IsParameter i u → t ≡ u }
+{}
+
+/// An item stands for at most one cause.
+pub fn one_cause()
+    ensures { (i : Item) (t u : CauseTree) → IsCause i t → IsCause i u → t ≡ u }
+{}
