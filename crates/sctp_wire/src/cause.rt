@@ -18,11 +18,13 @@ use std::fmt;
 /// Parameters that were not there, by their types (RFC 9260 section 3.3.10.2).
 #[derive(Debug, Drop)]
 pub struct MissingMandatoryParameterErrorCause {
+    /// The types, two bytes each, behind their number of four bytes.
     pub missing_parameter_types: Vec<u16>,
 }
 
 #[tactic(auto, unfolding(crate::specs::Cause::cause_value))]
 impl MissingMandatoryParameterErrorCause {
+    /// The cause's type.
     pub const TYPE: u16 = 2;
 
     /// What the cause says; `InvalidType` where it is of another type, `InvalidLength` where there are
@@ -84,11 +86,13 @@ impl fmt::Display for MissingMandatoryParameterErrorCause {
 /// A chunk of a type that was not understood, its bytes as they came (RFC 9260 section 3.3.10.6).
 #[derive(Debug, Drop)]
 pub struct UnrecognizedChunkErrorCause {
+    /// The chunk's bytes, header and value.
     pub chunk: Vec<u8>,
 }
 
 #[tactic(auto, unfolding(crate::specs::Cause::cause_value))]
 impl UnrecognizedChunkErrorCause {
+    /// The cause's type.
     pub const TYPE: u16 = 6;
 
     /// What the cause says; `InvalidType` where it is of another type.
@@ -138,16 +142,21 @@ impl fmt::Display for UnrecognizedChunkErrorCause {
 /// A DATA chunk without data, by its TSN (RFC 9260 section 3.3.10.9).
 #[derive(Clone, Copy, Debug, PartialEq, Eq)]
 pub struct NoUserDataErrorCause {
+    /// The TSN of the chunk.
     pub tsn: Tsn,
 }
 
 #[tactic(auto, unfolding(crate::specs::Cause::cause_value))]
 impl NoUserDataErrorCause {
+    /// The cause's type.
     pub const TYPE: u16 = 9;
 
     /// What the cause says; `InvalidType` where it is of another type, `InvalidLength` where its value has
     /// not four bytes.
-    pub fn try_from(raw: RawParameter<'_>) -> Result<NoUserDataErrorCause, ChunkParseError>
+    pub fn try_from(
+        _alloc: Global,
+        raw: RawParameter<'_>,
+    ) -> Result<NoUserDataErrorCause, ChunkParseError>
         ensures ok { IfOk result (λ c. SaysCause raw.entry.typ raw.entry.value.now (no_user_data_tree c)) }
         ensures refused { IfErr result (RefusesCauseAs 9 raw.entry.typ raw.entry.value.now) }
     {
@@ -197,10 +206,14 @@ pub struct CookieReceivedWhileShuttingDownErrorCause {}
 
 #[tactic(auto, unfolding(crate::specs::Cause::cause_value))]
 impl CookieReceivedWhileShuttingDownErrorCause {
+    /// The cause's type.
     pub const TYPE: u16 = 10;
 
     /// What the cause says; `InvalidType` where it is of another type, `InvalidLength` where it has a value.
-    pub fn try_from(raw: RawParameter<'_>) -> Result<CookieReceivedWhileShuttingDownErrorCause, ChunkParseError>
+    pub fn try_from(
+        _alloc: Global,
+        raw: RawParameter<'_>,
+    ) -> Result<CookieReceivedWhileShuttingDownErrorCause, ChunkParseError>
         ensures ok { IfOk result (λ c. SaysCause raw.entry.typ raw.entry.value.now (cookie_received_tree c)) }
         ensures refused { IfErr result (RefusesCauseAs 10 raw.entry.typ raw.entry.value.now) }
     {
@@ -245,11 +258,13 @@ impl fmt::Display for CookieReceivedWhileShuttingDownErrorCause {
 /// The layer above ended the association (RFC 9260 section 3.3.10.12).
 #[derive(Debug, Drop)]
 pub struct UserInitiatedAbortErrorCause {
+    /// The reason, UTF-8.
     pub reason: String,
 }
 
 #[tactic(auto, unfolding(crate::specs::Cause::cause_value))]
 impl UserInitiatedAbortErrorCause {
+    /// The cause's type.
     pub const TYPE: u16 = 12;
 
     /// What the cause says; `InvalidType` where it is of another type.
@@ -299,11 +314,13 @@ impl fmt::Display for UserInitiatedAbortErrorCause {
 /// The peer broke the protocol (RFC 9260 section 3.3.10.13).
 #[derive(Debug, Drop)]
 pub struct ProtocolViolationErrorCause {
+    /// What was wrong, UTF-8.
     pub information: String,
 }
 
 #[tactic(auto, unfolding(crate::specs::Cause::cause_value))]
 impl ProtocolViolationErrorCause {
+    /// The cause's type.
     pub const TYPE: u16 = 13;
 
     /// What the cause says; `InvalidType` where it is of another type.

@@ -49,8 +49,8 @@ impl ErrorCause {
         match raw.typ {
             MissingMandatoryParameterErrorCause::TYPE => Ok(ErrorCause::MissingMandatoryParameter(MissingMandatoryParameterErrorCause::try_from(alloc, raw)?)),
             UnrecognizedChunkErrorCause::TYPE => Ok(ErrorCause::UnrecognizedChunk(UnrecognizedChunkErrorCause::try_from(alloc, raw)?)),
-            NoUserDataErrorCause::TYPE => Ok(ErrorCause::NoUserData(NoUserDataErrorCause::try_from(raw)?)),
-            CookieReceivedWhileShuttingDownErrorCause::TYPE => Ok(ErrorCause::CookieReceivedWhileShuttingDown(CookieReceivedWhileShuttingDownErrorCause::try_from(raw)?)),
+            NoUserDataErrorCause::TYPE => Ok(ErrorCause::NoUserData(NoUserDataErrorCause::try_from(alloc, raw)?)),
+            CookieReceivedWhileShuttingDownErrorCause::TYPE => Ok(ErrorCause::CookieReceivedWhileShuttingDown(CookieReceivedWhileShuttingDownErrorCause::try_from(alloc, raw)?)),
             UserInitiatedAbortErrorCause::TYPE => Ok(ErrorCause::UserInitiatedAbort(UserInitiatedAbortErrorCause::try_from(alloc, raw)?)),
             ProtocolViolationErrorCause::TYPE => Ok(ErrorCause::ProtocolViolation(ProtocolViolationErrorCause::try_from(alloc, raw)?)),
             _ => Ok(ErrorCause::Unknown(UnknownParameter::try_from(alloc, raw)?)),

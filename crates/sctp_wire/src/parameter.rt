@@ -18,11 +18,13 @@ use std::fmt;
 /// What a HEARTBEAT asks to be sent back (RFC 9260 section 3.3.5).
 #[derive(Debug, Drop)]
 pub struct HeartbeatInfoParameter {
+    /// Bytes that mean something to the sender alone.
     pub info: Vec<u8>,
 }
 
 #[tactic(auto, unfolding(crate::specs::Parameter::parameter_value))]
 impl HeartbeatInfoParameter {
+    /// The parameter's type.
     pub const TYPE: u16 = 1;
 
     /// What the parameter says; `InvalidType` where it is of another type.
@@ -72,11 +74,13 @@ impl fmt::Display for HeartbeatInfoParameter {
 /// The cookie of an INIT ACK (RFC 9260 section 3.3.3).
 #[derive(Debug, Drop)]
 pub struct StateCookieParameter {
+    /// Bytes that mean something to the sender alone.
     pub cookie: Vec<u8>,
 }
 
 #[tactic(auto, unfolding(crate::specs::Parameter::parameter_value))]
 impl StateCookieParameter {
+    /// The parameter's type.
     pub const TYPE: u16 = 7;
 
     /// What the parameter says; `InvalidType` where it is of another type.
@@ -126,11 +130,13 @@ impl fmt::Display for StateCookieParameter {
 /// The types of further chunks that an endpoint understands (RFC 5061 section 4.2.7).
 #[derive(Debug, Drop)]
 pub struct SupportedExtensionsParameter {
+    /// Chunk types, one byte each.
     pub chunk_types: Vec<u8>,
 }
 
 #[tactic(auto, unfolding(crate::specs::Parameter::parameter_value))]
 impl SupportedExtensionsParameter {
+    /// The parameter's type.
     pub const TYPE: u16 = 0x8008;
 
     /// What the parameter says; `InvalidType` where it is of another type.
@@ -190,10 +196,14 @@ pub struct ForwardTsnSupportedParameter {}
 
 #[tactic(auto, unfolding(crate::specs::Parameter::parameter_value))]
 impl ForwardTsnSupportedParameter {
+    /// The parameter's type.
     pub const TYPE: u16 = 0xC000;
 
     /// What the parameter says; `InvalidType` where it is of another type, `InvalidLength` where it has a value.
-    pub fn try_from(raw: RawParameter<'_>) -> Result<ForwardTsnSupportedParameter, ChunkParseError>
+    pub fn try_from(
+        _alloc: Global,
+        raw: RawParameter<'_>,
+    ) -> Result<ForwardTsnSupportedParameter, ChunkParseError>
         ensures ok { IfOk result (λ p. SaysParameter raw.entry.typ raw.entry.value.now (forward_tsn_supported_tree p)) }
         ensures refused { IfErr result (RefusesParameterAs 0xC000 raw.entry.typ raw.entry.value.now) }
     {
@@ -238,16 +248,21 @@ impl fmt::Display for ForwardTsnSupportedParameter {
 /// An endpoint finds damage by this method, and takes packets without a checksum (RFC 9653 section 3).
 #[derive(Clone, Copy, Debug, PartialEq, Eq)]
 pub struct ZeroChecksumAcceptableParameter {
+    /// The method's number, four bytes.
     pub method: ZeroChecksumAlternateErrorDetectionMethod,
 }
 
 #[tactic(auto, unfolding(crate::specs::Parameter::parameter_value))]
 impl ZeroChecksumAcceptableParameter {
+    /// The parameter's type.
     pub const TYPE: u16 = 0x8001;
 
     /// What the parameter says; `InvalidType` where it is of another type, `InvalidLength` where its value has not
     /// four bytes.
-    pub fn try_from(raw: RawParameter<'_>) -> Result<ZeroChecksumAcceptableParameter, ChunkParseError>
+    pub fn try_from(
+        _alloc: Global,
+        raw: RawParameter<'_>,
+    ) -> Result<ZeroChecksumAcceptableParameter, ChunkParseError>
         ensures ok { IfOk result (λ p. SaysParameter raw.entry.typ raw.entry.value.now (zero_checksum_acceptable_tree p)) }
         ensures refused { IfErr result (RefusesParameterAs 0x8001 raw.entry.typ raw.entry.value.now) }
     {
@@ -296,7 +311,9 @@ impl fmt::Display for ZeroChecksumAcceptableParameter {
 /// A parameter or a cause that is kept as it came.
 #[derive(Debug, Drop)]
 pub struct UnknownParameter {
+    /// The type, two bytes.
     pub typ: u16,
+    /// The value, without padding.
     pub value: Vec<u8>,
 }
 

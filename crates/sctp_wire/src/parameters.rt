@@ -73,12 +73,12 @@ impl Parameter {
             OutgoingSsnResetRequestParameter::TYPE => Ok(Parameter::OutgoingSsnResetRequest(OutgoingSsnResetRequestParameter::try_from(alloc, raw)?)),
             IncomingSsnResetRequestParameter::TYPE => Ok(Parameter::IncomingSsnResetRequest(IncomingSsnResetRequestParameter::try_from(alloc, raw)?)),
             PARAMETER_TYPE_SSN_TSN_RESET_REQUEST => Ok(Parameter::SsnTsnResetRequest(UnknownParameter::try_from(alloc, raw)?)),
-            ReconfigurationResponseParameter::TYPE => Ok(Parameter::ReconfigurationResponse(ReconfigurationResponseParameter::try_from(raw)?)),
+            ReconfigurationResponseParameter::TYPE => Ok(Parameter::ReconfigurationResponse(ReconfigurationResponseParameter::try_from(alloc, raw)?)),
             PARAMETER_TYPE_ADD_OUTGOING_STREAMS_REQUEST => Ok(Parameter::AddOutgoingStreamsRequest(UnknownParameter::try_from(alloc, raw)?)),
             PARAMETER_TYPE_ADD_INCOMING_STREAMS_REQUEST => Ok(Parameter::AddIncomingStreamsRequest(UnknownParameter::try_from(alloc, raw)?)),
             SupportedExtensionsParameter::TYPE => Ok(Parameter::SupportedExtensions(SupportedExtensionsParameter::try_from(alloc, raw)?)),
-            ForwardTsnSupportedParameter::TYPE => Ok(Parameter::ForwardTsnSupported(ForwardTsnSupportedParameter::try_from(raw)?)),
-            ZeroChecksumAcceptableParameter::TYPE => Ok(Parameter::ZeroChecksumAcceptable(ZeroChecksumAcceptableParameter::try_from(raw)?)),
+            ForwardTsnSupportedParameter::TYPE => Ok(Parameter::ForwardTsnSupported(ForwardTsnSupportedParameter::try_from(alloc, raw)?)),
+            ZeroChecksumAcceptableParameter::TYPE => Ok(Parameter::ZeroChecksumAcceptable(ZeroChecksumAcceptableParameter::try_from(alloc, raw)?)),
             _ => Ok(Parameter::Unknown(UnknownParameter::try_from(alloc, raw)?)),
         }
     }

@@ -18,14 +18,19 @@ use std::fmt;
 /// A request that the sender's streams, all where none is named, begin anew (RFC 6525 section 4.1).
 #[derive(Debug, Drop)]
 pub struct OutgoingSsnResetRequestParameter {
+    /// The request's number: requests are counted from the sender's first TSN.
     pub request_seq_nbr: u32,
+    /// The number of the incoming request that this follows, else the last number seen from the peer.
     pub response_seq_nbr: u32,
+    /// The last TSN that the sender gave out before the reset.
     pub sender_last_assigned_tsn: Tsn,
+    /// The streams, two bytes each; none stands for all.
     pub streams: Vec<StreamId>,
 }
 
 #[tactic(auto, unfolding(crate::specs::Parameter::parameter_value))]
 impl OutgoingSsnResetRequestParameter {
+    /// The parameter's type.
     pub const TYPE: u16 = 13;
 
     /// What the parameter says; `InvalidType` where it is of another type, `InvalidLength` where its value is no
@@ -97,12 +102,15 @@ impl fmt::Display for OutgoingSsnResetRequestParameter {
 /// A request that the receiver reset its streams, all where none is named (RFC 6525 section 4.2).
 #[derive(Debug, Drop)]
 pub struct IncomingSsnResetRequestParameter {
+    /// The request's number: requests are counted from the sender's first TSN.
     pub request_seq_nbr: u32,
+    /// The streams, two bytes each; none stands for all.
     pub streams: Vec<StreamId>,
 }
 
 #[tactic(auto, unfolding(crate::specs::Parameter::parameter_value))]
 impl IncomingSsnResetRequestParameter {
+    /// The parameter's type.
     pub const TYPE: u16 = 14;
 
     /// What the parameter says; `InvalidType` where it is of another type, `InvalidLength` where its value is no
@@ -166,12 +174,19 @@ impl fmt::Display for IncomingSsnResetRequestParameter {
 /// What became of a request (RFC 6525 section 4.4).
 #[derive(Clone, Copy, Debug, PartialEq, Eq)]
 pub enum ReconfigurationResponseResult {
+    /// There was nothing to reset.
     SuccessNothingToDo = 0,
+    /// Done.
     SuccessPerformed = 1,
+    /// Not done, and not to be.
     Denied = 2,
+    /// The number in the request is wrong.
     ErrorWrongSSN = 3,
+    /// Another request is being worked on.
     ErrorRequestAlreadyInProgress = 4,
+    /// The request's number is not the next one.
     ErrorBadSequenceNumber = 5,
+    /// Not done yet: ask again.
     InProgress = 6,
 }
 
@@ -207,19 +222,27 @@ impl TryFrom<u32> for ReconfigurationResponseResult {
 /// (RFC 6525 section 4.4).
 #[derive(Clone, Copy, Debug)]
 pub struct ReconfigurationResponseParameter {
+    /// The number of the request that this answers.
     pub response_seq_nbr: u32,
+    /// What became of the request.
     pub result: ReconfigurationResponseResult,
+    /// The next TSN of the response's sender; there with the other one alone.
     pub sender_next_tsn: Option<Tsn>,
+    /// The next TSN of its receiver.
     pub receiver_next_tsn: Option<Tsn>,
 }
 
 #[tactic(auto, unfolding(crate::specs::Parameter::parameter_value))]
 impl ReconfigurationResponseParameter {
+    /// The parameter's type.
     pub const TYPE: u16 = 16;
 
     /// What the parameter says; `InvalidType` where it is of another type, `InvalidLength` where its value has
     /// neither 8 nor 16 bytes, `InvalidValue` where its result is over 6.
-    pub fn try_from(raw: RawParameter<'_>) -> Result<ReconfigurationResponseParameter, ChunkParseError>
+    pub fn try_from(
+        _alloc: Global,
+        raw: RawParameter<'_>,
+    ) -> Result<ReconfigurationResponseParameter, ChunkParseError>
         ensures ok { IfOk result (λ p. SaysParameter raw.entry.typ raw.entry.value.now (response_tree p)) }
         ensures refused { IfErr result (RefusesParameterAs 16 raw.entry.typ raw.entry.value.now) }
     {

@@ -4,7 +4,7 @@ ghost use Rattle.std.specs.Prelude.{◌≡◌, ℕ, List, Some, map, refl};
 ghost use Rattle.std.specs.Fmt.{decimal};
 ghost use Rattle.sctp_wire.specs.Show.{joined};
 
-use sctp_serial::StreamId;
+use sctp_serial::{StreamId, Tsn};
 use std::fmt;
 
 /// An entry of a list that is shown.
@@ -30,6 +30,12 @@ impl Listed for StreamId {
     ghost text = { λ id. decimal id.0 };
 
     ghost shows = { λ id. refl };
+}
+
+impl Listed for Tsn {
+    ghost text = { λ tsn. decimal tsn.0 };
+
+    ghost shows = { λ tsn. refl };
 }
 
 /// A list, shown entry by entry with `/` between.

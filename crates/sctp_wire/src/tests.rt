@@ -304,8 +304,8 @@ fn refusals(rt: HostRuntime) {
         value: &[],
     };
     assert!(rt; HeartbeatInfoParameter::try_from(rt.alloc(), raw).err() == Some(ChunkParseError::InvalidType));
-    assert!(rt; ReconfigurationResponseParameter::try_from(raw).err() == Some(ChunkParseError::InvalidType));
-    assert!(rt; NoUserDataErrorCause::try_from(raw).err() == Some(ChunkParseError::InvalidType));
+    assert!(rt; ReconfigurationResponseParameter::try_from(rt.alloc(), raw).err() == Some(ChunkParseError::InvalidType));
+    assert!(rt; NoUserDataErrorCause::try_from(rt.alloc(), raw).err() == Some(ChunkParseError::InvalidType));
 }
 
 /// The same with and without the padding of the last item.
@@ -334,7 +334,7 @@ fn reset_request(rt: HostRuntime) -> Result<(), Fail> {
 fn response(rt: HostRuntime) -> Result<(), Fail> {
     let bytes = b"\x00\x10\x00\x0c\x00\x00\x00\x0a\x00\x00\x00\x01";
     let (raw, _) = RawParameter::from_bytes(bytes).map_err(|_| "a whole parameter")?;
-    let response = ReconfigurationResponseParameter::try_from(raw)?;
+    let response = ReconfigurationResponseParameter::try_from(rt.alloc(), raw)?;
     assert_eq!(rt; response.response_seq_nbr, 10);
     assert_eq!(rt; response.result, ReconfigurationResponseResult::SuccessPerformed);
     assert!(rt; response.encodable());
