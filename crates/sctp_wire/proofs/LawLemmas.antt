@@ -1,16 +1,15 @@
 -- Trees that were written are read, and what is read is not refused.
-use Rattle.std.proofs.Common.{◌≡◌, ◌⊎◌, inl, inr, ℕ, ◌+◌, ◌*◌, ◌%◌, ◌<◌, ◌≤◌, ◌^◌, Bool, true, false, ◌||◌, ◌==◌, List, [], ◌∷◌, ◌++◌, length, refl, sym, ap, subst, ◌∙◌, Option, None, Some, arith}
+use Rattle.std.proofs.Common.{◌≡◌, inl, inr, ℕ, ◌<◌, ◌^◌, Bool, true, false, ◌||◌, ◌==◌, List, [], ◌++◌, length, refl, sym, ap, subst, ◌∙◌, None, Some, arith}
 use Rattle.std.specs.List.{flat_map}
 use Rattle.std.specs.Str.{IsUtf8}
-use Rattle.std.proofs.lemmas.List.{append-nil, length-append}
-use Rattle.sctp_serial.specs.declared.serial.Tsn.{Tsn}
+use Rattle.std.proofs.lemmas.List.{append-nil}
 use Rattle.sctp_wire.specs.declared.error.ChunkParseError.{ChunkParseError}
 use Rattle.sctp_wire.specs.declared.error.ChunkParseError.TheVariants.{InvalidLength, InvalidType, InvalidPadding, InvalidValue, Memory}
 use Rattle.sctp_wire.specs.Fields.{be16, be32, length_be16, length_be32}
 use Rattle.sctp_wire.specs.Item.{Item}
-use Rattle.sctp_wire.specs.Serialize.{IsEncodable, typed, type_of}
+use Rattle.sctp_wire.specs.Serialize.{IsEncodable, type_of}
 use Rattle.sctp_wire.specs.Shape.{Shape, any_length, HasShape}
-use Rattle.sctp_wire.specs.Parameter.{ParameterTree, heartbeat_info, state_cookie, outgoing_reset_request, incoming_reset_request, ssn_tsn_reset_request, reset_response, add_outgoing_streams_request, add_incoming_streams_request, supported_extensions, forward_tsn_supported, zero_checksum_acceptable, unknown_parameter, IsParameter, SaysParameter, parameter_item, parameter_type, parameter_value, parameter_shape, HasNoResult, RefusesParameter, optional_tsn_bytes, is_known_parameter}
+use Rattle.sctp_wire.specs.Parameter.{ParameterTree, heartbeat_info, state_cookie, outgoing_reset_request, incoming_reset_request, ssn_tsn_reset_request, reset_response, add_outgoing_streams_request, add_incoming_streams_request, supported_extensions, forward_tsn_supported, zero_checksum_acceptable, unknown_parameter, IsParameter, SaysParameter, parameter_item, parameter_type, parameter_value, parameter_shape, HasNoResult, RefusesParameter, is_known_parameter}
 use Rattle.sctp_wire.specs.Cause.{CauseTree, missing_mandatory_parameter, unrecognized_chunk, no_user_data, cookie_received_while_shutting_down, user_initiated_abort, protocol_violation, unknown_cause, IsCause, SaysCause, ReadsCause, cause_item, cause_type, cause_value, cause_shape, RefusesCause, is_known_cause}
 use Rattle.sctp_wire.specs.ReadBack.{ParameterReadsBack, CauseReadsBack}
 use Rattle.sctp_wire.specs.Text.{IsTextOf, ReadsChars}
@@ -19,7 +18,7 @@ use Rattle.sctp_wire.proofs.TilesLemmas.{cut_same}
 use Rattle.sctp_wire.proofs.TextLemmas.{reads_text}
 use Rattle.sctp_wire.proofs.ReadBackLemmas.{type_of_typed}
 use Rattle.sctp_wire.proofs.ParameterLemmas.{length_outgoing, length_incoming, length_response, length_zero_checksum}
-use Rattle.sctp_wire.proofs.CauseLemmas.{length_missing, length_no_user_data}
+use Rattle.sctp_wire.proofs.CauseLemmas.{length_no_user_data}
 use Rattle.sctp_wire.proofs.SerializeLemmas.{length_entries}
 
 pub parameter_written : (t : ParameterTree) → ParameterReadsBack t → IsEncodable (parameter_item t) × IsParameter (parameter_item t) t
@@ -137,8 +136,13 @@ cause_shape_at typ k value e h = subst (λ (n : ℕ). HasShape (cause_shape n) v
 pub cause_shaped : (typ : ℕ) (value : List ℕ) (t : CauseTree) → SaysCause typ value t → HasShape (cause_shape typ) value
 unfolding cause_value
 cause_shaped typ value (missing_mandatory_parameter types) s =
-    cause_shape_at typ 2 value s.typed (length types, flat_map be16 types,
-      s.fits.0, s.valued, omega (arith, length_entries be16 2 length_be16 types))
+    cause_shape_at typ 2 value s.typed (
+      length types,
+      flat_map be16 types,
+      s.fits.0,
+      s.valued,
+      omega (arith, length_entries be16 2 length_be16 types),
+    )
 cause_shaped typ value (unrecognized_chunk chunk) s = cause_shape_at typ 6 value s.typed tt
 cause_shaped typ value (no_user_data tsn) s = cause_shape_at typ 9 value s.typed (ap length s.valued ∙ length_no_user_data tsn)
 cause_shaped typ value cookie_received_while_shutting_down s = cause_shape_at typ 10 value s.typed (ap length s.valued)

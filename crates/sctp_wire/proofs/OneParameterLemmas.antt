@@ -1,5 +1,5 @@
 -- The bytes determine the parameter.
-use Rattle.std.proofs.Common.{◌≡◌, ℕ, zero, suc, ◌+◌, ◌*◌, ◌/◌, ◌%◌, ◌<◌, ◌^◌, ◌==◌, Bool, true, false, cond, List, [], ◌∷◌, ◌++◌, length, take, drop, refl, sym, ap, subst, ◌∙◌, Option, None, Some, arith}
+use Rattle.std.proofs.Common.{◌≡◌, ℕ, suc, ◌+◌, ◌*◌, ◌/◌, ◌%◌, ◌<◌, ◌^◌, ◌==◌, Bool, true, false, cond, List, [], ◌∷◌, ◌++◌, length, take, drop, refl, sym, ap, ◌∙◌, Option, None, Some, arith}
 use Rattle.std.specs.Prelude.{All}
 use Rattle.std.specs.Int.{w32, from_be_bytes}
 use Rattle.std.specs.List.{flat_map}
@@ -95,10 +95,10 @@ parameter_told typ value (outgoing_reset_request request response last streams) 
     let second : drop 4 (drop 4 value) ≡ be32 last.0 ++ flat_map stream_bytes streams = ap (drop 4) first ∙ behind_word response _ in
     let third : drop 4 (drop 4 (drop 4 value)) ≡ flat_map stream_bytes streams = ap (drop 4) second ∙ behind_word last.0 _ in
     at_type typ 13 value _ s.typed (same_outgoing _ _ _ _ _ _ _ _
-      (ap word s.valued ∙ word_back request _ s.fits.0)
-      (ap word first ∙ word_back response _ s.fits.1)
-      (ap tsn (ap word second ∙ word_back last.0 _ s.fits.2))
-      (ap streams_of third ∙ streams_back streams s.fits.3))
+    (ap word s.valued ∙ word_back request _ s.fits.0)
+    (ap word first ∙ word_back response _ s.fits.1)
+    (ap tsn (ap word second ∙ word_back last.0 _ s.fits.2))
+    (ap streams_of third ∙ streams_back streams s.fits.3))
 parameter_told typ value (incoming_reset_request request streams) s =
     let first : word value ≡ request = ap word s.valued ∙ word_back request _ s.fits.0 in
     let second : streams_of (drop 4 value) ≡ streams = ap streams_of (ap (drop 4) s.valued ∙ behind_word request _) ∙ streams_back streams s.fits.1 in
@@ -109,9 +109,9 @@ parameter_told typ value (reset_response response result None None) s =
     let len : length value ≡ 8 = ap length s.valued ∙ length_response response result None None in
     let second : drop 4 value ≡ be32 result ++ [] = ap (drop 4) s.valued ∙ behind_word response _ in
     at_type typ 16 value _ s.typed (ap (λ (n : ℕ). cond (n == 8) (short_response value) (long_response value)) len
-      ∙ same_response _ _ _ _ _ _ _ _
-      (ap word s.valued ∙ word_back response _ s.fits.0)
-      (ap word second ∙ word_back result _ s.fits.1) refl refl)
+    ∙ same_response _ _ _ _ _ _ _ _
+    (ap word s.valued ∙ word_back response _ s.fits.0)
+    (ap word second ∙ word_back result _ s.fits.1) refl refl)
 parameter_told typ value (reset_response response result None (Some receiver)) s = absurd (clash (sym s.whole))
 parameter_told typ value (reset_response response result (Some sender) None) s = absurd (clash (sym s.whole))
 parameter_told typ value (reset_response response result (Some sender) (Some receiver)) s =
@@ -120,11 +120,11 @@ parameter_told typ value (reset_response response result (Some sender) (Some rec
     let second : drop 4 (drop 4 value) ≡ be32 sender.0 ++ be32 receiver.0 = ap (drop 4) first ∙ behind_word result _ in
     let third : drop 4 (drop 4 (drop 4 value)) ≡ be32 receiver.0 ++ [] = ap (drop 4) second ∙ behind_word sender.0 _ ∙ sym (append-nil (be32 receiver.0)) in
     at_type typ 16 value _ s.typed (ap (λ (n : ℕ). cond (n == 8) (short_response value) (long_response value)) len
-      ∙ same_response _ _ _ _ _ _ _ _
-      (ap word s.valued ∙ word_back response _ s.fits.0)
-      (ap word first ∙ word_back result _ s.fits.1)
-      (ap (λ (n : ℕ). Some (tsn n)) (ap word second ∙ word_back sender.0 _ s.fits.2))
-      (ap (λ (n : ℕ). Some (tsn n)) (ap word third ∙ word_back receiver.0 [] s.fits.3)))
+    ∙ same_response _ _ _ _ _ _ _ _
+    (ap word s.valued ∙ word_back response _ s.fits.0)
+    (ap word first ∙ word_back result _ s.fits.1)
+    (ap (λ (n : ℕ). Some (tsn n)) (ap word second ∙ word_back sender.0 _ s.fits.2))
+    (ap (λ (n : ℕ). Some (tsn n)) (ap word third ∙ word_back receiver.0 [] s.fits.3)))
 parameter_told typ value (add_outgoing_streams_request kept bytes) s =
     at_type typ 17 value _ (s.typed ∙ s.of_its_variant) (ap (add_outgoing_streams_request 17) s.valued ∙ ap (λ (n : ℕ). add_outgoing_streams_request n bytes) (sym s.of_its_variant))
 parameter_told typ value (add_incoming_streams_request kept bytes) s =

@@ -1,5 +1,5 @@
 -- Items that were written are taken from the front again.
-use Rattle.std.proofs.Common.{◌≡◌, ℕ, zero, suc, ◌+◌, ◌*◌, ◌/◌, ◌%◌, ◌<◌, ◌≤◌, List, [], ◌∷◌, ◌++◌, length, map, refl, sym, ap, subst, ◌∙◌, append_assoc, arith}
+use Rattle.std.proofs.Common.{◌≡◌, ℕ, suc, List, [], ◌∷◌, ◌++◌, length, map, refl, sym, ap, subst, ◌∙◌, append_assoc, arith}
 use Rattle.std.specs.Prelude.{replicate, All}
 use Rattle.std.specs.List.{flat_map}
 use Rattle.std.proofs.lemmas.List.{append-nil, length-replicate}
@@ -43,10 +43,14 @@ tiles_padded R f P each (x ∷ xs) rest h =
     let one = each x (h 0 x (omega arith)) in
     let behind : List ℕ = flat_map (λ y. padded_item (f y)) xs ++ rest in
     let split : flat_map (λ y. padded_item (f y)) (x ∷ xs) ++ rest ≡ padded_item (f x) ++ behind =
-        ap (λ (b : List ℕ). b ++ rest) (flat_map-cons (λ y. padded_item (f y)) x xs)
-        ∙ append_assoc (padded_item (f x)) (flat_map (λ y. padded_item (f y)) xs) rest in
-    (f x, behind, subst (λ (b : List ℕ). Takes b (f x) behind) (sym split) (takes_padded (f x) behind one.0), one.1,
-      tiles_padded R f P each xs rest (later P x xs h))
+    ap (λ (b : List ℕ). b ++ rest) (flat_map-cons (λ y. padded_item (f y)) x xs)
+    ∙ append_assoc (padded_item (f x)) (flat_map (λ y. padded_item (f y)) xs) rest in (
+      f x,
+      behind,
+      subst (λ (b : List ℕ). Takes b (f x) behind) (sym split) (takes_padded (f x) behind one.0),
+      one.1,
+      tiles_padded R f P each xs rest (later P x xs h),
+    )
 
 pub tiles_inner : {X : Type 0} (R : Item → X → Type 0) (f : X → Item) (P : X → Type 0)
     → ((x : X) → P x → IsEncodable (f x) × R (f x) x)
@@ -57,6 +61,10 @@ tiles_inner R f P each (x ∷ []) h =
     let one = each x (h 0 x (omega arith)) in
     (f x, [], takes_last (f x) one.0, one.1, refl)
 tiles_inner R f P each (x ∷ y ∷ xs) h =
-    let one = each x (h 0 x (omega arith)) in
-    (f x, inner_items (map f (y ∷ xs)), takes_padded (f x) (inner_items (map f (y ∷ xs))) one.0, one.1,
-      tiles_inner R f P each (y ∷ xs) (later P x (y ∷ xs) h))
+    let one = each x (h 0 x (omega arith)) in (
+      f x,
+      inner_items (map f (y ∷ xs)),
+      takes_padded (f x) (inner_items (map f (y ∷ xs))) one.0,
+      one.1,
+      tiles_inner R f P each (y ∷ xs) (later P x (y ∷ xs) h),
+    )

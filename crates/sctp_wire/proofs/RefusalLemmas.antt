@@ -1,5 +1,5 @@
 -- Lists of items that stand for values, seen as what the values say.
-use Rattle.std.proofs.Common.{◌≡◌, ◌≢◌, ◌⊎◌, inl, inr, ℕ, List, [], ◌∷◌, map, refl, sym, subst, ◌∙◌}
+use Rattle.std.proofs.Common.{◌≡◌, ◌≢◌, inl, inr, ℕ, List, [], ◌∷◌, map, refl, sym, subst, ◌∙◌}
 use Rattle.sctp_wire.specs.Item.{Item, Takes, Tiles, Breaks}
 use Rattle.sctp_wire.specs.Refusal.{IsStuck, BreaksAs}
 use Rattle.sctp_wire.specs.Shape.{Shape, RefusesAs}

@@ -1,5 +1,5 @@
 -- Lengths of written items, and lists of items from the back.
-use Rattle.std.proofs.Common.{◌≡◌, ℕ, ◌+◌, ◌-◌, ◌*◌, ◌%◌, ◌<◌, ◌≤◌, ◌≢◌, ◌^◌, min, List, [], ◌∷◌, ◌++◌, length, take, map, refl, sym, ap, ◌∙◌, append_assoc, zero, suc, get_or, arith}
+use Rattle.std.proofs.Common.{◌≡◌, ℕ, ◌+◌, ◌-◌, ◌*◌, ◌%◌, ◌<◌, ◌≢◌, ◌^◌, min, List, [], ◌∷◌, ◌++◌, length, take, map, refl, sym, ap, ◌∙◌, append_assoc, zero, suc, get_or, arith}
 use Rattle.std.specs.Prelude.{replicate}
 use Rattle.std.specs.List.{flat_map}
 use Rattle.std.proofs.lemmas.List.{length-append, length-replicate, map_more}
@@ -33,7 +33,7 @@ pub inner_items-more : (is : List Item) (i : Item)
     → inner_items (is ++ i ∷ []) ≡ inner_items is ++ (replicate (padding (length (inner_items is))) 0 ++ item_bytes i)
 unfolding inner_items padded_item
 inner_items-more [] i = refl
-inner_items-more (j ∷ []) i = 
+inner_items-more (j ∷ []) i =
     let e : padding (length (item_bytes j)) ≡ padding (length j.value) = omega (arith, length_item_bytes j) in
     append_assoc (item_bytes j) (replicate (padding (length j.value)) 0) (item_bytes i) ∙ ap (λ (k : ℕ). item_bytes j ++ (replicate k 0 ++ item_bytes i)) (sym e)
 inner_items-more (j ∷ k ∷ is) i =
@@ -44,10 +44,14 @@ inner_items-more (j ∷ k ∷ is) i =
 -- its length
 pub length_inner_items-more : (is : List Item) (i : Item)
     → length (inner_items (is ++ i ∷ [])) ≡ length (inner_items is) + (padding (length (inner_items is)) + (4 + length i.value))
-length_inner_items-more is i = omega (arith, ap length (inner_items-more is i),
-    length-append (inner_items is) (replicate (padding (length (inner_items is))) 0 ++ item_bytes i),
-    length-append (replicate (padding (length (inner_items is))) 0) (item_bytes i),
-    length-replicate {A = ℕ} (padding (length (inner_items is))) 0, length_item_bytes i)
+length_inner_items-more is i = omega (
+  arith,
+  ap length (inner_items-more is i),
+  length-append (inner_items is) (replicate (padding (length (inner_items is))) 0 ++ item_bytes i),
+  length-append (replicate (padding (length (inner_items is))) 0) (item_bytes i),
+  length-replicate {A = ℕ} (padding (length (inner_items is))) 0,
+  length_item_bytes i,
+)
 
 -- a sum of lengths that stops at the greatest number
 pub size_more : (is : List Item) (i : Item) (size padded valued more : ℕ) → size ≡ min (length (inner_items is)) (2 ^ 64 - 1)

@@ -1,13 +1,13 @@
 -- Characters at the front of bytes.
-use Rattle.std.proofs.Common.{◌≡◌, ◌⊎◌, inl, inr, ℕ, zero, suc, ◌+◌, ◌<◌, ◌≤◌, Bool, true, false, cond, ◌&&◌, List, [], ◌∷◌, ◌++◌, length, take, drop, refl, sym, ap, subst, ◌∙◌, append_assoc, arith}
-use Rattle.std.proofs.lemmas.List.{length-append, take-append-drop, append-nil, take_at}
+use Rattle.std.proofs.Common.{◌≡◌, inl, inr, ℕ, zero, suc, ◌≤◌, Bool, true, false, cond, ◌&&◌, List, [], ◌∷◌, ◌++◌, length, take, refl, sym, ap, subst, ◌∙◌, append_assoc, arith}
+use Rattle.std.proofs.lemmas.List.{length-append, append-nil, take_at}
 use Rattle.std.proofs.lemmas.Bool.{cases_lt}
 use Rattle.std.proofs.lemmas.Str.{IsUtf8-append, IsUtf8-encode, is_utf8-from_IsUtf8, encodes-append, length-encode, len_utf8_bounds}
-use Rattle.std.specs.Char.{encode_utf8, IsScalar}
+use Rattle.std.specs.Char.{encode_utf8}
 use Rattle.std.proofs.Math.Utf8.{scalar}
 use Rattle.std.specs.Str.{IsUtf8, is_utf8, encode_utf8_all, all_scalars, StartsWithNoChar}
 use Rattle.std.specs.Str.Lossy.{valid_len_up_to, utf8_valid_len}
-use Rattle.sctp_wire.specs.Text.{ReadsChar, ReadsChars, IsTextOf}
+use Rattle.sctp_wire.specs.Text.{ReadsChars}
 
 -- no front that is UTF-8 is longer than the longest one
 clash : true ≡ false → ⊥
@@ -25,7 +25,7 @@ valid_most : (bs : List ℕ) (n m : ℕ) → m ≤ n → is_utf8 (take m bs) ≡
 valid_most bs zero m h e = h
 valid_most bs (suc n) m h e =
     valid_step n m (valid_len_up_to bs n) (is_utf8 (take (suc n) bs)) h (λ less. valid_most bs n m less e)
-      (λ same. sym (ap (λ (k : ℕ). is_utf8 (take k bs)) same) ∙ e)
+    (λ same. sym (ap (λ (k : ℕ). is_utf8 (take k bs)) same) ∙ e)
 
 -- behind the longest front that is UTF-8 begins no character
 pub none_behind : (bs front rest : List ℕ) → bs ≡ front ++ rest → IsUtf8 front → length front ≡ utf8_valid_len bs → StartsWithNoChar rest
@@ -64,16 +64,20 @@ pub reads_front : (bytes mid front behind text : List ℕ) → IsUtf8 front → 
     → ((cs : List ℕ) × ReadsChars bytes cs mid × (text ≡ encode_utf8_all cs))
     → (cs : List ℕ) × ReadsChars bytes cs behind × (text ++ front ≡ encode_utf8_all cs)
 reads_front bytes mid front behind text is e before =
-    let read : ReadsChars mid is.0 behind = subst (λ (x : List ℕ). ReadsChars x is.0 behind) (sym (e ∙ ap (λ (x : List ℕ). x ++ behind) (sym is.1.1))) (reads_text is.0 behind is.1.0) in
-    (before.0 ++ is.0, reads_on bytes mid behind before.0 is.0 before.1 read,
-      ap (λ (x : List ℕ). x ++ front) before.2 ∙ ap (λ (x : List ℕ). encode_utf8_all before.0 ++ x) (sym is.1.1) ∙ sym (encodes-append before.0 is.0))
+    let read : ReadsChars mid is.0 behind = subst (λ (x : List ℕ). ReadsChars x is.0 behind) (sym (e ∙ ap (λ (x : List ℕ). x ++ behind) (sym is.1.1))) (reads_text is.0 behind is.1.0) in (
+      before.0 ++ is.0,
+      reads_on bytes mid behind before.0 is.0 before.1 read,
+      ap (λ (x : List ℕ). x ++ front) before.2 ∙ ap (λ (x : List ℕ). encode_utf8_all before.0 ++ x) (sym is.1.1) ∙ sym (encodes-append before.0 is.0),
+    )
 
 -- and then a byte at which no character begins
 pub reads_byte : (bytes behind after text : List ℕ) (b : ℕ) → StartsWithNoChar behind → behind ≡ b ∷ after
     → ((cs : List ℕ) × ReadsChars bytes cs behind × (text ≡ encode_utf8_all cs))
     → (cs : List ℕ) × ReadsChars bytes cs after × (text ++ encode_utf8 0xFFFD ≡ encode_utf8_all cs)
-reads_byte bytes behind after text b none first before =
-    (before.0 ++ 0xFFFD ∷ [], reads_on bytes behind after before.0 (0xFFFD ∷ []) before.1 (after, inr (none, refl, b, first), refl),
-      ap (λ (x : List ℕ). x ++ encode_utf8 0xFFFD) before.2
+reads_byte bytes behind after text b none first before = (
+  before.0 ++ 0xFFFD ∷ [],
+  reads_on bytes behind after before.0 (0xFFFD ∷ []) before.1 (after, inr (none, refl, b, first), refl),
+  ap (λ (x : List ℕ). x ++ encode_utf8 0xFFFD) before.2
       ∙ ap (λ (x : List ℕ). encode_utf8_all before.0 ++ x) (sym (append-nil (encode_utf8 0xFFFD)))
-      ∙ sym (encodes-append before.0 (0xFFFD ∷ [])))
+      ∙ sym (encodes-append before.0 (0xFFFD ∷ [])),
+)

@@ -9,7 +9,7 @@ use Rattle.sctp_wire.specs.declared.error.ChunkParseError.{ChunkParseError}
 use Rattle.sctp_wire.specs.Fields.{be16, be32}
 use Rattle.sctp_wire.specs.Item.{Item}
 use Rattle.sctp_wire.specs.Serialize.{typed, type_of}
-use Rattle.sctp_wire.specs.Shape.{Shape, any_length, exactly, either, in_steps, HasShape, RefusesAs}
+use Rattle.sctp_wire.specs.Shape.{Shape, any_length, exactly, either, in_steps, RefusesAs}
 
 -- what a parameter says
 pub data ParameterTree : Type 0 where

@@ -1,5 +1,5 @@
 -- What is shown of a parameter: its name and its fields.
-use Rattle.std.specs.Prelude.{ℕ, List, [], ◌∷◌, ◌++◌, map, codes, Option, None, Some}
+use Rattle.std.specs.Prelude.{ℕ, List, [], ◌∷◌, map, codes, Option, None, Some}
 use Rattle.std.specs.Fmt.{decimal}
 use Rattle.sctp_serial.specs.declared.ids.StreamId.{StreamId}
 use Rattle.sctp_serial.specs.declared.serial.Tsn.{Tsn}

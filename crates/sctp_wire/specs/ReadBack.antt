@@ -1,7 +1,6 @@
 -- What holds of a tree that is read back as itself once it was written.
 use Rattle.std.specs.Prelude.{◌≡◌, true}
 use Rattle.std.specs.Str.{IsUtf8}
-
 use Rattle.sctp_wire.specs.Serialize.{IsEncodable}
 use Rattle.sctp_wire.specs.Parameter.{ParameterTree, parameter_item, parameter_is_whole, IsOfItsVariant, ParameterFits}
 use Rattle.sctp_wire.specs.Cause.{CauseTree, user_initiated_abort, protocol_violation, missing_mandatory_parameter, unrecognized_chunk, no_user_data, cookie_received_while_shutting_down, unknown_cause, cause_item, CauseIsOfItsVariant, CauseFits}

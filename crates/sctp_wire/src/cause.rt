@@ -5,12 +5,12 @@ ghost use Rattle.sctp_wire.specs.CauseText.{cause_text};
 ghost use Rattle.sctp_wire.specs.Cause.{SaysCause, RefusesCauseAs, cause_item, cause_value};
 ghost use Rattle.sctp_wire.specs.CauseViews.{missing_mandatory_parameter_tree, unrecognized_chunk_tree, no_user_data_tree, cookie_received_tree, user_initiated_abort_tree, protocol_violation_tree};
 
+use crate::ChunkParseError;
 use crate::field::{Entry, ends_here, entries_from_bytes, push_entries, push_u32, u32_at};
 use crate::item::RawParameter;
 use crate::serialize::SerializableTlv;
 use crate::show::Joined;
 use crate::text::text_from_bytes;
-use crate::ChunkParseError;
 use sctp_serial::Tsn;
 use std::alloc::{AllocError, Global};
 use std::fmt;
@@ -29,7 +29,10 @@ impl MissingMandatoryParameterErrorCause {
 
     /// What the cause says; `InvalidType` where it is of another type, `InvalidLength` where there are
     /// not as many types as it counts.
-    pub fn try_from(alloc: Global, raw: RawParameter<'_>) -> Result<MissingMandatoryParameterErrorCause, ChunkParseError>
+    pub fn try_from(
+        alloc: Global,
+        raw: RawParameter<'_>,
+    ) -> Result<MissingMandatoryParameterErrorCause, ChunkParseError>
         ensures ok { IfOk result (λ c. SaysCause raw.entry.typ raw.entry.value.now (missing_mandatory_parameter_tree c)) }
         ensures refused { IfErr result (RefusesCauseAs 2 raw.entry.typ raw.entry.value.now) }
     {
@@ -56,7 +59,10 @@ impl SerializableTlv for MissingMandatoryParameterErrorCause {
 
     #[tactic(auto, using(crate::proofs::CauseLemmas::length_missing))]
     fn value_size(&self) -> usize {
-        self.missing_parameter_types.len().saturating_mul(2).saturating_add(4)
+        self.missing_parameter_types
+            .len()
+            .saturating_mul(2)
+            .saturating_add(4)
     }
 
     fn is_whole(&self) -> bool {
@@ -96,7 +102,10 @@ impl UnrecognizedChunkErrorCause {
     pub const TYPE: u16 = 6;
 
     /// What the cause says; `InvalidType` where it is of another type.
-    pub fn try_from(alloc: Global, raw: RawParameter<'_>) -> Result<UnrecognizedChunkErrorCause, ChunkParseError>
+    pub fn try_from(
+        alloc: Global,
+        raw: RawParameter<'_>,
+    ) -> Result<UnrecognizedChunkErrorCause, ChunkParseError>
         ensures ok { IfOk result (λ c. SaysCause raw.entry.typ raw.entry.value.now (unrecognized_chunk_tree c)) }
         ensures refused { IfErr result (RefusesCauseAs 6 raw.entry.typ raw.entry.value.now) }
     {
@@ -268,7 +277,10 @@ impl UserInitiatedAbortErrorCause {
     pub const TYPE: u16 = 12;
 
     /// What the cause says; `InvalidType` where it is of another type.
-    pub fn try_from(alloc: Global, raw: RawParameter<'_>) -> Result<UserInitiatedAbortErrorCause, ChunkParseError>
+    pub fn try_from(
+        alloc: Global,
+        raw: RawParameter<'_>,
+    ) -> Result<UserInitiatedAbortErrorCause, ChunkParseError>
         ensures ok { IfOk result (λ c. SaysCause raw.entry.typ raw.entry.value.now (user_initiated_abort_tree c)) }
         ensures refused { IfErr result (RefusesCauseAs 12 raw.entry.typ raw.entry.value.now) }
     {
@@ -324,7 +336,10 @@ impl ProtocolViolationErrorCause {
     pub const TYPE: u16 = 13;
 
     /// What the cause says; `InvalidType` where it is of another type.
-    pub fn try_from(alloc: Global, raw: RawParameter<'_>) -> Result<ProtocolViolationErrorCause, ChunkParseError>
+    pub fn try_from(
+        alloc: Global,
+        raw: RawParameter<'_>,
+    ) -> Result<ProtocolViolationErrorCause, ChunkParseError>
         ensures ok { IfOk result (λ c. SaysCause raw.entry.typ raw.entry.value.now (protocol_violation_tree c)) }
         ensures refused { IfErr result (RefusesCauseAs 13 raw.entry.typ raw.entry.value.now) }
     {

@@ -7,6 +7,7 @@ ghost use Rattle.sctp_wire.specs.Refusal.{BreaksAs};
 ghost use Rattle.sctp_wire.specs.Cause.{SaysCause, RefusesCauseAs, IsCause, RefusesCause, cause_item};
 ghost use Rattle.sctp_wire.specs.CauseViews.{cause_tree};
 
+use crate::ChunkParseError;
 use crate::cause::{
     CookieReceivedWhileShuttingDownErrorCause, MissingMandatoryParameterErrorCause,
     NoUserDataErrorCause, ProtocolViolationErrorCause, UnrecognizedChunkErrorCause,
@@ -16,7 +17,6 @@ use crate::item::{RawItem, RawParameter};
 use crate::parameter::UnknownParameter;
 use crate::read::{FromItem, items_from_bytes};
 use crate::serialize::SerializableTlv;
-use crate::ChunkParseError;
 use std::alloc::{AllocError, Global};
 use std::fmt;
 
@@ -47,12 +47,26 @@ impl ErrorCause {
         ensures refused { IfErr result (RefusesCauseAs raw.entry.typ raw.entry.typ raw.entry.value.now) }
     {
         match raw.typ {
-            MissingMandatoryParameterErrorCause::TYPE => Ok(ErrorCause::MissingMandatoryParameter(MissingMandatoryParameterErrorCause::try_from(alloc, raw)?)),
-            UnrecognizedChunkErrorCause::TYPE => Ok(ErrorCause::UnrecognizedChunk(UnrecognizedChunkErrorCause::try_from(alloc, raw)?)),
-            NoUserDataErrorCause::TYPE => Ok(ErrorCause::NoUserData(NoUserDataErrorCause::try_from(alloc, raw)?)),
-            CookieReceivedWhileShuttingDownErrorCause::TYPE => Ok(ErrorCause::CookieReceivedWhileShuttingDown(CookieReceivedWhileShuttingDownErrorCause::try_from(alloc, raw)?)),
-            UserInitiatedAbortErrorCause::TYPE => Ok(ErrorCause::UserInitiatedAbort(UserInitiatedAbortErrorCause::try_from(alloc, raw)?)),
-            ProtocolViolationErrorCause::TYPE => Ok(ErrorCause::ProtocolViolation(ProtocolViolationErrorCause::try_from(alloc, raw)?)),
+            MissingMandatoryParameterErrorCause::TYPE => Ok(ErrorCause::MissingMandatoryParameter(
+                MissingMandatoryParameterErrorCause::try_from(alloc, raw)?,
+            )),
+            UnrecognizedChunkErrorCause::TYPE => Ok(ErrorCause::UnrecognizedChunk(
+                UnrecognizedChunkErrorCause::try_from(alloc, raw)?,
+            )),
+            NoUserDataErrorCause::TYPE => Ok(ErrorCause::NoUserData(NoUserDataErrorCause::try_from(
+                alloc, raw,
+            )?)),
+            CookieReceivedWhileShuttingDownErrorCause::TYPE => Ok(
+                ErrorCause::CookieReceivedWhileShuttingDown(
+                    CookieReceivedWhileShuttingDownErrorCause::try_from(alloc, raw)?,
+                ),
+            ),
+            UserInitiatedAbortErrorCause::TYPE => Ok(ErrorCause::UserInitiatedAbort(
+                UserInitiatedAbortErrorCause::try_from(alloc, raw)?,
+            )),
+            ProtocolViolationErrorCause::TYPE => Ok(ErrorCause::ProtocolViolation(
+                ProtocolViolationErrorCause::try_from(alloc, raw)?,
+            )),
             _ => Ok(ErrorCause::Unknown(UnknownParameter::try_from(alloc, raw)?)),
         }
     }
@@ -126,7 +140,12 @@ impl fmt::Display for ErrorCause {
             ErrorCause::UserInitiatedAbort(it) => it.fmt(f),
             ErrorCause::ProtocolViolation(it) => it.fmt(f),
             ErrorCause::Unknown(it) => {
-                write!(f, "UNKNOWN CAUSE, typ={}, value={} bytes", it.typ, it.value.len())
+                write!(
+                    f,
+                    "UNKNOWN CAUSE, typ={}, value={} bytes",
+                    it.typ,
+                    it.value.len()
+                )
             }
         }
     }
@@ -143,7 +162,10 @@ impl FromItem for ErrorCause {
 }
 
 /// The causes that the bytes are, from the left. The fault is that of the first one that cannot be read.
-pub fn error_cause_from_bytes(alloc: Global, bytes: &[u8]) -> Result<Vec<ErrorCause>, ChunkParseError>
+pub fn error_cause_from_bytes(
+    alloc: Global,
+    bytes: &[u8],
+) -> Result<Vec<ErrorCause>, ChunkParseError>
     ensures ok { IfOk result (λ list. Tiles IsCause bytes.now (map cause_tree list.items) []) }
     ensures refused { IfErr result (λ fault. (fault ≡ ChunkParseError.Memory) ⊎ BreaksAs IsCause RefusesCause bytes.now fault) }
 {

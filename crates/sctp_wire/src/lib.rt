@@ -24,7 +24,9 @@ pub use cause::{
 pub use checksum::{Checksum, Policy};
 pub use error::ChunkParseError;
 pub use error_cause::{ErrorCause, error_cause_from_bytes};
-pub use field::{Entry, ends_here, entries_from_bytes, push_entries, push_u16, push_u32, u16_at, u32_at};
+pub use field::{
+    Entry, ends_here, entries_from_bytes, push_entries, push_u16, push_u32, u16_at, u32_at,
+};
 pub use item::{RawItem, RawParameter, one_item};
 pub use laws::{
     cause_is_not_refused, causes_read_back, one_cause, one_list_of_causes, one_list_of_parameters,
@@ -43,16 +45,15 @@ pub use reset::{
     IncomingSsnResetRequestParameter, OutgoingSsnResetRequestParameter,
     ReconfigurationResponseParameter, ReconfigurationResponseResult,
 };
-pub use serialize::{
-    MAX_VALUE_SIZE, SerializableTlv, all_encodable, padding_len, parameters_serialize_to,
-    parameters_serialized_size, write_item_header, write_parameter_header,
-};
 pub use sctp_serial::{
     Message, PpId, Ssn, StreamId, Tsn,
     ZERO_CHECKSUM_ALTERNATE_ERROR_DETECTION_METHOD_LOWER_LAYER_DTLS,
     ZERO_CHECKSUM_ALTERNATE_ERROR_DETECTION_METHOD_NONE, ZeroChecksumAlternateErrorDetectionMethod,
 };
-
+pub use serialize::{
+    MAX_VALUE_SIZE, SerializableTlv, all_encodable, padding_len, parameters_serialize_to,
+    parameters_serialized_size, write_item_header, write_parameter_header,
+};
 pub use show::{Joined, Listed};
 pub use text::text_from_bytes;
 

@@ -6,11 +6,11 @@ ghost use Rattle.sctp_wire.specs.Parameter.{SaysParameter, RefusesParameterAs, p
 ghost use Rattle.sctp_wire.specs.Serialize.{typed};
 ghost use Rattle.sctp_wire.specs.ParameterViews.{heartbeat_info_tree, state_cookie_tree, supported_extensions_tree, forward_tsn_supported_tree, zero_checksum_acceptable_tree};
 
+use crate::ChunkParseError;
 use crate::field::{ends_here, push_u32, u32_at};
 use crate::item::RawParameter;
 use crate::serialize::SerializableTlv;
 use crate::show::Joined;
-use crate::ChunkParseError;
 use sctp_serial::ZeroChecksumAlternateErrorDetectionMethod;
 use std::alloc::{AllocError, Global};
 use std::fmt;
@@ -28,7 +28,10 @@ impl HeartbeatInfoParameter {
     pub const TYPE: u16 = 1;
 
     /// What the parameter says; `InvalidType` where it is of another type.
-    pub fn try_from(alloc: Global, raw: RawParameter<'_>) -> Result<HeartbeatInfoParameter, ChunkParseError>
+    pub fn try_from(
+        alloc: Global,
+        raw: RawParameter<'_>,
+    ) -> Result<HeartbeatInfoParameter, ChunkParseError>
         ensures ok { IfOk result (λ p. SaysParameter raw.entry.typ raw.entry.value.now (heartbeat_info_tree p)) }
         ensures refused { IfErr result (RefusesParameterAs 1 raw.entry.typ raw.entry.value.now) }
     {
@@ -84,7 +87,10 @@ impl StateCookieParameter {
     pub const TYPE: u16 = 7;
 
     /// What the parameter says; `InvalidType` where it is of another type.
-    pub fn try_from(alloc: Global, raw: RawParameter<'_>) -> Result<StateCookieParameter, ChunkParseError>
+    pub fn try_from(
+        alloc: Global,
+        raw: RawParameter<'_>,
+    ) -> Result<StateCookieParameter, ChunkParseError>
         ensures ok { IfOk result (λ p. SaysParameter raw.entry.typ raw.entry.value.now (state_cookie_tree p)) }
         ensures refused { IfErr result (RefusesParameterAs 7 raw.entry.typ raw.entry.value.now) }
     {
@@ -319,7 +325,10 @@ pub struct UnknownParameter {
 
 impl UnknownParameter {
     /// The parameter, of whatever type; only memory may lack.
-    pub fn try_from(alloc: Global, raw: RawParameter<'_>) -> Result<UnknownParameter, ChunkParseError>
+    pub fn try_from(
+        alloc: Global,
+        raw: RawParameter<'_>,
+    ) -> Result<UnknownParameter, ChunkParseError>
         ensures typ { IfOk result (λ p. p.typ ≡ raw.entry.typ) }
         ensures value { IfOk result (λ p. p.value.items ≡ raw.entry.value.now) }
         ensures refused { IfErr result (λ e. e ≡ ChunkParseError.Memory) }

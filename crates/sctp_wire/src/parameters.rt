@@ -7,6 +7,7 @@ ghost use Rattle.sctp_wire.specs.Refusal.{BreaksAs};
 ghost use Rattle.sctp_wire.specs.Parameter.{SaysParameter, RefusesParameterAs, IsParameter, RefusesParameter, parameter_item, parameter_is_whole};
 ghost use Rattle.sctp_wire.specs.ParameterViews.{parameter_tree};
 
+use crate::ChunkParseError;
 use crate::item::{RawItem, RawParameter};
 use crate::parameter::{
     ForwardTsnSupportedParameter, HeartbeatInfoParameter, StateCookieParameter,
@@ -18,7 +19,6 @@ use crate::reset::{
     ReconfigurationResponseParameter,
 };
 use crate::serialize::SerializableTlv;
-use crate::ChunkParseError;
 use std::alloc::{AllocError, Global};
 use std::fmt;
 
@@ -68,17 +68,39 @@ impl Parameter {
         ensures refused { IfErr result (RefusesParameterAs raw.entry.typ raw.entry.typ raw.entry.value.now) }
     {
         match raw.typ {
-            HeartbeatInfoParameter::TYPE => Ok(Parameter::HeartbeatInfo(HeartbeatInfoParameter::try_from(alloc, raw)?)),
-            StateCookieParameter::TYPE => Ok(Parameter::StateCookie(StateCookieParameter::try_from(alloc, raw)?)),
-            OutgoingSsnResetRequestParameter::TYPE => Ok(Parameter::OutgoingSsnResetRequest(OutgoingSsnResetRequestParameter::try_from(alloc, raw)?)),
-            IncomingSsnResetRequestParameter::TYPE => Ok(Parameter::IncomingSsnResetRequest(IncomingSsnResetRequestParameter::try_from(alloc, raw)?)),
-            PARAMETER_TYPE_SSN_TSN_RESET_REQUEST => Ok(Parameter::SsnTsnResetRequest(UnknownParameter::try_from(alloc, raw)?)),
-            ReconfigurationResponseParameter::TYPE => Ok(Parameter::ReconfigurationResponse(ReconfigurationResponseParameter::try_from(alloc, raw)?)),
-            PARAMETER_TYPE_ADD_OUTGOING_STREAMS_REQUEST => Ok(Parameter::AddOutgoingStreamsRequest(UnknownParameter::try_from(alloc, raw)?)),
-            PARAMETER_TYPE_ADD_INCOMING_STREAMS_REQUEST => Ok(Parameter::AddIncomingStreamsRequest(UnknownParameter::try_from(alloc, raw)?)),
-            SupportedExtensionsParameter::TYPE => Ok(Parameter::SupportedExtensions(SupportedExtensionsParameter::try_from(alloc, raw)?)),
-            ForwardTsnSupportedParameter::TYPE => Ok(Parameter::ForwardTsnSupported(ForwardTsnSupportedParameter::try_from(alloc, raw)?)),
-            ZeroChecksumAcceptableParameter::TYPE => Ok(Parameter::ZeroChecksumAcceptable(ZeroChecksumAcceptableParameter::try_from(alloc, raw)?)),
+            HeartbeatInfoParameter::TYPE => Ok(Parameter::HeartbeatInfo(
+                HeartbeatInfoParameter::try_from(alloc, raw)?,
+            )),
+            StateCookieParameter::TYPE => Ok(Parameter::StateCookie(StateCookieParameter::try_from(
+                alloc, raw,
+            )?)),
+            OutgoingSsnResetRequestParameter::TYPE => Ok(Parameter::OutgoingSsnResetRequest(
+                OutgoingSsnResetRequestParameter::try_from(alloc, raw)?,
+            )),
+            IncomingSsnResetRequestParameter::TYPE => Ok(Parameter::IncomingSsnResetRequest(
+                IncomingSsnResetRequestParameter::try_from(alloc, raw)?,
+            )),
+            PARAMETER_TYPE_SSN_TSN_RESET_REQUEST => Ok(Parameter::SsnTsnResetRequest(
+                UnknownParameter::try_from(alloc, raw)?,
+            )),
+            ReconfigurationResponseParameter::TYPE => Ok(Parameter::ReconfigurationResponse(
+                ReconfigurationResponseParameter::try_from(alloc, raw)?,
+            )),
+            PARAMETER_TYPE_ADD_OUTGOING_STREAMS_REQUEST => Ok(Parameter::AddOutgoingStreamsRequest(
+                UnknownParameter::try_from(alloc, raw)?,
+            )),
+            PARAMETER_TYPE_ADD_INCOMING_STREAMS_REQUEST => Ok(Parameter::AddIncomingStreamsRequest(
+                UnknownParameter::try_from(alloc, raw)?,
+            )),
+            SupportedExtensionsParameter::TYPE => Ok(Parameter::SupportedExtensions(
+                SupportedExtensionsParameter::try_from(alloc, raw)?,
+            )),
+            ForwardTsnSupportedParameter::TYPE => Ok(Parameter::ForwardTsnSupported(
+                ForwardTsnSupportedParameter::try_from(alloc, raw)?,
+            )),
+            ZeroChecksumAcceptableParameter::TYPE => Ok(Parameter::ZeroChecksumAcceptable(
+                ZeroChecksumAcceptableParameter::try_from(alloc, raw)?,
+            )),
             _ => Ok(Parameter::Unknown(UnknownParameter::try_from(alloc, raw)?)),
         }
     }

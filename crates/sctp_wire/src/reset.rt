@@ -6,11 +6,11 @@ ghost use Rattle.sctp_wire.specs.declared.error.ChunkParseError.TheVariants.{Inv
 ghost use Rattle.sctp_wire.specs.Parameter.{SaysParameter, RefusesParameterAs, parameter_item, parameter_value, parameter_is_whole, optional_tsn_bytes};
 ghost use Rattle.sctp_wire.specs.ParameterViews.{outgoing_tree, incoming_tree, response_tree, result_number};
 
+use crate::ChunkParseError;
 use crate::field::{Entry, ends_here, entries_from_bytes, push_entries, push_u32, u32_at};
 use crate::item::RawParameter;
 use crate::serialize::SerializableTlv;
 use crate::show::Joined;
-use crate::ChunkParseError;
 use sctp_serial::{StreamId, Tsn};
 use std::alloc::{AllocError, Global};
 use std::fmt;

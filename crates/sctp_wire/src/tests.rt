@@ -22,8 +22,7 @@ fn items(rt: HostRuntime) -> Result<(), Fail> {
 fn zero_is_let_through_by_a_method_alone(rt: HostRuntime) {
     let dtls = Policy {
         disable_checksum_verification: false,
-        zero_checksum_alternate_error_detection_method:
-            ZERO_CHECKSUM_ALTERNATE_ERROR_DETECTION_METHOD_LOWER_LAYER_DTLS,
+        zero_checksum_alternate_error_detection_method: ZERO_CHECKSUM_ALTERNATE_ERROR_DETECTION_METHOD_LOWER_LAYER_DTLS,
     };
     let disabled = Policy {
         disable_checksum_verification: true,
@@ -299,19 +298,25 @@ fn refusals(rt: HostRuntime) {
     for (bytes, want) in causes {
         assert_eq!(rt; error_cause_from_bytes(rt.alloc(), bytes).err(), Some(want));
     }
-    let raw = RawParameter {
-        typ: 5,
-        value: &[],
-    };
-    assert!(rt; HeartbeatInfoParameter::try_from(rt.alloc(), raw).err() == Some(ChunkParseError::InvalidType));
-    assert!(rt; ReconfigurationResponseParameter::try_from(rt.alloc(), raw).err() == Some(ChunkParseError::InvalidType));
-    assert!(rt; NoUserDataErrorCause::try_from(rt.alloc(), raw).err() == Some(ChunkParseError::InvalidType));
+    let raw = RawParameter { typ: 5, value: &[] };
+    assert!(rt;
+        HeartbeatInfoParameter::try_from(rt.alloc(), raw).err()
+            == Some(ChunkParseError::InvalidType)
+    );
+    assert!(rt;
+        ReconfigurationResponseParameter::try_from(rt.alloc(), raw).err()
+            == Some(ChunkParseError::InvalidType)
+    );
+    assert!(rt;
+        NoUserDataErrorCause::try_from(rt.alloc(), raw).err() == Some(ChunkParseError::InvalidType)
+    );
 }
 
 /// The same with and without the padding of the last item.
 #[test]
 fn reset_request(rt: HostRuntime) -> Result<(), Fail> {
-    let padded = b"\x00\x0d\x00\x16\x00\x00\x00\x0a\x00\x00\x00\x03\x00\x00\x00\x0b\x00\x01\x00\x02\x00\x03\x00\x00";
+    let padded =
+        b"\x00\x0d\x00\x16\x00\x00\x00\x0a\x00\x00\x00\x03\x00\x00\x00\x0b\x00\x01\x00\x02\x00\x03\x00\x00";
     for bytes in [padded.as_slice(), &padded[..22]] {
         let (raw, rest) = RawParameter::from_bytes(bytes).map_err(|_| "a whole parameter")?;
         assert!(rt; rest.is_empty());
@@ -320,7 +325,10 @@ fn reset_request(rt: HostRuntime) -> Result<(), Fail> {
         assert_eq!(rt; request.request_seq_nbr, 10);
         assert_eq!(rt; request.response_seq_nbr, 3);
         assert_eq!(rt; request.sender_last_assigned_tsn, Tsn(11));
-        assert_eq!(rt; request.streams.as_slice(), [StreamId(1), StreamId(2), StreamId(3)].as_slice());
+        assert_eq!(rt;
+            request.streams.as_slice(),
+            [StreamId(1), StreamId(2), StreamId(3)].as_slice()
+        );
         assert_eq!(rt; request.value_size(), 18);
         assert_eq!(rt; request.serialized_size(), 24);
         let mut written = Vec::new(rt.alloc());
@@ -336,15 +344,24 @@ fn response(rt: HostRuntime) -> Result<(), Fail> {
     let (raw, _) = RawParameter::from_bytes(bytes).map_err(|_| "a whole parameter")?;
     let response = ReconfigurationResponseParameter::try_from(rt.alloc(), raw)?;
     assert_eq!(rt; response.response_seq_nbr, 10);
-    assert_eq!(rt; response.result, ReconfigurationResponseResult::SuccessPerformed);
+    assert_eq!(rt;
+        response.result,
+        ReconfigurationResponseResult::SuccessPerformed
+    );
     assert!(rt; response.encodable());
     let half = ReconfigurationResponseParameter {
         sender_next_tsn: Some(Tsn(1)),
         ..response
     };
     assert!(rt; !half.encodable());
-    assert_eq!(rt; ReconfigurationResponseResult::try_from(6), Ok(ReconfigurationResponseResult::InProgress));
-    assert_eq!(rt; ReconfigurationResponseResult::try_from(7), Err(ChunkParseError::InvalidValue));
+    assert_eq!(rt;
+        ReconfigurationResponseResult::try_from(6),
+        Ok(ReconfigurationResponseResult::InProgress)
+    );
+    assert_eq!(rt;
+        ReconfigurationResponseResult::try_from(7),
+        Err(ChunkParseError::InvalidValue)
+    );
     Ok(())
 }
 

@@ -1,4 +1,4 @@
-use Rattle.std.proofs.Common.{rules, arith, inr, refl}
+use Rattle.std.proofs.Common.{rules, inr}
 use Rattle.std.proofs.lemmas.Result.{err_from_is_err_and}
 use Rattle.sctp_wire.proofs.SerializeLemmas.{cut_short}
 use Rattle.sctp_wire.proofs.field.entries_from_bytes.Goals as goal

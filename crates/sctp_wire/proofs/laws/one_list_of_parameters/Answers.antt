@@ -12,7 +12,7 @@ returns-clause-values c = one_tiling IsParameter one_parameter_lem
 pub returns-clause-never_both : goal.returns-clause-never_both
 returns-clause-never_both c = λ bytes ts fault whole broken memory.
     whole_not_broken IsParameter bytes ts whole (BreaksAs-Breaks IsParameter RefusesParameter parameter_stands
-      (λ i a b. one_fault_as parameter_shape HasNoResult (type_of i) (type_of i) i.value a b) bytes fault broken memory)
+    (λ i a b. one_fault_as parameter_shape HasNoResult (type_of i) (type_of i) i.value a b) bytes fault broken memory)
 
 pub returns-clause-fault : goal.returns-clause-fault
 returns-clause-fault c = one_break IsParameter RefusesParameter parameter_stands (λ i a b. one_fault_as parameter_shape HasNoResult (type_of i) (type_of i) i.value a b)

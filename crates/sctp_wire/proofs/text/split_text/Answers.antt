@@ -15,8 +15,8 @@ returns-in-Some-clause-longest c =
     let most : length front ≡ utf8_valid_len bytes = steps.3.0 ∙ ap utf8_valid_len c.utf8_chunks.ensures.rest in
     let none : StartsWithNoChar behind = none_behind bytes front behind split (search rules) most in
     let same : take (length bytes - length c.valid-front.result.now) (drop (length c.valid-front.result.now) bytes) ≡ behind =
-        take_all _ (drop (length c.valid-front.result.now) bytes) (omega (arith, length-drop (length c.valid-front.result.now) bytes))
-        ∙ ap (λ (x : List ℕ). drop (length x) bytes) c.valid-front.ensures ∙ ap (drop (length front)) split ∙ drop_at front behind (length front) refl in
+    take_all _ (drop (length c.valid-front.result.now) bytes) (omega (arith, length-drop (length c.valid-front.result.now) bytes))
+    ∙ ap (λ (x : List ℕ). drop (length x) bytes) c.valid-front.ensures ∙ ap (drop (length front)) split ∙ drop_at front behind (length front) refl in
     subst StartsWithNoChar (sym same) none
 
 pub returns-in-None-clause-longest : goal.returns-in-None-clause-longest

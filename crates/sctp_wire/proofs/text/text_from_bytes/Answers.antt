@@ -1,4 +1,4 @@
-use Rattle.std.proofs.Common.{rules, ◌≡◌, ◌∷◌, [], ap, sym, subst, List, ℕ, arith, string_bytes, ◌++◌}
+use Rattle.std.proofs.Common.{rules, ◌≡◌, ◌∷◌, [], subst, List, ℕ, string_bytes, ◌++◌}
 use Rattle.std.proofs.lemmas.List.{nil_from_length}
 use Rattle.std.specs.Str.{encode_utf8_all}
 use Rattle.sctp_wire.specs.Text.{ReadsChars}
