@@ -3,7 +3,7 @@
 ghost use Rattle.std.specs.Prelude.{◌≡◌, ◌≢◌, ◌⊎◌, ℕ, ◌+◌, ◌%◌, ◌^◌, ◌<◌, List, [], ◌++◌, length, All, IfOk, OnErr, IfErr, OnOk};
 ghost use Rattle.std.specs.List.{flat_map};
 ghost use Rattle.std.proofs.Common.{arith};
-ghost use Rattle.sctp_wire.specs.Fields.{be16, be32, length_be16, length_be32};
+ghost use Rattle.sctp_wire.specs.Fields.{be16, be32, be64, length_be16, length_be32};
 
 use crate::ChunkParseError;
 use sctp_serial::{StreamId, Tsn};
@@ -39,6 +39,21 @@ pub fn u32_at(bytes: &[u8]) -> Result<(u32, &[u8]), ChunkParseError>
     Ok((u32::from_be_bytes(*front), rest))
 }
 
+/// The number in the first eight bytes, and the bytes behind it; `InvalidLength` where there are fewer.
+#[tactic(auto, unfolding(crate::specs::Fields::be64))]
+pub fn u64_at(bytes: &[u8]) -> Result<(u64, &[u8]), ChunkParseError>
+    ensures ok { IfOk result (λ read. bytes.now ≡ be64 read.0 ++ read.1.now) }
+    ensures fits { IfOk result (λ read. read.0 < 2 ^ 64) }
+    ensures len { IfOk result (λ read. length bytes.now ≡ 8 + length read.1.now) }
+    ensures short { OnErr result (length bytes.now < 8) }
+    ensures fault { IfErr result (λ e. e ≡ ChunkParseError.InvalidLength) }
+{
+    let Some((front, rest)) = bytes.split_first_chunk::<8>() else {
+        return Err(ChunkParseError::InvalidLength);
+    };
+    Ok((u64::from_be_bytes(*front), rest))
+}
+
 /// `InvalidLength` where bytes are left behind the last field.
 pub fn ends_here(rest: &[u8]) -> Result<(), ChunkParseError>
     ensures ok { OnOk result (rest.now ≡ []) }
@@ -63,6 +78,14 @@ pub fn push_u16(output: &mut Vec<u8>, n: u16) -> Result<(), AllocError>
 #[tactic(auto, unfolding(crate::specs::Fields::be32))]
 pub fn push_u32(output: &mut Vec<u8>, n: u32) -> Result<(), AllocError>
     ensures { OnOk result (output.new.items ≡ output.old.items ++ be32 n) }
+{
+    output.extend_from_slice(&n.to_be_bytes())
+}
+
+/// Appends the eight bytes of a number.
+#[tactic(auto, unfolding(crate::specs::Fields::be64))]
+pub fn push_u64(output: &mut Vec<u8>, n: u64) -> Result<(), AllocError>
+    ensures { OnOk result (output.new.items ≡ output.old.items ++ be64 n) }
 {
     output.extend_from_slice(&n.to_be_bytes())
 }

@@ -399,5 +399,10 @@ fn headers(rt: HostRuntime) -> Result<(), Fail> {
     write_parameter_header(PARAMETER_TYPE_SSN_TSN_RESET_REQUEST, 5, &mut output)?;
     write_item_header([3, 1], 12, &mut output)?;
     assert_eq!(rt; output.as_slice(), [0, 15, 0, 9, 3, 1, 0, 16].as_slice());
+    push_u64(&mut output, 0x6463_5343_5450_7230)?;
+    let (word, rest) = u64_at(&output[8..])?;
+    assert_eq!(rt; word, 0x6463_5343_5450_7230);
+    assert_eq!(rt; ends_here(rest), Ok(()));
+    assert_eq!(rt; ends_here(&output), Err(ChunkParseError::InvalidLength));
     Ok(())
 }
