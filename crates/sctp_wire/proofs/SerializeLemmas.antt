@@ -1,13 +1,15 @@
 -- Lengths of written items, and lists of items from the back.
-use Rattle.std.proofs.Common.{◌≡◌, ℕ, ◌+◌, ◌-◌, ◌*◌, ◌%◌, ◌<◌, ◌≤◌, ◌≢◌, ◌^◌, min, List, [], ◌∷◌, ◌++◌, length, take, map, refl, sym, ap, ◌∙◌, append_assoc, zero, suc, get_or, arith}
-use Rattle.std.specs.Prelude.{replicate}
-use Rattle.std.specs.List.{flat_map}
+use Rattle.std.proofs.Common.{◌≡◌, Bool, true, false, ◌&&◌, ℕ, ◌+◌, ◌-◌, ◌*◌, ◌%◌, ◌<◌, ◌≢◌, ◌^◌, min, List, [], ◌∷◌, ◌++◌, length, take, map, refl, sym, ap, ◌∙◌, append_assoc, zero, suc, get_or, arith}
+use Rattle.std.specs.Prelude.{replicate, All, nat_lt}
+use Rattle.std.specs.List.{flat_map, list_all}
 use Rattle.std.proofs.lemmas.List.{length-append, length-replicate, map_more}
+use Rattle.std.proofs.lemmas.Bool.{ltb-true}
+use Rattle.std.proofs.lemmas.List.Sums.{AllPass-from_list_all}
 use Rattle.std.proofs.lemmas.List.Concat.{flat_map-cons}
 use Rattle.std.proofs.lemmas.Nat.{mod-mul-add}
 use Rattle.sctp_wire.specs.Item.{Item, item_bytes, padding}
 use Rattle.sctp_wire.specs.Fields.{be16}
-use Rattle.sctp_wire.specs.Serialize.{padded_item, inner_items}
+use Rattle.sctp_wire.specs.Serialize.{IsEncodable, is_encodable, padded_item, inner_items}
 
 pub length_item_bytes : (i : Item) → length (item_bytes i) ≡ 4 + length i.value
 length_item_bytes i = omega arith
@@ -33,7 +35,7 @@ pub inner_items-more : (is : List Item) (i : Item)
     → inner_items (is ++ i ∷ []) ≡ inner_items is ++ (replicate (padding (length (inner_items is))) 0 ++ item_bytes i)
 unfolding inner_items padded_item
 inner_items-more [] i = refl
-inner_items-more (j ∷ []) i = 
+inner_items-more (j ∷ []) i =
     let e : padding (length (item_bytes j)) ≡ padding (length j.value) = omega (arith, length_item_bytes j) in
     append_assoc (item_bytes j) (replicate (padding (length j.value)) 0) (item_bytes i) ∙ ap (λ (k : ℕ). item_bytes j ++ (replicate k 0 ++ item_bytes i)) (sym e)
 inner_items-more (j ∷ k ∷ is) i =
@@ -44,10 +46,14 @@ inner_items-more (j ∷ k ∷ is) i =
 -- its length
 pub length_inner_items-more : (is : List Item) (i : Item)
     → length (inner_items (is ++ i ∷ [])) ≡ length (inner_items is) + (padding (length (inner_items is)) + (4 + length i.value))
-length_inner_items-more is i = omega (arith, ap length (inner_items-more is i),
-    length-append (inner_items is) (replicate (padding (length (inner_items is))) 0 ++ item_bytes i),
-    length-append (replicate (padding (length (inner_items is))) 0) (item_bytes i),
-    length-replicate {A = ℕ} (padding (length (inner_items is))) 0, length_item_bytes i)
+length_inner_items-more is i = omega (
+  arith,
+  ap length (inner_items-more is i),
+  length-append (inner_items is) (replicate (padding (length (inner_items is))) 0 ++ item_bytes i),
+  length-append (replicate (padding (length (inner_items is))) 0) (item_bytes i),
+  length-replicate {A = ℕ} (padding (length (inner_items is))) 0,
+  length_item_bytes i,
+)
 
 -- a sum of lengths that stops at the greatest number
 pub size_more : (is : List Item) (i : Item) (size padded valued more : ℕ) → size ≡ min (length (inner_items is)) (2 ^ 64 - 1)
@@ -87,3 +93,23 @@ cut_short f width each es bytes rest e some short none =
 pub item_padded : (o w : List ℕ) (i : Item) (n : ℕ) → w ≡ o ++ item_bytes i → n ≡ padding (length i.value) → w ++ replicate n 0 ≡ o ++ padded_item i
 unfolding padded_item
 item_padded o w i n a b = rw (a, b) (append_assoc o (item_bytes i) (replicate (padding (length i.value)) 0))
+
+-- items that pass the test can be written, each of them
+both : (a b : Bool) → (a && b) ≡ true → (a ≡ true) × (b ≡ true)
+both true b e = (refl, e)
+both false b e = cc
+
+encodable_parts : (i : Item) (whole : Bool) → is_encodable i whole ≡ true → IsEncodable i × (whole ≡ true)
+encodable_parts i whole e =
+    let parts = both (nat_lt (4 + length i.value) (2 ^ 16)) whole e in
+    (ltb-true (4 + length i.value) (2 ^ 16) parts.0, parts.1)
+
+pub all_encodable_fit : {X : Type 0} (f : X → Item) (whole : X → Bool) (xs : List X) → list_all (λ x. is_encodable (f x) (whole x)) xs ≡ true
+    → All (λ x. IsEncodable (f x)) xs
+all_encodable_fit f whole xs e k d less =
+    (encodable_parts (f (get_or xs k d)) (whole (get_or xs k d)) (AllPass-from_list_all (λ x. is_encodable (f x) (whole x)) xs e k d less)).0
+
+pub all_encodable_whole : {X : Type 0} (f : X → Item) (whole : X → Bool) (xs : List X) → list_all (λ x. is_encodable (f x) (whole x)) xs ≡ true
+    → All (λ x. whole x ≡ true) xs
+all_encodable_whole f whole xs e k d less =
+    (encodable_parts (f (get_or xs k d)) (whole (get_or xs k d)) (AllPass-from_list_all (λ x. is_encodable (f x) (whole x)) xs e k d less)).1

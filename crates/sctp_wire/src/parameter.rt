@@ -1,29 +1,37 @@
 //! The parameters of INIT, INIT ACK and HEARTBEAT, and parameters of no known type.
 
-ghost use Rattle.std.specs.Prelude.{◌≡◌, ◌+◌, ◌^◌, ◌-◌, min, true, [], ◌++◌, IfOk, IfErr};
+ghost use Rattle.std.specs.Prelude.{◌≡◌, ◌+◌, ◌^◌, ◌-◌, min, true, [], ◌++◌, IfOk, IfErr, Some, codes};
+ghost use Rattle.sctp_wire.specs.ParameterText.{parameter_text, unknown_text};
 ghost use Rattle.sctp_wire.specs.Parameter.{SaysParameter, RefusesParameterAs, parameter_item, parameter_value};
 ghost use Rattle.sctp_wire.specs.Serialize.{typed};
-ghost use Rattle.sctp_wire.specs.ParameterViews.{heartbeat_info_tree, state_cookie_tree, supported_extensions_tree, forward_tsn_supported_tree, zero_checksum_acceptable_tree, unknown_parameter_tree};
+ghost use Rattle.sctp_wire.specs.ParameterViews.{heartbeat_info_tree, state_cookie_tree, supported_extensions_tree, forward_tsn_supported_tree, zero_checksum_acceptable_tree};
 
+use crate::ChunkParseError;
 use crate::field::{ends_here, push_u32, u32_at};
 use crate::item::RawParameter;
 use crate::serialize::SerializableTlv;
-use crate::ChunkParseError;
+use crate::show::Joined;
 use sctp_serial::ZeroChecksumAlternateErrorDetectionMethod;
 use std::alloc::{AllocError, Global};
+use std::fmt;
 
 /// What a HEARTBEAT asks to be sent back (RFC 9260 section 3.3.5).
 #[derive(Debug, Drop)]
 pub struct HeartbeatInfoParameter {
+    /// Bytes that mean something to the sender alone.
     pub info: Vec<u8>,
 }
 
 #[tactic(auto, unfolding(crate::specs::Parameter::parameter_value))]
 impl HeartbeatInfoParameter {
+    /// The parameter's type.
     pub const TYPE: u16 = 1;
 
     /// What the parameter says; `InvalidType` where it is of another type.
-    pub fn try_from(alloc: Global, raw: RawParameter<'_>) -> Result<HeartbeatInfoParameter, ChunkParseError>
+    pub fn try_from(
+        alloc: Global,
+        raw: RawParameter<'_>,
+    ) -> Result<HeartbeatInfoParameter, ChunkParseError>
         ensures ok { IfOk result (λ p. SaysParameter raw.entry.typ raw.entry.value.now (heartbeat_info_tree p)) }
         ensures refused { IfErr result (RefusesParameterAs 1 raw.entry.typ raw.entry.value.now) }
     {
@@ -57,18 +65,32 @@ impl SerializableTlv for HeartbeatInfoParameter {
     }
 }
 
+#[tactic(auto, unfolding(crate::specs::ParameterText::parameter_text))]
+impl fmt::Display for HeartbeatInfoParameter {
+    ghost output = { λ p. Some (parameter_text (heartbeat_info_tree p)) };
+
+    fn fmt<W: fmt::Write>(&self, f: &mut fmt::Formatter<W>) -> fmt::Result {
+        write!(f, "HEARTBEAT INFO, info={} bytes", self.info.len())
+    }
+}
+
 /// The cookie of an INIT ACK (RFC 9260 section 3.3.3).
 #[derive(Debug, Drop)]
 pub struct StateCookieParameter {
+    /// Bytes that mean something to the sender alone.
     pub cookie: Vec<u8>,
 }
 
 #[tactic(auto, unfolding(crate::specs::Parameter::parameter_value))]
 impl StateCookieParameter {
+    /// The parameter's type.
     pub const TYPE: u16 = 7;
 
     /// What the parameter says; `InvalidType` where it is of another type.
-    pub fn try_from(alloc: Global, raw: RawParameter<'_>) -> Result<StateCookieParameter, ChunkParseError>
+    pub fn try_from(
+        alloc: Global,
+        raw: RawParameter<'_>,
+    ) -> Result<StateCookieParameter, ChunkParseError>
         ensures ok { IfOk result (λ p. SaysParameter raw.entry.typ raw.entry.value.now (state_cookie_tree p)) }
         ensures refused { IfErr result (RefusesParameterAs 7 raw.entry.typ raw.entry.value.now) }
     {
@@ -102,14 +124,25 @@ impl SerializableTlv for StateCookieParameter {
     }
 }
 
+#[tactic(auto, unfolding(crate::specs::ParameterText::parameter_text))]
+impl fmt::Display for StateCookieParameter {
+    ghost output = { λ p. Some (parameter_text (state_cookie_tree p)) };
+
+    fn fmt<W: fmt::Write>(&self, f: &mut fmt::Formatter<W>) -> fmt::Result {
+        write!(f, "STATE COOKIE, cookie={} bytes", self.cookie.len())
+    }
+}
+
 /// The types of further chunks that an endpoint understands (RFC 5061 section 4.2.7).
 #[derive(Debug, Drop)]
 pub struct SupportedExtensionsParameter {
+    /// Chunk types, one byte each.
     pub chunk_types: Vec<u8>,
 }
 
 #[tactic(auto, unfolding(crate::specs::Parameter::parameter_value))]
 impl SupportedExtensionsParameter {
+    /// The parameter's type.
     pub const TYPE: u16 = 0x8008;
 
     /// What the parameter says; `InvalidType` where it is of another type.
@@ -150,16 +183,33 @@ impl SerializableTlv for SupportedExtensionsParameter {
     }
 }
 
+#[tactic(auto, unfolding(crate::specs::ParameterText::parameter_text))]
+impl fmt::Display for SupportedExtensionsParameter {
+    ghost output = { λ p. Some (parameter_text (supported_extensions_tree p)) };
+
+    fn fmt<W: fmt::Write>(&self, f: &mut fmt::Formatter<W>) -> fmt::Result {
+        write!(
+            f,
+            "SUPPORTED EXTENSIONS, chunk_types={}",
+            Joined(&self.chunk_types)
+        )
+    }
+}
+
 /// An endpoint understands FORWARD-TSN (RFC 3758 section 3.1).
 #[derive(Clone, Copy, Debug, PartialEq, Eq, Default)]
 pub struct ForwardTsnSupportedParameter {}
 
 #[tactic(auto, unfolding(crate::specs::Parameter::parameter_value))]
 impl ForwardTsnSupportedParameter {
+    /// The parameter's type.
     pub const TYPE: u16 = 0xC000;
 
     /// What the parameter says; `InvalidType` where it is of another type, `InvalidLength` where it has a value.
-    pub fn try_from(raw: RawParameter<'_>) -> Result<ForwardTsnSupportedParameter, ChunkParseError>
+    pub fn try_from(
+        _alloc: Global,
+        raw: RawParameter<'_>,
+    ) -> Result<ForwardTsnSupportedParameter, ChunkParseError>
         ensures ok { IfOk result (λ p. SaysParameter raw.entry.typ raw.entry.value.now (forward_tsn_supported_tree p)) }
         ensures refused { IfErr result (RefusesParameterAs 0xC000 raw.entry.typ raw.entry.value.now) }
     {
@@ -192,19 +242,33 @@ impl SerializableTlv for ForwardTsnSupportedParameter {
     }
 }
 
+#[tactic(auto, unfolding(crate::specs::ParameterText::parameter_text))]
+impl fmt::Display for ForwardTsnSupportedParameter {
+    ghost output = { λ p. Some (parameter_text (forward_tsn_supported_tree p)) };
+
+    fn fmt<W: fmt::Write>(&self, f: &mut fmt::Formatter<W>) -> fmt::Result {
+        f.write_str("FORWARD TSN SUPPORTED")
+    }
+}
+
 /// An endpoint finds damage by this method, and takes packets without a checksum (RFC 9653 section 3).
 #[derive(Clone, Copy, Debug, PartialEq, Eq)]
 pub struct ZeroChecksumAcceptableParameter {
+    /// The method's number, four bytes.
     pub method: ZeroChecksumAlternateErrorDetectionMethod,
 }
 
 #[tactic(auto, unfolding(crate::specs::Parameter::parameter_value))]
 impl ZeroChecksumAcceptableParameter {
+    /// The parameter's type.
     pub const TYPE: u16 = 0x8001;
 
     /// What the parameter says; `InvalidType` where it is of another type, `InvalidLength` where its value has not
     /// four bytes.
-    pub fn try_from(raw: RawParameter<'_>) -> Result<ZeroChecksumAcceptableParameter, ChunkParseError>
+    pub fn try_from(
+        _alloc: Global,
+        raw: RawParameter<'_>,
+    ) -> Result<ZeroChecksumAcceptableParameter, ChunkParseError>
         ensures ok { IfOk result (λ p. SaysParameter raw.entry.typ raw.entry.value.now (zero_checksum_acceptable_tree p)) }
         ensures refused { IfErr result (RefusesParameterAs 0x8001 raw.entry.typ raw.entry.value.now) }
     {
@@ -241,16 +305,30 @@ impl SerializableTlv for ZeroChecksumAcceptableParameter {
     }
 }
 
+#[tactic(auto, unfolding(crate::specs::ParameterText::parameter_text))]
+impl fmt::Display for ZeroChecksumAcceptableParameter {
+    ghost output = { λ p. Some (parameter_text (zero_checksum_acceptable_tree p)) };
+
+    fn fmt<W: fmt::Write>(&self, f: &mut fmt::Formatter<W>) -> fmt::Result {
+        write!(f, "ZERO CHECKSUM ACCEPTABLE, method={}", self.method.0)
+    }
+}
+
 /// A parameter or a cause that is kept as it came.
 #[derive(Debug, Drop)]
 pub struct UnknownParameter {
+    /// The type, two bytes.
     pub typ: u16,
+    /// The value, without padding.
     pub value: Vec<u8>,
 }
 
 impl UnknownParameter {
     /// The parameter, of whatever type; only memory may lack.
-    pub fn try_from(alloc: Global, raw: RawParameter<'_>) -> Result<UnknownParameter, ChunkParseError>
+    pub fn try_from(
+        alloc: Global,
+        raw: RawParameter<'_>,
+    ) -> Result<UnknownParameter, ChunkParseError>
         ensures typ { IfOk result (λ p. p.typ ≡ raw.entry.typ) }
         ensures value { IfOk result (λ p. p.value.items ≡ raw.entry.value.now) }
         ensures refused { IfErr result (λ e. e ≡ ChunkParseError.Memory) }
@@ -281,5 +359,18 @@ impl SerializableTlv for UnknownParameter {
 
     fn push_value(&self, output: &mut Vec<u8>) -> Result<(), AllocError> {
         output.extend_from_slice(&self.value)
+    }
+}
+
+impl fmt::Display for UnknownParameter {
+    ghost output = { λ p. Some (unknown_text (codes "UNKNOWN PARAMETER") p.typ p.value.items) };
+
+    fn fmt<W: fmt::Write>(&self, f: &mut fmt::Formatter<W>) -> fmt::Result {
+        write!(
+            f,
+            "UNKNOWN PARAMETER, typ={}, value={} bytes",
+            self.typ,
+            self.value.len()
+        )
     }
 }

@@ -1,28 +1,36 @@
 //! The parameters of a RE-CONFIG: requests to reset streams, and responses (RFC 6525 section 4).
 
-ghost use Rattle.std.specs.Prelude.{◌≡◌, ◌+◌, ◌^◌, ◌-◌, ◌<◌, ◌≤◌, ◌≢◌, ◌⊎◌, length, min, true, [], ◌++◌, is_some, IfOk, IfErr, OnOk, OnErr, MatchResult};
+ghost use Rattle.std.specs.Prelude.{◌≡◌, ◌+◌, ◌^◌, ◌-◌, ◌<◌, ◌≤◌, ◌≢◌, ◌⊎◌, length, min, true, [], ◌++◌, is_some, IfSome, IfOk, IfErr, OnOk, OnErr, MatchResult, Some};
+ghost use Rattle.sctp_wire.specs.ParameterText.{parameter_text};
 ghost use Rattle.sctp_wire.specs.declared.error.ChunkParseError.TheVariants.{InvalidValue as no_value};
 ghost use Rattle.sctp_wire.specs.Parameter.{SaysParameter, RefusesParameterAs, parameter_item, parameter_value, parameter_is_whole, optional_tsn_bytes};
 ghost use Rattle.sctp_wire.specs.ParameterViews.{outgoing_tree, incoming_tree, response_tree, result_number};
 
+use crate::ChunkParseError;
 use crate::field::{Entry, ends_here, entries_from_bytes, push_entries, push_u32, u32_at};
 use crate::item::RawParameter;
 use crate::serialize::SerializableTlv;
-use crate::ChunkParseError;
+use crate::show::Joined;
 use sctp_serial::{StreamId, Tsn};
 use std::alloc::{AllocError, Global};
+use std::fmt;
 
 /// A request that the sender's streams, all where none is named, begin anew (RFC 6525 section 4.1).
 #[derive(Debug, Drop)]
 pub struct OutgoingSsnResetRequestParameter {
+    /// The request's number: requests are counted from the sender's first TSN.
     pub request_seq_nbr: u32,
+    /// The number of the incoming request that this follows, else the last number seen from the peer.
     pub response_seq_nbr: u32,
+    /// The last TSN that the sender gave out before the reset.
     pub sender_last_assigned_tsn: Tsn,
+    /// The streams, two bytes each; none stands for all.
     pub streams: Vec<StreamId>,
 }
 
 #[tactic(auto, unfolding(crate::specs::Parameter::parameter_value))]
 impl OutgoingSsnResetRequestParameter {
+    /// The parameter's type.
     pub const TYPE: u16 = 13;
 
     /// What the parameter says; `InvalidType` where it is of another type, `InvalidLength` where its value is no
@@ -75,15 +83,34 @@ impl SerializableTlv for OutgoingSsnResetRequestParameter {
     }
 }
 
+#[tactic(auto, unfolding(crate::specs::ParameterText::parameter_text))]
+impl fmt::Display for OutgoingSsnResetRequestParameter {
+    ghost output = { λ p. Some (parameter_text (outgoing_tree p)) };
+
+    fn fmt<W: fmt::Write>(&self, f: &mut fmt::Formatter<W>) -> fmt::Result {
+        write!(
+            f,
+            "OUTGOING RESET REQUEST, request_seq_nbr={}, response_seq_nbr={}, sender_last_assigned_tsn={}, streams={}",
+            self.request_seq_nbr,
+            self.response_seq_nbr,
+            self.sender_last_assigned_tsn.0,
+            Joined(&self.streams)
+        )
+    }
+}
+
 /// A request that the receiver reset its streams, all where none is named (RFC 6525 section 4.2).
 #[derive(Debug, Drop)]
 pub struct IncomingSsnResetRequestParameter {
+    /// The request's number: requests are counted from the sender's first TSN.
     pub request_seq_nbr: u32,
+    /// The streams, two bytes each; none stands for all.
     pub streams: Vec<StreamId>,
 }
 
 #[tactic(auto, unfolding(crate::specs::Parameter::parameter_value))]
 impl IncomingSsnResetRequestParameter {
+    /// The parameter's type.
     pub const TYPE: u16 = 14;
 
     /// What the parameter says; `InvalidType` where it is of another type, `InvalidLength` where its value is no
@@ -130,15 +157,36 @@ impl SerializableTlv for IncomingSsnResetRequestParameter {
     }
 }
 
+#[tactic(auto, unfolding(crate::specs::ParameterText::parameter_text))]
+impl fmt::Display for IncomingSsnResetRequestParameter {
+    ghost output = { λ p. Some (parameter_text (incoming_tree p)) };
+
+    fn fmt<W: fmt::Write>(&self, f: &mut fmt::Formatter<W>) -> fmt::Result {
+        write!(
+            f,
+            "INCOMING RESET REQUEST, request_seq_nbr={}, streams={}",
+            self.request_seq_nbr,
+            Joined(&self.streams)
+        )
+    }
+}
+
 /// What became of a request (RFC 6525 section 4.4).
 #[derive(Clone, Copy, Debug, PartialEq, Eq)]
 pub enum ReconfigurationResponseResult {
+    /// There was nothing to reset.
     SuccessNothingToDo = 0,
+    /// Done.
     SuccessPerformed = 1,
+    /// Not done, and not to be.
     Denied = 2,
+    /// The number in the request is wrong.
     ErrorWrongSSN = 3,
+    /// Another request is being worked on.
     ErrorRequestAlreadyInProgress = 4,
+    /// The request's number is not the next one.
     ErrorBadSequenceNumber = 5,
+    /// Not done yet: ask again.
     InProgress = 6,
 }
 
@@ -174,19 +222,27 @@ impl TryFrom<u32> for ReconfigurationResponseResult {
 /// (RFC 6525 section 4.4).
 #[derive(Clone, Copy, Debug)]
 pub struct ReconfigurationResponseParameter {
+    /// The number of the request that this answers.
     pub response_seq_nbr: u32,
+    /// What became of the request.
     pub result: ReconfigurationResponseResult,
+    /// The next TSN of the response's sender; there with the other one alone.
     pub sender_next_tsn: Option<Tsn>,
+    /// The next TSN of its receiver.
     pub receiver_next_tsn: Option<Tsn>,
 }
 
 #[tactic(auto, unfolding(crate::specs::Parameter::parameter_value))]
 impl ReconfigurationResponseParameter {
+    /// The parameter's type.
     pub const TYPE: u16 = 16;
 
     /// What the parameter says; `InvalidType` where it is of another type, `InvalidLength` where its value has
     /// neither 8 nor 16 bytes, `InvalidValue` where its result is over 6.
-    pub fn try_from(raw: RawParameter<'_>) -> Result<ReconfigurationResponseParameter, ChunkParseError>
+    pub fn try_from(
+        _alloc: Global,
+        raw: RawParameter<'_>,
+    ) -> Result<ReconfigurationResponseParameter, ChunkParseError>
         ensures ok { IfOk result (λ p. SaysParameter raw.entry.typ raw.entry.value.now (response_tree p)) }
         ensures refused { IfErr result (RefusesParameterAs 16 raw.entry.typ raw.entry.value.now) }
     {
@@ -207,6 +263,8 @@ impl ReconfigurationResponseParameter {
 /// Nothing, or two TSNs.
 fn next_tsns(bytes: &[u8]) -> Result<(Option<Tsn>, Option<Tsn>), ChunkParseError>
     ensures ok { IfOk result (λ tsns. bytes.now ≡ optional_tsn_bytes tsns.0 ++ optional_tsn_bytes tsns.1) }
+    ensures sender { IfOk result (λ tsns. IfSome tsns.0 (λ tsn. tsn.0 < 2 ^ 32)) }
+    ensures receiver { IfOk result (λ tsns. IfSome tsns.1 (λ tsn. tsn.0 < 2 ^ 32)) }
     ensures both { IfOk result (λ tsns. is_some tsns.0 ≡ is_some tsns.1) }
     ensures len { OnOk result ((length bytes.now ≡ 0) ⊎ (length bytes.now ≡ 8)) }
     ensures other { OnErr result ((length bytes.now ≢ 0) × (length bytes.now ≢ 8)) }
@@ -245,6 +303,31 @@ impl SerializableTlv for ReconfigurationResponseParameter {
         push_u32(output, self.result.number())?;
         push_optional_tsn(output, self.sender_next_tsn)?;
         push_optional_tsn(output, self.receiver_next_tsn)
+    }
+}
+
+#[tactic(auto, unfolding(crate::specs::ParameterText::parameter_text))]
+impl fmt::Display for ReconfigurationResponseParameter {
+    ghost output = { λ p. Some (parameter_text (response_tree p)) };
+
+    fn fmt<W: fmt::Write>(&self, f: &mut fmt::Formatter<W>) -> fmt::Result {
+        let number = self.response_seq_nbr;
+        let result = self.result.number();
+        match (self.sender_next_tsn, self.receiver_next_tsn) {
+            (None, None) => write!(f, "RESPONSE, response_seq_nbr={number}, result={result}"),
+            (Some(Tsn(sender)), None) => write!(
+                f,
+                "RESPONSE, response_seq_nbr={number}, result={result}, sender_next_tsn={sender}"
+            ),
+            (None, Some(Tsn(receiver))) => write!(
+                f,
+                "RESPONSE, response_seq_nbr={number}, result={result}, receiver_next_tsn={receiver}"
+            ),
+            (Some(Tsn(sender)), Some(Tsn(receiver))) => write!(
+                f,
+                "RESPONSE, response_seq_nbr={number}, result={result}, sender_next_tsn={sender}, receiver_next_tsn={receiver}"
+            ),
+        }
     }
 }
 

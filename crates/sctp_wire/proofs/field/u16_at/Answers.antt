@@ -7,4 +7,4 @@ pub returns-clause-ok : goal.returns-clause-ok
 returns-clause-ok c =
     let cases = c.in-Some.ensures.cases in
     rw cases.1 (be16_front c.args.bytes.now c.from_be_bytes.result (λ i. omega (arith, c.type_inv.bytes i)) (omega arith)
-      (c.from_be_bytes.ensures ∙ ap (from_be_bytes w16) cases.0))
+    (c.from_be_bytes.ensures ∙ ap (from_be_bytes w16) cases.0))

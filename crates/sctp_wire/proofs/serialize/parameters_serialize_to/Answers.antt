@@ -20,6 +20,6 @@ loop-parameter-preserved g c =
     let pad : c.padding_len-padding.result ≡ padding (length (f x).value) = omega arith in
     record {
       wrote = written_more c.args.output.now.items _ _ _ before _ (f x) c.loop-parameter.padding c.loop-parameter.invariant.wrote c.loop-parameter.invariant.between
-        c.in_ok-push_zeros.ensures c.in_ok-push_item.ensures more;
+          c.in_ok-push_zeros.ensures c.in_ok-push_item.ensures more;
       between = pad ∙ padding_more before _ (f x) more;
     }

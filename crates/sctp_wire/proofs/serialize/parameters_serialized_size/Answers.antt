@@ -16,4 +16,4 @@ loop-parameter-preserved g c =
     let padded : c.saturating_add.result ≡ min (c.loop-parameter.size + padding c.loop-parameter.size) (2 ^ 64 - 1) = omega arith in
     let valued : c.saturating_add-in-loop-parameter.result ≡ min (c.saturating_add.result + min (length (f c.parameter-item.result).value) (2 ^ 64 - 1)) (2 ^ 64 - 1) = omega arith in
     rw more (size_more (map f (take i c.args.parameters.now)) (f c.parameter-item.result) c.loop-parameter.size _ _ _
-      c.loop-parameter.invariant padded valued c.saturating_add-size.ensures)
+    c.loop-parameter.invariant padded valued c.saturating_add-size.ensures)

@@ -6,4 +6,4 @@ use Rattle.sctp_wire.proofs.serialize.SerializableTlv.push_item.Goals as goal
 pub returns : goal.returns
 returns g c =
     IfOk-equal c.push_value.result _ _ _ c.push_value.ensures
-      (item_written c.args.output.now.items _ _ _ (g.Self.SerializableTlv.item_of c.args.self.now) c.in_ok-write_item_header.ensures c.kind.ensures (omega arith))
+    (item_written c.args.output.now.items _ _ _ (g.Self.SerializableTlv.item_of c.args.self.now) c.in_ok-write_item_header.ensures c.kind.ensures (omega arith))

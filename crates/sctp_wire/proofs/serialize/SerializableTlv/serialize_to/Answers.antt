@@ -9,4 +9,4 @@ returns g c =
     let item = g.Self.SerializableTlv.item_of c.args.self.now in
     let pad : c.padding_len.result ≡ padding (length item.value) = omega arith in
     IfOk-equal c.push_zeros.result _ _ _ c.push_zeros.ensures
-      (item_padded c.args.output.now.items _ item _ c.in_ok-push_item.ensures pad)
+    (item_padded c.args.output.now.items _ item _ c.in_ok-push_item.ensures pad)

@@ -1,0 +1,10 @@
+use Rattle.std.proofs.Common.{arith, ap, ◌∙◌}
+use Rattle.std.specs.Int.{w64, from_be_bytes}
+use Rattle.sctp_wire.proofs.FieldLemmas.{be64_front}
+use Rattle.sctp_wire.proofs.field.u64_at.Goals as goal
+
+pub returns-clause-ok : goal.returns-clause-ok
+returns-clause-ok c =
+    let cases = c.in-Some.ensures.cases in
+    rw cases.1 (be64_front c.args.bytes.now c.from_be_bytes.result (λ i. omega (arith, c.type_inv.bytes i)) (omega arith)
+    (c.from_be_bytes.ensures ∙ ap (from_be_bytes w64) cases.0))
