@@ -1,6 +1,6 @@
 //! Fields: numbers of two and four bytes, the most significant byte first, and lists of entries of one width.
 
-ghost use Rattle.std.specs.Prelude.{◌≡◌, ◌≢◌, ◌⊎◌, ℕ, ◌+◌, ◌%◌, ◌<◌, List, [], ◌++◌, length, IfOk, OnErr, IfErr, OnOk};
+ghost use Rattle.std.specs.Prelude.{◌≡◌, ◌≢◌, ◌⊎◌, ℕ, ◌+◌, ◌%◌, ◌^◌, ◌<◌, List, [], ◌++◌, length, IfOk, OnErr, IfErr, OnOk};
 ghost use Rattle.std.specs.List.{flat_map};
 ghost use Rattle.std.proofs.Common.{arith};
 ghost use Rattle.sctp_wire.specs.Fields.{be16, be32, length_be16, length_be32};
@@ -13,6 +13,7 @@ use std::alloc::{AllocError, Global};
 #[tactic(auto, unfolding(crate::specs::Fields::be16))]
 pub fn u16_at(bytes: &[u8]) -> Result<(u16, &[u8]), ChunkParseError>
     ensures ok { IfOk result (λ read. bytes.now ≡ be16 read.0 ++ read.1.now) }
+    ensures fits { IfOk result (λ read. read.0 < 2 ^ 16) }
     ensures len { IfOk result (λ read. length bytes.now ≡ 2 + length read.1.now) }
     ensures short { OnErr result (length bytes.now < 2) }
     ensures fault { IfErr result (λ e. e ≡ ChunkParseError.InvalidLength) }
@@ -27,6 +28,7 @@ pub fn u16_at(bytes: &[u8]) -> Result<(u16, &[u8]), ChunkParseError>
 #[tactic(auto, unfolding(crate::specs::Fields::be32))]
 pub fn u32_at(bytes: &[u8]) -> Result<(u32, &[u8]), ChunkParseError>
     ensures ok { IfOk result (λ read. bytes.now ≡ be32 read.0 ++ read.1.now) }
+    ensures fits { IfOk result (λ read. read.0 < 2 ^ 32) }
     ensures len { IfOk result (λ read. length bytes.now ≡ 4 + length read.1.now) }
     ensures short { OnErr result (length bytes.now < 4) }
     ensures fault { IfErr result (λ e. e ≡ ChunkParseError.InvalidLength) }
