@@ -2,6 +2,7 @@
 -- 3.1 (RE-CONFIG). What each says, without where it lies in memory.
 use Rattle.std.specs.Prelude.{ℕ, Bool, List}
 use Rattle.sctp_wire.specs.Parameter.{ParameterTree}
+use Rattle.sctp_wire.specs.Cause.{CauseTree}
 use Rattle.sctp_serial.specs.declared.types.tsn.Tsn.{Tsn}
 use Rattle.sctp_packet.specs.declared.sack.GapAckBlock.{GapAckBlock}
 use Rattle.sctp_packet.specs.declared.forward_tsn.SkippedStream.{SkippedStream}
@@ -40,8 +41,10 @@ pub data ChunkTree : Type 0 where
   sack_chunk : (sack : SackTree) → ChunkTree
   heartbeat_request_chunk : (parameters : List ParameterTree) → ChunkTree
   heartbeat_ack_chunk : (parameters : List ParameterTree) → ChunkTree
+  abort_chunk : (tag_reflected : Bool) (error_causes : List CauseTree) → ChunkTree
   shutdown_chunk : (cumulative_tsn_ack : ℕ) → ChunkTree
   shutdown_ack_chunk : ChunkTree
+  error_chunk : (error_causes : List CauseTree) → ChunkTree
   cookie_echo_chunk : (cookie : List ℕ) → ChunkTree
   cookie_ack_chunk : ChunkTree
   shutdown_complete_chunk : (tag_reflected : Bool) → ChunkTree

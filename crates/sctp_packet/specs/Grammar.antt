@@ -8,10 +8,11 @@ use Rattle.sctp_wire.specs.Fields.{be16, be32}
 use Rattle.sctp_wire.specs.Item.{Item, Tiles}
 use Rattle.sctp_wire.specs.Refusal.{BreaksAs}
 use Rattle.sctp_wire.specs.Parameter.{ParameterTree, IsParameter, RefusesParameter}
+use Rattle.sctp_wire.specs.Cause.{IsCause, RefusesCause}
 use Rattle.sctp_packet.specs.declared.sack.GapAckBlock.{GapAckBlock}
 use Rattle.sctp_packet.specs.declared.forward_tsn.SkippedStream.{SkippedStream}
 use Rattle.sctp_packet.specs.declared.forward_tsn.SkippedStream.TheVariants as skips
-use Rattle.sctp_packet.specs.Chunk.{ChunkTree, FragmentTree, InitTree, SackTree, data_chunk, init_chunk, init_ack_chunk, sack_chunk, heartbeat_request_chunk, heartbeat_ack_chunk, shutdown_chunk, shutdown_ack_chunk, cookie_echo_chunk, cookie_ack_chunk, shutdown_complete_chunk, idata_chunk, re_config_chunk, forward_tsn_chunk, i_forward_tsn_chunk, unknown_chunk}
+use Rattle.sctp_packet.specs.Chunk.{ChunkTree, FragmentTree, InitTree, SackTree, data_chunk, init_chunk, init_ack_chunk, sack_chunk, heartbeat_request_chunk, heartbeat_ack_chunk, abort_chunk, shutdown_chunk, shutdown_ack_chunk, error_chunk, cookie_echo_chunk, cookie_ack_chunk, shutdown_complete_chunk, idata_chunk, re_config_chunk, forward_tsn_chunk, i_forward_tsn_chunk, unknown_chunk}
 use Rattle.sctp_packet.specs.Written.{chunk_type, is_known_chunk, flag, data_value, idata_value, init_fields, sack_value, skip_bytes, forward_value, key_stream, key_flag, is_ssn_skip}
 
 -- ---- what an item says
@@ -33,8 +34,10 @@ SaysFlags flags (init_ack_chunk init) = Unit {0}
 SaysFlags flags (sack_chunk sack) = Unit {0}
 SaysFlags flags (heartbeat_request_chunk parameters) = Unit {0}
 SaysFlags flags (heartbeat_ack_chunk parameters) = Unit {0}
+SaysFlags flags (abort_chunk reflected causes) = reflected ≡ flag flags 1
 SaysFlags flags (shutdown_chunk tsn) = Unit {0}
 SaysFlags flags shutdown_ack_chunk = Unit {0}
+SaysFlags flags (error_chunk causes) = Unit {0}
 SaysFlags flags (cookie_echo_chunk cookie) = Unit {0}
 SaysFlags flags cookie_ack_chunk = Unit {0}
 SaysFlags flags (re_config_chunk parameters) = Unit {0}
@@ -62,8 +65,10 @@ SaysValue value (init_ack_chunk init) = SaysInit value init
 SaysValue value (sack_chunk sack) = value ≡ sack_value sack
 SaysValue value (heartbeat_request_chunk parameters) = Tiles IsParameter value parameters []
 SaysValue value (heartbeat_ack_chunk parameters) = Tiles IsParameter value parameters []
+SaysValue value (abort_chunk reflected causes) = Tiles IsCause value causes []
 SaysValue value (shutdown_chunk tsn) = value ≡ be32 tsn
 SaysValue value shutdown_ack_chunk = value ≡ []
+SaysValue value (error_chunk causes) = Tiles IsCause value causes []
 SaysValue value (cookie_echo_chunk cookie) = (value ≡ cookie) × (0 < length cookie)
 SaysValue value cookie_ack_chunk = value ≡ []
 SaysValue value (shutdown_complete_chunk reflected) = value ≡ []
@@ -124,8 +129,10 @@ FitsChunk (init_ack_chunk init) = FitsInit init
 FitsChunk (sack_chunk sack) = FitsSack sack
 FitsChunk (heartbeat_request_chunk parameters) = Unit {0}
 FitsChunk (heartbeat_ack_chunk parameters) = Unit {0}
+FitsChunk (abort_chunk reflected causes) = Unit {0}
 FitsChunk (shutdown_chunk tsn) = tsn < 2 ^ 32
 FitsChunk shutdown_ack_chunk = Unit {0}
+FitsChunk (error_chunk causes) = Unit {0}
 FitsChunk (cookie_echo_chunk cookie) = Unit {0}
 FitsChunk cookie_ack_chunk = Unit {0}
 FitsChunk (shutdown_complete_chunk reflected) = Unit {0}
@@ -146,8 +153,10 @@ carried (init_ack_chunk init) = init_ack_chunk init
 carried (sack_chunk sack) = sack_chunk sack
 carried (heartbeat_request_chunk parameters) = heartbeat_request_chunk parameters
 carried (heartbeat_ack_chunk parameters) = heartbeat_ack_chunk parameters
+carried (abort_chunk reflected causes) = abort_chunk reflected causes
 carried (shutdown_chunk tsn) = shutdown_chunk tsn
 carried shutdown_ack_chunk = shutdown_ack_chunk
+carried (error_chunk causes) = error_chunk causes
 carried (cookie_echo_chunk cookie) = cookie_echo_chunk cookie
 carried cookie_ack_chunk = cookie_ack_chunk
 carried (shutdown_complete_chunk reflected) = shutdown_complete_chunk reflected
@@ -166,8 +175,10 @@ IsOfItsType (init_ack_chunk init) = Unit {0}
 IsOfItsType (sack_chunk sack) = Unit {0}
 IsOfItsType (heartbeat_request_chunk parameters) = Unit {0}
 IsOfItsType (heartbeat_ack_chunk parameters) = Unit {0}
+IsOfItsType (abort_chunk reflected causes) = Unit {0}
 IsOfItsType (shutdown_chunk tsn) = Unit {0}
 IsOfItsType shutdown_ack_chunk = Unit {0}
+IsOfItsType (error_chunk causes) = Unit {0}
 IsOfItsType (cookie_echo_chunk cookie) = Unit {0}
 IsOfItsType cookie_ack_chunk = Unit {0}
 IsOfItsType (shutdown_complete_chunk reflected) = Unit {0}
@@ -195,13 +206,14 @@ pub data ValueShape : Type 0 where
   in_steps : ℕ → ℕ → ValueShape
   by_counts : ValueShape
   parameters_behind : ℕ → ValueShape
+  of_causes : ValueShape
 
 abbrev pub value_shape : ℕ → ValueShape
 value_shape typ =
     cond (typ == 0) (at_least 12) (cond (typ == 1) (parameters_behind 16) (cond (typ == 2) (parameters_behind 16) (cond (typ == 3) by_counts
-    (cond (typ == 4) (parameters_behind 0) (cond (typ == 5) (parameters_behind 0) (cond (typ == 7) (exactly 4) (cond (typ == 8) (exactly 0)
-    (cond (typ == 10) (at_least 1) (cond (typ == 11) (exactly 0) (cond (typ == 14) (exactly 0) (cond (typ == 64) (at_least 16)
-    (cond (typ == 130) (parameters_behind 0) (cond (typ == 192) (in_steps 4 4) (cond (typ == 194) (in_steps 4 8) any_value))))))))))))))
+    (cond (typ == 4) (parameters_behind 0) (cond (typ == 5) (parameters_behind 0) (cond (typ == 6) of_causes (cond (typ == 7) (exactly 4) (cond (typ == 8) (exactly 0)
+    (cond (typ == 9) of_causes (cond (typ == 10) (at_least 1) (cond (typ == 11) (exactly 0) (cond (typ == 14) (exactly 0) (cond (typ == 64) (at_least 16)
+    (cond (typ == 130) (parameters_behind 0) (cond (typ == 192) (in_steps 4 4) (cond (typ == 194) (in_steps 4 8) any_value))))))))))))))))
 
 -- as many blocks and duplicates as the counts say
 abbrev pub IsCounted : List ℕ → Type 0
@@ -216,6 +228,7 @@ IsFaulty (in_steps n width) value fault = (fault ≡ InvalidLength) × ((length 
 IsFaulty by_counts value fault = (fault ≡ InvalidLength) × (IsCounted value → ⊥)
 IsFaulty (parameters_behind n) value fault =
     ((fault ≡ InvalidLength) × (length value < n)) ⊎ ((n ≤ length value) × BreaksAs IsParameter RefusesParameter (drop n value) fault)
+IsFaulty of_causes value fault = BreaksAs IsCause RefusesCause value fault
 
 -- An item, read as a chunk of type `asked`, is refused: there was no memory, it is of another type, or its value has this fault.
 abbrev pub RefusesChunkAs : ℕ → Item → ChunkParseError → Type 0

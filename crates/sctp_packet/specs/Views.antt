@@ -1,8 +1,10 @@
 -- What the program's values say, without where they lie in memory.
-use Rattle.std.specs.Prelude.{ℕ, Bool, true, false}
+use Rattle.std.specs.Prelude.{ℕ, Bool, true, false, map}
 use Rattle.sctp_serial.specs.declared.types.StreamKey.{StreamKey}
 use Rattle.sctp_serial.specs.declared.types.StreamKey.TheVariants as keys
 use Rattle.sctp_wire.specs.Item.{Item}
+use Rattle.sctp_wire.specs.ParameterViews.{parameter_tree}
+use Rattle.sctp_wire.specs.CauseViews.{cause_tree}
 use Rattle.sctp_packet.specs.declared.raw.RawChunk.{RawChunk}
 use Rattle.sctp_packet.specs.declared.data.Data.{Data}
 use Rattle.sctp_packet.specs.declared.data.DataChunk.{DataChunk}
@@ -13,10 +15,17 @@ use Rattle.sctp_packet.specs.declared.shutdown.ShutdownAckChunk.{ShutdownAckChun
 use Rattle.sctp_packet.specs.declared.shutdown.ShutdownCompleteChunk.{ShutdownCompleteChunk}
 use Rattle.sctp_packet.specs.declared.cookie.CookieEchoChunk.{CookieEchoChunk}
 use Rattle.sctp_packet.specs.declared.cookie.CookieAckChunk.{CookieAckChunk}
+use Rattle.sctp_packet.specs.declared.init.InitChunk.{InitChunk}
+use Rattle.sctp_packet.specs.declared.init.InitAckChunk.{InitAckChunk}
+use Rattle.sctp_packet.specs.declared.heartbeat.HeartbeatRequestChunk.{HeartbeatRequestChunk}
+use Rattle.sctp_packet.specs.declared.heartbeat.HeartbeatAckChunk.{HeartbeatAckChunk}
+use Rattle.sctp_packet.specs.declared.re_config.ReConfigChunk.{ReConfigChunk}
+use Rattle.sctp_packet.specs.declared.error.AbortChunk.{AbortChunk}
+use Rattle.sctp_packet.specs.declared.error.ErrorChunk.{ErrorChunk}
 use Rattle.sctp_packet.specs.declared.forward_tsn.ForwardTsnChunk.{ForwardTsnChunk}
 use Rattle.sctp_packet.specs.declared.forward_tsn.IForwardTsnChunk.{IForwardTsnChunk}
 use Rattle.sctp_packet.specs.declared.unknown.UnknownChunk.{UnknownChunk}
-use Rattle.sctp_packet.specs.Chunk.{ChunkTree, FragmentTree, data_chunk, idata_chunk, sack_chunk, shutdown_chunk, shutdown_ack_chunk, shutdown_complete_chunk, cookie_echo_chunk, cookie_ack_chunk, forward_tsn_chunk, i_forward_tsn_chunk, unknown_chunk}
+use Rattle.sctp_packet.specs.Chunk.{ChunkTree, FragmentTree, InitTree, init_chunk, init_ack_chunk, heartbeat_request_chunk, heartbeat_ack_chunk, re_config_chunk, abort_chunk, error_chunk, data_chunk, idata_chunk, sack_chunk, shutdown_chunk, shutdown_ack_chunk, shutdown_complete_chunk, cookie_echo_chunk, cookie_ack_chunk, forward_tsn_chunk, i_forward_tsn_chunk, unknown_chunk}
 use Rattle.sctp_packet.specs.Written.{key_stream}
 
 abbrev pub raw_chunk : RawChunk → Item
@@ -71,3 +80,32 @@ i_forward_tsn_tree c = i_forward_tsn_chunk c.new_cumulative_tsn.0 c.skipped_stre
 
 abbrev pub unknown_tree : UnknownChunk → ChunkTree
 unknown_tree c = unknown_chunk c.typ c.flags c.value.items
+
+abbrev pub init_tree : InitChunk → InitTree
+init_tree c = record { initiate_tag = c.initiate_tag; a_rwnd = c.a_rwnd; nbr_outbound_streams = c.nbr_outbound_streams; nbr_inbound_streams = c.nbr_inbound_streams;
+    initial_tsn = c.initial_tsn.0; parameters = map parameter_tree c.parameters.items }
+
+abbrev pub init_chunk_tree : InitChunk → ChunkTree
+init_chunk_tree c = init_chunk (init_tree c)
+
+abbrev pub init_ack_tree : InitAckChunk → InitTree
+init_ack_tree c = record { initiate_tag = c.initiate_tag; a_rwnd = c.a_rwnd; nbr_outbound_streams = c.nbr_outbound_streams; nbr_inbound_streams = c.nbr_inbound_streams;
+    initial_tsn = c.initial_tsn.0; parameters = map parameter_tree c.parameters.items }
+
+abbrev pub init_ack_chunk_tree : InitAckChunk → ChunkTree
+init_ack_chunk_tree c = init_ack_chunk (init_ack_tree c)
+
+abbrev pub heartbeat_request_tree : HeartbeatRequestChunk → ChunkTree
+heartbeat_request_tree c = heartbeat_request_chunk (map parameter_tree c.parameters.items)
+
+abbrev pub heartbeat_ack_tree : HeartbeatAckChunk → ChunkTree
+heartbeat_ack_tree c = heartbeat_ack_chunk (map parameter_tree c.parameters.items)
+
+abbrev pub re_config_tree : ReConfigChunk → ChunkTree
+re_config_tree c = re_config_chunk (map parameter_tree c.parameters.items)
+
+abbrev pub abort_tree : AbortChunk → ChunkTree
+abort_tree c = abort_chunk c.tag_reflected (map cause_tree c.error_causes.items)
+
+abbrev pub error_tree : ErrorChunk → ChunkTree
+error_tree c = error_chunk (map cause_tree c.error_causes.items)

@@ -1,5 +1,5 @@
 -- The item that is written for a chunk: type, flags and value (RFC 9260 section 3.2). One grammar for reader and writer.
-use Rattle.std.specs.Prelude.{◌≡◌, ℕ, ◌+◌, Bool, true, false, if◌then◌else◌, ◌==◌, ◌||◌, ◌&&◌, not, bit_and, List, [], ◌++◌, length, map}
+use Rattle.std.specs.Prelude.{◌≡◌, ℕ, ◌+◌, Bool, true, false, if◌then◌else◌, ◌==◌, ◌||◌, ◌&&◌, not, bit_and, List, [], ◌++◌, length, map, refl}
 use Rattle.std.specs.List.{flat_map, list_all}
 use Rattle.sctp_serial.specs.declared.api.StreamId.{StreamId}
 use Rattle.sctp_serial.specs.declared.types.tsn.Tsn.{Tsn}
@@ -11,10 +11,11 @@ use Rattle.sctp_wire.specs.Fields.{be16, be32}
 use Rattle.sctp_wire.specs.Item.{Item}
 use Rattle.sctp_wire.specs.Serialize.{padded_item, inner_items}
 use Rattle.sctp_wire.specs.Parameter.{ParameterTree, parameter_item, parameter_is_whole}
+use Rattle.sctp_wire.specs.Cause.{CauseTree, cause_item}
 use Rattle.sctp_packet.specs.declared.sack.GapAckBlock.{GapAckBlock}
 use Rattle.sctp_packet.specs.declared.forward_tsn.SkippedStream.{SkippedStream}
 use Rattle.sctp_packet.specs.declared.forward_tsn.SkippedStream.TheVariants as skips
-use Rattle.sctp_packet.specs.Chunk.{ChunkTree, FragmentTree, InitTree, SackTree, data_chunk, init_chunk, init_ack_chunk, sack_chunk, heartbeat_request_chunk, heartbeat_ack_chunk, shutdown_chunk, shutdown_ack_chunk, cookie_echo_chunk, cookie_ack_chunk, shutdown_complete_chunk, idata_chunk, re_config_chunk, forward_tsn_chunk, i_forward_tsn_chunk, unknown_chunk}
+use Rattle.sctp_packet.specs.Chunk.{ChunkTree, FragmentTree, InitTree, SackTree, data_chunk, init_chunk, init_ack_chunk, sack_chunk, heartbeat_request_chunk, heartbeat_ack_chunk, abort_chunk, shutdown_chunk, shutdown_ack_chunk, error_chunk, cookie_echo_chunk, cookie_ack_chunk, shutdown_complete_chunk, idata_chunk, re_config_chunk, forward_tsn_chunk, i_forward_tsn_chunk, unknown_chunk}
 
 abbrev pub chunk_type : ChunkTree → ℕ
 chunk_type (data_chunk tsn immediate fragment) = 0
@@ -23,8 +24,10 @@ chunk_type (init_ack_chunk init) = 2
 chunk_type (sack_chunk sack) = 3
 chunk_type (heartbeat_request_chunk parameters) = 4
 chunk_type (heartbeat_ack_chunk parameters) = 5
+chunk_type (abort_chunk reflected causes) = 6
 chunk_type (shutdown_chunk tsn) = 7
 chunk_type shutdown_ack_chunk = 8
+chunk_type (error_chunk causes) = 9
 chunk_type (cookie_echo_chunk cookie) = 10
 chunk_type cookie_ack_chunk = 11
 chunk_type (shutdown_complete_chunk reflected) = 14
@@ -62,8 +65,10 @@ chunk_flags (init_ack_chunk init) = 0
 chunk_flags (sack_chunk sack) = 0
 chunk_flags (heartbeat_request_chunk parameters) = 0
 chunk_flags (heartbeat_ack_chunk parameters) = 0
+chunk_flags (abort_chunk reflected causes) = reflected_flag reflected
 chunk_flags (shutdown_chunk tsn) = 0
 chunk_flags shutdown_ack_chunk = 0
+chunk_flags (error_chunk causes) = 0
 chunk_flags (cookie_echo_chunk cookie) = 0
 chunk_flags cookie_ack_chunk = 0
 chunk_flags (shutdown_complete_chunk reflected) = reflected_flag reflected
@@ -93,6 +98,10 @@ init_fields t = be32 t.initiate_tag ++ (be32 t.a_rwnd ++ (be16 t.nbr_outbound_st
 
 unfoldable pub block_bytes : GapAckBlock → List ℕ
 block_bytes b = be16 b.start ++ be16 b.end
+
+pub length_block_bytes : (b : GapAckBlock) → length (block_bytes b) ≡ 4
+unfolding block_bytes be16
+length_block_bytes b = refl
 
 abbrev pub tsn_bytes : Tsn → List ℕ
 tsn_bytes tsn = be32 tsn.0
@@ -127,8 +136,10 @@ chunk_value (init_ack_chunk init) = init_fields init ++ inner_items (map paramet
 chunk_value (sack_chunk sack) = sack_value sack
 chunk_value (heartbeat_request_chunk parameters) = inner_items (map parameter_item parameters)
 chunk_value (heartbeat_ack_chunk parameters) = inner_items (map parameter_item parameters)
+chunk_value (abort_chunk reflected causes) = inner_items (map cause_item causes)
 chunk_value (shutdown_chunk tsn) = be32 tsn
 chunk_value shutdown_ack_chunk = []
+chunk_value (error_chunk causes) = inner_items (map cause_item causes)
 chunk_value (cookie_echo_chunk cookie) = cookie
 chunk_value cookie_ack_chunk = []
 chunk_value (shutdown_complete_chunk reflected) = []
@@ -168,8 +179,10 @@ chunk_is_whole (init_ack_chunk init) = list_all parameter_is_whole init.paramete
 chunk_is_whole (sack_chunk sack) = true
 chunk_is_whole (heartbeat_request_chunk parameters) = list_all parameter_is_whole parameters
 chunk_is_whole (heartbeat_ack_chunk parameters) = list_all parameter_is_whole parameters
+chunk_is_whole (abort_chunk reflected causes) = true
 chunk_is_whole (shutdown_chunk tsn) = true
 chunk_is_whole shutdown_ack_chunk = true
+chunk_is_whole (error_chunk causes) = true
 chunk_is_whole (cookie_echo_chunk cookie) = true
 chunk_is_whole cookie_ack_chunk = true
 chunk_is_whole (shutdown_complete_chunk reflected) = true

@@ -1,17 +1,28 @@
 //! Packets: chunks read and written, the packet around them, its builder, and the blocks of a SACK.
 #![tactic(auto)]
 
+mod chunk;
 mod cookie;
 mod data;
+mod error;
 mod forward_tsn;
+mod heartbeat;
+mod init;
+mod inner;
+mod re_config;
 mod raw;
 mod sack;
 mod shutdown;
 mod unknown;
 
+pub use chunk::Chunk;
 pub use cookie::{CookieAckChunk, CookieEchoChunk};
 pub use data::{Data, DataChunk, IDataChunk};
+pub use error::{AbortChunk, ErrorChunk};
 pub use forward_tsn::{ForwardTsnChunk, IForwardTsnChunk, SkippedStream};
+pub use heartbeat::{HeartbeatAckChunk, HeartbeatRequestChunk};
+pub use init::{InitAckChunk, InitChunk};
+pub use re_config::ReConfigChunk;
 pub use raw::{RawChunk, write_chunk_header};
 pub use sack::{GapAckBlock, SackChunk};
 pub use shutdown::{ShutdownAckChunk, ShutdownChunk, ShutdownCompleteChunk};
