@@ -32,3 +32,6 @@ unfolding cause_value
 all_counted value rest types count e len f =
     let same : count ≡ length types = omega (arith, ap length f, length_entries be16 2 length_be16 types) in
     e ∙ ap (λ (n : ℕ). be32 n ++ rest) same ∙ ap (λ (x : List ℕ). be32 (length types) ++ x) f
+
+pub count_fits : (rest types : List ℕ) (count : ℕ) → count < 2 ^ 32 → length rest ≡ 2 * count → rest ≡ flat_map be16 types → length types < 2 ^ 32
+count_fits rest types count fits len f = omega (arith, ap length f, length_entries be16 2 length_be16 types)

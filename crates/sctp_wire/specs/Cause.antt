@@ -1,5 +1,5 @@
 -- Error causes: RFC 9260 section 3.3.10. One grammar for reader and writer: the type and the value of a tree.
-use Rattle.std.specs.Prelude.{◌≡◌, ℕ, Bool, false, cond, ◌==◌, ◌||◌, List, [], ◌++◌, length}
+use Rattle.std.specs.Prelude.{◌≡◌, ℕ, ◌<◌, ◌^◌, All, Bool, false, cond, ◌==◌, ◌||◌, List, [], ◌++◌, length}
 use Rattle.std.specs.List.{flat_map}
 use Rattle.sctp_serial.specs.declared.types.tsn.Tsn.{Tsn}
 use Rattle.sctp_wire.specs.declared.error.ChunkParseError.{ChunkParseError}
@@ -62,11 +62,22 @@ CauseIsOfItsVariant (user_initiated_abort reason) = Unit {0}
 CauseIsOfItsVariant (protocol_violation information) = Unit {0}
 CauseIsOfItsVariant (unknown_cause typ value) = is_known_cause typ ≡ false
 
+-- the tree's numbers fit their fields
+abbrev pub CauseFits : CauseTree → Type 0
+CauseFits (missing_mandatory_parameter types) = (length types < 2 ^ 32) × All (λ typ. typ < 2 ^ 16) types
+CauseFits (no_user_data tsn) = tsn.0 < 2 ^ 32
+CauseFits (unrecognized_chunk chunk) = Unit {0}
+CauseFits cookie_received_while_shutting_down = Unit {0}
+CauseFits (user_initiated_abort reason) = Unit {0}
+CauseFits (protocol_violation information) = Unit {0}
+CauseFits (unknown_cause typ value) = Unit {0}
+
 -- a cause of this type and this value says what the tree says
 pub record SaysCause (typ : ℕ) (value : List ℕ) (t : CauseTree) : Type 0 where
   pub typed : typ ≡ cause_type t
   pub valued : ReadsCause value t
   pub of_its_variant : CauseIsOfItsVariant t
+  pub fits : CauseFits t
 
 -- the item stands for the tree
 abbrev pub IsCause : Item → CauseTree → Type 0

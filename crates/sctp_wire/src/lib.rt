@@ -7,6 +7,7 @@ mod error;
 mod error_cause;
 mod field;
 mod item;
+mod laws;
 mod parameter;
 mod parameters;
 mod read;
@@ -25,6 +26,9 @@ pub use error::ChunkParseError;
 pub use error_cause::{ErrorCause, error_cause_from_bytes};
 pub use field::{Entry, ends_here, entries_from_bytes, push_entries, push_u16, push_u32, u16_at, u32_at};
 pub use item::{RawItem, RawParameter, one_item};
+pub use laws::{
+    cause_is_not_refused, causes_read_back, parameter_is_not_refused, parameters_read_back,
+};
 pub use parameter::{
     ForwardTsnSupportedParameter, HeartbeatInfoParameter, StateCookieParameter,
     SupportedExtensionsParameter, UnknownParameter, ZeroChecksumAcceptableParameter,
@@ -39,7 +43,7 @@ pub use reset::{
     ReconfigurationResponseParameter, ReconfigurationResponseResult,
 };
 pub use serialize::{
-    MAX_VALUE_SIZE, SerializableTlv, padding_len, parameters_serialize_to,
+    MAX_VALUE_SIZE, SerializableTlv, all_encodable, padding_len, parameters_serialize_to,
     parameters_serialized_size, write_item_header, write_parameter_header,
 };
 pub use sctp_serial::{

@@ -1,6 +1,6 @@
 //! The parameters of a RE-CONFIG: requests to reset streams, and responses (RFC 6525 section 4).
 
-ghost use Rattle.std.specs.Prelude.{◌≡◌, ◌+◌, ◌^◌, ◌-◌, ◌<◌, ◌≤◌, ◌≢◌, ◌⊎◌, length, min, true, [], ◌++◌, is_some, IfOk, IfErr, OnOk, OnErr, MatchResult, Some};
+ghost use Rattle.std.specs.Prelude.{◌≡◌, ◌+◌, ◌^◌, ◌-◌, ◌<◌, ◌≤◌, ◌≢◌, ◌⊎◌, length, min, true, [], ◌++◌, is_some, IfSome, IfOk, IfErr, OnOk, OnErr, MatchResult, Some};
 ghost use Rattle.sctp_wire.specs.ParameterText.{parameter_text};
 ghost use Rattle.sctp_wire.specs.declared.error.ChunkParseError.TheVariants.{InvalidValue as no_value};
 ghost use Rattle.sctp_wire.specs.Parameter.{SaysParameter, RefusesParameterAs, parameter_item, parameter_value, parameter_is_whole, optional_tsn_bytes};
@@ -240,6 +240,8 @@ impl ReconfigurationResponseParameter {
 /// Nothing, or two TSNs.
 fn next_tsns(bytes: &[u8]) -> Result<(Option<Tsn>, Option<Tsn>), ChunkParseError>
     ensures ok { IfOk result (λ tsns. bytes.now ≡ optional_tsn_bytes tsns.0 ++ optional_tsn_bytes tsns.1) }
+    ensures sender { IfOk result (λ tsns. IfSome tsns.0 (λ tsn. tsn.0 < 2 ^ 32)) }
+    ensures receiver { IfOk result (λ tsns. IfSome tsns.1 (λ tsn. tsn.0 < 2 ^ 32)) }
     ensures both { IfOk result (λ tsns. is_some tsns.0 ≡ is_some tsns.1) }
     ensures len { OnOk result ((length bytes.now ≡ 0) ⊎ (length bytes.now ≡ 8)) }
     ensures other { OnErr result ((length bytes.now ≢ 0) × (length bytes.now ≢ 8)) }

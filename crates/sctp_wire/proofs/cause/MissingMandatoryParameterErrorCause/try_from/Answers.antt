@@ -1,6 +1,6 @@
 use Rattle.std.proofs.Common.{arith, length, sym, ap, ◌∙◌}
 use Rattle.std.proofs.lemmas.Result.{err_from_is_err_and}
-use Rattle.sctp_wire.proofs.CauseLemmas.{too_short, not_counted, all_counted}
+use Rattle.sctp_wire.proofs.CauseLemmas.{too_short, not_counted, all_counted, count_fits}
 use Rattle.sctp_wire.proofs.cause.MissingMandatoryParameterErrorCause.try_from.Goals as goal
 
 pub returns-in_err-count-clause-refused : goal.returns-in_err-count-clause-refused
@@ -21,4 +21,5 @@ returns-clause-ok c =
       typed = same.0;
       valued = all_counted c.args.raw.value.now c.in_ok-count.rest.now _ c.in_ok-count.count (sym same.1 ∙ c.in_ok-count.ensures.ok) (omega arith) c.in_ok-entries_from_bytes.ensures.ok;
       of_its_variant = tt;
+      fits = (count_fits c.in_ok-count.rest.now _ c.in_ok-count.count c.in_ok-count.ensures.fits (omega arith) c.in_ok-entries_from_bytes.ensures.ok, c.in_ok-entries_from_bytes.ensures.fits);
     }
