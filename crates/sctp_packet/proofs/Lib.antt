@@ -3,3 +3,4 @@ pub mod FieldLemmas
 pub mod SackLemmas
 pub mod InnerLemmas
 pub mod SkipLemmas
+pub mod PacketLemmas

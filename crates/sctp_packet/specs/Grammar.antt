@@ -114,8 +114,8 @@ pub record FitsSack (s : SackTree) : Type 0 where
   pub a_rwnd : s.a_rwnd < 2 ^ 32
   pub few_blocks : length s.gap_ack_blocks < 2 ^ 16
   pub few_duplicates : length s.duplicate_tsns < 2 ^ 16
-  pub blocks : Each FitsBlock s.gap_ack_blocks
-  pub duplicates : Each FitsTsn s.duplicate_tsns
+  pub blocks : All FitsBlock s.gap_ack_blocks
+  pub duplicates : All FitsTsn s.duplicate_tsns
 
 -- a TSN, and entries
 pub record FitsForward (tsn : ℕ) (skipped : List SkippedStream) : Type 0 where

@@ -1,16 +1,14 @@
 //! SACK (RFC 9260 section 3.3.4).
 
 ghost use Rattle.std.specs.Prelude.{◌≡◌, ◌≢◌, ◌⊎◌, ℕ, ◌+◌, ◌*◌, ◌%◌, ◌^◌, ◌-◌, ◌<◌, min, true, [], ◌∷◌, ◌++◌, length, IfOk, IfErr, OnOk, OnErr};
-ghost use Rattle.std.specs.List.{flat_map};
-ghost use Rattle.sctp_wire.specs.Fields.{be16};
-ghost use Rattle.sctp_packet.specs.Written.{chunk_item, block_bytes, tsn_bytes};
-ghost use Rattle.sctp_packet.specs.Grammar.{IsChunk, RefusesChunkAs, Each, FitsBlock, FitsTsn};
+ghost use Rattle.sctp_packet.specs.Written.{chunk_item};
+ghost use Rattle.sctp_packet.specs.Grammar.{IsChunk, RefusesChunkAs};
 ghost use Rattle.sctp_packet.specs.Views.{raw_chunk, sack_chunk_tree};
 
 use crate::raw::RawChunk;
 use sctp_serial::Tsn;
 use sctp_wire::{
-    ChunkParseError, Entry, SerializableTlv, push_entries, push_u16, push_u32,
+    ChunkParseError, Entry, SerializableTlv, entries_from_bytes, push_entries, push_u16, push_u32,
     u16_at, u32_at,
 };
 use std::alloc::{AllocError, Global};
@@ -33,18 +31,23 @@ impl GapAckBlock {
 #[tactic(auto, unfolding(crate::specs::Written::block_bytes))]
 impl Entry for GapAckBlock {
     ghost use Rattle.std.proofs.Common.{arith};
-    ghost use Rattle.sctp_packet.specs.Written.{length_block_bytes};
+    ghost use Rattle.sctp_packet.specs.Written.{block_bytes, length_block_bytes};
+    ghost use Rattle.sctp_packet.specs.Grammar.{FitsBlock};
 
     ghost width = { 4 };
 
     ghost bytes_of = { block_bytes };
+
+    ghost in_range = { FitsBlock };
 
     ghost width_is_positive = { Prim.omega arith };
 
     ghost width_of = { length_block_bytes };
 
     fn entry_at(bytes: &[u8]) -> Result<(GapAckBlock, &[u8]), ChunkParseError> {
-        block_at(bytes)
+        let (start, rest) = u16_at(bytes)?;
+        let (end, rest) = u16_at(rest)?;
+        Ok((GapAckBlock { start, end }, rest))
     }
 
     fn push_to(&self, output: &mut Vec<u8>) -> Result<(), AllocError> {
@@ -83,8 +86,8 @@ impl SackChunk {
             return Err(ChunkParseError::InvalidLength);
         }
         let (blocks, duplicates) = rest.split_at(blocks_size);
-        let gap_ack_blocks = blocks_from_bytes(alloc, blocks)?;
-        let duplicate_tsns = tsns_from_bytes(alloc, duplicates)?;
+        let gap_ack_blocks = entries_from_bytes(alloc, blocks)?;
+        let duplicate_tsns = entries_from_bytes(alloc, duplicates)?;
         Ok(SackChunk {
             cumulative_tsn_ack: Tsn(cumulative_tsn_ack),
             a_rwnd,
@@ -92,53 +95,6 @@ impl SackChunk {
             duplicate_tsns,
         })
     }
-}
-
-/// The blocks that the bytes are; `InvalidLength` where the last one is cut short.
-fn blocks_from_bytes(alloc: Global, bytes: &[u8]) -> Result<Vec<GapAckBlock>, ChunkParseError>
-    ensures ok { IfOk result (λ blocks. bytes.now ≡ flat_map block_bytes blocks.items) }
-    ensures fits { IfOk result (λ blocks. Each FitsBlock blocks.items) }
-    ensures refused { IfErr result (λ e. (e ≡ ChunkParseError.Memory)
-        ⊎ ((e ≡ ChunkParseError.InvalidLength) × (length bytes.now % 4 ≢ 0))) }
-{
-    let mut blocks = Vec::new(alloc);
-    let mut rest = bytes;
-    while !rest.is_empty() {
-        let (block, after) = block_at(rest)?;
-        blocks.push(block)?;
-        rest = after;
-    }
-    Ok(blocks)
-}
-
-#[tactic(auto, unfolding(crate::specs::Written::block_bytes))]
-fn block_at(bytes: &[u8]) -> Result<(GapAckBlock, &[u8]), ChunkParseError>
-    ensures ok { IfOk result (λ read. bytes.now ≡ block_bytes read.0 ++ read.1.now) }
-    ensures fits { IfOk result (λ read. FitsBlock read.0) }
-    ensures len { IfOk result (λ read. length bytes.now ≡ 4 + length read.1.now) }
-    ensures short { OnErr result (length bytes.now < 4) }
-    ensures fault { IfErr result (λ e. e ≡ ChunkParseError.InvalidLength) }
-{
-    let (start, rest) = u16_at(bytes)?;
-    let (end, rest) = u16_at(rest)?;
-    Ok((GapAckBlock { start, end }, rest))
-}
-
-/// The TSNs that the bytes are; `InvalidLength` where the last one is cut short.
-fn tsns_from_bytes(alloc: Global, bytes: &[u8]) -> Result<Vec<Tsn>, ChunkParseError>
-    ensures ok { IfOk result (λ tsns. bytes.now ≡ flat_map tsn_bytes tsns.items) }
-    ensures fits { IfOk result (λ tsns. Each FitsTsn tsns.items) }
-    ensures refused { IfErr result (λ e. (e ≡ ChunkParseError.Memory)
-        ⊎ ((e ≡ ChunkParseError.InvalidLength) × (length bytes.now % 4 ≢ 0))) }
-{
-    let mut tsns = Vec::new(alloc);
-    let mut rest = bytes;
-    while !rest.is_empty() {
-        let (tsn, after) = u32_at(rest)?;
-        tsns.push(Tsn(tsn))?;
-        rest = after;
-    }
-    Ok(tsns)
 }
 
 #[tactic(auto, unfolding(crate::specs::Written::chunk_value, crate::specs::Written::sack_value))]
