@@ -1,9 +1,10 @@
 //! What holds of the definitions: what is written is read back, what is read is not refused, and bytes say one thing.
 
-ghost use Rattle.std.specs.Prelude.{◌≡◌, ◌<◌, ◌^◌, ◌++◌, ℕ, List, [], map, All, IfSome};
+ghost use Rattle.std.specs.Prelude.{◌≡◌, ◌≢◌, ◌<◌, ◌^◌, ◌++◌, ℕ, List, [], map, All, IfSome};
 ghost use Rattle.std.specs.List.{flat_map};
 ghost use Rattle.sctp_wire.specs.declared.error.ChunkParseError.{ChunkParseError};
 ghost use Rattle.sctp_wire.specs.Item.{Item, Tiles};
+ghost use Rattle.sctp_wire.specs.Refusal.{BreaksAs};
 ghost use Rattle.sctp_wire.specs.Serialize.{inner_items, padded_item};
 ghost use Rattle.sctp_wire.specs.Parameter.{ParameterTree, ParameterFits, IsParameter, RefusesParameter, parameter_item};
 ghost use Rattle.sctp_wire.specs.Cause.{CauseTree, IsCause, RefusesCause, cause_item};
@@ -101,3 +102,31 @@ fn id_fits(id: u16)
 {
     let _ = id;
 }
+
+/// An item stands for at most one parameter.
+pub fn one_parameter()
+    ensures { (i : Item) (t u : ParameterTree) → IsParameter i t → IsParameter i u → t ≡ u }
+{}
+
+/// An item stands for at most one cause.
+pub fn one_cause()
+    ensures { (i : Item) (t u : CauseTree) → IsCause i t → IsCause i u → t ≡ u }
+{}
+
+/// Bytes are at most one list of parameters, and a list that is refused has one fault.
+pub fn one_list_of_parameters()
+    ensures values { (bytes : List ℕ) (ts us : List ParameterTree) → Tiles IsParameter bytes ts [] → Tiles IsParameter bytes us [] → ts ≡ us }
+    ensures never_both { (bytes : List ℕ) (ts : List ParameterTree) (fault : ChunkParseError) → Tiles IsParameter bytes ts []
+        → BreaksAs IsParameter RefusesParameter bytes fault → fault ≢ ChunkParseError.Memory → ⊥ }
+    ensures fault { (bytes : List ℕ) (fault other : ChunkParseError) → BreaksAs IsParameter RefusesParameter bytes fault
+        → BreaksAs IsParameter RefusesParameter bytes other → fault ≢ ChunkParseError.Memory → other ≢ ChunkParseError.Memory → fault ≡ other }
+{}
+
+/// Bytes are at most one list of causes, and a list that is refused has one fault.
+pub fn one_list_of_causes()
+    ensures values { (bytes : List ℕ) (ts us : List CauseTree) → Tiles IsCause bytes ts [] → Tiles IsCause bytes us [] → ts ≡ us }
+    ensures never_both { (bytes : List ℕ) (ts : List CauseTree) (fault : ChunkParseError) → Tiles IsCause bytes ts []
+        → BreaksAs IsCause RefusesCause bytes fault → fault ≢ ChunkParseError.Memory → ⊥ }
+    ensures fault { (bytes : List ℕ) (fault other : ChunkParseError) → BreaksAs IsCause RefusesCause bytes fault
+        → BreaksAs IsCause RefusesCause bytes other → fault ≢ ChunkParseError.Memory → other ≢ ChunkParseError.Memory → fault ≡ other }
+{}

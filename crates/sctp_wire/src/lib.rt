@@ -27,7 +27,8 @@ pub use error_cause::{ErrorCause, error_cause_from_bytes};
 pub use field::{Entry, ends_here, entries_from_bytes, push_entries, push_u16, push_u32, u16_at, u32_at};
 pub use item::{RawItem, RawParameter, one_item};
 pub use laws::{
-    cause_is_not_refused, causes_read_back, parameter_is_not_refused, parameters_read_back,
+    cause_is_not_refused, causes_read_back, one_cause, one_list_of_causes, one_list_of_parameters,
+    one_parameter, parameter_fits, parameter_is_not_refused, parameters_read_back,
 };
 pub use parameter::{
     ForwardTsnSupportedParameter, HeartbeatInfoParameter, StateCookieParameter,
