@@ -4,3 +4,7 @@ pub mod SackLemmas
 pub mod InnerLemmas
 pub mod SkipLemmas
 pub mod PacketLemmas
+pub mod OneChunkLemmas
+pub mod ReadBackLemmas
+pub mod StandsLemmas
+pub mod LawLemmas

@@ -1,6 +1,5 @@
 -- A packet that is being built: a header, a limit, and the bytes of the chunks that were added.
-use Rattle.std.specs.Prelude.{◌≡◌, ℕ, ◌+◌, ◌-◌, ◌<◌, ◌≤◌, Bool, true, false, if◌then◌else◌, ◌==◌, List, [], ◌∷◌, ◌++◌, length}
-use Rattle.std.specs.Vec.{vec_capacity}
+use Rattle.std.specs.Prelude.{◌≡◌, ℕ, ◌+◌, ◌-◌, ◌<◌, ◌≤◌, Bool, true, false, if◌then◌else◌, ◌==◌, List, [], ◌∷◌, ◌++◌, length, drop}
 use Rattle.sctp_packet.specs.Chunk.{ChunkTree}
 use Rattle.sctp_packet.specs.Written.{chunks_bytes}
 use Rattle.sctp_packet.specs.Packet.{HeaderTree, unsummed_bytes, joined_bytes}
@@ -28,3 +27,8 @@ so_far h (b ∷ body) = unsummed_bytes h (b ∷ body)
 abbrev pub built : Bool → HeaderTree → ℕ → List ℕ → List ℕ
 built summed h word [] = []
 built summed h word (b ∷ body) = joined_bytes h (if summed then word else 0) (b ∷ body)
+
+-- the bytes are none, or a packet so far with something in it
+pub record HasPacket (h : HeaderTree) (bytes : List ℕ) : Type 0 where
+  pub more_than_header : 0 < length bytes → 12 < length bytes
+  pub packet : 0 < length bytes → bytes ≡ unsummed_bytes h (drop 12 bytes)

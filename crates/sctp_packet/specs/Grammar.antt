@@ -208,12 +208,16 @@ pub data ValueShape : Type 0 where
   parameters_behind : ℕ → ValueShape
   of_causes : ValueShape
 
-abbrev pub value_shape : ℕ → ValueShape
-value_shape typ =
+abbrev pub known_shape : ℕ → ValueShape
+known_shape typ =
     cond (typ == 0) (at_least 12) (cond (typ == 1) (parameters_behind 16) (cond (typ == 2) (parameters_behind 16) (cond (typ == 3) by_counts
     (cond (typ == 4) (parameters_behind 0) (cond (typ == 5) (parameters_behind 0) (cond (typ == 6) of_causes (cond (typ == 7) (exactly 4) (cond (typ == 8) (exactly 0)
     (cond (typ == 9) of_causes (cond (typ == 10) (at_least 1) (cond (typ == 11) (exactly 0) (cond (typ == 14) (exactly 0) (cond (typ == 64) (at_least 16)
     (cond (typ == 130) (parameters_behind 0) (cond (typ == 192) (in_steps 4 4) (cond (typ == 194) (in_steps 4 8) any_value))))))))))))))))
+
+-- of an unknown type any value is a chunk's
+abbrev pub value_shape : ℕ → ValueShape
+value_shape typ = cond (is_known_chunk typ) (known_shape typ) any_value
 
 -- as many blocks and duplicates as the counts say
 abbrev pub IsCounted : List ℕ → Type 0

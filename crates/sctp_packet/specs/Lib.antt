@@ -8,4 +8,5 @@ pub mod PacketView
 pub mod Builder
 pub mod Faults
 pub mod BuilderView
+pub mod ReadBack
 pub mod ChunkView

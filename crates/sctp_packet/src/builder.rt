@@ -7,13 +7,15 @@ ghost use Rattle.sctp_packet.specs.Chunk.{ChunkTree};
 ghost use Rattle.sctp_packet.specs.Written.{chunk_item, chunk_bytes, chunk_is_whole};
 ghost use Rattle.sctp_packet.specs.ChunkView.{chunk_tree};
 ghost use Rattle.sctp_packet.specs.Packet.{HeaderTree, header_bytes, unsummed_bytes, joined_bytes};
+ghost use Rattle.sctp_packet.specs.PacketView.{header_tree};
 ghost use Rattle.sctp_packet.specs.Builder.{BuilderTree, Holds, remaining, so_far, built};
 
 use crate::chunk::Chunk;
-use crate::packet::COMMON_HEADER_SIZE;
+use crate::packet::{COMMON_HEADER_SIZE, CommonHeader};
 use sctp_wire::{SerializableTlv, push_u16, push_u32};
 use std::alloc::{AllocError, Global};
 use std::marker::Model;
+use std::mem;
 
 /// A packet that is being built. Once it is handed out, the builder is empty again.
 #[derive(Drop)]
@@ -93,4 +95,83 @@ impl SctpPacketBuilder {
     {
         &self.bytes
     }
+
+    /// Adds a chunk behind those that were added.
+    ///
+    /// The caller sees to it that the chunk can be written (`encodable`) and that its `serialized_size` is at most
+    /// `bytes_remaining`. The first call reserves the limit. Where there is no memory the builder is empty.
+    pub fn add(&mut self, chunk: &Chunk) -> Result<(), AllocError>
+        requires encodable { IsEncodable (chunk_item (chunk_tree chunk.now)) }
+        requires whole { chunk_is_whole (chunk_tree chunk.now) ≡ true }
+        requires fits { length (chunk_bytes (chunk_tree chunk.now)) ≤ remaining self.old }
+        ensures ok { OnOk result (self.new ≡ record self.old { body = self.old.body ++ chunk_bytes (chunk_tree chunk.now) }) }
+        ensures holds { (chunks : List ChunkTree) → Holds self.old chunks
+            → OnOk result (Holds self.new (chunks ++ chunk_tree chunk.now ∷ [])) }
+        ensures err { OnErr result (self.new ≡ record self.old { body = [] }) }
+    {
+        let header = CommonHeader {
+            source_port: self.source_port,
+            destination_port: self.destination_port,
+            verification_tag: self.verification_tag,
+            checksum: 0,
+        };
+        if let Err(e) = push_chunk(&mut self.bytes, header, self.limit, chunk) {
+            self.bytes.clear();
+            return Err(e);
+        }
+        Ok(())
+    }
+
+    /// The packet, with `word` in the checksum's field where the checksum is on; no bytes where nothing was added.
+    /// The builder is empty again.
+    pub fn build(&mut self, word: u32) -> Vec<u8>
+        ensures packet { result.items ≡ built self.old.writes_checksum self.old.header word self.old.body }
+        ensures empty { self.new ≡ record self.old { body = [] } }
+    {
+        let mut bytes = mem::replace(&mut self.bytes, Vec::new(self.alloc));
+        if self.write_checksum && !bytes.is_empty() {
+            write_word(&mut bytes, word);
+        }
+        bytes
+    }
+}
+
+/// Appends a chunk, behind a header where there are no bytes yet.
+#[tactic(auto, unfolding(crate::specs::Written::chunk_bytes))]
+fn push_chunk(
+    bytes: &mut Vec<u8>,
+    header: CommonHeader,
+    limit: usize,
+    chunk: &Chunk,
+) -> Result<(), AllocError>
+    requires encodable { IsEncodable (chunk_item (chunk_tree chunk.now)) }
+    requires whole { chunk_is_whole (chunk_tree chunk.now) ≡ true }
+    ensures first { bytes.old.items ≡ [] → OnOk result (bytes.new.items ≡ unsummed_bytes (header_tree header) (chunk_bytes (chunk_tree chunk.now))) }
+    ensures more { 0 < length bytes.old.items → OnOk result (bytes.new.items ≡ bytes.old.items ++ chunk_bytes (chunk_tree chunk.now)) }
+{
+    if bytes.is_empty() {
+        bytes.reserve_exact(limit)?;
+        push_header(bytes, header)?;
+    }
+    chunk.serialize_to(bytes)
+}
+
+/// Appends a header, its checksum zero.
+#[tactic(auto, unfolding(crate::specs::Packet::unsummed_bytes, crate::specs::Packet::header_bytes))]
+fn push_header(bytes: &mut Vec<u8>, header: CommonHeader) -> Result<(), AllocError>
+    ensures { OnOk result (bytes.new.items ≡ bytes.old.items ++ unsummed_bytes (header_tree header) []) }
+{
+    push_u16(bytes, header.source_port)?;
+    push_u16(bytes, header.destination_port)?;
+    push_u32(bytes, header.verification_tag)?;
+    push_u32(bytes, 0)
+}
+
+/// Writes the word into the checksum's field of a packet.
+#[tactic(auto)]
+fn write_word(bytes: &mut [u8], word: u32)
+    requires { 12 ≤ length bytes.old }
+    ensures { bytes.new ≡ take 8 bytes.old ++ (be32 word ++ drop 12 bytes.old) }
+{
+    bytes[8..12].copy_from_slice(&word.to_be_bytes());
 }
