@@ -1,0 +1,10 @@
+pub mod ValueLemmas
+pub mod FieldLemmas
+pub mod SackLemmas
+pub mod InnerLemmas
+pub mod SkipLemmas
+pub mod PacketLemmas
+pub mod OneChunkLemmas
+pub mod ReadBackLemmas
+pub mod StandsLemmas
+pub mod LawLemmas

@@ -1,0 +1,35 @@
+-- What holds of a chunk that is read back once it was written.
+use Rattle.std.specs.Prelude.{◌≡◌, ◌<◌, true, false, length, All}
+use Rattle.sctp_wire.specs.Serialize.{IsEncodable}
+use Rattle.sctp_wire.specs.ReadBack.{ParameterReadsBack, CauseReadsBack}
+use Rattle.sctp_packet.specs.Chunk.{ChunkTree, data_chunk, init_chunk, init_ack_chunk, sack_chunk, heartbeat_request_chunk, heartbeat_ack_chunk, abort_chunk, shutdown_chunk, shutdown_ack_chunk, error_chunk, cookie_echo_chunk, cookie_ack_chunk, shutdown_complete_chunk, idata_chunk, re_config_chunk, forward_tsn_chunk, i_forward_tsn_chunk, unknown_chunk}
+use Rattle.sctp_packet.specs.Written.{chunk_item, chunk_is_whole, is_known_chunk}
+use Rattle.sctp_packet.specs.Grammar.{FitsChunk}
+
+-- Each item's type is one of its variant, inside too; and a COOKIE ECHO has a cookie.
+abbrev pub IsReadable : ChunkTree → Type 0
+IsReadable (data_chunk tsn immediate f) = Unit {0}
+IsReadable (init_chunk init) = All ParameterReadsBack init.parameters
+IsReadable (init_ack_chunk init) = All ParameterReadsBack init.parameters
+IsReadable (sack_chunk sack) = Unit {0}
+IsReadable (heartbeat_request_chunk parameters) = All ParameterReadsBack parameters
+IsReadable (heartbeat_ack_chunk parameters) = All ParameterReadsBack parameters
+IsReadable (abort_chunk reflected causes) = All CauseReadsBack causes
+IsReadable (shutdown_chunk tsn) = Unit {0}
+IsReadable shutdown_ack_chunk = Unit {0}
+IsReadable (error_chunk causes) = All CauseReadsBack causes
+IsReadable (cookie_echo_chunk cookie) = 0 < length cookie
+IsReadable cookie_ack_chunk = Unit {0}
+IsReadable (shutdown_complete_chunk reflected) = Unit {0}
+IsReadable (idata_chunk tsn immediate f) = Unit {0}
+IsReadable (re_config_chunk parameters) = All ParameterReadsBack parameters
+IsReadable (forward_tsn_chunk tsn skipped) = Unit {0}
+IsReadable (i_forward_tsn_chunk tsn skipped) = Unit {0}
+IsReadable (unknown_chunk typ flags value) = is_known_chunk typ ≡ false
+
+-- the chunk can be written, its numbers fit their fields, and it is readable
+pub record ChunkReadsBack (t : ChunkTree) : Type 0 where
+  pub encodable : IsEncodable (chunk_item t)
+  pub whole : chunk_is_whole t ≡ true
+  pub fits : FitsChunk t
+  pub readable : IsReadable t

@@ -1,0 +1,177 @@
+//! Packets written: chunks one after the other behind a common header, up to a limit.
+
+ghost use Rattle.std.specs.Prelude.{◌≡◌, ◌≢◌, ◌⊎◌, ℕ, ◌+◌, ◌-◌, ◌<◌, ◌≤◌, ◌^◌, ◌==◌, Bool, true, false, if◌then◌else◌, List, [], ◌∷◌, ◌++◌, length, take, drop, IfOk, OnOk, OnErr, IsTrue, ◌↔◌};
+ghost use Rattle.sctp_wire.specs.Fields.{be16, be32};
+ghost use Rattle.sctp_wire.specs.Serialize.{IsEncodable, padded_item};
+ghost use Rattle.sctp_packet.specs.Chunk.{ChunkTree};
+ghost use Rattle.sctp_packet.specs.Written.{chunk_item, chunk_bytes, chunk_is_whole};
+ghost use Rattle.sctp_packet.specs.ChunkView.{chunk_tree};
+ghost use Rattle.sctp_packet.specs.Packet.{HeaderTree, header_bytes, unsummed_bytes, joined_bytes};
+ghost use Rattle.sctp_packet.specs.PacketView.{header_tree};
+ghost use Rattle.sctp_packet.specs.Builder.{BuilderTree, Holds, remaining, so_far, built};
+
+use crate::chunk::Chunk;
+use crate::packet::{COMMON_HEADER_SIZE, CommonHeader};
+use sctp_wire::{SerializableTlv, push_u16, push_u32};
+use std::alloc::{AllocError, Global};
+use std::marker::Model;
+use std::mem;
+
+/// A packet that is being built. Once it is handed out, the builder is empty again.
+#[derive(Drop)]
+pub struct SctpPacketBuilder {
+    alloc: Global,
+    verification_tag: u32,
+    source_port: u16,
+    destination_port: u16,
+    limit: usize,
+    write_checksum: bool,
+    /// Nothing, or the packet so far, its checksum zero.
+    bytes: Vec<u8>,
+}
+
+impl Model for SctpPacketBuilder {
+    ghost use Rattle.sctp_packet.specs.Builder.{BuilderTree};
+
+    ghost Value = { BuilderTree };
+
+    ghost use Rattle.sctp_packet.specs.BuilderView.{builder_tree, IsBuilder};
+
+    ghost view = { builder_tree };
+
+    ghost invariant = { IsBuilder };
+}
+
+impl SctpPacketBuilder {
+    /// An empty builder of packets with at most `limit` bytes. It takes no memory, and its checksum is on.
+    pub fn new(
+        alloc: Global,
+        verification_tag: u32,
+        source_port: u16,
+        destination_port: u16,
+        limit: usize,
+    ) -> SctpPacketBuilder
+        ensures { result ≡ record { header = record { source_port = source_port; destination_port = destination_port;
+            verification_tag = verification_tag }; limit = limit; writes_checksum = true; body = [] } }
+    {
+        SctpPacketBuilder {
+            alloc,
+            verification_tag,
+            source_port,
+            destination_port,
+            limit,
+            write_checksum: true,
+            bytes: Vec::new(alloc),
+        }
+    }
+
+    /// Whether `build` writes its word into the checksum's field; else that field is zero.
+    pub fn write_checksum(&mut self, write_checksum: bool)
+        ensures { self.new ≡ record self.old { writes_checksum = write_checksum } }
+    {
+        self.write_checksum = write_checksum;
+    }
+
+    /// How many bytes of chunks and their padding fit still.
+    pub fn bytes_remaining(&self) -> usize
+        ensures { result ≡ remaining self.now }
+    {
+        if self.bytes.is_empty() {
+            return self.limit.saturating_sub(COMMON_HEADER_SIZE);
+        }
+        self.limit.saturating_sub(self.bytes.len())
+    }
+
+    /// Whether nothing was added.
+    pub fn is_empty(&self) -> bool
+        ensures { IsTrue result ↔ (self.now.body ≡ []) }
+    {
+        self.bytes.is_empty()
+    }
+
+    /// The packet so far, its checksum zero; no bytes where nothing was added.
+    pub fn unsummed(&self) -> &[u8]
+        ensures { result.now ≡ so_far self.now.header self.now.body }
+    {
+        &self.bytes
+    }
+
+    /// Adds a chunk behind those that were added.
+    ///
+    /// The caller sees to it that the chunk can be written (`encodable`) and that its `serialized_size` is at most
+    /// `bytes_remaining`. The first call reserves the limit. Where there is no memory the builder is empty.
+    pub fn add(&mut self, chunk: &Chunk) -> Result<(), AllocError>
+        requires encodable { IsEncodable (chunk_item (chunk_tree chunk.now)) }
+        requires whole { chunk_is_whole (chunk_tree chunk.now) ≡ true }
+        requires fits { length (chunk_bytes (chunk_tree chunk.now)) ≤ remaining self.old }
+        ensures ok { OnOk result (self.new ≡ record self.old { body = self.old.body ++ chunk_bytes (chunk_tree chunk.now) }) }
+        ensures holds { (chunks : List ChunkTree) → Holds self.old chunks
+            → OnOk result (Holds self.new (chunks ++ chunk_tree chunk.now ∷ [])) }
+        ensures err { OnErr result (self.new ≡ record self.old { body = [] }) }
+    {
+        let header = CommonHeader {
+            source_port: self.source_port,
+            destination_port: self.destination_port,
+            verification_tag: self.verification_tag,
+            checksum: 0,
+        };
+        if let Err(e) = push_chunk(&mut self.bytes, header, self.limit, chunk) {
+            self.bytes.clear();
+            return Err(e);
+        }
+        Ok(())
+    }
+
+    /// The packet, with `word` in the checksum's field where the checksum is on; no bytes where nothing was added.
+    /// The builder is empty again.
+    pub fn build(&mut self, word: u32) -> Vec<u8>
+        ensures packet { result.items ≡ built self.old.writes_checksum self.old.header word self.old.body }
+        ensures empty { self.new ≡ record self.old { body = [] } }
+    {
+        let mut bytes = mem::replace(&mut self.bytes, Vec::new(self.alloc));
+        if self.write_checksum && !bytes.is_empty() {
+            write_word(&mut bytes, word);
+        }
+        bytes
+    }
+}
+
+/// Appends a chunk, behind a header where there are no bytes yet.
+#[tactic(auto, unfolding(crate::specs::Written::chunk_bytes))]
+fn push_chunk(
+    bytes: &mut Vec<u8>,
+    header: CommonHeader,
+    limit: usize,
+    chunk: &Chunk,
+) -> Result<(), AllocError>
+    requires encodable { IsEncodable (chunk_item (chunk_tree chunk.now)) }
+    requires whole { chunk_is_whole (chunk_tree chunk.now) ≡ true }
+    ensures first { bytes.old.items ≡ [] → OnOk result (bytes.new.items ≡ unsummed_bytes (header_tree header) (chunk_bytes (chunk_tree chunk.now))) }
+    ensures more { 0 < length bytes.old.items → OnOk result (bytes.new.items ≡ bytes.old.items ++ chunk_bytes (chunk_tree chunk.now)) }
+{
+    if bytes.is_empty() {
+        bytes.reserve_exact(limit)?;
+        push_header(bytes, header)?;
+    }
+    chunk.serialize_to(bytes)
+}
+
+/// Appends a header, its checksum zero.
+#[tactic(auto, unfolding(crate::specs::Packet::unsummed_bytes, crate::specs::Packet::header_bytes))]
+fn push_header(bytes: &mut Vec<u8>, header: CommonHeader) -> Result<(), AllocError>
+    ensures { OnOk result (bytes.new.items ≡ bytes.old.items ++ unsummed_bytes (header_tree header) []) }
+{
+    push_u16(bytes, header.source_port)?;
+    push_u16(bytes, header.destination_port)?;
+    push_u32(bytes, header.verification_tag)?;
+    push_u32(bytes, 0)
+}
+
+/// Writes the word into the checksum's field of a packet.
+#[tactic(auto)]
+fn write_word(bytes: &mut [u8], word: u32)
+    requires { 12 ≤ length bytes.old }
+    ensures { bytes.new ≡ take 8 bytes.old ++ (be32 word ++ drop 12 bytes.old) }
+{
+    bytes[8..12].copy_from_slice(&word.to_be_bytes());
+}

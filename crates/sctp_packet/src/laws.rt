@@ -1,0 +1,44 @@
+//! What holds of the definitions: bytes say one thing, what is read is not refused, and what was built is read back.
+
+ghost use Rattle.std.specs.Prelude.{◌≡◌, ◌≢◌, ℕ, ◌<◌, ◌≤◌, ◌^◌, true, List, length, map, All, Result, IfOk, IfErr, MatchResult};
+ghost use Rattle.sctp_wire.specs.Item.{Item};
+ghost use Rattle.sctp_wire.specs.declared.checksum.Policy.{Policy};
+ghost use Rattle.sctp_packet.specs.declared.packet.PacketParseError.{PacketParseError};
+ghost use Rattle.sctp_packet.specs.declared.packet.SctpPacket.{SctpPacket};
+ghost use Rattle.sctp_packet.specs.Chunk.{ChunkTree};
+ghost use Rattle.sctp_packet.specs.Grammar.{IsChunk, carried};
+ghost use Rattle.sctp_packet.specs.ReadBack.{ChunkReadsBack};
+ghost use Rattle.sctp_packet.specs.Packet.{HeaderTree, PacketTree, IsPacket, FitsHeader, Accepts, Refuses, IsFault, lets_through, packet_bytes};
+ghost use Rattle.sctp_packet.specs.PacketView.{packet_tree};
+
+use crate::packet::PacketParseError;
+
+/// An item stands for at most one chunk.
+pub fn one_chunk()
+    ensures { (i : Item) (t u : ChunkTree) → IsChunk i t → IsChunk i u → t ≡ u }
+{}
+
+/// Bytes are at most one packet.
+pub fn one_packet()
+    ensures { (bytes : List ℕ) (p q : PacketTree) → IsPacket bytes p → IsPacket bytes q → p ≡ q }
+{}
+
+/// What is refused, but for want of memory, is no packet that is accepted; and it is refused for one reason.
+pub fn refused_or_accepted()
+    ensures never_both { (policy : Policy) (word : ℕ) (bytes : List ℕ) (fault : PacketParseError) (p : PacketTree)
+        → IsFault fault → Refuses policy word bytes fault → Accepts policy word bytes p → ⊥ }
+    ensures one_reason { (policy : Policy) (word : ℕ) (bytes : List ℕ) (fault other : PacketParseError)
+        → IsFault fault → IsFault other → Refuses policy word bytes fault → Refuses policy word bytes other → fault ≡ other }
+{}
+
+/// What `build` gives for a list of chunks is read back as this list, with the fields that their kinds do not write at
+/// zero: by every reader whose policy lets the number in the checksum's field through, where there is memory.
+pub fn read_back()
+    ensures { (policy : Policy) (word field : ℕ) (header : HeaderTree) (chunks : List ChunkTree) (answer : Result SctpPacket PacketParseError)
+        → FitsHeader header → field < 2 ^ 32 → All ChunkReadsBack chunks → length (packet_bytes header field chunks) ≤ 65535
+        → lets_through policy word field ≡ true
+        → IfOk answer (λ p. Accepts policy word (packet_bytes header field chunks) (packet_tree p))
+        → IfErr answer (Refuses policy word (packet_bytes header field chunks))
+        → MatchResult answer (λ p. packet_tree p ≡ record { header = header; checksum = field; chunks = map carried chunks })
+            (λ fault. fault ≡ PacketParseError.Memory) }
+{}
