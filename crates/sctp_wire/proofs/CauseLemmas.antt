@@ -2,7 +2,7 @@
 use Rattle.std.proofs.Common.{◌≡◌, ◌≢◌, ℕ, ◌+◌, ◌*◌, ◌^◌, ◌<◌, List, ◌++◌, length, ap, sym, ◌∙◌, arith}
 use Rattle.std.specs.List.{flat_map}
 use Rattle.std.proofs.lemmas.List.{length-append}
-use Rattle.sctp_serial.specs.declared.types.tsn.Tsn.{Tsn}
+use Rattle.sctp_serial.specs.declared.serial.Tsn.{Tsn}
 use Rattle.sctp_wire.specs.Fields.{be16, be32, length_be16, length_be32}
 use Rattle.sctp_wire.specs.Cause.{cause_value, missing_mandatory_parameter, no_user_data}
 use Rattle.sctp_wire.proofs.SerializeLemmas.{length_entries}
@@ -35,3 +35,6 @@ all_counted value rest types count e len f =
 
 pub count_fits : (rest types : List ℕ) (count : ℕ) → count < 2 ^ 32 → length rest ≡ 2 * count → rest ≡ flat_map be16 types → length types < 2 ^ 32
 count_fits rest types count fits len f = omega (arith, ap length f, length_entries be16 2 length_be16 types)
+
+pub few_types : (types : List ℕ) → 4 + length (cause_value (missing_mandatory_parameter types)) < 2 ^ 16 → length types < 2 ^ 32
+few_types types fits = omega (arith, length_missing types)

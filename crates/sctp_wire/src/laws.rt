@@ -5,13 +5,14 @@ ghost use Rattle.std.specs.List.{flat_map};
 ghost use Rattle.sctp_wire.specs.declared.error.ChunkParseError.{ChunkParseError};
 ghost use Rattle.sctp_wire.specs.Item.{Item, Tiles};
 ghost use Rattle.sctp_wire.specs.Refusal.{BreaksAs};
-ghost use Rattle.sctp_wire.specs.Serialize.{inner_items, padded_item};
+ghost use Rattle.sctp_wire.specs.Serialize.{IsEncodable, inner_items, padded_item};
 ghost use Rattle.sctp_wire.specs.Parameter.{ParameterTree, ParameterFits, IsParameter, RefusesParameter, parameter_item};
-ghost use Rattle.sctp_wire.specs.Cause.{CauseTree, IsCause, RefusesCause, cause_item};
-ghost use Rattle.sctp_wire.specs.ReadBack.{ParameterReadsBack, CauseReadsBack};
+ghost use Rattle.sctp_wire.specs.Cause.{CauseTree, CauseFits, IsCause, RefusesCause, cause_item};
+ghost use Rattle.sctp_wire.specs.ReadBack.{ParameterReadsBack, CauseReadsBack, IsText};
 ghost use Rattle.sctp_wire.specs.ParameterViews.{parameter_tree};
+ghost use Rattle.sctp_wire.specs.CauseViews.{cause_tree};
 
-use crate::{ChunkParseError, Parameter};
+use crate::{ChunkParseError, ErrorCause, Parameter};
 use sctp_serial::{StreamId, Tsn};
 
 /// Parameters that are written one after the other, each with its padding, are read back as the same, whatever follows.
@@ -72,6 +73,38 @@ pub fn parameter_fits(parameter: &Parameter)
         | Parameter::SupportedExtensions(_)
         | Parameter::ForwardTsnSupported(_)
         | Parameter::Unknown(_) => {}
+    }
+}
+
+/// The numbers of a cause fit their fields, and its text is UTF-8, as their types say.
+#[tactic(auto, using(crate::proofs::CauseLemmas::few_types))]
+pub fn cause_fits(cause: &ErrorCause)
+    requires { IsEncodable (cause_item (cause_tree cause.now)) }
+    ensures fits { CauseFits (cause_tree cause.now) }
+    ensures text { IsText (cause_tree cause.now) }
+{
+    match cause {
+        ErrorCause::MissingMandatoryParameter(missing) => {
+            types_fit(&missing.missing_parameter_types);
+        }
+        ErrorCause::NoUserData(cause) => number_fits(cause.tsn.0),
+        ErrorCause::UserInitiatedAbort(cause) => {
+            let _ = cause.reason.as_str();
+        }
+        ErrorCause::ProtocolViolation(cause) => {
+            let _ = cause.information.as_str();
+        }
+        ErrorCause::UnrecognizedChunk(_)
+        | ErrorCause::CookieReceivedWhileShuttingDown(_)
+        | ErrorCause::Unknown(_) => {}
+    }
+}
+
+fn types_fit(types: &[u16])
+    ensures { All (λ typ. typ < 2 ^ 16) types.now }
+{
+    for typ in types {
+        id_fits(*typ);
     }
 }
 

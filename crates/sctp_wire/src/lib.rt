@@ -30,8 +30,9 @@ pub use field::{
 };
 pub use item::{RawItem, RawParameter, one_item};
 pub use laws::{
-    cause_is_not_refused, causes_read_back, one_cause, one_list_of_causes, one_list_of_parameters,
-    one_parameter, parameter_fits, parameter_is_not_refused, parameters_read_back,
+    cause_fits, cause_is_not_refused, causes_read_back, one_cause, one_list_of_causes,
+    one_list_of_parameters, one_parameter, parameter_fits, parameter_is_not_refused,
+    parameters_read_back,
 };
 pub use parameter::{
     ForwardTsnSupportedParameter, HeartbeatInfoParameter, StateCookieParameter,
