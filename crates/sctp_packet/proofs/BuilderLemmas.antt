@@ -1,10 +1,11 @@
 -- Packets that are being built.
-use Rattle.std.proofs.Common.{◌≡◌, ◌≢◌, ℕ, ◌+◌, ◌-◌, ◌<◌, ◌≤◌, ◌==◌, Bool, true, false, cond, List, [], ◌∷◌, ◌++◌, length, take, drop, refl, sym, ap, subst, ◌∙◌, append_assoc, arith}
+use Rattle.std.proofs.Common.{◌≡◌, ◌≢◌, ℕ, ◌+◌, ◌-◌, ◌^◌, min, ◌<◌, ◌≤◌, ◌==◌, Bool, true, false, cond, List, [], ◌∷◌, ◌++◌, length, take, drop, refl, sym, ap, subst, ◌∙◌, append_assoc, arith}
 use Rattle.std.specs.List.{flat_map}
 use Rattle.std.proofs.lemmas.List.{append-nil, length-append, length-take, length-drop, drop_at, take_at}
 use Rattle.std.proofs.lemmas.List.Concat.{flat_map-cons}
 use Rattle.std.proofs.lemmas.Bool.{eqb-true}
 use Rattle.sctp_wire.specs.Fields.{be16, be32, length_be32}
+use Rattle.sctp_wire.specs.Serialize.{IsEncodable, padded_item}
 use Rattle.sctp_wire.proofs.SerializeLemmas.{length_padded_item}
 use Rattle.sctp_packet.specs.Chunk.{ChunkTree}
 use Rattle.sctp_packet.specs.Written.{chunk_item, chunk_bytes, chunks_bytes}
@@ -152,3 +153,7 @@ unfolding chunks_bytes packet_bytes
 built_is_packet summed h word t chunks =
     built_some summed h word (chunks_bytes (t ∷ chunks))
       (omega (arith, ap length (flat_map-cons chunk_bytes t chunks), length-append (chunk_bytes t) (flat_map chunk_bytes chunks), chunk_is_some t))
+
+pub size_of_chunk : (t : ChunkTree) (size : ℕ) → IsEncodable (chunk_item t) → size ≡ min (length (padded_item (chunk_item t))) (2 ^ 64 - 1) → size ≡ length (chunk_bytes t)
+unfolding chunk_bytes
+size_of_chunk t size small e = omega (arith, e, small, length_padded_item (chunk_item t))

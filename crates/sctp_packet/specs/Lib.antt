@@ -10,3 +10,5 @@ pub mod Faults
 pub mod BuilderView
 pub mod ReadBack
 pub mod ChunkView
+pub mod ChunkText
+pub mod Blocks

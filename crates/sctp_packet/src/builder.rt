@@ -97,7 +97,6 @@ impl SctpPacketBuilder {
     }
 
     /// Whether the chunk can be written and fits: then it may be added.
-    #[tactic(auto, unfolding(crate::specs::Written::chunk_bytes))]
     pub fn fits(&self, chunk: &Chunk) -> bool
         ensures encodable { IsTrue result → IsEncodable (chunk_item (chunk_tree chunk.now)) }
         ensures whole { IsTrue result → chunk_is_whole (chunk_tree chunk.now) ≡ true }
@@ -105,7 +104,7 @@ impl SctpPacketBuilder {
         ensures test { result ≡ (is_encodable (chunk_item (chunk_tree chunk.now)) (chunk_is_whole (chunk_tree chunk.now))
             && nat_le (length (chunk_bytes (chunk_tree chunk.now))) (remaining self.now)) }
     {
-        chunk.encodable() && chunk.serialized_size() <= self.bytes_remaining()
+        chunk.encodable() && has_room(chunk, self.bytes_remaining())
     }
 
     /// Adds a chunk behind those that were added.
@@ -147,6 +146,15 @@ impl SctpPacketBuilder {
         }
         bytes
     }
+}
+
+/// Whether the chunk's bytes are at most so many.
+fn has_room(chunk: &Chunk, room: usize) -> bool
+    requires { IsEncodable (chunk_item (chunk_tree chunk.now)) }
+    ensures { result ≡ nat_le (length (chunk_bytes (chunk_tree chunk.now))) room }
+{
+    let size = chunk.serialized_size();
+    size <= room
 }
 
 /// Appends a chunk, behind a header where there are no bytes yet.

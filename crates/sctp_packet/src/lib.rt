@@ -6,6 +6,7 @@ mod chunk;
 mod cookie;
 mod data;
 mod error;
+mod flags;
 mod forward_tsn;
 mod heartbeat;
 mod init;
