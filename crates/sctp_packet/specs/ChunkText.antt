@@ -7,7 +7,7 @@ use Rattle.sctp_packet.specs.declared.sack.GapAckBlock.{GapAckBlock}
 use Rattle.sctp_packet.specs.declared.forward_tsn.SkippedStream.{SkippedStream}
 use Rattle.sctp_packet.specs.declared.forward_tsn.SkippedStream.TheVariants as skips
 use Rattle.sctp_packet.specs.Chunk.{ChunkTree, FragmentTree, InitTree, SackTree, data_chunk, init_chunk, init_ack_chunk, sack_chunk, heartbeat_request_chunk, heartbeat_ack_chunk, abort_chunk, shutdown_chunk, shutdown_ack_chunk, error_chunk, cookie_echo_chunk, cookie_ack_chunk, shutdown_complete_chunk, idata_chunk, re_config_chunk, forward_tsn_chunk, i_forward_tsn_chunk, unknown_chunk}
-use Rattle.sctp_packet.specs.Written.{key_stream}
+use Rattle.sctp_packet.specs.Written.{key_stream, ppid_or_fsn}
 
 abbrev pub letter : Bool → List ℕ → List ℕ
 letter is_set text = if is_set then text else []
@@ -38,15 +38,15 @@ init_text name t = shown name (field (codes "initiate_tag") (decimal t.initiate_
     ∷ field (codes "initial_tsn") (decimal t.initial_tsn) ∷ field (codes "parameters") (decimal (length t.parameters)) ∷ [])
 
 -- a beginning shows its protocol, any other fragment its number
-abbrev pub ppid_or_fsn_field : FragmentTree → FieldText
-ppid_or_fsn_field f = if f.is_beginning then field (codes "ppid") (decimal f.ppid) else field (codes "fsn") (decimal f.fsn)
+abbrev pub ppid_or_fsn_name : Bool → List ℕ
+ppid_or_fsn_name beginning = if beginning then codes "ppid" else codes "fsn"
 
 unfoldable pub chunk_text : ChunkTree → List ℕ
 chunk_text (data_chunk tsn immediate f) = shown (codes "DATA") (field (codes "tsn") (decimal tsn) ∷ field (codes "stream_key") (decimal f.stream_id)
     ∷ field (codes "ssn") (decimal f.ssn) ∷ field (codes "ppid") (decimal f.ppid) ∷ field (codes "payload") (bytes_text f.payload) ∷ [])
     ++ fragment_flags_text immediate f.is_unordered f.is_beginning f.is_end
 chunk_text (idata_chunk tsn immediate f) = shown (codes "I-DATA") (field (codes "tsn") (decimal tsn) ∷ field (codes "stream_key") (decimal f.stream_id)
-    ∷ field (codes "mid") (decimal f.mid) ∷ ppid_or_fsn_field f ∷ field (codes "payload") (bytes_text f.payload) ∷ [])
+    ∷ field (codes "mid") (decimal f.mid) ∷ field (ppid_or_fsn_name f.is_beginning) (decimal (ppid_or_fsn f)) ∷ field (codes "payload") (bytes_text f.payload) ∷ [])
     ++ fragment_flags_text immediate f.is_unordered f.is_beginning f.is_end
 chunk_text (init_chunk t) = init_text (codes "INIT") t
 chunk_text (init_ack_chunk t) = init_text (codes "INIT ACK") t

@@ -11,4 +11,3 @@ pub mod BuilderView
 pub mod ReadBack
 pub mod ChunkView
 pub mod ChunkText
-pub mod Blocks
