@@ -7,4 +7,5 @@ pub mod PacketLemmas
 pub mod OneChunkLemmas
 pub mod ReadBackLemmas
 pub mod StandsLemmas
+pub mod BuilderLemmas
 pub mod LawLemmas

@@ -3,6 +3,9 @@ use Rattle.std.proofs.Common.{◌≡◌, ℕ, ◌+◌, ◌*◌, Bool, List, [], 
 use Rattle.std.specs.List.{flat_map}
 use Rattle.std.proofs.lemmas.List.{length-append}
 use Rattle.sctp_serial.specs.declared.types.tsn.Tsn.{Tsn}
+use Rattle.sctp_serial.specs.declared.types.StreamKey.{StreamKey}
+use Rattle.sctp_serial.specs.declared.types.StreamKey.TheVariants as keys
+use Rattle.sctp_serial.specs.Keys.{stream_of}
 use Rattle.sctp_wire.specs.Fields.{be16, be32, length_be32}
 use Rattle.sctp_wire.specs.Serialize.{inner_items}
 use Rattle.sctp_wire.specs.Parameter.{parameter_item}
@@ -10,7 +13,7 @@ use Rattle.sctp_wire.proofs.SerializeLemmas.{length_entries}
 use Rattle.sctp_packet.specs.declared.sack.GapAckBlock.{GapAckBlock}
 use Rattle.sctp_packet.specs.declared.forward_tsn.SkippedStream.{SkippedStream}
 use Rattle.sctp_packet.specs.Chunk.{FragmentTree, InitTree, SackTree, data_chunk, idata_chunk, init_chunk, init_ack_chunk, sack_chunk, shutdown_chunk, forward_tsn_chunk, i_forward_tsn_chunk}
-use Rattle.sctp_packet.specs.Written.{chunk_value, data_value, idata_value, init_fields, sack_value, forward_value, skip_bytes, block_bytes, length_block_bytes, tsn_bytes}
+use Rattle.sctp_packet.specs.Written.{chunk_value, data_value, idata_value, init_fields, sack_value, forward_value, skip_bytes, key_stream, block_bytes, length_block_bytes, tsn_bytes}
 
 pub length_data : (tsn : ℕ) (i : Bool) (f : FragmentTree) → length (chunk_value (data_chunk tsn i f)) ≡ 12 + length f.payload
 unfolding chunk_value data_value be16 be32
@@ -53,3 +56,8 @@ length_forward tsn skipped = omega arith
 pub length_i_forward : (tsn : ℕ) (skipped : List SkippedStream) → length (chunk_value (i_forward_tsn_chunk tsn skipped)) ≡ 4 + length (flat_map skip_bytes skipped)
 unfolding chunk_value forward_value be32
 length_i_forward tsn skipped = omega arith
+
+-- the stream of a key
+pub key_id : (key : StreamKey) → (stream_of key).0 ≡ key_stream key
+key_id (keys.Ordered id) = refl
+key_id (keys.Unordered id) = refl

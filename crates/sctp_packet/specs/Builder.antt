@@ -28,7 +28,8 @@ abbrev pub built : Bool → HeaderTree → ℕ → List ℕ → List ℕ
 built summed h word [] = []
 built summed h word (b ∷ body) = joined_bytes h (if summed then word else 0) (b ∷ body)
 
--- the bytes are none, or a packet so far with something in it
-pub record HasPacket (h : HeaderTree) (bytes : List ℕ) : Type 0 where
+-- the bytes are none, or a packet so far with something in it, up to the limit
+pub record HasPacket (h : HeaderTree) (limit : ℕ) (bytes : List ℕ) : Type 0 where
   pub more_than_header : 0 < length bytes → 12 < length bytes
   pub packet : 0 < length bytes → bytes ≡ unsummed_bytes h (drop 12 bytes)
+  pub fits : 0 < length bytes → length bytes ≤ limit

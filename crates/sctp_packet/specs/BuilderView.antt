@@ -11,4 +11,4 @@ abbrev pub builder_tree : Inside → BuilderTree
 builder_tree b = record { header = builder_header b; limit = b.limit; writes_checksum = b.write_checksum; body = drop 12 b.bytes.items }
 
 abbrev pub IsBuilder : Inside → Type 0
-IsBuilder b = HasPacket (builder_header b) b.bytes.items
+IsBuilder b = HasPacket (builder_header b) b.limit b.bytes.items

@@ -10,3 +10,4 @@ pub mod Faults
 pub mod BuilderView
 pub mod ReadBack
 pub mod ChunkView
+pub mod ChunkText

@@ -1,8 +1,8 @@
 //! Packets written: chunks one after the other behind a common header, up to a limit.
 
-ghost use Rattle.std.specs.Prelude.{◌≡◌, ◌≢◌, ◌⊎◌, ℕ, ◌+◌, ◌-◌, ◌<◌, ◌≤◌, ◌^◌, ◌==◌, Bool, true, false, if◌then◌else◌, List, [], ◌∷◌, ◌++◌, length, take, drop, IfOk, OnOk, OnErr, IsTrue, ◌↔◌};
+ghost use Rattle.std.specs.Prelude.{◌≡◌, ◌≢◌, ◌⊎◌, ℕ, ◌+◌, ◌-◌, ◌<◌, ◌≤◌, ◌^◌, ◌==◌, ◌&&◌, nat_le, Bool, true, false, if◌then◌else◌, List, [], ◌∷◌, ◌++◌, length, take, drop, IfOk, OnOk, OnErr, IsTrue, ◌↔◌};
 ghost use Rattle.sctp_wire.specs.Fields.{be16, be32};
-ghost use Rattle.sctp_wire.specs.Serialize.{IsEncodable, padded_item};
+ghost use Rattle.sctp_wire.specs.Serialize.{IsEncodable, is_encodable, padded_item};
 ghost use Rattle.sctp_packet.specs.Chunk.{ChunkTree};
 ghost use Rattle.sctp_packet.specs.Written.{chunk_item, chunk_bytes, chunk_is_whole};
 ghost use Rattle.sctp_packet.specs.ChunkView.{chunk_tree};
@@ -96,6 +96,17 @@ impl SctpPacketBuilder {
         &self.bytes
     }
 
+    /// Whether the chunk can be written and fits: then it may be added.
+    pub fn fits(&self, chunk: &Chunk) -> bool
+        ensures encodable { IsTrue result → IsEncodable (chunk_item (chunk_tree chunk.now)) }
+        ensures whole { IsTrue result → chunk_is_whole (chunk_tree chunk.now) ≡ true }
+        ensures fits { IsTrue result → length (chunk_bytes (chunk_tree chunk.now)) ≤ remaining self.now }
+        ensures test { result ≡ (is_encodable (chunk_item (chunk_tree chunk.now)) (chunk_is_whole (chunk_tree chunk.now))
+            && nat_le (length (chunk_bytes (chunk_tree chunk.now))) (remaining self.now)) }
+    {
+        chunk.encodable() && has_room(chunk, self.bytes_remaining())
+    }
+
     /// Adds a chunk behind those that were added.
     ///
     /// The caller sees to it that the chunk can be written (`encodable`) and that its `serialized_size` is at most
@@ -126,6 +137,7 @@ impl SctpPacketBuilder {
     /// The builder is empty again.
     pub fn build(&mut self, word: u32) -> Vec<u8>
         ensures packet { result.items ≡ built self.old.writes_checksum self.old.header word self.old.body }
+        ensures short { length result.items ≤ self.old.limit }
         ensures empty { self.new ≡ record self.old { body = [] } }
     {
         let mut bytes = mem::replace(&mut self.bytes, Vec::new(self.alloc));
@@ -134,6 +146,15 @@ impl SctpPacketBuilder {
         }
         bytes
     }
+}
+
+/// Whether the chunk's bytes are at most so many.
+fn has_room(chunk: &Chunk, room: usize) -> bool
+    requires { IsEncodable (chunk_item (chunk_tree chunk.now)) }
+    ensures { result ≡ nat_le (length (chunk_bytes (chunk_tree chunk.now))) room }
+{
+    let size = chunk.serialized_size();
+    size <= room
 }
 
 /// Appends a chunk, behind a header where there are no bytes yet.

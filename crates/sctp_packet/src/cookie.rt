@@ -4,10 +4,13 @@ ghost use Rattle.std.specs.Prelude.{◌≡◌, ◌+◌, ◌^◌, ◌-◌, min, t
 ghost use Rattle.sctp_packet.specs.Written.{chunk_item};
 ghost use Rattle.sctp_packet.specs.Grammar.{IsChunk, RefusesChunkAs};
 ghost use Rattle.sctp_packet.specs.Views.{raw_chunk, cookie_echo_tree, cookie_ack_tree};
+ghost use Rattle.std.specs.Prelude.{Some};
+ghost use Rattle.sctp_packet.specs.ChunkText.{chunk_text};
 
 use crate::raw::RawChunk;
 use sctp_wire::{ChunkParseError, SerializableTlv, ends_here};
 use std::alloc::{AllocError, Global};
+use std::fmt;
 
 /// The cookie of an INIT ACK, sent back.
 #[derive(Debug, Drop)]
@@ -96,5 +99,27 @@ impl SerializableTlv for CookieAckChunk {
 
     fn push_value(&self, _output: &mut Vec<u8>) -> Result<(), AllocError> {
         Ok(())
+    }
+}
+
+#[tactic(auto, unfolding(crate::specs::ChunkText::chunk_text))]
+impl fmt::Display for CookieEchoChunk {
+    ghost output = { λ c. Some (chunk_text (cookie_echo_tree c)) };
+
+    fn fmt<W: fmt::Write>(&self, f: &mut fmt::Formatter<W>) -> fmt::Result {
+        write!(
+            f,
+            "COOKIE ECHO, cookie={} bytes",
+            self.cookie.len()
+        )
+    }
+}
+
+#[tactic(auto, unfolding(crate::specs::ChunkText::chunk_text))]
+impl fmt::Display for CookieAckChunk {
+    ghost output = { λ c. Some (chunk_text (cookie_ack_tree c)) };
+
+    fn fmt<W: fmt::Write>(&self, f: &mut fmt::Formatter<W>) -> fmt::Result {
+        write!(f, "COOKIE ACK")
     }
 }

@@ -4,11 +4,15 @@ ghost use Rattle.std.specs.Prelude.{◌≡◌, ℕ, ◌+◌, ◌^◌, ◌-◌, m
 ghost use Rattle.sctp_packet.specs.Written.{chunk_item, chunk_value, data_value, idata_value, fragment_flags, ppid_or_fsn, flag, key_stream};
 ghost use Rattle.sctp_packet.specs.Grammar.{IsChunk, RefusesChunkAs};
 ghost use Rattle.sctp_packet.specs.Views.{raw_chunk, fragment_tree, data_chunk_tree, idata_chunk_tree, is_unordered_key};
+ghost use Rattle.std.specs.Prelude.{Some};
+ghost use Rattle.sctp_packet.specs.ChunkText.{chunk_text};
 
+use crate::flags::FragmentFlags;
 use crate::raw::RawChunk;
 use sctp_serial::{Fsn, Mid, PpId, Ssn, StreamId, StreamKey, Tsn};
 use sctp_wire::{ChunkParseError, SerializableTlv, push_u16, push_u32, u16_at, u32_at};
 use std::alloc::{AllocError, Global};
+use std::fmt;
 
 const FLAG_IMMEDIATE: u8 = 8;
 const FLAG_UNORDERED: u8 = 4;
@@ -60,6 +64,18 @@ impl Data {
             + ((if is_unordered { FLAG_UNORDERED } else { 0 })
                 + ((if self.is_beginning { FLAG_BEGINNING } else { 0 })
                     + (if self.is_end { FLAG_END } else { 0 })))
+    }
+
+    /// The flags as they are shown.
+    fn shown_flags(&self, immediate: bool) -> FragmentFlags
+        ensures { result ≡ record { immediate = immediate; unordered = (fragment_tree self.now).is_unordered; beginning = self.now.is_beginning; end = self.now.is_end } }
+    {
+        FragmentFlags {
+            immediate,
+            unordered: is_unordered(self.stream_key),
+            beginning: self.is_beginning,
+            end: self.is_end,
+        }
     }
 
     /// What stands in the field that I-DATA has for both.
@@ -234,5 +250,23 @@ impl SerializableTlv for IDataChunk {
         push_u32(output, self.data.mid.0)?;
         push_u32(output, self.data.ppid_or_fsn())?;
         output.extend_from_slice(&self.data.payload)
+    }
+}
+
+#[tactic(auto, unfolding(crate::specs::ChunkText::chunk_text))]
+impl fmt::Display for DataChunk {
+    ghost output = { λ c. Some (chunk_text (data_chunk_tree c)) };
+
+    fn fmt<W: fmt::Write>(&self, f: &mut fmt::Formatter<W>) -> fmt::Result {
+        write!(
+            f,
+            "DATA, tsn={}, stream_key={}, ssn={}, ppid={}, payload={} bytes{}",
+            self.tsn.0,
+            self.data.stream_key.id().0,
+            self.data.ssn.0,
+            self.data.ppid.0,
+            self.data.payload.len(),
+            self.data.shown_flags(self.immediate_ack)
+        )
     }
 }

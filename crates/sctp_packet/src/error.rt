@@ -5,11 +5,15 @@ ghost use Rattle.sctp_packet.specs.Written.{chunk_item, chunk_is_whole};
 ghost use Rattle.sctp_packet.specs.Grammar.{IsChunk, RefusesChunkAs};
 ghost use Rattle.sctp_packet.specs.Written.{reflected_flag, flag};
 ghost use Rattle.sctp_packet.specs.Views.{raw_chunk, abort_tree, error_tree};
+ghost use Rattle.std.specs.Prelude.{Some};
+ghost use Rattle.sctp_packet.specs.ChunkText.{chunk_text};
 
 use crate::inner::{causes_size, push_causes};
+use crate::flags::reflected_text;
 use crate::raw::RawChunk;
 use sctp_wire::{ChunkParseError, ErrorCause, SerializableTlv, error_cause_from_bytes};
 use std::alloc::{AllocError, Global};
+use std::fmt;
 
 const FLAG_REFLECTED: u8 = 1;
 
@@ -103,5 +107,32 @@ impl SerializableTlv for ErrorChunk {
 
     fn push_value(&self, output: &mut Vec<u8>) -> Result<(), AllocError> {
         push_causes(&self.error_causes, output)
+    }
+}
+
+#[tactic(auto, unfolding(crate::specs::ChunkText::chunk_text))]
+impl fmt::Display for AbortChunk {
+    ghost output = { λ c. Some (chunk_text (abort_tree c)) };
+
+    fn fmt<W: fmt::Write>(&self, f: &mut fmt::Formatter<W>) -> fmt::Result {
+        write!(
+            f,
+            "ABORT, error_causes={}{}",
+            self.error_causes.len(),
+            reflected_text(self.tag_reflected)
+        )
+    }
+}
+
+#[tactic(auto, unfolding(crate::specs::ChunkText::chunk_text))]
+impl fmt::Display for ErrorChunk {
+    ghost output = { λ c. Some (chunk_text (error_tree c)) };
+
+    fn fmt<W: fmt::Write>(&self, f: &mut fmt::Formatter<W>) -> fmt::Result {
+        write!(
+            f,
+            "ERROR, error_causes={}",
+            self.error_causes.len()
+        )
     }
 }

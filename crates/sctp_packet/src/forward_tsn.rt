@@ -6,11 +6,15 @@ ghost use Rattle.sctp_packet.specs.Written.{chunk_item, chunk_is_whole, skip_byt
 ghost use Rattle.sctp_packet.specs.Grammar.{IsChunk, RefusesChunkAs};
 ghost use Rattle.sctp_packet.specs.Views.{raw_chunk, forward_tsn_tree, i_forward_tsn_tree};
 ghost use Rattle.sctp_packet.specs.Grammar.{Each, FitsSkip, SaysSkip, SaysSkips};
+ghost use Rattle.std.specs.Prelude.{Some};
+ghost use Rattle.sctp_packet.specs.ChunkText.{chunk_text, skip_text};
+ghost use Rattle.std.proofs.Common.{refl};
 
 use crate::raw::RawChunk;
 use sctp_serial::{Mid, Ssn, StreamId, StreamKey, Tsn};
-use sctp_wire::{ChunkParseError, SerializableTlv, push_u16, push_u32, u16_at, u32_at};
+use sctp_wire::{Joined, Listed, ChunkParseError, SerializableTlv, push_u16, push_u32, u16_at, u32_at};
 use std::alloc::{AllocError, Global};
+use std::fmt;
 
 const FLAG_UNORDERED: u16 = 1;
 
@@ -287,4 +291,49 @@ impl SerializableTlv for IForwardTsnChunk {
         push_u32(output, self.new_cumulative_tsn.0)?;
         push_skips(&self.skipped_streams, output)
     }
+}
+
+#[tactic(auto, unfolding(crate::specs::ChunkText::chunk_text))]
+impl fmt::Display for ForwardTsnChunk {
+    ghost output = { λ c. Some (chunk_text (forward_tsn_tree c)) };
+
+    fn fmt<W: fmt::Write>(&self, f: &mut fmt::Formatter<W>) -> fmt::Result {
+        write!(
+            f,
+            "FORWARD-TSN, new_cumulative_tsn={}, skipped_streams={}",
+            self.new_cumulative_tsn.0,
+            Joined(&self.skipped_streams)
+        )
+    }
+}
+
+#[tactic(auto, unfolding(crate::specs::ChunkText::chunk_text))]
+impl fmt::Display for IForwardTsnChunk {
+    ghost output = { λ c. Some (chunk_text (i_forward_tsn_tree c)) };
+
+    fn fmt<W: fmt::Write>(&self, f: &mut fmt::Formatter<W>) -> fmt::Result {
+        write!(
+            f,
+            "I-FORWARD-TSN, new_cumulative_tsn={}, skipped_streams={}",
+            self.new_cumulative_tsn.0,
+            Joined(&self.skipped_streams)
+        )
+    }
+}
+
+impl fmt::Display for SkippedStream {
+    ghost output = { λ s. Some (skip_text s) };
+
+    fn fmt<W: fmt::Write>(&self, f: &mut fmt::Formatter<W>) -> fmt::Result {
+        match self {
+            SkippedStream::ForwardTsn(id, ssn) => write!(f, "{}-{}", id.0, ssn.0),
+            SkippedStream::IForwardTsn(key, mid) => write!(f, "{}-{}", key.id().0, mid.0),
+        }
+    }
+}
+
+impl Listed for SkippedStream {
+    ghost text = { skip_text };
+
+    ghost shows = { λ s. refl };
 }

@@ -4,11 +4,14 @@ ghost use Rattle.std.specs.Prelude.{◌≡◌, ◌⊎◌, ◌+◌, ◌^◌, ◌-
 ghost use Rattle.sctp_packet.specs.Written.{chunk_item, chunk_is_whole};
 ghost use Rattle.sctp_packet.specs.Grammar.{IsChunk, RefusesChunkAs};
 ghost use Rattle.sctp_packet.specs.Views.{raw_chunk, heartbeat_request_tree, heartbeat_ack_tree};
+ghost use Rattle.std.specs.Prelude.{Some};
+ghost use Rattle.sctp_packet.specs.ChunkText.{chunk_text};
 
 use crate::inner::{are_whole, parameters_size, push_parameters};
 use crate::raw::RawChunk;
 use sctp_wire::{ChunkParseError, Parameter, SerializableTlv, parameters_from_bytes};
 use std::alloc::{AllocError, Global};
+use std::fmt;
 
 /// A request to send the parameters back.
 #[derive(Debug, Drop)]
@@ -99,5 +102,31 @@ impl SerializableTlv for HeartbeatAckChunk {
 
     fn push_value(&self, output: &mut Vec<u8>) -> Result<(), AllocError> {
         push_parameters(&self.parameters, output)
+    }
+}
+
+#[tactic(auto, unfolding(crate::specs::ChunkText::chunk_text))]
+impl fmt::Display for HeartbeatRequestChunk {
+    ghost output = { λ c. Some (chunk_text (heartbeat_request_tree c)) };
+
+    fn fmt<W: fmt::Write>(&self, f: &mut fmt::Formatter<W>) -> fmt::Result {
+        write!(
+            f,
+            "HEARTBEAT, parameters={}",
+            self.parameters.len()
+        )
+    }
+}
+
+#[tactic(auto, unfolding(crate::specs::ChunkText::chunk_text))]
+impl fmt::Display for HeartbeatAckChunk {
+    ghost output = { λ c. Some (chunk_text (heartbeat_ack_tree c)) };
+
+    fn fmt<W: fmt::Write>(&self, f: &mut fmt::Formatter<W>) -> fmt::Result {
+        write!(
+            f,
+            "HEARTBEAT ACK, parameters={}",
+            self.parameters.len()
+        )
     }
 }

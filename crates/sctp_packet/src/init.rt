@@ -6,6 +6,8 @@ ghost use Rattle.sctp_packet.specs.Grammar.{IsChunk, RefusesChunkAs};
 ghost use Rattle.sctp_packet.specs.Written.{init_fields};
 ghost use Rattle.sctp_packet.specs.Views.{raw_chunk, init_chunk_tree, init_ack_chunk_tree, init_tree, init_ack_tree};
 ghost use Rattle.sctp_packet.specs.InitFront.{init_front, FitsFront};
+ghost use Rattle.std.specs.Prelude.{Some};
+ghost use Rattle.sctp_packet.specs.ChunkText.{chunk_text};
 
 use crate::inner::{are_whole, parameters_size, push_parameters};
 use crate::raw::RawChunk;
@@ -14,6 +16,7 @@ use sctp_wire::{
     ChunkParseError, Parameter, SerializableTlv, parameters_from_bytes, push_u16, push_u32, u16_at, u32_at,
 };
 use std::alloc::{AllocError, Global};
+use std::fmt;
 
 /// The fields that both begin with.
 #[derive(Clone, Copy)]
@@ -209,5 +212,41 @@ impl SerializableTlv for InitAckChunk {
     fn push_value(&self, output: &mut Vec<u8>) -> Result<(), AllocError> {
         self.fields().push_to(output)?;
         push_parameters(&self.parameters, output)
+    }
+}
+
+#[tactic(auto, unfolding(crate::specs::ChunkText::chunk_text))]
+impl fmt::Display for InitChunk {
+    ghost output = { λ c. Some (chunk_text (init_chunk_tree c)) };
+
+    fn fmt<W: fmt::Write>(&self, f: &mut fmt::Formatter<W>) -> fmt::Result {
+        write!(
+            f,
+            "INIT, initiate_tag={}, a_rwnd={}, nbr_outbound_streams={}, nbr_inbound_streams={}, initial_tsn={}, parameters={}",
+            self.initiate_tag,
+            self.a_rwnd,
+            self.nbr_outbound_streams,
+            self.nbr_inbound_streams,
+            self.initial_tsn.0,
+            self.parameters.len()
+        )
+    }
+}
+
+#[tactic(auto, unfolding(crate::specs::ChunkText::chunk_text))]
+impl fmt::Display for InitAckChunk {
+    ghost output = { λ c. Some (chunk_text (init_ack_chunk_tree c)) };
+
+    fn fmt<W: fmt::Write>(&self, f: &mut fmt::Formatter<W>) -> fmt::Result {
+        write!(
+            f,
+            "INIT ACK, initiate_tag={}, a_rwnd={}, nbr_outbound_streams={}, nbr_inbound_streams={}, initial_tsn={}, parameters={}",
+            self.initiate_tag,
+            self.a_rwnd,
+            self.nbr_outbound_streams,
+            self.nbr_inbound_streams,
+            self.initial_tsn.0,
+            self.parameters.len()
+        )
     }
 }

@@ -1,6 +1,6 @@
 //! What holds of the definitions: bytes say one thing, what is read is not refused, and what was built is read back.
 
-ghost use Rattle.std.specs.Prelude.{◌≡◌, ◌≢◌, ℕ, ◌<◌, ◌≤◌, ◌^◌, true, List, length, map, All, Result, IfOk, IfErr, MatchResult};
+ghost use Rattle.std.specs.Prelude.{◌≡◌, ◌≢◌, ℕ, ◌<◌, ◌≤◌, ◌^◌, Bool, true, if◌then◌else◌, List, ◌∷◌, length, map, All, Result, IfOk, IfErr, MatchResult};
 ghost use Rattle.sctp_wire.specs.Item.{Item};
 ghost use Rattle.sctp_wire.specs.declared.checksum.Policy.{Policy};
 ghost use Rattle.sctp_packet.specs.declared.packet.PacketParseError.{PacketParseError};
@@ -9,6 +9,8 @@ ghost use Rattle.sctp_packet.specs.Chunk.{ChunkTree};
 ghost use Rattle.sctp_packet.specs.Grammar.{IsChunk, carried};
 ghost use Rattle.sctp_packet.specs.ReadBack.{ChunkReadsBack};
 ghost use Rattle.sctp_packet.specs.Packet.{HeaderTree, PacketTree, IsPacket, FitsHeader, Accepts, Refuses, IsFault, lets_through, packet_bytes};
+ghost use Rattle.sctp_packet.specs.Written.{chunks_bytes};
+ghost use Rattle.sctp_packet.specs.Builder.{built};
 ghost use Rattle.sctp_packet.specs.PacketView.{packet_tree};
 
 use crate::packet::PacketParseError;
@@ -41,4 +43,10 @@ pub fn read_back()
         → IfErr answer (Refuses policy word (packet_bytes header field chunks))
         → MatchResult answer (λ p. packet_tree p ≡ record { header = header; checksum = field; chunks = map carried chunks })
             (λ fault. fault ≡ PacketParseError.Memory) }
+{}
+
+/// What `build` hands out is the packet of the chunks that the builder holds.
+pub fn built_packet()
+    ensures { (summed : Bool) (header : HeaderTree) (word : ℕ) (first : ChunkTree) (others : List ChunkTree)
+        → built summed header word (chunks_bytes (first ∷ others)) ≡ packet_bytes header (if summed then word else 0) (first ∷ others) }
 {}

@@ -6,6 +6,7 @@ mod chunk;
 mod cookie;
 mod data;
 mod error;
+mod flags;
 mod forward_tsn;
 mod heartbeat;
 mod init;
@@ -27,9 +28,12 @@ pub use forward_tsn::{ForwardTsnChunk, IForwardTsnChunk, SkippedStream};
 pub use heartbeat::{HeartbeatAckChunk, HeartbeatRequestChunk};
 pub use init::{InitAckChunk, InitChunk};
 pub use re_config::ReConfigChunk;
-pub use laws::{one_chunk, one_packet, read_back, refused_or_accepted};
+pub use laws::{built_packet, one_chunk, one_packet, read_back, refused_or_accepted};
 pub use packet::{COMMON_HEADER_SIZE, CommonHeader, PacketParseError, SctpPacket};
 pub use raw::{RawChunk, write_chunk_header};
 pub use sack::{GapAckBlock, SackChunk};
 pub use shutdown::{ShutdownAckChunk, ShutdownChunk, ShutdownCompleteChunk};
 pub use unknown::UnknownChunk;
+
+#[cfg(test)]
+mod tests;

@@ -4,11 +4,14 @@ ghost use Rattle.std.specs.Prelude.{◌≡◌, ◌⊎◌, ◌+◌, ◌^◌, ◌-
 ghost use Rattle.sctp_packet.specs.Written.{chunk_item, chunk_is_whole};
 ghost use Rattle.sctp_packet.specs.Grammar.{IsChunk, RefusesChunkAs};
 ghost use Rattle.sctp_packet.specs.Views.{raw_chunk, re_config_tree};
+ghost use Rattle.std.specs.Prelude.{Some};
+ghost use Rattle.sctp_packet.specs.ChunkText.{chunk_text};
 
 use crate::inner::{are_whole, parameters_size, push_parameters};
 use crate::raw::RawChunk;
 use sctp_wire::{ChunkParseError, Parameter, SerializableTlv, parameters_from_bytes};
 use std::alloc::{AllocError, Global};
+use std::fmt;
 
 /// Requests that streams begin anew, and answers.
 #[derive(Debug, Drop)]
@@ -53,5 +56,18 @@ impl SerializableTlv for ReConfigChunk {
 
     fn push_value(&self, output: &mut Vec<u8>) -> Result<(), AllocError> {
         push_parameters(&self.parameters, output)
+    }
+}
+
+#[tactic(auto, unfolding(crate::specs::ChunkText::chunk_text))]
+impl fmt::Display for ReConfigChunk {
+    ghost output = { λ c. Some (chunk_text (re_config_tree c)) };
+
+    fn fmt<W: fmt::Write>(&self, f: &mut fmt::Formatter<W>) -> fmt::Result {
+        write!(
+            f,
+            "RE-CONFIG, parameters={}",
+            self.parameters.len()
+        )
     }
 }

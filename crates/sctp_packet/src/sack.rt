@@ -4,14 +4,19 @@ ghost use Rattle.std.specs.Prelude.{◌≡◌, ◌≢◌, ◌⊎◌, ℕ, ◌+�
 ghost use Rattle.sctp_packet.specs.Written.{chunk_item};
 ghost use Rattle.sctp_packet.specs.Grammar.{IsChunk, RefusesChunkAs};
 ghost use Rattle.sctp_packet.specs.Views.{raw_chunk, sack_chunk_tree};
+ghost use Rattle.std.specs.Prelude.{Some};
+ghost use Rattle.sctp_packet.specs.ChunkText.{chunk_text, block_text};
+ghost use Rattle.std.proofs.Common.{refl};
 
+use crate::flags::JoinedTsns;
 use crate::raw::RawChunk;
 use sctp_serial::Tsn;
-use sctp_wire::{
+use sctp_wire::{Joined, Listed,
     ChunkParseError, Entry, SerializableTlv, entries_from_bytes, push_entries, push_u16, push_u32,
     u16_at, u32_at,
 };
 use std::alloc::{AllocError, Global};
+use std::fmt;
 
 /// A block of TSNs that came, as offsets from the cumulative TSN: from `start` to `end`, both included.
 #[derive(Clone, Copy, Debug, PartialEq, Eq)]
@@ -127,4 +132,34 @@ impl SerializableTlv for SackChunk {
         push_entries(output, &self.gap_ack_blocks)?;
         push_entries(output, &self.duplicate_tsns)
     }
+}
+
+#[tactic(auto, unfolding(crate::specs::ChunkText::chunk_text))]
+impl fmt::Display for SackChunk {
+    ghost output = { λ c. Some (chunk_text (sack_chunk_tree c)) };
+
+    fn fmt<W: fmt::Write>(&self, f: &mut fmt::Formatter<W>) -> fmt::Result {
+        write!(
+            f,
+            "SACK, cumulative_tsn_ack={}, a_rwnd={}, gap_ack_blocks={}, duplicate_tsns={}",
+            self.cumulative_tsn_ack.0,
+            self.a_rwnd,
+            Joined(&self.gap_ack_blocks),
+            JoinedTsns(&self.duplicate_tsns)
+        )
+    }
+}
+
+impl fmt::Display for GapAckBlock {
+    ghost output = { λ b. Some (block_text b) };
+
+    fn fmt<W: fmt::Write>(&self, f: &mut fmt::Formatter<W>) -> fmt::Result {
+        write!(f, "{}-{}", self.start, self.end)
+    }
+}
+
+impl Listed for GapAckBlock {
+    ghost text = { block_text };
+
+    ghost shows = { λ b. refl };
 }

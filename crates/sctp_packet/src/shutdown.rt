@@ -4,11 +4,15 @@ ghost use Rattle.std.specs.Prelude.{◌≡◌, ◌+◌, ◌^◌, ◌-◌, min, t
 ghost use Rattle.sctp_packet.specs.Written.{chunk_item};
 ghost use Rattle.sctp_packet.specs.Grammar.{IsChunk, RefusesChunkAs};
 ghost use Rattle.sctp_packet.specs.Views.{raw_chunk, shutdown_tree, shutdown_ack_tree, shutdown_complete_tree};
+ghost use Rattle.std.specs.Prelude.{Some};
+ghost use Rattle.sctp_packet.specs.ChunkText.{chunk_text};
 
+use crate::flags::reflected_text;
 use crate::raw::RawChunk;
 use sctp_serial::Tsn;
 use sctp_wire::{ChunkParseError, SerializableTlv, ends_here, push_u32, u32_at};
 use std::alloc::AllocError;
+use std::fmt;
 
 const FLAG_REFLECTED: u8 = 1;
 
@@ -146,5 +150,40 @@ impl SerializableTlv for ShutdownCompleteChunk {
 
     fn push_value(&self, _output: &mut Vec<u8>) -> Result<(), AllocError> {
         Ok(())
+    }
+}
+
+#[tactic(auto, unfolding(crate::specs::ChunkText::chunk_text))]
+impl fmt::Display for ShutdownChunk {
+    ghost output = { λ c. Some (chunk_text (shutdown_tree c)) };
+
+    fn fmt<W: fmt::Write>(&self, f: &mut fmt::Formatter<W>) -> fmt::Result {
+        write!(
+            f,
+            "SHUTDOWN, cumulative_tsn_ack={}",
+            self.cumulative_tsn_ack.0
+        )
+    }
+}
+
+#[tactic(auto, unfolding(crate::specs::ChunkText::chunk_text))]
+impl fmt::Display for ShutdownAckChunk {
+    ghost output = { λ c. Some (chunk_text (shutdown_ack_tree c)) };
+
+    fn fmt<W: fmt::Write>(&self, f: &mut fmt::Formatter<W>) -> fmt::Result {
+        write!(f, "SHUTDOWN ACK")
+    }
+}
+
+#[tactic(auto, unfolding(crate::specs::ChunkText::chunk_text))]
+impl fmt::Display for ShutdownCompleteChunk {
+    ghost output = { λ c. Some (chunk_text (shutdown_complete_tree c)) };
+
+    fn fmt<W: fmt::Write>(&self, f: &mut fmt::Formatter<W>) -> fmt::Result {
+        write!(
+            f,
+            "SHUTDOWN COMPLETE{}",
+            reflected_text(self.tag_reflected)
+        )
     }
 }

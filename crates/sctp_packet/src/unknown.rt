@@ -6,10 +6,13 @@ ghost use Rattle.sctp_packet.specs.Grammar.{IsChunk, RefusesChunkAs};
 ghost use Rattle.std.specs.Prelude.{false};
 ghost use Rattle.sctp_packet.specs.Written.{is_known_chunk};
 ghost use Rattle.sctp_packet.specs.Views.{raw_chunk, unknown_tree};
+ghost use Rattle.std.specs.Prelude.{Some};
+ghost use Rattle.sctp_packet.specs.ChunkText.{chunk_text};
 
 use crate::raw::RawChunk;
 use sctp_wire::{ChunkParseError, SerializableTlv};
 use std::alloc::{AllocError, Global};
+use std::fmt;
 
 /// A chunk that is kept as it came.
 #[derive(Debug, Drop)]
@@ -55,5 +58,20 @@ impl SerializableTlv for UnknownChunk {
 
     fn push_value(&self, output: &mut Vec<u8>) -> Result<(), AllocError> {
         output.extend_from_slice(&self.value)
+    }
+}
+
+#[tactic(auto, unfolding(crate::specs::ChunkText::chunk_text))]
+impl fmt::Display for UnknownChunk {
+    ghost output = { λ c. Some (chunk_text (unknown_tree c)) };
+
+    fn fmt<W: fmt::Write>(&self, f: &mut fmt::Formatter<W>) -> fmt::Result {
+        write!(
+            f,
+            "UNKNOWN CHUNK, typ={}, flags={}, value={} bytes",
+            self.typ,
+            self.flags,
+            self.value.len()
+        )
     }
 }
