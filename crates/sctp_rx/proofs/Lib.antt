@@ -1,0 +1,5 @@
+pub mod SeenEdits
+pub mod SeenRunsLemmas
+pub mod SeenPlacesLemmas
+pub mod SeenPassingLemmas
+pub mod SeenOneFormLemmas
