@@ -1,5 +1,5 @@
 -- Where a number is added to runs, by the index of the first run that does not end before it.
-use Rattle.std.proofs.Common.{◌≡◌, ◌≢◌, ℕ, zero, suc, ◌+◌, ◌<◌, ◌≤◌, Bool, true, false, not, leb, ◌&&◌, List, [], ◌∷◌, ◌++◌, length, get_or, take, drop, set, refl, sym, ap, ◌∙◌, subst, inl, inr, arith, add-one, drop-cons, length-drop, append_assoc}
+use Rattle.std.proofs.Common.{◌≡◌, ◌≢◌, ℕ, zero, suc, ◌+◌, ◌<◌, ◌≤◌, Bool, true, false, not, leb, ◌&&◌, List, [], ◌∷◌, ◌++◌, length, get_or, take, drop, set, min, refl, sym, ap, ◌∙◌, subst, inl, inr, arith, add-one, drop-cons, length-drop, append_assoc}
 use Rattle.std.specs.List.{insert, remove}
 use Rattle.std.proofs.lemmas.Bool.{lt-ltb, le-ltb, ne_eqb, eq-eqb, lt-leb, le-leb, cases_lt}
 use Rattle.std.proofs.lemmas.Bool.Decides.{nat_tests}
@@ -157,3 +157,18 @@ runs_before-past point n (suc k) (b ∷ rs) d r h l =
     last_rises p k [] d r l = absurd (omega arith)
     last_rises p zero (b ∷ rs) d r l = omega arith
     last_rises p (suc k) (b ∷ rs) d r l = omega (arith, last_rises b.last k rs d r.2 (omega arith))
+
+-- each run lies above the front
+pub run_above : (p k : ℕ) (rs : List Run) (d : Run) → AreRuns p rs → k < length rs → (p < (get_or rs k d).first) × ((get_or rs k d).first ≤ (get_or rs k d).last)
+run_above p k [] d r l = absurd (omega arith)
+run_above p zero (b ∷ rs) d r l = (omega arith, r.1)
+run_above p (suc k) (b ∷ rs) d r l =
+    let more = run_above b.last k rs d r.2 (omega arith) in
+    (omega (arith, more.0), more.1)
+
+pub take-min : (n k : ℕ) (rs : List Run) → k ≡ min (length rs) n → take k rs ≡ take n rs
+take-min n k rs e =
+    elim (cases_lt (length rs) n) [
+      | inl less ↦ take_all k rs (omega (arith, e)) ∙ sym (take_all n rs (omega arith))
+      | inr more ↦ ap (λ m. take m rs) (omega (arith, e, more))
+    ]

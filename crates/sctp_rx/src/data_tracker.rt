@@ -1,15 +1,18 @@
 //! The tracker of the TSNs that came from the peer.
 
-ghost use Rattle.std.specs.Prelude.{◌≡◌, ◌==◌, ℕ, ◌+◌, ◌-◌, ◌^◌, ◌<◌, ◌≤◌, ◌||◌, ◌&&◌, not, nat_le, length, false, if◌then◌else◌, IsTrue, IfOk, OnOk, OnErr};
+ghost use Rattle.std.specs.Prelude.{◌≡◌, ◌==◌, ℕ, ◌+◌, ◌-◌, ◌^◌, ◌<◌, ◌≤◌, ◌||◌, ◌&&◌, not, nat_le, length, [], false, if◌then◌else◌, IsTrue, IfOk, OnOk, OnErr};
 ghost use Rattle.std.specs.Duration.{as_nanos};
 ghost use Rattle.sctp_state.specs.Options.{options_of};
 ghost use Rattle.sctp_state.specs.Timers.{is_due, next_expiry};
+ghost use Rattle.sctp_state.specs.Handover.{receive_of, handover_state_of};
 ghost use Rattle.sctp_serial.specs.Unwrapped.{origin};
 
+pub mod sack;
 mod seen;
 
+use sack::SackChunk;
 use sctp_serial::{SerialNumber, SocketTime, Tsn};
-use sctp_state::{BackoffAlgorithm, Options, Timer};
+use sctp_state::{BackoffAlgorithm, HandoverReadiness, Options, SocketHandoverState, Timer};
 use seen::Seen;
 use std::alloc::{AllocError, Global};
 use std::marker::Model;
@@ -65,6 +68,7 @@ impl AckState {
 /// unbroken beginning of the set.
 #[derive(Drop)]
 pub struct DataTracker {
+    alloc: Global,
     // how `origin` is written
     first: Tsn,
     begin: u64,
@@ -89,6 +93,8 @@ impl Model for DataTracker {
 
 impl DataTracker {
     ghost use Rattle.sctp_rx.specs.Tracker.{tracker, update_rto, written, number_of, is_valid, has_seen, observe, moves_on, forward, acking, is_ack_due, take_ack, packet_end, ack_timeout, IsTracker};
+    ghost use Rattle.sctp_rx.specs.Sack.{gap_ack_blocks, tsns};
+    ghost use Rattle.sctp_rx.specs.TrackerHandover.{readiness, receive, restore};
 
     /// A tracker whose least TSN that was not seen is `peer_initial_tsn`.
     pub fn new(alloc: Global, peer_initial_tsn: Tsn, options: &Options) -> DataTracker
@@ -99,6 +105,7 @@ impl DataTracker {
         let begin = (1 << 32) - 1;
         let delay = ack_delay(options.rto_initial, options.delayed_ack_max_timeout);
         DataTracker {
+            alloc,
             first: peer_initial_tsn,
             begin,
             seen: Seen::up_to(alloc, begin),
@@ -183,6 +190,28 @@ impl DataTracker {
         moved
     }
 
+    /// A SACK of what was seen: the cumulative TSN, the first twenty runs above it but those that end more than 65,535
+    /// above it, and the duplicates that came since the last SACK, which are told once. `a_rwnd` is the window in bytes.
+    pub fn create_selective_ack(&mut self, a_rwnd: u32) -> Result<SackChunk, AllocError>
+        ensures cumulative { IfOk result (λ c. c.cumulative_tsn_ack.0 ≡ written self.old self.old.tracker.seen.front) }
+        ensures window { IfOk result (λ c. c.a_rwnd ≡ a_rwnd) }
+        ensures blocks { IfOk result (λ c. c.gap_ack_blocks.items ≡ gap_ack_blocks self.old.tracker.seen) }
+        ensures duplicates { IfOk result (λ c. c.duplicate_tsns.items ≡ tsns self.old.first self.old.tracker.duplicates) }
+        ensures value { OnOk result (self.new ≡ record self.old { tracker = record self.old.tracker { duplicates = [] } }) }
+        ensures tracker { IsTracker self.new.tracker }
+        ensures err { OnErr result (self.new ≡ self.old) }
+    {
+        let gap_ack_blocks = self.seen.gap_ack_blocks(self.alloc)?;
+        let duplicate_tsns = tsns_of(self.alloc, self.first, &self.duplicates)?;
+        self.duplicates.clear();
+        Ok(SackChunk {
+            cumulative_tsn_ack: self.last_cumulative_acked_tsn(),
+            a_rwnd,
+            gap_ack_blocks,
+            duplicate_tsns,
+        })
+    }
+
     /// Whether an acknowledgement is due, or, with `also_if_delayed`, waits. If so, it counts as sent.
     pub fn should_send_ack(&mut self, _now: SocketTime, also_if_delayed: bool) -> bool
         ensures answer { result ≡ is_ack_due also_if_delayed self.old.tracker.ack }
@@ -238,6 +267,35 @@ impl DataTracker {
         }
     }
 
+    /// Whether the tracker can be handed over: numbers must not be missing among those that came.
+    pub fn get_handover_readiness(&self) -> HandoverReadiness
+        ensures { result.0 ≡ readiness self.now.tracker }
+    {
+        HandoverReadiness::DATA_TRACKER_TSN_BLOCKS_PENDING & self.seen.has_gap()
+    }
+
+    /// Writes the cumulative TSN, as `last_assembled_tsn` too, and whether DATA came.
+    pub fn add_to_handover_state(&self, state: &mut SocketHandoverState)
+        ensures { let old = handover_state_of state.old in handover_state_of state.new ≡ record old { rx = receive self.now old.rx } }
+    {
+        let cumulative_tsn = self.last_cumulative_acked_tsn().0;
+        state.rx.seen_packet = self.seen_packet;
+        state.rx.last_cumulative_acked_tsn = cumulative_tsn;
+        state.rx.last_assembled_tsn = cumulative_tsn;
+    }
+
+    /// Begins at the record's cumulative TSN, which may lie below the one before. For a tracker that has seen nothing.
+    pub fn restore_from_state(&mut self, state: &SocketHandoverState)
+        ensures value { self.new ≡ restore (receive_of state.now.rx) self.old }
+        ensures tracker { IsTracker self.new.tracker }
+    {
+        let next = Tsn(state.rx.last_cumulative_acked_tsn) + 1;
+        let front = (1 << 32) - 1 + next.steps_from(self.first);
+        self.begin = front;
+        self.seen.restart(front);
+        self.seen_packet = state.rx.seen_packet;
+    }
+
     // The number that the TSN stands for.
     fn unwrapped(&self, tsn: Tsn) -> u64
         ensures value { result ≡ number_of self.now tsn.0 }
@@ -254,6 +312,7 @@ impl DataTracker {
 }
 
 ghost use Rattle.sctp_rx.specs.Tracker.{ack_delay, is_urgent, with_duplicate};
+ghost use Rattle.sctp_rx.specs.Sack.{tsns};
 
 // How long an acknowledgement waits at most.
 fn ack_delay(rto: Duration, most: Duration) -> Duration
@@ -268,6 +327,13 @@ fn is_urgent(is_new: bool, has_gap: bool, is_immediate: bool, seen_packet: bool)
     ensures { result ≡ is_urgent is_new has_gap is_immediate seen_packet }
 {
     !is_new || has_gap || is_immediate || !seen_packet
+}
+
+// How the numbers are written.
+fn tsns_of(alloc: Global, first: Tsn, numbers: &[u64]) -> Result<Vec<Tsn>, AllocError>
+    ensures { IfOk result (λ written. written.items ≡ tsns first.0 numbers.now) }
+{
+    numbers.iter().map(|number| Tsn::wrapped(first, *number)).collect(alloc)
 }
 
 // Adds a number to those that came again, unless it is there or twenty are.
@@ -289,3 +355,6 @@ fn remember(duplicates: &mut Vec<u64>, number: u64) -> Result<(), AllocError>
     duplicates.insert(place, number)?;
     Ok(())
 }
+
+#[cfg(test)]
+mod tests;

@@ -1,12 +1,17 @@
 //! The set of the numbers that were seen.
 
-ghost use Rattle.std.specs.Prelude.{◌≡◌, ◌==◌, ℕ, ◌+◌, ◌^◌, ◌<◌, ◌≤◌, ◌||◌, [], not, max, nat_lt, nat_le, length, IfOk, OnOk, OnErr, false};
+ghost use Rattle.std.specs.Prelude.{◌≡◌, ◌==◌, ℕ, ◌+◌, ◌^◌, ◌<◌, ◌≤◌, ◌||◌, [], not, max, take, nat_lt, nat_le, length, IfOk, OnOk, OnErr, false};
 ghost use Rattle.sctp_rx.specs.Seen.{in_runs, AreRuns, last_above};
 ghost use Rattle.sctp_rx.specs.SeenSteps.{Adds, Passes, runs_before};
+ghost use Rattle.sctp_rx.specs.Sack.{blocks_of, gap_ack_blocks};
 
+use crate::data_tracker::sack::GapAckBlock;
 use std::alloc::{AllocError, Global};
 use std::collections::VecDeque;
 use std::marker::Model;
+
+/// A SACK tells at most as many runs.
+const MAX_BLOCKS: usize = 20;
 
 // Neighbouring numbers, from the first to the last.
 #[derive(Clone, Copy)]
@@ -72,6 +77,23 @@ impl Seen {
         !self.runs.is_empty()
     }
 
+    /// The runs as a SACK tells them, by their offsets from the front: the first twenty but those that end more than
+    /// 65,535 above it.
+    pub fn gap_ack_blocks(&self, alloc: Global) -> Result<Vec<GapAckBlock>, AllocError>
+        ensures { IfOk result (λ blocks. blocks.items ≡ gap_ack_blocks self.now) }
+    {
+        first_blocks(alloc, self.front, &self.runs)
+    }
+
+    /// Has seen every number up to this one, and no other.
+    pub fn restart(&mut self, front: u64)
+        requires { (0 < front) × (front < 2 ^ 63) }
+        ensures { self.new ≡ record { front = front; runs = [] } }
+    {
+        self.front = front;
+        self.runs.clear();
+    }
+
     /// Adds the number, and says whether it is new.
     pub fn insert(&mut self, number: u64) -> Result<bool, AllocError>
         requires { number < 2 ^ 63 }
@@ -111,6 +133,23 @@ impl Seen {
         self.front = pass(&mut self.runs, number);
         true
     }
+}
+
+// The first twenty runs, as offsets from the front, but those whose offsets don't have 16 bits.
+fn first_blocks(alloc: Global, front: u64, runs: &VecDeque<TsnRange>) -> Result<Vec<GapAckBlock>, AllocError>
+    requires { AreRuns front runs.now.items }
+    ensures { IfOk result (λ blocks. blocks.items ≡ blocks_of front (take 20 runs.now.items)) }
+{
+    let mut blocks = Vec::new(alloc);
+    for i in 0..runs.len().min(MAX_BLOCKS) {
+        let range = runs[i];
+        let end = range.last - front;
+        if end <= 65_535 {
+            let start = range.first - front;
+            blocks.push(GapAckBlock { start: start as u16, end: end as u16 })?;
+        }
+    }
+    Ok(blocks)
 }
 
 // Takes out the runs that a front at this point reaches, and gives the point to which it moves.

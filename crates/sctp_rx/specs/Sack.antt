@@ -1,0 +1,34 @@
+-- What a SACK says of the numbers that were seen (RFC 9260 section 3.3.4).
+use Rattle.std.specs.Prelude.{ℕ, ◌-◌, ◌+◌, ◌≤◌, Bool, nat_le, List, map, filter, take}
+use Rattle.std.specs.List.{list_any}
+use Rattle.std.specs.Prelude.{◌&&◌}
+use Rattle.sctp_serial.specs.declared.types.tsn.Tsn.{Tsn}
+use Rattle.sctp_serial.specs.Unwrapped.{words, wire}
+use Rattle.sctp_rx.specs.declared.data_tracker.sack.GapAckBlock.{GapAckBlock}
+use Rattle.sctp_rx.specs.Seen.{Run, Seen}
+use Rattle.sctp_rx.specs.Tracker.{Tracker, DataTracker}
+
+-- a run as offsets from the front
+abbrev pub block : ℕ → Run → GapAckBlock
+block front r = record { start = r.first - front; end = r.last - front }
+
+-- whether the offsets have 16 bits
+abbrev pub is_near : ℕ → Run → Bool
+is_near front r = nat_le (r.last - front) 65535
+
+abbrev pub blocks_of : ℕ → List Run → List GapAckBlock
+blocks_of front rs = map (block front) (filter (is_near front) rs)
+
+-- of the first twenty runs those that are near
+abbrev pub gap_ack_blocks : Seen → List GapAckBlock
+gap_ack_blocks s = blocks_of s.front (take 20 s.runs)
+
+abbrev pub tsn : ℕ → ℕ → Tsn
+tsn first n = record { 0 = wire words first n }
+
+abbrev pub tsns : ℕ → List ℕ → List Tsn
+tsns first ns = map (tsn first) ns
+
+-- whether a block covers the offset
+abbrev pub is_covered : List GapAckBlock → ℕ → Bool
+is_covered bs offset = list_any (λ b. nat_le b.start offset && nat_le offset b.end) bs
