@@ -3,3 +3,4 @@ pub mod SeenRunsLemmas
 pub mod SeenPlacesLemmas
 pub mod SeenPassingLemmas
 pub mod SeenOneFormLemmas
+pub mod TrackerLemmas

@@ -93,7 +93,7 @@ impl Model for DataTracker {
 
 impl DataTracker {
     ghost use Rattle.sctp_rx.specs.Tracker.{tracker, update_rto, written, number_of, is_valid, has_seen, observe, moves_on, forward, acking, is_ack_due, take_ack, packet_end, ack_timeout, IsTracker};
-    ghost use Rattle.sctp_rx.specs.Sack.{gap_ack_blocks, tsns};
+    ghost use Rattle.sctp_rx.specs.Sack.{gap_ack_blocks, is_covered, tsns};
     ghost use Rattle.sctp_rx.specs.TrackerHandover.{readiness, receive, restore};
 
     /// A tracker whose least TSN that was not seen is `peer_initial_tsn`.
@@ -151,12 +151,14 @@ impl DataTracker {
 
     /// Takes the TSN of a DATA chunk, and says whether it is valid and was not seen before. `is_immediate` is the
     /// chunk's I bit (RFC 7053). A TSN that is not valid changes nothing.
+    #[tactic(auto, using(crate::proofs::TrackerLemmas::few_runs))]
     pub fn observe(&mut self, _now: SocketTime, tsn: Tsn, is_immediate: bool) -> Result<bool, AllocError>
         ensures answer { let n = number_of self.old tsn.0 in IfOk result (λ is_new. is_new ≡ (is_valid self.old.tracker n && not (has_seen self.old.tracker n))) }
         ensures seen { let n = number_of self.old tsn.0 in IsTrue (is_valid self.old.tracker n) → OnOk result ((m : ℕ) → has_seen self.new.tracker m ≡ (m == n || has_seen self.old.tracker m)) }
         ensures value { let n = number_of self.old tsn.0 in IsTrue (is_valid self.old.tracker n) → OnOk result (self.new ≡ record self.old { tracker = observe n is_immediate self.old.tracker }) }
         ensures invalid { is_valid self.old.tracker (number_of self.old tsn.0) ≡ false → self.new ≡ self.old }
         ensures tracker { IsTracker self.new.tracker }
+        ensures few_runs { length self.new.tracker.seen.runs ≤ 50000 }
         ensures err { OnErr result (self.new ≡ self.old) }
     {
         if !self.is_tsn_valid(tsn) {
@@ -197,6 +199,7 @@ impl DataTracker {
         ensures window { IfOk result (λ c. c.a_rwnd ≡ a_rwnd) }
         ensures blocks { IfOk result (λ c. c.gap_ack_blocks.items ≡ gap_ack_blocks self.old.tracker.seen) }
         ensures duplicates { IfOk result (λ c. c.duplicate_tsns.items ≡ tsns self.old.first self.old.tracker.duplicates) }
+        ensures seen { IfOk result (λ c. (offset : ℕ) → IsTrue (is_covered c.gap_ack_blocks.items offset) → IsTrue (has_seen self.old.tracker (self.old.tracker.seen.front + offset))) }
         ensures value { OnOk result (self.new ≡ record self.old { tracker = record self.old.tracker { duplicates = [] } }) }
         ensures tracker { IsTracker self.new.tracker }
         ensures err { OnErr result (self.new ≡ self.old) }
