@@ -1,0 +1,37 @@
+-- What became ready only grows at its back.
+use Rattle.std.proofs.Common.{◌≡◌, ℕ, Bool, List, [], ◌∷◌, ◌++◌, refl, sym, ap, ◌∙◌, append-nil, append_assoc}
+use Rattle.sctp_rules.specs.State.{Message, Transfer, start}
+use Rattle.sctp_rules.specs.Rules.{Event, accept, begin, number, close, give_up, data_comes, late_comes, deliver, send_sack, leave, send_forward, forward_comes, forget, after, run}
+use Rattle.sctp_rules.specs.Claims.{Grows}
+
+module _ (message : ℕ → Message) (mixed : Bool) where
+  pub one : (x : Transfer) (e : Event) → Grows x (after message mixed x e)
+  one x accept = ([], sym (append-nil x.receiver.places))
+  one x (begin p) = ([], sym (append-nil x.receiver.places))
+  one x (number p b m) = ([], sym (append-nil x.receiver.places))
+  one x (close p) = ([], sym (append-nil x.receiver.places))
+  one x (give_up p) = ([], sym (append-nil x.receiver.places))
+  one x (data_comes t) = ([], sym (append-nil x.receiver.places))
+  one x (late_comes t) = ([], sym (append-nil x.receiver.places))
+  one x (deliver p) = (p ∷ [], refl)
+  one x (send_sack c) = ([], sym (append-nil x.receiver.places))
+  one x (leave c) = ([], sym (append-nil x.receiver.places))
+  one x (send_forward f) = ([], sym (append-nil x.receiver.places))
+  one x (forward_comes f) = ([], sym (append-nil x.receiver.places))
+  one x (forget s c) = ([], sym (append-nil x.receiver.places))
+
+  all : (es : List Event) (x : Transfer) → Grows x (run message mixed x es)
+  all [] x = ([], sym (append-nil x.receiver.places))
+  all (e ∷ es) x =
+      let a = one x e in
+      let b = all es (after message mixed x e) in
+      (a.0 ++ b.0, b.1 ∙ (ap (λ z. z ++ b.0) a.1 ∙ append_assoc x.receiver.places a.0 b.0))
+
+  split : (es fs : List Event) (x : Transfer) → run message mixed x (es ++ fs) ≡ run message mixed (run message mixed x es) fs
+  split [] fs x = refl
+  split (e ∷ es) fs x = split es fs (after message mixed x e)
+
+  pub grown : (es fs : List Event) → Grows (run message mixed start es) (run message mixed start (es ++ fs))
+  grown es fs =
+      let b = all fs (run message mixed start es) in
+      (b.0, ap (λ z. z.receiver.places) (split es fs start) ∙ b.1)

@@ -1,0 +1,11 @@
+use Rattle.sctp_rules.proofs.ReceiverRowLemmas.{still_sees, chunk_stays, key_stays}
+use Rattle.sctp_rules.proofs.receiver.sender_goes_on.Goals as goal
+
+pub returns-clause-shows : goal.returns-clause-shows
+returns-clause-shows c message mixed x e q k a same s = still_sees message mixed x e k a same q s
+
+pub returns-clause-chunk : goal.returns-clause-chunk
+returns-clause-chunk c message mixed x e t k a within = chunk_stays message mixed x e k a t within
+
+pub returns-clause-key : goal.returns-clause-key
+returns-clause-key c message mixed x e t k a within = key_stays message mixed x e k a t within
