@@ -1,10 +1,10 @@
 -- Parameters: RFC 9260 sections 3.2.1, 3.3.2 and 3.3.5, RFC 6525 section 4 (stream resets), RFC 3758 section 3.1
 -- (forward TSN), RFC 5061 section 4.2.7 (supported extensions), RFC 9653 section 3 (zero checksum).
 -- One grammar for reader and writer: the type and the value of a tree.
-use Rattle.std.specs.Prelude.{◌≡◌, ℕ, ◌<◌, ◌≤◌, ◌^◌, Bool, true, false, cond, ◌==◌, ◌||◌, List, [], ◌++◌, Option, None, Some, is_some}
+use Rattle.std.specs.Prelude.{◌≡◌, ℕ, ◌<◌, ◌≤◌, ◌^◌, Bool, true, false, cond, ◌==◌, ◌||◌, List, [], ◌++◌, Option, None, Some, All, IfSome}
 use Rattle.std.specs.List.{flat_map}
 use Rattle.sctp_serial.specs.declared.api.StreamId.{StreamId}
-use Rattle.sctp_serial.specs.declared.types.Tsn.{Tsn}
+use Rattle.sctp_serial.specs.declared.types.tsn.Tsn.{Tsn}
 use Rattle.sctp_wire.specs.declared.error.ChunkParseError.{ChunkParseError}
 use Rattle.sctp_wire.specs.Fields.{be16, be32}
 use Rattle.sctp_wire.specs.Item.{Item}
@@ -101,12 +101,28 @@ IsOfItsVariant forward_tsn_supported = Unit {0}
 IsOfItsVariant (zero_checksum_acceptable method) = Unit {0}
 IsOfItsVariant (unknown_parameter typ value) = is_known_parameter typ ≡ false
 
+-- the tree's numbers fit their fields
+abbrev pub ParameterFits : ParameterTree → Type 0
+ParameterFits (outgoing_reset_request request response tsn streams) = (request < 2 ^ 32) × (response < 2 ^ 32) × (tsn.0 < 2 ^ 32) × All (λ id. id.0 < 2 ^ 16) streams
+ParameterFits (incoming_reset_request request streams) = (request < 2 ^ 32) × All (λ id. id.0 < 2 ^ 16) streams
+ParameterFits (reset_response response result sender receiver) = (response < 2 ^ 32) × (result < 2 ^ 32) × IfSome sender (λ tsn. tsn.0 < 2 ^ 32) × IfSome receiver (λ tsn. tsn.0 < 2 ^ 32)
+ParameterFits (zero_checksum_acceptable method) = method < 2 ^ 32
+ParameterFits (heartbeat_info info) = Unit {0}
+ParameterFits (state_cookie cookie) = Unit {0}
+ParameterFits (ssn_tsn_reset_request typ value) = Unit {0}
+ParameterFits (add_outgoing_streams_request typ value) = Unit {0}
+ParameterFits (add_incoming_streams_request typ value) = Unit {0}
+ParameterFits (supported_extensions chunk_types) = Unit {0}
+ParameterFits forward_tsn_supported = Unit {0}
+ParameterFits (unknown_parameter typ value) = Unit {0}
+
 -- a parameter of this type and this value says what the tree says
 pub record SaysParameter (typ : ℕ) (value : List ℕ) (t : ParameterTree) : Type 0 where
   pub typed : typ ≡ parameter_type t
   pub valued : value ≡ parameter_value t
   pub whole : parameter_is_whole t ≡ true
   pub of_its_variant : IsOfItsVariant t
+  pub fits : ParameterFits t
 
 -- the item stands for the tree
 abbrev pub IsParameter : Item → ParameterTree → Type 0

@@ -5,13 +5,14 @@ use Rattle.sctp_wire.specs.declared.parameter.StateCookieParameter.{StateCookieP
 use Rattle.sctp_wire.specs.declared.parameter.SupportedExtensionsParameter.{SupportedExtensionsParameter}
 use Rattle.sctp_wire.specs.declared.parameter.ForwardTsnSupportedParameter.{ForwardTsnSupportedParameter}
 use Rattle.sctp_wire.specs.declared.parameter.ZeroChecksumAcceptableParameter.{ZeroChecksumAcceptableParameter}
-use Rattle.sctp_wire.specs.declared.parameter.UnknownParameter.{UnknownParameter}
+use Rattle.sctp_wire.specs.declared.parameters.Parameter.{Parameter}
+use Rattle.sctp_wire.specs.declared.parameters.Parameter.TheVariants as parameters
 use Rattle.sctp_wire.specs.declared.reset.OutgoingSsnResetRequestParameter.{OutgoingSsnResetRequestParameter}
 use Rattle.sctp_wire.specs.declared.reset.IncomingSsnResetRequestParameter.{IncomingSsnResetRequestParameter}
 use Rattle.sctp_wire.specs.declared.reset.ReconfigurationResponseParameter.{ReconfigurationResponseParameter}
 use Rattle.sctp_wire.specs.declared.reset.ReconfigurationResponseResult.{ReconfigurationResponseResult}
 use Rattle.sctp_wire.specs.declared.reset.ReconfigurationResponseResult.TheVariants.{SuccessNothingToDo, SuccessPerformed, Denied, ErrorWrongSSN, ErrorRequestAlreadyInProgress, ErrorBadSequenceNumber, InProgress}
-use Rattle.sctp_wire.specs.Parameter.{ParameterTree, heartbeat_info, state_cookie, outgoing_reset_request, incoming_reset_request, reset_response, supported_extensions, forward_tsn_supported, zero_checksum_acceptable, unknown_parameter}
+use Rattle.sctp_wire.specs.Parameter.{ParameterTree, heartbeat_info, state_cookie, outgoing_reset_request, incoming_reset_request, ssn_tsn_reset_request, reset_response, add_outgoing_streams_request, add_incoming_streams_request, supported_extensions, forward_tsn_supported, zero_checksum_acceptable, unknown_parameter}
 
 abbrev pub heartbeat_info_tree : HeartbeatInfoParameter → ParameterTree
 heartbeat_info_tree p = heartbeat_info p.info.items
@@ -47,5 +48,16 @@ forward_tsn_supported_tree p = forward_tsn_supported
 abbrev pub zero_checksum_acceptable_tree : ZeroChecksumAcceptableParameter → ParameterTree
 zero_checksum_acceptable_tree p = zero_checksum_acceptable p.method.0
 
-abbrev pub unknown_parameter_tree : UnknownParameter → ParameterTree
-unknown_parameter_tree p = unknown_parameter p.typ p.value.items
+abbrev pub parameter_tree : Parameter → ParameterTree
+parameter_tree (parameters.HeartbeatInfo p) = heartbeat_info_tree p
+parameter_tree (parameters.StateCookie p) = state_cookie_tree p
+parameter_tree (parameters.OutgoingSsnResetRequest p) = outgoing_tree p
+parameter_tree (parameters.IncomingSsnResetRequest p) = incoming_tree p
+parameter_tree (parameters.SsnTsnResetRequest p) = ssn_tsn_reset_request p.typ p.value.items
+parameter_tree (parameters.ReconfigurationResponse p) = response_tree p
+parameter_tree (parameters.AddOutgoingStreamsRequest p) = add_outgoing_streams_request p.typ p.value.items
+parameter_tree (parameters.AddIncomingStreamsRequest p) = add_incoming_streams_request p.typ p.value.items
+parameter_tree (parameters.SupportedExtensions p) = supported_extensions_tree p
+parameter_tree (parameters.ForwardTsnSupported p) = forward_tsn_supported_tree p
+parameter_tree (parameters.ZeroChecksumAcceptable p) = zero_checksum_acceptable_tree p
+parameter_tree (parameters.Unknown p) = unknown_parameter p.typ p.value.items

@@ -1,10 +1,14 @@
 -- The bytes of written items (RFC 9260 section 3.2).
-use Rattle.std.specs.Prelude.{ℕ, ◌+◌, ◌<◌, ◌^◌, ◌/◌, ◌%◌, ◌*◌, List, [], ◌∷◌, ◌++◌, length, replicate}
+use Rattle.std.specs.Prelude.{ℕ, ◌+◌, ◌<◌, ◌^◌, ◌/◌, ◌%◌, ◌*◌, List, [], ◌∷◌, ◌++◌, length, replicate, Bool, nat_lt, ◌&&◌}
 use Rattle.sctp_wire.specs.Item.{Item, item_bytes, padding}
 
 -- the length of an item fits its field
 abbrev pub IsEncodable : Item → Type 0
 IsEncodable i = 4 + length i.value < 2 ^ 16
+
+-- the same as a test, of an item and of whether its parts agree with one another
+abbrev pub is_encodable : Item → Bool → Bool
+is_encodable i whole = nat_lt (4 + length i.value) (2 ^ 16) && whole
 
 -- an item, and zeros up to a multiple of 4
 unfoldable pub padded_item : Item → List ℕ

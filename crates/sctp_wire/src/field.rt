@@ -1,6 +1,6 @@
 //! Fields: numbers of two and four bytes, the most significant byte first, and lists of entries of one width.
 
-ghost use Rattle.std.specs.Prelude.{◌≡◌, ◌≢◌, ◌⊎◌, ℕ, ◌+◌, ◌%◌, ◌<◌, List, [], ◌++◌, length, IfOk, OnErr, IfErr, OnOk};
+ghost use Rattle.std.specs.Prelude.{◌≡◌, ◌≢◌, ◌⊎◌, ℕ, ◌+◌, ◌%◌, ◌^◌, ◌<◌, List, [], ◌++◌, length, All, IfOk, OnErr, IfErr, OnOk};
 ghost use Rattle.std.specs.List.{flat_map};
 ghost use Rattle.std.proofs.Common.{arith};
 ghost use Rattle.sctp_wire.specs.Fields.{be16, be32, length_be16, length_be32};
@@ -13,6 +13,7 @@ use std::alloc::{AllocError, Global};
 #[tactic(auto, unfolding(crate::specs::Fields::be16))]
 pub fn u16_at(bytes: &[u8]) -> Result<(u16, &[u8]), ChunkParseError>
     ensures ok { IfOk result (λ read. bytes.now ≡ be16 read.0 ++ read.1.now) }
+    ensures fits { IfOk result (λ read. read.0 < 2 ^ 16) }
     ensures len { IfOk result (λ read. length bytes.now ≡ 2 + length read.1.now) }
     ensures short { OnErr result (length bytes.now < 2) }
     ensures fault { IfErr result (λ e. e ≡ ChunkParseError.InvalidLength) }
@@ -27,6 +28,7 @@ pub fn u16_at(bytes: &[u8]) -> Result<(u16, &[u8]), ChunkParseError>
 #[tactic(auto, unfolding(crate::specs::Fields::be32))]
 pub fn u32_at(bytes: &[u8]) -> Result<(u32, &[u8]), ChunkParseError>
     ensures ok { IfOk result (λ read. bytes.now ≡ be32 read.0 ++ read.1.now) }
+    ensures fits { IfOk result (λ read. read.0 < 2 ^ 32) }
     ensures len { IfOk result (λ read. length bytes.now ≡ 4 + length read.1.now) }
     ensures short { OnErr result (length bytes.now < 4) }
     ensures fault { IfErr result (λ e. e ≡ ChunkParseError.InvalidLength) }
@@ -71,9 +73,12 @@ pub trait Entry: Sized + Drop {
 
     ghost bytes_of: { Self → List ℕ };
 
+    ghost in_range: { Self → Type 0 };
+
     /// The entry in the first bytes, and the bytes behind it; `InvalidLength` where there are fewer.
     fn entry_at(bytes: &[u8]) -> Result<(Self, &[u8]), ChunkParseError>
         ensures ok { IfOk result (λ read. bytes.now ≡ bytes_of read.0 ++ read.1.now) }
+        ensures fits { IfOk result (λ read. in_range read.0) }
         ensures len { IfOk result (λ read. length bytes.now ≡ width + length read.1.now) }
         ensures short { OnErr result (length bytes.now < width) }
         ensures fault { IfErr result (λ e. e ≡ ChunkParseError.InvalidLength) };
@@ -90,6 +95,7 @@ pub trait Entry: Sized + Drop {
 /// The entries that the bytes are; `InvalidLength` where the last one is cut short.
 pub fn entries_from_bytes<E: Entry>(alloc: Global, bytes: &[u8]) -> Result<Vec<E>, ChunkParseError>
     ensures ok { IfOk result (λ entries. bytes.now ≡ flat_map E.bytes_of entries.items) }
+    ensures fits { IfOk result (λ entries. All E.in_range entries.items) }
     ensures refused { IfErr result (λ e. (e ≡ ChunkParseError.Memory)
         ⊎ ((e ≡ ChunkParseError.InvalidLength) × (length bytes.now % E.width ≢ 0))) }
 {
@@ -118,6 +124,8 @@ impl Entry for u16 {
 
     ghost bytes_of = { be16 };
 
+    ghost in_range = { λ n. n < 2 ^ 16 };
+
     ghost width_is_positive = { Prim.omega arith };
 
     ghost width_of = { length_be16 };
@@ -135,6 +143,8 @@ impl Entry for StreamId {
     ghost width = { 2 };
 
     ghost bytes_of = { λ id. be16 id.0 };
+
+    ghost in_range = { λ id. id.0 < 2 ^ 16 };
 
     ghost width_is_positive = { Prim.omega arith };
 
@@ -154,6 +164,8 @@ impl Entry for Tsn {
     ghost width = { 4 };
 
     ghost bytes_of = { λ tsn. be32 tsn.0 };
+
+    ghost in_range = { λ tsn. tsn.0 < 2 ^ 32 };
 
     ghost width_is_positive = { Prim.omega arith };
 

@@ -1,16 +1,19 @@
 //! The parameters of INIT, INIT ACK and HEARTBEAT, and parameters of no known type.
 
-ghost use Rattle.std.specs.Prelude.{◌≡◌, ◌+◌, ◌^◌, ◌-◌, min, true, [], ◌++◌, IfOk, IfErr};
+ghost use Rattle.std.specs.Prelude.{◌≡◌, ◌+◌, ◌^◌, ◌-◌, min, true, [], ◌++◌, IfOk, IfErr, Some, codes};
+ghost use Rattle.sctp_wire.specs.ParameterText.{parameter_text, unknown_text};
 ghost use Rattle.sctp_wire.specs.Parameter.{SaysParameter, RefusesParameterAs, parameter_item, parameter_value};
 ghost use Rattle.sctp_wire.specs.Serialize.{typed};
-ghost use Rattle.sctp_wire.specs.ParameterViews.{heartbeat_info_tree, state_cookie_tree, supported_extensions_tree, forward_tsn_supported_tree, zero_checksum_acceptable_tree, unknown_parameter_tree};
+ghost use Rattle.sctp_wire.specs.ParameterViews.{heartbeat_info_tree, state_cookie_tree, supported_extensions_tree, forward_tsn_supported_tree, zero_checksum_acceptable_tree};
 
 use crate::field::{ends_here, push_u32, u32_at};
 use crate::item::RawParameter;
 use crate::serialize::SerializableTlv;
+use crate::show::Joined;
 use crate::ChunkParseError;
 use sctp_serial::ZeroChecksumAlternateErrorDetectionMethod;
 use std::alloc::{AllocError, Global};
+use std::fmt;
 
 /// What a HEARTBEAT asks to be sent back (RFC 9260 section 3.3.5).
 #[derive(Debug, Drop)]
@@ -57,6 +60,15 @@ impl SerializableTlv for HeartbeatInfoParameter {
     }
 }
 
+#[tactic(auto, unfolding(crate::specs::ParameterText::parameter_text))]
+impl fmt::Display for HeartbeatInfoParameter {
+    ghost output = { λ p. Some (parameter_text (heartbeat_info_tree p)) };
+
+    fn fmt<W: fmt::Write>(&self, f: &mut fmt::Formatter<W>) -> fmt::Result {
+        write!(f, "HEARTBEAT INFO, info={} bytes", self.info.len())
+    }
+}
+
 /// The cookie of an INIT ACK (RFC 9260 section 3.3.3).
 #[derive(Debug, Drop)]
 pub struct StateCookieParameter {
@@ -99,6 +111,15 @@ impl SerializableTlv for StateCookieParameter {
 
     fn push_value(&self, output: &mut Vec<u8>) -> Result<(), AllocError> {
         output.extend_from_slice(&self.cookie)
+    }
+}
+
+#[tactic(auto, unfolding(crate::specs::ParameterText::parameter_text))]
+impl fmt::Display for StateCookieParameter {
+    ghost output = { λ p. Some (parameter_text (state_cookie_tree p)) };
+
+    fn fmt<W: fmt::Write>(&self, f: &mut fmt::Formatter<W>) -> fmt::Result {
+        write!(f, "STATE COOKIE, cookie={} bytes", self.cookie.len())
     }
 }
 
@@ -150,6 +171,19 @@ impl SerializableTlv for SupportedExtensionsParameter {
     }
 }
 
+#[tactic(auto, unfolding(crate::specs::ParameterText::parameter_text))]
+impl fmt::Display for SupportedExtensionsParameter {
+    ghost output = { λ p. Some (parameter_text (supported_extensions_tree p)) };
+
+    fn fmt<W: fmt::Write>(&self, f: &mut fmt::Formatter<W>) -> fmt::Result {
+        write!(
+            f,
+            "SUPPORTED EXTENSIONS, chunk_types={}",
+            Joined(&self.chunk_types)
+        )
+    }
+}
+
 /// An endpoint understands FORWARD-TSN (RFC 3758 section 3.1).
 #[derive(Clone, Copy, Debug, PartialEq, Eq, Default)]
 pub struct ForwardTsnSupportedParameter {}
@@ -189,6 +223,15 @@ impl SerializableTlv for ForwardTsnSupportedParameter {
 
     fn push_value(&self, _output: &mut Vec<u8>) -> Result<(), AllocError> {
         Ok(())
+    }
+}
+
+#[tactic(auto, unfolding(crate::specs::ParameterText::parameter_text))]
+impl fmt::Display for ForwardTsnSupportedParameter {
+    ghost output = { λ p. Some (parameter_text (forward_tsn_supported_tree p)) };
+
+    fn fmt<W: fmt::Write>(&self, f: &mut fmt::Formatter<W>) -> fmt::Result {
+        f.write_str("FORWARD TSN SUPPORTED")
     }
 }
 
@@ -241,6 +284,15 @@ impl SerializableTlv for ZeroChecksumAcceptableParameter {
     }
 }
 
+#[tactic(auto, unfolding(crate::specs::ParameterText::parameter_text))]
+impl fmt::Display for ZeroChecksumAcceptableParameter {
+    ghost output = { λ p. Some (parameter_text (zero_checksum_acceptable_tree p)) };
+
+    fn fmt<W: fmt::Write>(&self, f: &mut fmt::Formatter<W>) -> fmt::Result {
+        write!(f, "ZERO CHECKSUM ACCEPTABLE, method={}", self.method.0)
+    }
+}
+
 /// A parameter or a cause that is kept as it came.
 #[derive(Debug, Drop)]
 pub struct UnknownParameter {
@@ -281,5 +333,18 @@ impl SerializableTlv for UnknownParameter {
 
     fn push_value(&self, output: &mut Vec<u8>) -> Result<(), AllocError> {
         output.extend_from_slice(&self.value)
+    }
+}
+
+impl fmt::Display for UnknownParameter {
+    ghost output = { λ p. Some (unknown_text (codes "UNKNOWN PARAMETER") p.typ p.value.items) };
+
+    fn fmt<W: fmt::Write>(&self, f: &mut fmt::Formatter<W>) -> fmt::Result {
+        write!(
+            f,
+            "UNKNOWN PARAMETER, typ={}, value={} bytes",
+            self.typ,
+            self.value.len()
+        )
     }
 }

@@ -1,6 +1,7 @@
 //! The parameters of a RE-CONFIG: requests to reset streams, and responses (RFC 6525 section 4).
 
-ghost use Rattle.std.specs.Prelude.{◌≡◌, ◌+◌, ◌^◌, ◌-◌, ◌<◌, ◌≤◌, ◌≢◌, ◌⊎◌, length, min, true, [], ◌++◌, is_some, IfOk, IfErr, OnOk, OnErr, MatchResult};
+ghost use Rattle.std.specs.Prelude.{◌≡◌, ◌+◌, ◌^◌, ◌-◌, ◌<◌, ◌≤◌, ◌≢◌, ◌⊎◌, length, min, true, [], ◌++◌, is_some, IfSome, IfOk, IfErr, OnOk, OnErr, MatchResult, Some};
+ghost use Rattle.sctp_wire.specs.ParameterText.{parameter_text};
 ghost use Rattle.sctp_wire.specs.declared.error.ChunkParseError.TheVariants.{InvalidValue as no_value};
 ghost use Rattle.sctp_wire.specs.Parameter.{SaysParameter, RefusesParameterAs, parameter_item, parameter_value, parameter_is_whole, optional_tsn_bytes};
 ghost use Rattle.sctp_wire.specs.ParameterViews.{outgoing_tree, incoming_tree, response_tree, result_number};
@@ -8,9 +9,11 @@ ghost use Rattle.sctp_wire.specs.ParameterViews.{outgoing_tree, incoming_tree, r
 use crate::field::{Entry, ends_here, entries_from_bytes, push_entries, push_u32, u32_at};
 use crate::item::RawParameter;
 use crate::serialize::SerializableTlv;
+use crate::show::Joined;
 use crate::ChunkParseError;
 use sctp_serial::{StreamId, Tsn};
 use std::alloc::{AllocError, Global};
+use std::fmt;
 
 /// A request that the sender's streams, all where none is named, begin anew (RFC 6525 section 4.1).
 #[derive(Debug, Drop)]
@@ -75,6 +78,22 @@ impl SerializableTlv for OutgoingSsnResetRequestParameter {
     }
 }
 
+#[tactic(auto, unfolding(crate::specs::ParameterText::parameter_text))]
+impl fmt::Display for OutgoingSsnResetRequestParameter {
+    ghost output = { λ p. Some (parameter_text (outgoing_tree p)) };
+
+    fn fmt<W: fmt::Write>(&self, f: &mut fmt::Formatter<W>) -> fmt::Result {
+        write!(
+            f,
+            "OUTGOING RESET REQUEST, request_seq_nbr={}, response_seq_nbr={}, sender_last_assigned_tsn={}, streams={}",
+            self.request_seq_nbr,
+            self.response_seq_nbr,
+            self.sender_last_assigned_tsn.0,
+            Joined(&self.streams)
+        )
+    }
+}
+
 /// A request that the receiver reset its streams, all where none is named (RFC 6525 section 4.2).
 #[derive(Debug, Drop)]
 pub struct IncomingSsnResetRequestParameter {
@@ -127,6 +146,20 @@ impl SerializableTlv for IncomingSsnResetRequestParameter {
     fn push_value(&self, output: &mut Vec<u8>) -> Result<(), AllocError> {
         push_u32(output, self.request_seq_nbr)?;
         push_entries(output, &self.streams)
+    }
+}
+
+#[tactic(auto, unfolding(crate::specs::ParameterText::parameter_text))]
+impl fmt::Display for IncomingSsnResetRequestParameter {
+    ghost output = { λ p. Some (parameter_text (incoming_tree p)) };
+
+    fn fmt<W: fmt::Write>(&self, f: &mut fmt::Formatter<W>) -> fmt::Result {
+        write!(
+            f,
+            "INCOMING RESET REQUEST, request_seq_nbr={}, streams={}",
+            self.request_seq_nbr,
+            Joined(&self.streams)
+        )
     }
 }
 
@@ -207,6 +240,8 @@ impl ReconfigurationResponseParameter {
 /// Nothing, or two TSNs.
 fn next_tsns(bytes: &[u8]) -> Result<(Option<Tsn>, Option<Tsn>), ChunkParseError>
     ensures ok { IfOk result (λ tsns. bytes.now ≡ optional_tsn_bytes tsns.0 ++ optional_tsn_bytes tsns.1) }
+    ensures sender { IfOk result (λ tsns. IfSome tsns.0 (λ tsn. tsn.0 < 2 ^ 32)) }
+    ensures receiver { IfOk result (λ tsns. IfSome tsns.1 (λ tsn. tsn.0 < 2 ^ 32)) }
     ensures both { IfOk result (λ tsns. is_some tsns.0 ≡ is_some tsns.1) }
     ensures len { OnOk result ((length bytes.now ≡ 0) ⊎ (length bytes.now ≡ 8)) }
     ensures other { OnErr result ((length bytes.now ≢ 0) × (length bytes.now ≢ 8)) }
@@ -245,6 +280,31 @@ impl SerializableTlv for ReconfigurationResponseParameter {
         push_u32(output, self.result.number())?;
         push_optional_tsn(output, self.sender_next_tsn)?;
         push_optional_tsn(output, self.receiver_next_tsn)
+    }
+}
+
+#[tactic(auto, unfolding(crate::specs::ParameterText::parameter_text))]
+impl fmt::Display for ReconfigurationResponseParameter {
+    ghost output = { λ p. Some (parameter_text (response_tree p)) };
+
+    fn fmt<W: fmt::Write>(&self, f: &mut fmt::Formatter<W>) -> fmt::Result {
+        let number = self.response_seq_nbr;
+        let result = self.result.number();
+        match (self.sender_next_tsn, self.receiver_next_tsn) {
+            (None, None) => write!(f, "RESPONSE, response_seq_nbr={number}, result={result}"),
+            (Some(Tsn(sender)), None) => write!(
+                f,
+                "RESPONSE, response_seq_nbr={number}, result={result}, sender_next_tsn={sender}"
+            ),
+            (None, Some(Tsn(receiver))) => write!(
+                f,
+                "RESPONSE, response_seq_nbr={number}, result={result}, receiver_next_tsn={receiver}"
+            ),
+            (Some(Tsn(sender)), Some(Tsn(receiver))) => write!(
+                f,
+                "RESPONSE, response_seq_nbr={number}, result={result}, sender_next_tsn={sender}, receiver_next_tsn={receiver}"
+            ),
+        }
     }
 }
 

@@ -1,10 +1,10 @@
 //! Items written: kind, length, value, and zeros up to a multiple of four bytes (RFC 9260 section 3.2).
 
 ghost use Rattle.std.specs.Prelude.{◌≡◌, ◌≢◌, ℕ, ◌+◌, ◌-◌, ◌%◌, ◌^◌, ◌<◌, ◌≤◌, ◌↔◌, min, Bool, true, IsTrue, List, [], ◌∷◌, ◌++◌, length, map, replicate, OnOk, All};
-ghost use Rattle.std.specs.List.{flat_map};
+ghost use Rattle.std.specs.List.{flat_map, list_all};
 ghost use Rattle.sctp_wire.specs.Fields.{be16};
 ghost use Rattle.sctp_wire.specs.Item.{Item, item_bytes, padding};
-ghost use Rattle.sctp_wire.specs.Serialize.{IsEncodable, padded_item, inner_items};
+ghost use Rattle.sctp_wire.specs.Serialize.{IsEncodable, is_encodable, padded_item, inner_items};
 
 use crate::field::push_u16;
 use std::alloc::AllocError;
@@ -40,7 +40,8 @@ pub trait SerializableTlv {
 
     /// Whether the item can be written: its length fits 16 bits, and it is whole.
     final fn encodable(&self) -> bool
-        ensures { IsTrue result ↔ (IsEncodable (item_of self.now) × (parts_agree self.now ≡ true)) }
+        ensures test { result ≡ is_encodable (item_of self.now) (parts_agree self.now) }
+        ensures says { IsTrue result ↔ (IsEncodable (item_of self.now) × (parts_agree self.now ≡ true)) }
     {
         self.value_size() <= MAX_VALUE_SIZE && self.is_whole()
     }
@@ -129,6 +130,15 @@ pub fn parameters_serialized_size<T: SerializableTlv>(parameters: &[T]) -> usize
             .saturating_add(4);
     }
     size
+}
+
+/// Whether each of the items can be written.
+pub fn all_encodable<T: SerializableTlv>(items: &[T]) -> bool
+    ensures test { result ≡ list_all (λ item. is_encodable (T.item_of item) (T.parts_agree item)) items.now }
+    ensures fit { IsTrue result → All (λ item. IsEncodable (T.item_of item)) items.now }
+    ensures whole { IsTrue result → All (λ item. T.parts_agree item ≡ true) items.now }
+{
+    items.iter().all(|item| item.encodable())
 }
 
 /// Appends the items as part of the value around them: each but the last with its padding.

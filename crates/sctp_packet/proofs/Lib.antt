@@ -1,0 +1,6 @@
+pub mod ValueLemmas
+pub mod FieldLemmas
+pub mod SackLemmas
+pub mod InnerLemmas
+pub mod SkipLemmas
+pub mod PacketLemmas

@@ -1,0 +1,39 @@
+-- The parts of a packet, and faults of chunks as faults of packets.
+use Rattle.std.proofs.Common.{◌≡◌, ◌⊎◌, inl, inr, ℕ, ◌+◌, ◌^◌, ◌<◌, ◌≤◌, Bool, true, false, List, [], ◌∷◌, ◌++◌, length, take, drop, refl, sym, ap, subst, ◌∙◌, arith}
+use Rattle.std.specs.Int.{w32, from_be_bytes}
+use Rattle.std.proofs.lemmas.Nat.{from_be_bytes-to_be_bytes_4}
+use Rattle.sctp_wire.specs.Fields.{be16, be32}
+use Rattle.sctp_wire.specs.Refusal.{BreaksAs}
+use Rattle.sctp_wire.specs.declared.checksum.Policy.{Policy}
+use Rattle.sctp_wire.specs.declared.error.ChunkParseError.{ChunkParseError}
+use Rattle.sctp_wire.specs.declared.error.ChunkParseError.TheVariants as faults
+use Rattle.sctp_packet.specs.declared.packet.PacketParseError.{PacketParseError}
+use Rattle.sctp_packet.specs.declared.packet.PacketParseError.TheVariants as packet_faults
+use Rattle.sctp_packet.specs.Grammar.{IsChunk, RefusesChunk}
+use Rattle.sctp_packet.specs.Packet.{HeaderTree, header_bytes, joined_bytes, checksum_field, IsSized, lets_through, Refuses}
+use Rattle.sctp_packet.specs.Faults.{IsPacketFault}
+
+pub body_at : (h : HeaderTree) (word : ℕ) (body : List ℕ) → drop 12 (joined_bytes h word body) ≡ body
+unfolding header_bytes be16 be32
+body_at h word body = refl
+
+pub field_at : (h : HeaderTree) (word : ℕ) (body : List ℕ) → word < 2 ^ 32 → checksum_field (joined_bytes h word body) ≡ word
+unfolding header_bytes be16 be32
+field_at h word body fits = from_be_bytes-to_be_bytes_4 word fits
+
+pub length_joined : (h : HeaderTree) (word : ℕ) (body : List ℕ) → length (joined_bytes h word body) ≡ 12 + length body
+unfolding header_bytes be16 be32
+length_joined h word body = omega arith
+
+-- why the chunks could not be read is why the packet could not
+pub chunks_refused : (policy : Policy) (word : ℕ) (bytes : List ℕ) (fault : ChunkParseError) (e : PacketParseError) → IsPacketFault fault e
+    → IsSized bytes → lets_through policy word (checksum_field bytes) ≡ true
+    → ((fault ≡ faults.Memory) ⊎ BreaksAs IsChunk RefusesChunk (drop 12 bytes) fault) → Refuses policy word bytes e
+chunks_refused policy word bytes fault e is sized sum (inl none) =
+    let same : IsPacketFault faults.Memory e = subst (λ (f : ChunkParseError). IsPacketFault f e) none is in
+    subst (λ (x : PacketParseError). Refuses policy word bytes x) (sym same) tt
+chunks_refused policy word bytes faults.Memory e is sized sum (inr b) = subst (λ (x : PacketParseError). Refuses policy word bytes x) (sym is) tt
+chunks_refused policy word bytes faults.InvalidLength e is sized sum (inr b) = subst (λ (x : PacketParseError). Refuses policy word bytes x) (sym is) (sized, sum, b, λ h. cc)
+chunks_refused policy word bytes faults.InvalidType e is sized sum (inr b) = subst (λ (x : PacketParseError). Refuses policy word bytes x) (sym is) (sized, sum, b, λ h. cc)
+chunks_refused policy word bytes faults.InvalidPadding e is sized sum (inr b) = subst (λ (x : PacketParseError). Refuses policy word bytes x) (sym is) (sized, sum, b, λ h. cc)
+chunks_refused policy word bytes faults.InvalidValue e is sized sum (inr b) = subst (λ (x : PacketParseError). Refuses policy word bytes x) (sym is) (sized, sum, b, λ h. cc)

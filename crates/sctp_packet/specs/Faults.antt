@@ -1,0 +1,14 @@
+-- Faults of chunks as faults of packets.
+use Rattle.std.specs.Prelude.{◌≡◌}
+use Rattle.sctp_wire.specs.declared.error.ChunkParseError.{ChunkParseError}
+use Rattle.sctp_wire.specs.declared.error.ChunkParseError.TheVariants as faults
+use Rattle.sctp_packet.specs.declared.packet.PacketParseError.{PacketParseError}
+use Rattle.sctp_packet.specs.declared.packet.PacketParseError.TheVariants.{Chunk, Memory}
+
+-- want of memory stays want of memory
+abbrev pub IsPacketFault : ChunkParseError → PacketParseError → Type 0
+IsPacketFault faults.Memory e = e ≡ Memory
+IsPacketFault faults.InvalidLength e = e ≡ Chunk faults.InvalidLength
+IsPacketFault faults.InvalidType e = e ≡ Chunk faults.InvalidType
+IsPacketFault faults.InvalidPadding e = e ≡ Chunk faults.InvalidPadding
+IsPacketFault faults.InvalidValue e = e ≡ Chunk faults.InvalidValue

@@ -1,0 +1,11 @@
+pub mod Chunk
+pub mod Written
+pub mod Grammar
+pub mod Views
+pub mod InitFront
+pub mod Packet
+pub mod PacketView
+pub mod Builder
+pub mod Faults
+pub mod BuilderView
+pub mod ChunkView
