@@ -1,12 +1,12 @@
 -- What a SACK says of the numbers that were seen (RFC 9260 section 3.3.4).
-use Rattle.std.specs.Prelude.{ℕ, ◌-◌, ◌+◌, ◌≤◌, Bool, nat_le, List, map, filter, take}
+use Rattle.std.specs.Prelude.{ℕ, ◌-◌, ◌&&◌, Bool, nat_le, List, [], map, filter, take}
 use Rattle.std.specs.List.{list_any}
-use Rattle.std.specs.Prelude.{◌&&◌}
 use Rattle.sctp_serial.specs.declared.types.tsn.Tsn.{Tsn}
 use Rattle.sctp_serial.specs.Unwrapped.{words, wire}
-use Rattle.sctp_rx.specs.declared.data_tracker.sack.GapAckBlock.{GapAckBlock}
+use Rattle.sctp_packet.specs.declared.sack.GapAckBlock.{GapAckBlock}
+use Rattle.sctp_packet.specs.Chunk.{SackTree}
 use Rattle.sctp_rx.specs.Seen.{Run, Seen}
-use Rattle.sctp_rx.specs.Tracker.{Tracker, DataTracker}
+use Rattle.sctp_rx.specs.Tracker.{Tracker, DataTracker, written}
 
 -- a run as offsets from the front
 abbrev pub block : ℕ → Run → GapAckBlock
@@ -28,6 +28,17 @@ tsn first n = record { 0 = wire words first n }
 
 abbrev pub tsns : ℕ → List ℕ → List Tsn
 tsns first ns = map (tsn first) ns
+
+abbrev pub sack : (a_rwnd : ℕ) → DataTracker → SackTree
+sack a_rwnd d = record {
+  cumulative_tsn_ack = written d d.tracker.seen.front;
+  a_rwnd = a_rwnd;
+  gap_ack_blocks = gap_ack_blocks d.tracker.seen;
+  duplicate_tsns = tsns d.first d.tracker.duplicates }
+
+-- the duplicates are told once
+abbrev pub reported : Tracker → Tracker
+reported t = record t { duplicates = [] }
 
 -- whether a block covers the offset
 abbrev pub is_covered : List GapAckBlock → ℕ → Bool

@@ -1,16 +1,17 @@
 //! The tracker of the TSNs that came from the peer.
 
-ghost use Rattle.std.specs.Prelude.{◌≡◌, ◌==◌, ℕ, ◌+◌, ◌-◌, ◌^◌, ◌<◌, ◌≤◌, ◌||◌, ◌&&◌, not, nat_le, length, [], false, if◌then◌else◌, IsTrue, IfOk, OnOk, OnErr};
+ghost use Rattle.std.specs.Prelude.{◌≡◌, ◌==◌, ℕ, ◌+◌, ◌-◌, ◌^◌, ◌<◌, ◌≤◌, ◌||◌, ◌&&◌, not, nat_le, length, false, if◌then◌else◌, IsTrue, IfOk, OnOk, OnErr};
 ghost use Rattle.std.specs.Duration.{as_nanos};
 ghost use Rattle.sctp_state.specs.Options.{options_of};
 ghost use Rattle.sctp_state.specs.Timers.{is_due, next_expiry};
 ghost use Rattle.sctp_state.specs.Handover.{receive_of, handover_state_of};
 ghost use Rattle.sctp_serial.specs.Unwrapped.{origin};
+ghost use Rattle.sctp_packet.specs.Chunk.{sack_chunk};
+ghost use Rattle.sctp_packet.specs.Views.{sack_chunk_tree};
 
-pub mod sack;
 mod seen;
 
-use sack::SackChunk;
+use sctp_packet::SackChunk;
 use sctp_serial::{SerialNumber, SocketTime, Tsn};
 use sctp_state::{BackoffAlgorithm, HandoverReadiness, Options, SocketHandoverState, Timer};
 use seen::Seen;
@@ -93,7 +94,7 @@ impl Model for DataTracker {
 
 impl DataTracker {
     ghost use Rattle.sctp_rx.specs.Tracker.{tracker, update_rto, written, number_of, is_valid, has_seen, observe, moves_on, forward, acking, is_ack_due, take_ack, packet_end, ack_timeout, IsTracker};
-    ghost use Rattle.sctp_rx.specs.Sack.{gap_ack_blocks, is_covered, tsns};
+    ghost use Rattle.sctp_rx.specs.Sack.{sack, reported, is_covered};
     ghost use Rattle.sctp_rx.specs.TrackerHandover.{readiness, receive, restore};
 
     /// A tracker whose least TSN that was not seen is `peer_initial_tsn`.
@@ -195,12 +196,9 @@ impl DataTracker {
     /// A SACK of what was seen: the cumulative TSN, the first twenty runs above it but those that end more than 65,535
     /// above it, and the duplicates that came since the last SACK, which are told once. `a_rwnd` is the window in bytes.
     pub fn create_selective_ack(&mut self, a_rwnd: u32) -> Result<SackChunk, AllocError>
-        ensures cumulative { IfOk result (λ c. c.cumulative_tsn_ack.0 ≡ written self.old self.old.tracker.seen.front) }
-        ensures window { IfOk result (λ c. c.a_rwnd ≡ a_rwnd) }
-        ensures blocks { IfOk result (λ c. c.gap_ack_blocks.items ≡ gap_ack_blocks self.old.tracker.seen) }
-        ensures duplicates { IfOk result (λ c. c.duplicate_tsns.items ≡ tsns self.old.first self.old.tracker.duplicates) }
+        ensures chunk { IfOk result (λ c. sack_chunk_tree c ≡ sack_chunk (sack a_rwnd self.old)) }
         ensures seen { IfOk result (λ c. (offset : ℕ) → IsTrue (is_covered c.gap_ack_blocks.items offset) → IsTrue (has_seen self.old.tracker (self.old.tracker.seen.front + offset))) }
-        ensures value { OnOk result (self.new ≡ record self.old { tracker = record self.old.tracker { duplicates = [] } }) }
+        ensures value { OnOk result (self.new ≡ record self.old { tracker = reported self.old.tracker }) }
         ensures tracker { IsTracker self.new.tracker }
         ensures err { OnErr result (self.new ≡ self.old) }
     {

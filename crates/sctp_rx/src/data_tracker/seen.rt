@@ -5,7 +5,7 @@ ghost use Rattle.sctp_rx.specs.Seen.{in_runs, AreRuns, last_above};
 ghost use Rattle.sctp_rx.specs.SeenSteps.{Adds, Passes, runs_before};
 ghost use Rattle.sctp_rx.specs.Sack.{blocks_of, gap_ack_blocks};
 
-use crate::data_tracker::sack::GapAckBlock;
+use sctp_packet::GapAckBlock;
 use std::alloc::{AllocError, Global};
 use std::collections::VecDeque;
 use std::marker::Model;

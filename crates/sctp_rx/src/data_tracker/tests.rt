@@ -1,5 +1,5 @@
 use super::*;
-use crate::data_tracker::sack::GapAckBlock;
+use sctp_packet::GapAckBlock;
 use std::process::Abort;
 use std::test::Fail;
 
