@@ -1,5 +1,5 @@
 -- Moving a front up, over the runs that it reaches.
-use Rattle.std.proofs.Common.{◌≡◌, ℕ, ◌+◌, ◌^◌, ◌<◌, ◌≤◌, Bool, eqb, leb, ltb, ◌||◌, ◌&&◌, List, [], ◌∷◌, ◌++◌, length, get_or, drop, max, sym, ap, ◌∙◌, subst, arith, drop-cons}
+use Rattle.std.proofs.Common.{◌≡◌, ℕ, ◌+◌, ◌<◌, ◌≤◌, Bool, eqb, leb, ◌||◌, ◌&&◌, List, [], ◌∷◌, length, get_or, drop, max, sym, ap, ◌∙◌, subst, arith, drop-cons}
 use Rattle.std.proofs.lemmas.Bool.Decides.{nat_tests}
 use Rattle.sctp_rx.specs.Seen.{Run, in_runs, AreRuns, last_above}
 use Rattle.sctp_rx.specs.SeenSteps.{Passes}

@@ -99,7 +99,8 @@ adds n old new held r e was =
       answer = ap not was;
       numbers = λ m. in_runs-add_number 0 n m old r;
       runs = λ below a l. AreRuns-add_number below n old a l;
-      last = λ below a l. last_above-add_number below n old a l })
+      last = λ below a l. last_above-add_number below n old a l;
+    })
 
 -- what is added above a front
 pub added_to : (c n : ℕ) (old : List Run) (is_new : Bool) (new : List Run) → Adds n old is_new new → (m : ℕ) → (leb m c || in_runs new m) ≡ (eqb m n || (leb m c || in_runs old m))

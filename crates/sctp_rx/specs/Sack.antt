@@ -34,7 +34,8 @@ sack a_rwnd d = record {
   cumulative_tsn_ack = written d d.tracker.seen.front;
   a_rwnd = a_rwnd;
   gap_ack_blocks = gap_ack_blocks d.tracker.seen;
-  duplicate_tsns = tsns d.first d.tracker.duplicates }
+  duplicate_tsns = tsns d.first d.tracker.duplicates;
+}
 
 -- the duplicates are told once
 abbrev pub reported : Tracker → Tracker

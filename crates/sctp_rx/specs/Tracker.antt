@@ -11,13 +11,13 @@ use Rattle.sctp_rx.specs.declared.data_tracker.AckState.TheVariants.{Idle, Becom
 use Rattle.sctp_rx.specs.Seen.{Seen, contains, has_gap, add, up_to, IsInRuns, highest}
 
 pub record Tracker : Type 0 where
-  pub begin : ℕ               -- the front when it was made
-  pub seen : Seen             -- its front is the cumulative TSN
-  pub duplicates : List ℕ     -- what came again since the last SACK, ascending
-  pub seen_packet : Bool      -- whether DATA came
+  pub begin : ℕ  -- the front when it was made
+  pub seen : Seen  -- its front is the cumulative TSN
+  pub duplicates : List ℕ  -- what came again since the last SACK, ascending
+  pub seen_packet : Bool  -- whether DATA came
   pub ack : AckState
-  pub delay : Timer           -- runs while an acknowledgement is delayed
-  pub most_delay : ℕ          -- in nanoseconds
+  pub delay : Timer  -- runs while an acknowledgement is delayed
+  pub most_delay : ℕ  -- in nanoseconds
 
 abbrev pub has_seen : Tracker → ℕ → Bool
 has_seen t n = contains t.seen n
@@ -56,9 +56,14 @@ ack_delay rto most = min (rto / 2) most
 -- the least number that was not seen is `first`
 abbrev pub tracker : Options → ℕ → Tracker
 tracker o first = record {
-  begin = first - 1; seen = record { front = first - 1; runs = [] }; duplicates = []; seen_packet = false; ack = Idle;
+  begin = first - 1;
+  seen = record { front = first - 1; runs = [] };
+  duplicates = [];
+  seen_packet = false;
+  ack = Idle;
   delay = timer (ack_delay o.rto_initial o.delayed_ack_max_timeout) Fixed (Some 0) None;
-  most_delay = o.delayed_ack_max_timeout }
+  most_delay = o.delayed_ack_max_timeout;
+}
 
 abbrev pub update_rto : ℕ → Tracker → Tracker
 update_rto rto t = record t { delay = set_duration (ack_delay rto t.most_delay) t.delay }
@@ -123,7 +128,8 @@ observed n is_new is_immediate seen t = record t {
   duplicates = if is_new then t.duplicates else with_duplicate n t.duplicates;
   seen_packet = true;
   ack = ack_after (is_urgent is_new (has_gap seen) is_immediate t.seen_packet) t.ack;
-  delay = stop t.delay }
+  delay = stop t.delay;
+}
 
 -- a DATA chunk with this number, which is valid
 abbrev pub observe : ℕ → (is_immediate : Bool) → Tracker → Tracker
@@ -138,7 +144,8 @@ abbrev pub forward : ℕ → Tracker → Tracker
 forward n t = record t {
   seen = up_to n t.seen;
   ack = ack_after (not (moves_on n t)) t.ack;
-  delay = stop t.delay }
+  delay = stop t.delay;
+}
 
 -- ---- handed over
 

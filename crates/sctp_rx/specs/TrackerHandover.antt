@@ -1,5 +1,5 @@
 -- The tracker's part of a handover record.
-use Rattle.std.specs.Prelude.{ℕ, ◌+◌, ◌-◌, Bool, true, false, if◌then◌else◌}
+use Rattle.std.specs.Prelude.{ℕ, ◌-◌, if◌then◌else◌}
 use Rattle.sctp_serial.specs.Serial.{serial_sum}
 use Rattle.sctp_serial.specs.Unwrapped.{words}
 use Rattle.sctp_state.specs.Handover.{Receive}
@@ -15,7 +15,8 @@ abbrev pub receive : DataTracker → Receive → Receive
 receive d r = record r {
   seen_packet = d.tracker.seen_packet;
   last_cumulative_acked_tsn = written d d.tracker.seen.front;
-  last_assembled_tsn = written d d.tracker.seen.front }
+  last_assembled_tsn = written d d.tracker.seen.front;
+}
 
 -- the cumulative TSN that is read: the one behind it is at or above the peer's first one
 abbrev pub front_of : ℕ → Receive → ℕ

@@ -124,7 +124,8 @@ impl DataTracker {
         ensures value { self.new ≡ record self.old { tracker = update_rto (as_nanos rto) self.old.tracker } }
         ensures tracker { IsTracker self.new.tracker }
     {
-        self.delayed_ack_timer.set_duration(ack_delay(rto, self.delayed_ack_max_timeout));
+        self.delayed_ack_timer
+            .set_duration(ack_delay(rto, self.delayed_ack_max_timeout));
     }
 
     /// When a delayed acknowledgement is due: the infinite future where none waits.
@@ -153,7 +154,12 @@ impl DataTracker {
     /// Takes the TSN of a DATA chunk, and says whether it is valid and was not seen before. `is_immediate` is the
     /// chunk's I bit (RFC 7053). A TSN that is not valid changes nothing.
     #[tactic(auto, using(crate::proofs::TrackerLemmas::few_runs))]
-    pub fn observe(&mut self, _now: SocketTime, tsn: Tsn, is_immediate: bool) -> Result<bool, AllocError>
+    pub fn observe(
+        &mut self,
+        _now: SocketTime,
+        tsn: Tsn,
+        is_immediate: bool,
+    ) -> Result<bool, AllocError>
         ensures answer { let n = number_of self.old tsn.0 in IfOk result (λ is_new. is_new ≡ (is_valid self.old.tracker n && not (has_seen self.old.tracker n))) }
         ensures seen { let n = number_of self.old tsn.0 in IsTrue (is_valid self.old.tracker n) → OnOk result ((m : ℕ) → has_seen self.new.tracker m ≡ (m == n || has_seen self.old.tracker m)) }
         ensures value { let n = number_of self.old tsn.0 in IsTrue (is_valid self.old.tracker n) → OnOk result (self.new ≡ record self.old { tracker = observe n is_immediate self.old.tracker }) }
@@ -320,7 +326,11 @@ fn ack_delay(rto: Duration, most: Duration) -> Duration
     ensures { as_nanos result ≡ ack_delay (as_nanos rto) (as_nanos most) }
 {
     let half = rto / 2;
-    if half.as_nanos() < most.as_nanos() { half } else { most }
+    if half.as_nanos() < most.as_nanos() {
+        half
+    } else {
+        most
+    }
 }
 
 // Whether there is a reason to acknowledge at once.
@@ -334,7 +344,10 @@ fn is_urgent(is_new: bool, has_gap: bool, is_immediate: bool, seen_packet: bool)
 fn tsns_of(alloc: Global, first: Tsn, numbers: &[u64]) -> Result<Vec<Tsn>, AllocError>
     ensures { IfOk result (λ written. written.items ≡ tsns first.0 numbers.now) }
 {
-    numbers.iter().map(|number| Tsn::wrapped(first, *number)).collect(alloc)
+    numbers
+        .iter()
+        .map(|number| Tsn::wrapped(first, *number))
+        .collect(alloc)
 }
 
 // Adds a number to those that came again, unless it is there or twenty are.

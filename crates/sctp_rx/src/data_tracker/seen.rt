@@ -136,7 +136,11 @@ impl Seen {
 }
 
 // The first twenty runs, as offsets from the front, but those whose offsets don't have 16 bits.
-fn first_blocks(alloc: Global, front: u64, runs: &VecDeque<TsnRange>) -> Result<Vec<GapAckBlock>, AllocError>
+fn first_blocks(
+    alloc: Global,
+    front: u64,
+    runs: &VecDeque<TsnRange>,
+) -> Result<Vec<GapAckBlock>, AllocError>
     requires { AreRuns front runs.now.items }
     ensures { IfOk result (λ blocks. blocks.items ≡ blocks_of front (take 20 runs.now.items)) }
 {
@@ -146,7 +150,10 @@ fn first_blocks(alloc: Global, front: u64, runs: &VecDeque<TsnRange>) -> Result<
         let end = range.last - front;
         if end <= 65_535 {
             let start = range.first - front;
-            blocks.push(GapAckBlock { start: start as u16, end: end as u16 })?;
+            blocks.push(GapAckBlock {
+                start: start as u16,
+                end: end as u16,
+            })?;
         }
     }
     Ok(blocks)
@@ -193,16 +200,31 @@ fn add_to(runs: &mut VecDeque<TsnRange>, number: u64) -> Result<bool, AllocError
 {
     let place = place_of(runs, number);
     if place == runs.len() {
-        runs.insert(place, TsnRange { first: number, last: number })?;
+        runs.insert(
+            place,
+            TsnRange {
+                first: number,
+                last: number,
+            },
+        )?;
         return Ok(true);
     }
     let range = runs[place];
     if number + 1 < range.first {
-        runs.insert(place, TsnRange { first: number, last: number })?;
+        runs.insert(
+            place,
+            TsnRange {
+                first: number,
+                last: number,
+            },
+        )?;
         return Ok(true);
     }
     if number + 1 == range.first {
-        runs[place] = TsnRange { first: number, last: range.last };
+        runs[place] = TsnRange {
+            first: number,
+            last: range.last,
+        };
         return Ok(true);
     }
     if number <= range.last {
@@ -211,11 +233,17 @@ fn add_to(runs: &mut VecDeque<TsnRange>, number: u64) -> Result<bool, AllocError
     if place + 1 < runs.len() {
         let next = runs[place + 1];
         if next.first == number + 1 {
-            runs[place] = TsnRange { first: range.first, last: next.last };
+            runs[place] = TsnRange {
+                first: range.first,
+                last: next.last,
+            };
             runs.remove(place + 1);
             return Ok(true);
         }
     }
-    runs[place] = TsnRange { first: range.first, last: number };
+    runs[place] = TsnRange {
+        first: range.first,
+        last: number,
+    };
     Ok(true)
 }

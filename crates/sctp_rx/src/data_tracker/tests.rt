@@ -52,11 +52,17 @@ fn counts_on_where_tsns_wrap(rt: HostRuntime) -> Result<(), Fail> {
     }
     let sack = tracker.create_selective_ack(0)?;
     assert_eq!(rt; sack.cumulative_tsn_ack, Tsn(4_294_967_290));
-    assert_eq!(rt; sack.gap_ack_blocks.as_slice(), [block(2, 2), block(6, 6), block(8, 8)].as_slice());
+    assert_eq!(rt;
+        sack.gap_ack_blocks.as_slice(),
+        [block(2, 2), block(6, 6), block(8, 8)].as_slice()
+    );
     assert!(rt; tracker.observe(at(0), Tsn(4_294_967_291), false)?);
     let sack = tracker.create_selective_ack(0)?;
     assert_eq!(rt; sack.cumulative_tsn_ack, Tsn(4_294_967_292));
-    assert_eq!(rt; sack.gap_ack_blocks.as_slice(), [block(4, 4), block(6, 6)].as_slice());
+    assert_eq!(rt;
+        sack.gap_ack_blocks.as_slice(),
+        [block(4, 4), block(6, 6)].as_slice()
+    );
     assert!(rt; tracker.is_tsn_valid(Tsn(1)));
     assert!(rt; tracker.handle_forward_tsn(at(0), Tsn(1)));
     let sack = tracker.create_selective_ack(0)?;
@@ -119,7 +125,10 @@ fn tells_twenty_of_each(rt: HostRuntime) -> Result<(), Fail> {
     assert!(rt; tracker.observe(at(0), Tsn(40 + 65_535), false)?);
     assert!(rt; tracker.observe(at(0), Tsn(40 + 65_537), false)?);
     let sack = tracker.create_selective_ack(0)?;
-    assert_eq!(rt; sack.gap_ack_blocks.as_slice(), [block(65_535, 65_535)].as_slice());
+    assert_eq!(rt;
+        sack.gap_ack_blocks.as_slice(),
+        [block(65_535, 65_535)].as_slice()
+    );
     for i in 1..=25 {
         assert!(rt; tracker.observe(at(0), Tsn(40 + 2 * i), false)?);
     }
@@ -171,7 +180,11 @@ fn slow_front(seen: &[bool]) -> usize {
 
 // How many of the numbers from the first to the last are there.
 fn slow_count(seen: &[bool], first: usize, last: usize) -> usize {
-    seen.iter().skip(first).take(last.saturating_sub(first).saturating_add(1)).filter(|s| **s).count()
+    seen.iter()
+        .skip(first)
+        .take(last.saturating_sub(first).saturating_add(1))
+        .filter(|s| **s)
+        .count()
 }
 
 // A plain list of what was seen, in four orders, ten thousand numbers in all.

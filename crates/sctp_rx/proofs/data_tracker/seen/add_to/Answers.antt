@@ -3,7 +3,6 @@ use Rattle.std.specs.Prelude.{Option, OnSome}
 use Rattle.std.specs.List.{insert, remove}
 use Rattle.std.proofs.lemmas.List.{get_or_read}
 use Rattle.sctp_rx.specs.Seen.{Run}
-use Rattle.sctp_rx.specs.SeenSteps.{runs_before}
 use Rattle.sctp_rx.proofs.SeenEdits.{run}
 use Rattle.sctp_rx.proofs.SeenPlacesLemmas.{adds_there, add_at_end, add_before, add_first, add_within, add_after, add_joining}
 use Rattle.sctp_rx.proofs.data_tracker.seen.add_to.Goals as goal

@@ -1,7 +1,6 @@
-use Rattle.std.proofs.Common.{◌≡◌, ◌<◌, ◌≤◌, get_or, ap, subst, sym, ◌∙◌, arith}
+use Rattle.std.proofs.Common.{◌≡◌, get_or, ap, ◌∙◌, arith}
 use Rattle.sctp_rx.specs.Seen.{Run}
 use Rattle.sctp_rx.specs.Sack.{blocks_of}
-use Rattle.sctp_rx.proofs.SeenEdits.{run}
 use Rattle.sctp_rx.proofs.SeenPlacesLemmas.{run_above, take-min}
 use Rattle.sctp_rx.proofs.data_tracker.seen.first_blocks.Goals as goal
 

@@ -1,4 +1,4 @@
-use Rattle.std.proofs.Common.{◌≡◌, ◌+◌, ◌<◌, length, get_or, drop, List, ◌∷◌, sym, subst, ap, ◌∙◌, arith}
+use Rattle.std.proofs.Common.{◌≡◌, ◌<◌, length, get_or, ◌∷◌, sym, subst, ap, ◌∙◌, arith}
 use Rattle.sctp_rx.specs.Seen.{Run}
 use Rattle.sctp_rx.proofs.SeenEdits.{run}
 use Rattle.sctp_rx.proofs.SeenPassingLemmas.{passes_one, at_front}

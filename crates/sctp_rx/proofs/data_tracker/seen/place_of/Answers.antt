@@ -1,6 +1,5 @@
-use Rattle.std.proofs.Common.{◌≡◌, ◌+◌, ◌-◌, ◌<◌, ◌≤◌, get_or, ap, ◌∙◌, arith}
+use Rattle.std.proofs.Common.{◌≡◌, ◌-◌, get_or, ap, ◌∙◌, arith}
 use Rattle.sctp_rx.specs.Seen.{Run}
-use Rattle.sctp_rx.proofs.SeenEdits.{run}
 use Rattle.sctp_rx.proofs.SeenPlacesLemmas.{runs_before-le-length, runs_before-within, runs_before-past}
 use Rattle.sctp_rx.proofs.data_tracker.seen.place_of.Goals as goal
 
