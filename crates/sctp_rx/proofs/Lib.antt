@@ -4,3 +4,4 @@ pub mod SeenPlacesLemmas
 pub mod SeenPassingLemmas
 pub mod SeenOneFormLemmas
 pub mod TrackerLemmas
+pub mod TrackerRowsLemmas

@@ -94,21 +94,27 @@ is_ack_due also_if_delayed Becoming = also_if_delayed
 is_ack_due also_if_delayed Delayed = also_if_delayed
 is_ack_due also_if_delayed Immediate = true
 
--- what is acknowledged now is acknowledged
+-- an acknowledgement that is due counts as sent
 abbrev pub take_ack : (also_if_delayed : Bool) → Tracker → Tracker
-take_ack also_if_delayed t = if is_ack_due also_if_delayed t.ack then acking Idle t else t
+take_ack also_if_delayed t = record t {
+  ack = if is_ack_due also_if_delayed t.ack then Idle else t.ack;
+  delay = if is_ack_due also_if_delayed t.ack then stop t.delay else t.delay }
 
-abbrev pub packet_end_in : AckState → ℕ → Tracker → Tracker
-packet_end_in Becoming now t = record t { ack = Delayed; delay = start now t.delay }
-packet_end_in Idle now t = t
-packet_end_in Delayed now t = t
-packet_end_in Immediate now t = t
+abbrev pub is_becoming : AckState → Bool
+is_becoming Idle = false
+is_becoming Becoming = true
+is_becoming Delayed = false
+is_becoming Immediate = false
 
 abbrev pub packet_end : ℕ → Tracker → Tracker
-packet_end now t = packet_end_in t.ack now t
+packet_end now t = record t {
+  ack = if is_becoming t.ack then Delayed else t.ack;
+  delay = if is_becoming t.ack then start now t.delay else t.delay }
 
 abbrev pub ack_timeout : ℕ → Tracker → Tracker
-ack_timeout now t = if is_due now t.delay then acking Immediate (record t { delay = expire now t.delay }) else t
+ack_timeout now t = record t {
+  ack = if is_due now t.delay then Immediate else t.ack;
+  delay = if is_due now t.delay then stop (expire now t.delay) else t.delay }
 
 -- ---- what comes
 
