@@ -98,7 +98,8 @@ is_ack_due also_if_delayed Immediate = true
 abbrev pub take_ack : (also_if_delayed : Bool) → Tracker → Tracker
 take_ack also_if_delayed t = record t {
   ack = if is_ack_due also_if_delayed t.ack then Idle else t.ack;
-  delay = if is_ack_due also_if_delayed t.ack then stop t.delay else t.delay }
+  delay = if is_ack_due also_if_delayed t.ack then stop t.delay else t.delay;
+}
 
 abbrev pub is_becoming : AckState → Bool
 is_becoming Idle = false
@@ -109,12 +110,14 @@ is_becoming Immediate = false
 abbrev pub packet_end : ℕ → Tracker → Tracker
 packet_end now t = record t {
   ack = if is_becoming t.ack then Delayed else t.ack;
-  delay = if is_becoming t.ack then start now t.delay else t.delay }
+  delay = if is_becoming t.ack then start now t.delay else t.delay;
+}
 
 abbrev pub ack_timeout : ℕ → Tracker → Tracker
 ack_timeout now t = record t {
   ack = if is_due now t.delay then Immediate else t.ack;
-  delay = if is_due now t.delay then stop (expire now t.delay) else t.delay }
+  delay = if is_due now t.delay then stop (expire now t.delay) else t.delay;
+}
 
 -- ---- what comes
 

@@ -199,25 +199,17 @@ fn add_to(runs: &mut VecDeque<TsnRange>, number: u64) -> Result<bool, AllocError
     ensures err { OnErr result (runs.new.items ≡ runs.old.items) }
 {
     let place = place_of(runs, number);
+    let single = TsnRange {
+        first: number,
+        last: number,
+    };
     if place == runs.len() {
-        runs.insert(
-            place,
-            TsnRange {
-                first: number,
-                last: number,
-            },
-        )?;
+        runs.insert(place, single)?;
         return Ok(true);
     }
     let range = runs[place];
     if number + 1 < range.first {
-        runs.insert(
-            place,
-            TsnRange {
-                first: number,
-                last: number,
-            },
-        )?;
+        runs.insert(place, single)?;
         return Ok(true);
     }
     if number + 1 == range.first {
