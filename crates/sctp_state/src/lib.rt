@@ -2,18 +2,28 @@
 #![tactic(auto)]
 
 pub mod api;
+pub mod capabilities;
 pub mod events;
 pub mod retransmission_timeout;
+pub mod state_cookie;
+pub mod stream_scheduler;
+pub mod threshold_watcher;
 pub mod timer;
+pub mod tx_error_counter;
 
 pub use api::{
     BatchFault, BatchSendError, CallError, ErrorKind, GivenUp, GivenUpCause, HandoverError,
     HandoverReadiness, Metrics, Options, ResetStreamsError, RestoreError, SctpImplementation,
     SendError, SendOptions, SocketEvent, SocketHandoverState, SocketState,
 };
+pub use capabilities::{Capabilities, announced_parameters};
 pub use events::{EventSink, Events};
 pub use retransmission_timeout::RetransmissionTimeout;
+pub use state_cookie::{STATE_COOKIE_SIZE, StateCookie, StateCookieError};
 pub use timer::{BackoffAlgorithm, MAX_DURATION, MAX_RESTARTS, Timer};
+pub use stream_scheduler::StreamScheduler;
+pub use threshold_watcher::ThresholdWatcher;
+pub use tx_error_counter::TxErrorCounter;
 
 #[cfg(test)]
 mod tests;

@@ -1,0 +1,9 @@
+use Rattle.std.proofs.Common.{◌≡◌, map, drop}
+use Rattle.sctp_wire.specs.ParameterViews.{parameter_tree}
+use Rattle.sctp_state.specs.Capabilities.{extensions_in}
+use Rattle.sctp_state.proofs.capabilities.supported_chunk_types.Given as goal
+
+-- no parameter so far names chunk types
+abbrev pub invariant-loop-parameter : goal.invariant-loop-parameter
+invariant-loop-parameter l =
+    extensions_in (map parameter_tree l.parameters) ≡ extensions_in (map parameter_tree (drop l.parameter-index l.parameters))
