@@ -50,11 +50,17 @@ grep -v '^#' "$packets" | sed 's/[ #].*//' | grep . > "$work/input"
 lines=$(wc -l < "$work/input")
 cd "$work"
 git init -q .
-sed -i "s/TURNS_HERE/${TURNS:-1000000}/" crates/packet_bench/src/main.rt
+turns=${TURNS:-1000000}
 cd crates/packet_bench
-rt try -- < /dev/null > /dev/null
-start=$(date +%s.%N)
-rt try -- < "$work/input"
-end=$(date +%s.%N)
-echo "$lines packets, ${TURNS:-1000000} times: $(echo "$lines * ${TURNS:-1000000} / ($end - $start)" | bc) packets a second"
+# the seconds that so many turns take, compiling included
+seconds() {
+  sed -i "s/^const TURNS: u32 = .*/const TURNS: u32 = $1;/" src/main.rt
+  local start=$(date +%s.%N)
+  rt try -- < "$work/input" > /dev/null
+  echo "$(date +%s.%N) - $start" | bc
+}
+seconds 1 > /dev/null
+once=$(seconds 1)
+all=$(seconds "$turns")
+echo "$lines packets, $turns times: $(echo "$lines * ($turns - 1) / ($all - $once)" | bc) packets a second"
 grep -m1 'model name' /proc/cpuinfo
