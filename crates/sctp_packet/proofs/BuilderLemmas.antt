@@ -100,7 +100,7 @@ built_summed h limit bytes new word summed has some on e =
     let whole = has.packet some in
     let more : 0 < length (drop 12 bytes) = omega (arith, has.more_than_header some, ap length whole, length_unsummed h (drop 12 bytes)) in
     e ∙ subst (λ (x : List ℕ). take 8 x ++ (be32 word ++ drop 12 x) ≡ joined_bytes h word (drop 12 x)) (sym whole)
-      (summed_at h word (drop 12 bytes) ∙ ap (joined_bytes h word) (sym (drop_front h (drop 12 bytes))))
+    (summed_at h word (drop 12 bytes) ∙ ap (joined_bytes h word) (sym (drop_front h (drop 12 bytes))))
     ∙ sym (built_some summed h word (drop 12 bytes) more ∙ ap (λ (b : Bool). joined_bytes h (cond b word 0) (drop 12 bytes)) on)
 
 pub built_plain : (h : HeaderTree) (limit : ℕ) (bytes : List ℕ) (word : ℕ) (summed : Bool) → HasPacket h limit bytes → 0 < length bytes → summed ≡ false → bytes ≡ built summed h word (drop 12 bytes)
@@ -152,7 +152,7 @@ pub built_is_packet : (summed : Bool) (h : HeaderTree) (word : ℕ) (t : ChunkTr
 unfolding chunks_bytes packet_bytes
 built_is_packet summed h word t chunks =
     built_some summed h word (chunks_bytes (t ∷ chunks))
-      (omega (arith, ap length (flat_map-cons chunk_bytes t chunks), length-append (chunk_bytes t) (flat_map chunk_bytes chunks), chunk_is_some t))
+    (omega (arith, ap length (flat_map-cons chunk_bytes t chunks), length-append (chunk_bytes t) (flat_map chunk_bytes chunks), chunk_is_some t))
 
 pub size_of_chunk : (t : ChunkTree) (size : ℕ) → IsEncodable (chunk_item t) → size ≡ min (length (padded_item (chunk_item t))) (2 ^ 64 - 1) → size ≡ length (chunk_bytes t)
 unfolding chunk_bytes

@@ -51,7 +51,7 @@ one_packet_lem bytes p q h k =
     let parts = cut_same (header_bytes p.header) (be32 p.checksum ++ h.body) (header_bytes q.header) (be32 q.checksum ++ k.body) (length_header p.header ∙ sym (length_header q.header)) (sym h.joined ∙ k.joined) in
     let sums = cut32 p.checksum q.checksum h.body k.body h.checksum_fits k.checksum_fits parts.1 in
     same_packet p.header p.checksum p.chunks q.header q.checksum q.chunks (one_header p.header q.header h.header_fits k.header_fits parts.0) sums.0
-      (one_tiling IsChunk one_chunk k.body p.chunks q.chunks (subst (λ (x : List ℕ). Tiles IsChunk x p.chunks []) sums.1 h.chunks) k.chunks)
+    (one_tiling IsChunk one_chunk k.body p.chunks q.chunks (subst (λ (x : List ℕ). Tiles IsChunk x p.chunks []) sums.1 h.chunks) k.chunks)
 
 packet_long : (bytes : List ℕ) (p : PacketTree) → IsPacket bytes p → 12 ≤ length bytes
 packet_long bytes p h = omega (arith, ap length h.joined, length_joined p.header p.checksum h.body)
@@ -79,7 +79,7 @@ never_both_lem policy word bytes faults.InvalidChecksum p m r a =
     clash (lets_through policy word p.checksum) a.sum (ap (lets_through policy word) (sym (field_of bytes p a.packet)) ∙ r.1)
 never_both_lem policy word bytes (faults.Chunk f) p m r a =
     whole_not_broken IsChunk (drop 12 bytes) p.chunks (subst (λ (x : List ℕ). Tiles IsChunk x p.chunks []) (sym (body_of bytes p a.packet)) a.packet.chunks)
-      (BreaksAs-Breaks IsChunk RefusesChunk stands chunk_fault (drop 12 bytes) f r.2 r.3)
+    (BreaksAs-Breaks IsChunk RefusesChunk stands chunk_fault (drop 12 bytes) f r.2 r.3)
 never_both_lem policy word bytes faults.Memory p m r a = m refl
 
 pub one_reason_lem : (policy : Policy) (word : ℕ) (bytes : List ℕ) (e f : PacketParseError) → IsFault e → IsFault f → Refuses policy word bytes e → Refuses policy word bytes f → e ≡ f

@@ -162,8 +162,8 @@ one_data i t a f u b g h k =
     let mids : f.mid ≡ g.mid = ap (λ (c : ChunkTree). (fragment_in c).mid) h.carries ∙ sym (ap (λ (c : ChunkTree). (fragment_in c).mid) k.carries) in
     let fsns : f.fsn ≡ g.fsn = ap (λ (c : ChunkTree). (fragment_in c).fsn) h.carries ∙ sym (ap (λ (c : ChunkTree). (fragment_in c).fsn) k.carries) in
     same_data t u a b f g first.0 (h.flags.immediate_flag ∙ sym k.flags.immediate_flag)
-      (same_fragment f.stream_id f.is_unordered f.ssn f.mid f.fsn f.ppid f.payload f.is_beginning f.is_end g.stream_id g.is_unordered g.ssn g.mid g.fsn g.ppid g.payload g.is_beginning g.is_end
-        stream.0 (h.flags.unordered ∙ sym k.flags.unordered) number.0 mids fsns protocol.0 protocol.1 (h.flags.beginning ∙ sym k.flags.beginning) (h.flags.ending ∙ sym k.flags.ending))
+    (same_fragment f.stream_id f.is_unordered f.ssn f.mid f.fsn f.ppid f.payload f.is_beginning f.is_end g.stream_id g.is_unordered g.ssn g.mid g.fsn g.ppid g.payload g.is_beginning g.is_end
+    stream.0 (h.flags.unordered ∙ sym k.flags.unordered) number.0 mids fsns protocol.0 protocol.1 (h.flags.beginning ∙ sym k.flags.beginning) (h.flags.ending ∙ sym k.flags.ending))
 
 -- a field for one of two
 either_fits : (b : Bool) (p n : ℕ) → p < 2 ^ 32 → n < 2 ^ 32 → cond b p n < 2 ^ 32
@@ -191,8 +191,8 @@ one_idata i t a f u b g h k =
     let gn : g.fsn ≡ cond g.is_beginning 0 g.fsn = ap (λ (c : ChunkTree). (fragment_in c).fsn) k.carries in
     let two = one_of_two f.is_beginning f.ppid f.fsn g.ppid g.fsn fp fn (gp ∙ ap (λ (x : Bool). cond x g.ppid 0) (sym begin)) (gn ∙ ap (λ (x : Bool). cond x 0 g.fsn) (sym begin)) (field.0 ∙ ap (λ (x : Bool). cond x g.ppid g.fsn) (sym begin)) in
     same_idata t u a b f g first.0 (h.flags.immediate_flag ∙ sym k.flags.immediate_flag)
-      (same_fragment f.stream_id f.is_unordered f.ssn f.mid f.fsn f.ppid f.payload f.is_beginning f.is_end g.stream_id g.is_unordered g.ssn g.mid g.fsn g.ppid g.payload g.is_beginning g.is_end
-        stream.0 (h.flags.unordered ∙ sym k.flags.unordered) ssns message.0 two.1 two.0 field.1 begin (h.flags.ending ∙ sym k.flags.ending))
+    (same_fragment f.stream_id f.is_unordered f.ssn f.mid f.fsn f.ppid f.payload f.is_beginning f.is_end g.stream_id g.is_unordered g.ssn g.mid g.fsn g.ppid g.payload g.is_beginning g.is_end
+    stream.0 (h.flags.unordered ∙ sym k.flags.unordered) ssns message.0 two.1 two.0 field.1 begin (h.flags.ending ∙ sym k.flags.ending))
 
 abbrev init_of : ℕ → ℕ → ℕ → ℕ → ℕ → List ParameterTree → InitTree
 init_of t w o n s ps = record { initiate_tag = t; a_rwnd = w; nbr_outbound_streams = o; nbr_inbound_streams = n; initial_tsn = s; parameters = ps }
@@ -215,7 +215,7 @@ one_init value t u ft fu h k =
     let e = same32 t.initial_tsn u.initial_tsn ft.initial_tsn fu.initial_tsn d.1 in
     let ps = one_tiling IsParameter one_parameter_lem k.0 t.parameters u.parameters (subst (λ (x : List ℕ). Tiles IsParameter x t.parameters []) parts.1 h.2) k.2 in
     same_init t.initiate_tag t.a_rwnd t.nbr_outbound_streams t.nbr_inbound_streams t.initial_tsn t.parameters u.initiate_tag u.a_rwnd u.nbr_outbound_streams u.nbr_inbound_streams u.initial_tsn u.parameters
-      a.0 b.0 c.0 d.0 e ps
+    a.0 b.0 c.0 d.0 e ps
 
 abbrev sack_of : ℕ → ℕ → List GapAckBlock → List Tsn → SackTree
 sack_of t w bs ds = record { cumulative_tsn_ack = t; a_rwnd = w; gap_ack_blocks = bs; duplicate_tsns = ds }
@@ -231,7 +231,7 @@ one_sack s t fs ft e =
     let c = cut16 (length s.gap_ack_blocks) (length t.gap_ack_blocks) _ _ fs.few_blocks ft.few_blocks b.1 in
     let d = cut16 (length s.duplicate_tsns) (length t.duplicate_tsns) _ _ fs.few_duplicates ft.few_duplicates c.1 in
     let len : length (flat_map block_bytes s.gap_ack_blocks) ≡ length (flat_map block_bytes t.gap_ack_blocks) =
-      length_entries block_bytes 4 length_block_bytes s.gap_ack_blocks ∙ ap (λ (n : ℕ). n * 4) c.0 ∙ sym (length_entries block_bytes 4 length_block_bytes t.gap_ack_blocks) in
+    length_entries block_bytes 4 length_block_bytes s.gap_ack_blocks ∙ ap (λ (n : ℕ). n * 4) c.0 ∙ sym (length_entries block_bytes 4 length_block_bytes t.gap_ack_blocks) in
     let parts = cut_same _ _ _ _ len d.1 in
     let blocks = one_entries block_bytes 4 FitsBlock (omega arith) (λ x h. length_block_bytes x) one_block s.gap_ack_blocks t.gap_ack_blocks (Each-from FitsBlock s.gap_ack_blocks fs.blocks) (Each-from FitsBlock t.gap_ack_blocks ft.blocks) parts.0 in
     let tsns = one_entries tsn_bytes 4 FitsTsn (omega arith) (λ x h. length_be32 x.0) one_tsn s.duplicate_tsns t.duplicate_tsns (Each-from FitsTsn s.duplicate_tsns fs.duplicates) (Each-from FitsTsn t.duplicate_tsns ft.duplicates) parts.1 in
@@ -249,7 +249,7 @@ one_forward i t xs u ys h k =
     let whole : forward_value t xs ≡ forward_value u ys = sym h.value.0 ∙ k.value.0 in
     let first = cut32 t u _ _ h.fits.new_cumulative_tsn k.fits.new_cumulative_tsn whole in
     same_forward t u xs ys first.0 (one_entries skip_bytes 4 IsSsnSkip (omega arith) length_skip one_skip xs ys
-      (both FitsSkip (λ s. is_ssn_skip s ≡ true) xs h.fits.entries (ssn_skips xs h.value.1)) (both FitsSkip (λ s. is_ssn_skip s ≡ true) ys k.fits.entries (ssn_skips ys k.value.1)) first.1)
+    (both FitsSkip (λ s. is_ssn_skip s ≡ true) xs h.fits.entries (ssn_skips xs h.value.1)) (both FitsSkip (λ s. is_ssn_skip s ≡ true) ys k.fits.entries (ssn_skips ys k.value.1)) first.1)
 
 one_i_forward : (i : Item) (t : ℕ) (xs : List SkippedStream) (u : ℕ) (ys : List SkippedStream) → IsChunk i (i_forward_tsn_chunk t xs) → IsChunk i (i_forward_tsn_chunk u ys) → i_forward_tsn_chunk t xs ≡ i_forward_tsn_chunk u ys
 one_i_forward i t xs u ys h k =

@@ -142,4 +142,4 @@ unfolding chunks_bytes chunk_bytes
 chunks_tile chunks h =
     let tiles = tiles_padded (λ i t. IsChunk i (carried t)) chunk_item ChunkReadsBack (λ t reads. (reads.encodable, chunk_carried t reads)) chunks [] h in
     subst (λ (b : List ℕ). Tiles IsChunk b (map carried chunks) []) (append-nil _)
-      (Tiles-map (λ i t. IsChunk i (carried t)) IsChunk carried (λ i t means. means) _ chunks [] tiles)
+    (Tiles-map (λ i t. IsChunk i (carried t)) IsChunk carried (λ i t means. means) _ chunks [] tiles)

@@ -17,8 +17,17 @@ counted_is_long value short c =
     let blocks = c.1 in
     let duplicates = c.2 in
     let behind = c.3 in
-    omega (arith, short, c.4, ap length c.7, length-append front (be16 blocks ++ (be16 duplicates ++ behind)),
-      length-append (be16 blocks) (be16 duplicates ++ behind), length-append (be16 duplicates) behind, length_be16 blocks, length_be16 duplicates)
+    omega (
+      arith,
+      short,
+      c.4,
+      ap length c.7,
+      length-append front (be16 blocks ++ (be16 duplicates ++ behind)),
+      length-append (be16 blocks) (be16 duplicates ++ behind),
+      length-append (be16 duplicates) behind,
+      length_be16 blocks,
+      length_be16 duplicates,
+    )
 
 pub counted_otherwise : (value : List ℕ) (a b m n : ℕ) (rest : List ℕ) → m < 2 ^ 16 → n < 2 ^ 16
     → value ≡ be32 a ++ (be32 b ++ (be16 m ++ (be16 n ++ rest))) → length rest ≢ 4 * m + 4 * n → IsCounted value → ⊥

@@ -22,7 +22,7 @@ length_ssn_skips (skips.IForwardTsn key mid ∷ ss) h = cc
 
 pub cut_short_skip : (ss : List SkippedStream) (bytes rest : List ℕ) → list_all is_ssn_skip ss ≡ true → bytes ≡ flat_map skip_bytes ss ++ rest
     → 0 < length rest → length rest < 4 → length bytes % 4 ≢ 0
-cut_short_skip ss bytes rest kind e some short = 
+cut_short_skip ss bytes rest kind e some short =
     omega (arith, ap length e, length-append (flat_map skip_bytes ss) rest, length_ssn_skips ss kind)
 
 pub three_fields : (bytes : List ℕ) (a b m : ℕ) (r1 r2 r3 : List ℕ) → bytes ≡ be16 a ++ r1 → r1 ≡ be16 b ++ r2 → r2 ≡ be32 m ++ r3

@@ -88,11 +88,17 @@ none_dropped ps value h = (omega arith, (ps, h))
 
 sack_shaped : (value : List ℕ) (s : SackTree) → FitsSack s → value ≡ sack_value s → IsCounted value
 unfolding sack_value
-sack_shaped value s fits e =
-    (be32 s.cumulative_tsn_ack ++ be32 s.a_rwnd, length s.gap_ack_blocks, length s.duplicate_tsns, flat_map block_bytes s.gap_ack_blocks ++ flat_map tsn_bytes s.duplicate_tsns,
-      omega (arith, length-append (be32 s.cumulative_tsn_ack) (be32 s.a_rwnd), length_be32 s.cumulative_tsn_ack, length_be32 s.a_rwnd), fits.few_blocks, fits.few_duplicates,
-      e ∙ sym (append_assoc (be32 s.cumulative_tsn_ack) (be32 s.a_rwnd) _),
-      omega (arith, length-append (flat_map block_bytes s.gap_ack_blocks) (flat_map tsn_bytes s.duplicate_tsns), length_entries block_bytes 4 length_block_bytes s.gap_ack_blocks, length_entries tsn_bytes 4 (λ t. length_be32 t.0) s.duplicate_tsns))
+sack_shaped value s fits e = (
+  be32 s.cumulative_tsn_ack ++ be32 s.a_rwnd,
+  length s.gap_ack_blocks,
+  length s.duplicate_tsns,
+  flat_map block_bytes s.gap_ack_blocks ++ flat_map tsn_bytes s.duplicate_tsns,
+  omega (arith, length-append (be32 s.cumulative_tsn_ack) (be32 s.a_rwnd), length_be32 s.cumulative_tsn_ack, length_be32 s.a_rwnd),
+  fits.few_blocks,
+  fits.few_duplicates,
+  e ∙ sym (append_assoc (be32 s.cumulative_tsn_ack) (be32 s.a_rwnd) _),
+  omega (arith, length-append (flat_map block_bytes s.gap_ack_blocks) (flat_map tsn_bytes s.duplicate_tsns), length_entries block_bytes 4 length_block_bytes s.gap_ack_blocks, length_entries tsn_bytes 4 (λ t. length_be32 t.0) s.duplicate_tsns),
+)
 
 forward_shaped : (value : List ℕ) (t : ℕ) (ss : List SkippedStream) → list_all is_ssn_skip ss ≡ true → value ≡ forward_value t ss → HasChunkShape (in_steps 4 4) value
 unfolding forward_value
@@ -137,7 +143,7 @@ chunk_shaped i (forward_tsn_chunk t ss) h = rw h.kind (forward_shaped i.value t 
 chunk_shaped i (i_forward_tsn_chunk t ss) h = rw h.kind (i_forward_shaped i.value t ss h.value)
 chunk_shaped i (unknown_chunk typ flags v) h =
     subst (λ (shape : ValueShape). HasChunkShape shape i.value)
-      (sym (ap (λ (b : Bool). cond b (known_shape i.first) any_value) (ap is_known_chunk h.kind ∙ h.of_its_type))) tt
+    (sym (ap (λ (b : Bool). cond b (known_shape i.first) any_value) (ap is_known_chunk h.kind ∙ h.of_its_type))) tt
 
 pub chunk_stands : (i : Item) (t : ChunkTree) (fault : ChunkParseError) → IsChunk i t → RefusesChunk i fault → fault ≢ Memory → ⊥
 chunk_stands i t fault h (inl p) m = m p

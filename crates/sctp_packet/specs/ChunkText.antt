@@ -16,8 +16,8 @@ letter is_set text = if is_set then text else []
 abbrev pub fragment_flags_text : (immediate unordered beginning end : Bool) → List ℕ
 fragment_flags_text immediate unordered beginning end =
     if immediate || (unordered || (beginning || end))
-      then codes ", flags=" ++ (letter immediate (codes "I") ++ (letter unordered (codes "U") ++ (letter beginning (codes "B") ++ letter end (codes "E"))))
-      else []
+    then codes ", flags=" ++ (letter immediate (codes "I") ++ (letter unordered (codes "U") ++ (letter beginning (codes "B") ++ letter end (codes "E"))))
+    else []
 
 abbrev pub reflected_text : Bool → List ℕ
 reflected_text reflected = if reflected then codes ", flags=T" else []

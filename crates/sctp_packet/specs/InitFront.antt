@@ -6,8 +6,14 @@ use Rattle.sctp_packet.specs.Written.{init_fields}
 use Rattle.sctp_packet.specs.Grammar.{FitsInit}
 
 abbrev pub front_tree : InitFields → InitTree
-front_tree f = record { initiate_tag = f.initiate_tag; a_rwnd = f.a_rwnd; nbr_outbound_streams = f.nbr_outbound_streams; nbr_inbound_streams = f.nbr_inbound_streams;
-    initial_tsn = f.initial_tsn.0; parameters = [] }
+front_tree f = record {
+  initiate_tag = f.initiate_tag;
+  a_rwnd = f.a_rwnd;
+  nbr_outbound_streams = f.nbr_outbound_streams;
+  nbr_inbound_streams = f.nbr_inbound_streams;
+  initial_tsn = f.initial_tsn.0;
+  parameters = [];
+}
 
 abbrev pub init_front : InitFields → List ℕ
 init_front f = init_fields (front_tree f)

@@ -82,15 +82,27 @@ abbrev pub unknown_tree : UnknownChunk → ChunkTree
 unknown_tree c = unknown_chunk c.typ c.flags c.value.items
 
 abbrev pub init_tree : InitChunk → InitTree
-init_tree c = record { initiate_tag = c.initiate_tag; a_rwnd = c.a_rwnd; nbr_outbound_streams = c.nbr_outbound_streams; nbr_inbound_streams = c.nbr_inbound_streams;
-    initial_tsn = c.initial_tsn.0; parameters = map parameter_tree c.parameters.items }
+init_tree c = record {
+  initiate_tag = c.initiate_tag;
+  a_rwnd = c.a_rwnd;
+  nbr_outbound_streams = c.nbr_outbound_streams;
+  nbr_inbound_streams = c.nbr_inbound_streams;
+  initial_tsn = c.initial_tsn.0;
+  parameters = map parameter_tree c.parameters.items;
+}
 
 abbrev pub init_chunk_tree : InitChunk → ChunkTree
 init_chunk_tree c = init_chunk (init_tree c)
 
 abbrev pub init_ack_tree : InitAckChunk → InitTree
-init_ack_tree c = record { initiate_tag = c.initiate_tag; a_rwnd = c.a_rwnd; nbr_outbound_streams = c.nbr_outbound_streams; nbr_inbound_streams = c.nbr_inbound_streams;
-    initial_tsn = c.initial_tsn.0; parameters = map parameter_tree c.parameters.items }
+init_ack_tree c = record {
+  initiate_tag = c.initiate_tag;
+  a_rwnd = c.a_rwnd;
+  nbr_outbound_streams = c.nbr_outbound_streams;
+  nbr_inbound_streams = c.nbr_inbound_streams;
+  initial_tsn = c.initial_tsn.0;
+  parameters = map parameter_tree c.parameters.items;
+}
 
 abbrev pub init_ack_chunk_tree : InitAckChunk → ChunkTree
 init_ack_chunk_tree c = init_ack_chunk (init_ack_tree c)

@@ -51,8 +51,16 @@ impl SctpPacketBuilder {
         destination_port: u16,
         limit: usize,
     ) -> SctpPacketBuilder
-        ensures { result ≡ record { header = record { source_port = source_port; destination_port = destination_port;
-            verification_tag = verification_tag }; limit = limit; writes_checksum = true; body = [] } }
+        ensures { result ≡ record {
+          header = record {
+            source_port = source_port;
+            destination_port = destination_port;
+            verification_tag = verification_tag;
+          };
+          limit = limit;
+          writes_checksum = true;
+          body = [];
+        } }
     {
         SctpPacketBuilder {
             alloc,

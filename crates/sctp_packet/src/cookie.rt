@@ -107,11 +107,7 @@ impl fmt::Display for CookieEchoChunk {
     ghost output = { λ c. Some (chunk_text (cookie_echo_tree c)) };
 
     fn fmt<W: fmt::Write>(&self, f: &mut fmt::Formatter<W>) -> fmt::Result {
-        write!(
-            f,
-            "COOKIE ECHO, cookie={} bytes",
-            self.cookie.len()
-        )
+        write!(f, "COOKIE ECHO, cookie={} bytes", self.cookie.len())
     }
 }
 

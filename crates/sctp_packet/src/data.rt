@@ -15,8 +15,11 @@ use std::alloc::{AllocError, Global};
 use std::fmt;
 
 const FLAG_IMMEDIATE: u8 = 8;
+
 const FLAG_UNORDERED: u8 = 4;
+
 const FLAG_BEGINNING: u8 = 2;
+
 const FLAG_END: u8 = 1;
 
 /// A fragment of a message.
@@ -40,8 +43,17 @@ pub struct Data {
 impl Data {
     /// No payload, numbers 0, ordered on stream 0, neither beginning nor end. Takes no memory.
     pub fn empty(alloc: Global) -> Data
-        ensures { fragment_tree result ≡ record { stream_id = 0; is_unordered = false; ssn = 0; mid = 0; fsn = 0; ppid = 0;
-            payload = []; is_beginning = false; is_end = false } }
+        ensures { fragment_tree result ≡ record {
+          stream_id = 0;
+          is_unordered = false;
+          ssn = 0;
+          mid = 0;
+          fsn = 0;
+          ppid = 0;
+          payload = [];
+          is_beginning = false;
+          is_end = false;
+        } }
     {
         Data {
             stream_key: StreamKey::Ordered(StreamId(0)),

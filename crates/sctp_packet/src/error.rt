@@ -8,8 +8,8 @@ ghost use Rattle.sctp_packet.specs.Views.{raw_chunk, abort_tree, error_tree};
 ghost use Rattle.std.specs.Prelude.{Some};
 ghost use Rattle.sctp_packet.specs.ChunkText.{chunk_text};
 
-use crate::inner::{causes_size, push_causes};
 use crate::flags::reflected_text;
+use crate::inner::{causes_size, push_causes};
 use crate::raw::RawChunk;
 use sctp_wire::{ChunkParseError, ErrorCause, SerializableTlv, error_cause_from_bytes};
 use std::alloc::{AllocError, Global};
@@ -49,7 +49,14 @@ impl SerializableTlv for AbortChunk {
     ghost parts_agree = { λ c. true };
 
     fn kind(&self) -> [u8; 2] {
-        [Self::TYPE, if self.tag_reflected { FLAG_REFLECTED } else { 0 }]
+        [
+            Self::TYPE,
+            if self.tag_reflected {
+                FLAG_REFLECTED
+            } else {
+                0
+            },
+        ]
     }
 
     fn value_size(&self) -> usize {
@@ -129,10 +136,6 @@ impl fmt::Display for ErrorChunk {
     ghost output = { λ c. Some (chunk_text (error_tree c)) };
 
     fn fmt<W: fmt::Write>(&self, f: &mut fmt::Formatter<W>) -> fmt::Result {
-        write!(
-            f,
-            "ERROR, error_causes={}",
-            self.error_causes.len()
-        )
+        write!(f, "ERROR, error_causes={}", self.error_causes.len())
     }
 }

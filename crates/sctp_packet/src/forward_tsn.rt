@@ -12,7 +12,9 @@ ghost use Rattle.std.proofs.Common.{refl};
 
 use crate::raw::RawChunk;
 use sctp_serial::{Mid, Ssn, StreamId, StreamKey, Tsn};
-use sctp_wire::{Joined, Listed, ChunkParseError, SerializableTlv, push_u16, push_u32, u16_at, u32_at};
+use sctp_wire::{
+    ChunkParseError, Joined, Listed, SerializableTlv, push_u16, push_u32, u16_at, u32_at,
+};
 use std::alloc::{AllocError, Global};
 use std::fmt;
 

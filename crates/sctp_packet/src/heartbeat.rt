@@ -25,7 +25,10 @@ impl HeartbeatRequestChunk {
 
     /// What the chunk says; `InvalidType` where it is of another type, else the fault of its first parameter that cannot
     /// be read.
-    pub fn try_from(alloc: Global, raw: RawChunk<'_>) -> Result<HeartbeatRequestChunk, ChunkParseError>
+    pub fn try_from(
+        alloc: Global,
+        raw: RawChunk<'_>,
+    ) -> Result<HeartbeatRequestChunk, ChunkParseError>
         ensures ok { IfOk result (λ c. IsChunk (raw_chunk raw.entry) (heartbeat_request_tree c)) }
         ensures refused { IfErr result (RefusesChunkAs 4 (raw_chunk raw.entry)) }
     {
@@ -110,11 +113,7 @@ impl fmt::Display for HeartbeatRequestChunk {
     ghost output = { λ c. Some (chunk_text (heartbeat_request_tree c)) };
 
     fn fmt<W: fmt::Write>(&self, f: &mut fmt::Formatter<W>) -> fmt::Result {
-        write!(
-            f,
-            "HEARTBEAT, parameters={}",
-            self.parameters.len()
-        )
+        write!(f, "HEARTBEAT, parameters={}", self.parameters.len())
     }
 }
 
@@ -123,10 +122,6 @@ impl fmt::Display for HeartbeatAckChunk {
     ghost output = { λ c. Some (chunk_text (heartbeat_ack_tree c)) };
 
     fn fmt<W: fmt::Write>(&self, f: &mut fmt::Formatter<W>) -> fmt::Result {
-        write!(
-            f,
-            "HEARTBEAT ACK, parameters={}",
-            self.parameters.len()
-        )
+        write!(f, "HEARTBEAT ACK, parameters={}", self.parameters.len())
     }
 }

@@ -13,7 +13,8 @@ use crate::inner::{are_whole, parameters_size, push_parameters};
 use crate::raw::RawChunk;
 use sctp_serial::Tsn;
 use sctp_wire::{
-    ChunkParseError, Parameter, SerializableTlv, parameters_from_bytes, push_u16, push_u32, u16_at, u32_at,
+    ChunkParseError, Parameter, SerializableTlv, parameters_from_bytes, push_u16, push_u32, u16_at,
+    u32_at,
 };
 use std::alloc::{AllocError, Global};
 use std::fmt;

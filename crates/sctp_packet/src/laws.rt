@@ -42,7 +42,7 @@ pub fn read_back()
         → IfOk answer (λ p. Accepts policy word (packet_bytes header field chunks) (packet_tree p))
         → IfErr answer (Refuses policy word (packet_bytes header field chunks))
         → MatchResult answer (λ p. packet_tree p ≡ record { header = header; checksum = field; chunks = map carried chunks })
-            (λ fault. fault ≡ PacketParseError.Memory) }
+        (λ fault. fault ≡ PacketParseError.Memory) }
 {}
 
 /// What `build` hands out is the packet of the chunks that the builder holds.

@@ -64,10 +64,6 @@ impl fmt::Display for ReConfigChunk {
     ghost output = { λ c. Some (chunk_text (re_config_tree c)) };
 
     fn fmt<W: fmt::Write>(&self, f: &mut fmt::Formatter<W>) -> fmt::Result {
-        write!(
-            f,
-            "RE-CONFIG, parameters={}",
-            self.parameters.len()
-        )
+        write!(f, "RE-CONFIG, parameters={}", self.parameters.len())
     }
 }

@@ -11,9 +11,9 @@ ghost use Rattle.std.proofs.Common.{refl};
 use crate::flags::JoinedTsns;
 use crate::raw::RawChunk;
 use sctp_serial::Tsn;
-use sctp_wire::{Joined, Listed,
-    ChunkParseError, Entry, SerializableTlv, entries_from_bytes, push_entries, push_u16, push_u32,
-    u16_at, u32_at,
+use sctp_wire::{
+    ChunkParseError, Entry, Joined, Listed, SerializableTlv, entries_from_bytes, push_entries,
+    push_u16, push_u32, u16_at, u32_at,
 };
 use std::alloc::{AllocError, Global};
 use std::fmt;

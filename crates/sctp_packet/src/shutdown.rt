@@ -137,7 +137,14 @@ impl SerializableTlv for ShutdownCompleteChunk {
     ghost parts_agree = { λ c. true };
 
     fn kind(&self) -> [u8; 2] {
-        [Self::TYPE, if self.tag_reflected { FLAG_REFLECTED } else { 0 }]
+        [
+            Self::TYPE,
+            if self.tag_reflected {
+                FLAG_REFLECTED
+            } else {
+                0
+            },
+        ]
     }
 
     fn value_size(&self) -> usize {
@@ -180,10 +187,6 @@ impl fmt::Display for ShutdownCompleteChunk {
     ghost output = { λ c. Some (chunk_text (shutdown_complete_tree c)) };
 
     fn fmt<W: fmt::Write>(&self, f: &mut fmt::Formatter<W>) -> fmt::Result {
-        write!(
-            f,
-            "SHUTDOWN COMPLETE{}",
-            reflected_text(self.tag_reflected)
-        )
+        write!(f, "SHUTDOWN COMPLETE{}", reflected_text(self.tag_reflected))
     }
 }

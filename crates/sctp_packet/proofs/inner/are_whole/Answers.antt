@@ -8,7 +8,7 @@ use Rattle.sctp_packet.proofs.inner.are_whole.Goals as goal
 pub returns-then-not-is_whole : goal.returns-then-not-is_whole
 returns-then-not-is_whole c =
     rw list_all-map (sym (list_all_at (λ it. parameter_is_whole (parameter_tree it)) c.args.parameters.now c.loop-parameter.parameter-index c.parameter-item.result
-      (search rules) (ap (λ it. parameter_is_whole (parameter_tree it)) (sym c.parameter-item.is) ∙ search rules)))
+    (search rules) (ap (λ it. parameter_is_whole (parameter_tree it)) (sym c.parameter-item.is) ∙ search rules)))
 
 pub returns : goal.returns
 returns c = rw list_all-map (search (rules, common_steps))

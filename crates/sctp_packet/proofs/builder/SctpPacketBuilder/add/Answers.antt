@@ -14,10 +14,10 @@ invariant_of-self-in_default c =
 pub returns-clause-ok : goal.returns-clause-ok
 returns-clause-ok c =
     rw (← c.self.view_is) (ap (builder (builder_header c.self.inside) c.self.inside.limit c.self.inside.write_checksum)
-      (added_body (builder_header c.self.inside) c.self.inside.limit c.self.inside.bytes.items c.push_chunk.new.bytes.items (chunk_tree c.args.chunk.now) c.self.invariant c.in_default.ensures.first c.in_default.ensures.more))
+    (added_body (builder_header c.self.inside) c.self.inside.limit c.self.inside.bytes.items c.push_chunk.new.bytes.items (chunk_tree c.args.chunk.now) c.self.invariant c.in_default.ensures.first c.in_default.ensures.more))
 
 pub returns-clause-holds : goal.returns-clause-holds
 returns-clause-holds c chunks held =
     holds_more (drop 12 c.self.inside.bytes.items) (drop 12 c.push_chunk.new.bytes.items) chunks (chunk_tree c.args.chunk.now)
-      (ap (λ (b : BuilderTree). b.body) c.self.view_is ∙ held)
-      (added_body (builder_header c.self.inside) c.self.inside.limit c.self.inside.bytes.items c.push_chunk.new.bytes.items (chunk_tree c.args.chunk.now) c.self.invariant c.in_default.ensures.first c.in_default.ensures.more)
+    (ap (λ (b : BuilderTree). b.body) c.self.view_is ∙ held)
+    (added_body (builder_header c.self.inside) c.self.inside.limit c.self.inside.bytes.items c.push_chunk.new.bytes.items (chunk_tree c.args.chunk.now) c.self.invariant c.in_default.ensures.first c.in_default.ensures.more)

@@ -15,16 +15,16 @@ returns-clause-packet c =
           let wrote : w.write_word.new.bytes ≡ take 8 bytes ++ (be32 c.args.word ++ drop 12 bytes) = rw (w.deref_mut.ensures.value, taken) at w.write_word.ensures in
           let long : 12 ≤ length bytes = omega (arith, c.self.invariant.more_than_header some) in
           built_summed (builder_header c.self.inside) c.self.inside.limit bytes c.if-self.bytes.items c.args.word c.self.inside.write_checksum c.self.invariant
-            some w.if-self.true
-            (ap (λ (v : Vec ℕ Global). v.items) w.bytes-is
-              ∙ written_whole c.replace-bytes.result.len w.write_word.new.bytes _ bytes c.args.word (c.replace-bytes.result.ok.0 ∙ ap length taken) long wrote ∙ wrote)
+          some w.if-self.true
+          (ap (λ (v : Vec ℕ Global). v.items) w.bytes-is
+          ∙ written_whole c.replace-bytes.result.len w.write_word.new.bytes _ bytes c.args.word (c.replace-bytes.result.ok.0 ∙ ap length taken) long wrote ∙ wrote)
       | else-self w ↦ elim w.else-self.branch [
-          | else-self-via-then-self+else-not-is_empty v ↦
-              ap (λ (v : Vec ℕ Global). v.items) w.bytes-is ∙ taken ∙ built_none (builder_header c.self.inside) bytes c.args.word c.self.inside.write_checksum
-                (no_bytes (vec_len c.replace-bytes.result) c.replace-bytes.result.items bytes v.if-not-is_empty.ensures c.replace-bytes.result.ok.0 taken)
-          | else-self-via-else-self v ↦
-              ap (λ (v : Vec ℕ Global). v.items) w.bytes-is ∙ taken ∙ built_off (builder_header c.self.inside) c.self.inside.limit bytes c.args.word c.self.inside.write_checksum c.self.invariant v.if-self.false
-        ]
+        | else-self-via-then-self+else-not-is_empty v ↦
+            ap (λ (v : Vec ℕ Global). v.items) w.bytes-is ∙ taken ∙ built_none (builder_header c.self.inside) bytes c.args.word c.self.inside.write_checksum
+            (no_bytes (vec_len c.replace-bytes.result) c.replace-bytes.result.items bytes v.if-not-is_empty.ensures c.replace-bytes.result.ok.0 taken)
+        | else-self-via-else-self v ↦
+            ap (λ (v : Vec ℕ Global). v.items) w.bytes-is ∙ taken ∙ built_off (builder_header c.self.inside) c.self.inside.limit bytes c.args.word c.self.inside.write_checksum c.self.invariant v.if-self.false
+      ]
     ])
 
 pub returns-clause-short : goal.returns-clause-short

@@ -7,4 +7,4 @@ pub returns : goal.returns
 unfolding chunk_value
 returns c =
     IfOk-equal c.push_parameters.result _ _ _ c.push_parameters.ensures
-      (rw c.deref.ensures.value (written_behind c.args.output.now.items _ _ _ _ c.in_ok-push_to.ensures c.fields.ensures))
+    (rw c.deref.ensures.value (written_behind c.args.output.now.items _ _ _ _ c.in_ok-push_to.ensures c.fields.ensures))

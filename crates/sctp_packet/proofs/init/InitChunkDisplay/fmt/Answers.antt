@@ -9,5 +9,5 @@ unfolding chunk_text
 returns-clause-writes g c = λ plain ok.
     let w = c.write.ensures.writes plain ok in
     let many : c.len.result ≡ length (map parameter_tree c.args.self.now.parameters.items) =
-      c.len.ensures ∙ c.args.self.now.parameters.ok.0 ∙ sym (length-map c.args.self.now.parameters.items parameter_tree) in
+    c.len.ensures ∙ c.args.self.now.parameters.ok.0 ∙ sym (length-map c.args.self.now.parameters.items parameter_tree) in
     rw append-nil (rw many at w)

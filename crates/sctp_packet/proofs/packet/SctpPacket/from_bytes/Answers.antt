@@ -21,5 +21,5 @@ returns-in_err-chunks-clause-refused c =
     let body : drop 12 c.args.bytes.now ≡ c.in-Ok.body.now = ap (drop 12) c.in-Ok.ensures.ok ∙ body_at (header_tree h) h.checksum c.in-Ok.body.now in
     let p = err_from_is_err_and c.from_residual.result c.from_residual.ensures.1 in
     rw p.1 (chunks_refused c.args.policy.now c.args.word c.args.bytes.now _ p.0 p.2 (record { low = c.in-Ok.ensures.long; high = omega arith })
-      (ap (lets_through c.args.policy.now c.args.word) field ∙ search rules)
-      (subst (λ (b : List ℕ). (c.in_err-chunks.field-0.0 ≡ faults.Memory) ⊎ BreaksAs IsChunk RefusesChunk b c.in_err-chunks.field-0.0) (sym body) c.in_err-chunks.ensures.refused))
+    (ap (lets_through c.args.policy.now c.args.word) field ∙ search rules)
+    (subst (λ (b : List ℕ). (c.in_err-chunks.field-0.0 ≡ faults.Memory) ⊎ BreaksAs IsChunk RefusesChunk b c.in_err-chunks.field-0.0) (sym body) c.in_err-chunks.ensures.refused))
