@@ -1,0 +1,216 @@
+-- The next stream: the best of the finish times is ahead of all, and is the first turn of the index.
+use Rattle.std.proofs.Common.{◌≡◌, ℕ, ◌<◌, ◌≤◌, Bool, true, false, cond, List, [], ◌∷◌, length, Option, Some, None, refl, ap, sym, subst, ◌∙◌, inl, inr, arith, ◌⊎◌, Less, IsTrue, option_map, ◌==◌}
+use Rattle.std.proofs.lemmas.Bool.{lt-ltb, le-ltb, cases_lt}
+use Rattle.std.proofs.lemmas.Bool.Decides.{nat_tests}
+use Rattle.std.specs.Ordering.{nat_cmp, is_gt}
+use Rattle.std.specs.List.{AllByRecursion, list_any}
+use Rattle.std.specs.List.Sorted.{IsStrictlySortedBy}
+use Rattle.std.specs.Map.{lookup, keys_of}
+use Rattle.std.specs.BTreeMap.{is_at}
+use Rattle.sctp_state.specs.Scheduler.{Times, best, IsAhead, IsNext, Indexes, finish_time, is_time, turn_cmp, stream_in}
+
+above : (m k : ℕ) → nat_cmp m k ≡ Less → m < k
+above m k e = grind (arith, nat_tests)
+
+at_itself : (k : ℕ) → is_at (nat_cmp k) k ≡ true
+at_itself k = grind (arith, nat_tests)
+
+apart : (k q : ℕ) → q < k → is_at (nat_cmp k) q ≡ false
+apart k q l = grind (arith, nat_tests)
+
+pub record Best (m : ℕ) (b r : ℕ × ℕ) (es : Times) : Type 0 where
+  pub first : IsAhead r b
+  pub others : AllByRecursion (IsAhead r) es
+  pub there : (r ≡ b) ⊎ ((m < r.0) × (lookup (is_at (nat_cmp r.0)) es ≡ Some r.1))
+
+through : (r e b : ℕ × ℕ) → IsAhead r e → e.1 < b.1 → IsAhead r b
+through r e b (inl p) l = inl (omega (arith, p, l))
+through r e b (inr p) l = inl (omega (arith, p.0, l))
+
+later : (r b e : ℕ × ℕ) → IsAhead r b → b.0 < e.0 → b.1 ≤ e.1 → IsAhead r e
+later r b e (inl p) k l = inl (omega (arith, p, l))
+later r b e (inr p) k l =
+    elim (cases_lt b.1 e.1) [
+      | inl less ↦ inl (omega (arith, p.0, less))
+      | inr more ↦ inr (omega (arith, p.0, l, more), omega (arith, p.1, k))
+    ]
+
+same : (b r : ℕ × ℕ) → Some b ≡ Some r → r ≡ b
+same b r e = cc
+
+at_head : (e r : ℕ × ℕ) (es : Times) → r ≡ e → lookup (is_at (nat_cmp r.0)) (e ∷ es) ≡ Some r.1
+at_head e r es h = rw (h, at_itself e.0) refl
+
+behind : (e r : ℕ × ℕ) (es : Times) → e.0 < r.0 → lookup (is_at (nat_cmp r.0)) es ≡ Some r.1 → lookup (is_at (nat_cmp r.0)) (e ∷ es) ≡ Some r.1
+behind e r es l h = rw (apart r.0 e.0 l) h
+
+pub best_is : (m : ℕ) (b r : ℕ × ℕ) (es : Times) → IsStrictlySortedBy nat_cmp (m ∷ keys_of es) → b.0 ≤ m → best (Some b) es ≡ Some r → Best m b r es
+unfolding IsStrictlySortedBy
+best_is m b r [] s l h =
+    let e : r ≡ b = same b r h in
+    record { first = subst (λ x. IsAhead x b) (sym e) (inr (refl, omega arith)); others = tt; there = inl e }
+best_is m b r (e ∷ es) s l h =
+    let m_e : m < e.0 = above m e.0 s.0.0 in
+    elim (cases_lt e.1 b.1) [
+      | inl less ↦
+          let ih = best_is e.0 e r es s.1 (omega arith) (ap (λ x. best (cond x (Some e) (Some b)) es) (sym (lt-ltb _ _ less)) ∙ h) in
+          record {
+            first = through r e b ih.first less;
+            others = (ih.first, ih.others);
+            there = elim ih.there [
+              | inl q ↦ inr (omega (arith, m_e, ap (λ x. x.0) q), at_head e r es q)
+              | inr q ↦ inr (omega (arith, m_e, q.0), behind e r es q.0 q.1)
+            ];
+          }
+      | inr more ↦
+          let ih = best_is e.0 b r es s.1 (omega (arith, l, m_e)) (ap (λ x. best (cond x (Some e) (Some b)) es) (sym (le-ltb _ _ more)) ∙ h) in
+          record {
+            first = ih.first;
+            others = (later r b e ih.first (omega (arith, l, m_e)) more, ih.others);
+            there = elim ih.there [
+              | inl q ↦ inl q
+              | inr q ↦ inr (omega (arith, m_e, q.0), behind e r es q.0 q.1)
+            ];
+          }
+    ]
+
+pub next_is : (id finish : ℕ) (es : Times) → IsStrictlySortedBy nat_cmp (keys_of es) → best None es ≡ Some (id, finish) → IsNext es id
+next_is id finish [] s h = absurd (cc)
+next_is id finish (e ∷ es) s h =
+    let b = best_is e.0 e (id, finish) es s (omega arith) h in
+    elim b.there [
+      | inl q ↦ (finish, at_head e (id, finish) es q, (b.first, b.others))
+      | inr q ↦ (finish, behind e (id, finish) es q.0 q.1, (b.first, b.others))
+    ]
+
+never : (b : ℕ × ℕ) (es : Times) → best (Some b) es ≡ None → ⊥
+never b [] h = cc
+never b (e ∷ es) h =
+    elim (cases_lt e.1 b.1) [
+      | inl less ↦ never e es (ap (λ x. best (cond x (Some e) (Some b)) es) (sym (lt-ltb _ _ less)) ∙ h)
+      | inr more ↦ never b es (ap (λ x. best (cond x (Some e) (Some b)) es) (sym (le-ltb _ _ more)) ∙ h)
+    ]
+
+pub none_is : (es : Times) → best None es ≡ None → es ≡ []
+none_is [] h = refl
+none_is (e ∷ es) h = absurd (never e es h)
+
+-- ---- there is one next stream
+
+found : (id : ℕ) (P : ℕ × ℕ → Type 0) (f : ℕ) (es : Times) → AllByRecursion P es → finish_time id es ≡ Some f → P (id, f)
+found id P f [] all h = absurd (cc)
+found id P f (e ∷ es) all h = go (is_at (nat_cmp id) e.0) refl h (found id P f es all.1)
+  where
+    equal : (a b : ℕ) → is_at (nat_cmp a) b ≡ true → b ≡ a
+    equal a b q = grind (arith, nat_tests)
+
+    inside : Some e.1 ≡ Some f → e.1 ≡ f
+    inside q = cc
+
+    go : (b : Bool) → is_at (nat_cmp id) e.0 ≡ b → cond b (Some e.1) (finish_time id es) ≡ Some f → (finish_time id es ≡ Some f → P (id, f)) → P (id, f)
+    go true q h ih = subst P (ap (λ k. (k, e.1)) (equal id e.0 q) ∙ ap (λ g. (id, g)) (inside h)) all.0
+    go false q h ih = ih h
+
+both : (r e : ℕ × ℕ) → IsAhead r e → IsAhead e r → r.0 ≡ e.0
+both r e (inl p) (inl q) = absurd (omega (arith, p, q))
+both r e (inl p) (inr q) = absurd (omega (arith, p, q.0))
+both r e (inr p) (inl q) = absurd (omega (arith, p.0, q))
+both r e (inr p) (inr q) = omega (arith, p.1, q.1)
+
+one_next : (ts : Times) (a b : ℕ) → IsNext ts a → IsNext ts b → a ≡ b
+one_next ts a b p q = both (a, p.0) (b, q.0) (found b (IsAhead (a, p.0)) q.0 ts p.2 q.1) (found a (IsAhead (b, q.0)) p.0 ts q.2 p.1)
+
+pub best_next : (ts : Times) (id : ℕ) → IsStrictlySortedBy nat_cmp (keys_of ts) → IsNext ts id → option_map stream_in (best None ts) ≡ Some id
+best_next ts id sorted next = go (best None ts) refl
+  where
+    empty : ts ≡ [] → ⊥
+    empty e = absent (ap (λ es. finish_time id es) (sym e) ∙ next.1)
+      where
+        absent : None ≡ Some next.0 → ⊥
+        absent h = cc
+
+    go : (o : Option (ℕ × ℕ)) → best None ts ≡ o → option_map stream_in o ≡ Some id
+    go None h = absurd (empty (none_is ts h))
+    go (Some r) h = ap (λ k. Some k) (one_next ts r.0 id (next_is r.0 r.1 ts sorted h) next)
+
+-- ---- the index
+
+equal_turn : (t u : ℕ × ℕ) → is_at (turn_cmp t) u ≡ true → u ≡ t
+equal_turn t u h = ap (λ a. (a, u.1)) (first t.0 u.0 t.1 u.1 h) ∙ ap (λ b. (t.0, b)) (second t.0 u.0 t.1 u.1 h)
+  where
+    first : (a b c d : ℕ) → is_at (turn_cmp (a, c)) (b, d) ≡ true → b ≡ a
+    first a b c d h = grind (arith, nat_tests)
+
+    second : (a b c d : ℕ) → is_at (turn_cmp (a, c)) (b, d) ≡ true → d ≡ c
+    second a b c d h = grind (arith, nat_tests)
+
+-- a turn that was put in and taken out again
+pub put_back : (turns more less : List (ℕ × ℕ)) (ts : Times) (turn : ℕ × ℕ) → Indexes turns ts → finish_time turn.1 ts ≡ None
+    → ((t : ℕ × ℕ) → list_any (is_at (turn_cmp t)) more ≡ cond (is_at (turn_cmp turn) t) true (list_any (is_at (turn_cmp t)) turns))
+    → ((t : ℕ × ℕ) → list_any (is_at (turn_cmp t)) less ≡ cond (is_at (turn_cmp turn) t) false (list_any (is_at (turn_cmp t)) more)) → Indexes less ts
+put_back turns more less ts turn index absent put taken t = taken t ∙ go (is_at (turn_cmp turn) t) refl
+  where
+    go : (b : Bool) → is_at (turn_cmp turn) t ≡ b → cond b false (list_any (is_at (turn_cmp t)) more) ≡ is_time t.0 (finish_time t.1 ts)
+    go true h = sym (ap (λ u. is_time t.0 (finish_time u.1 ts)) (equal_turn turn t h) ∙ ap (is_time t.0) absent)
+    go false h = put t ∙ ap (λ b. cond b true (list_any (is_at (turn_cmp t)) turns)) h ∙ index t
+
+not_greater : (a b c d : ℕ) → is_gt (turn_cmp (a, c) (b, d)) ≡ false → IsAhead (c, a) (d, b)
+not_greater a b c d h =
+    elim (cases_lt a b) [
+      | inl less ↦ inl less
+      | inr more ↦ elim (cases_lt b a) [
+          | inl less ↦ absurd (behind_it less)
+          | inr equal ↦ inr (omega (arith, more, equal), elim (cases_lt d c) [ inl above ↦ absurd (behind_same (omega (arith, more, equal)) above) | inr l ↦ l ])
+        ]
+    ]
+  where
+    behind_it : b < a → ⊥
+    behind_it l = grind (arith, nat_tests)
+
+    behind_same : a ≡ b → d < c → ⊥
+    behind_same e l = grind (arith, nat_tests)
+
+above_first : (m id f : ℕ) (es : Times) → IsStrictlySortedBy nat_cmp (m ∷ keys_of es) → finish_time id es ≡ Some f → m < id
+unfolding IsStrictlySortedBy
+above_first m id f [] s h = absurd (cc)
+above_first m id f (e ∷ es) s h = go (is_at (nat_cmp id) e.0) refl h (above_first e.0 id f es s.1)
+  where
+    equal : (a b : ℕ) → is_at (nat_cmp a) b ≡ true → b ≡ a
+    equal a b q = grind (arith, nat_tests)
+
+    go : (b : Bool) → is_at (nat_cmp id) e.0 ≡ b → cond b (Some e.1) (finish_time id es) ≡ Some f → (finish_time id es ≡ Some f → e.0 < id) → m < id
+    go true q h ih = omega (arith, above m e.0 s.0.0, equal id e.0 q)
+    go false q h ih = omega (arith, above m e.0 s.0.0, ih h)
+
+all_ahead : (r : ℕ × ℕ) (es : Times) → IsStrictlySortedBy nat_cmp (keys_of es) → ((id f : ℕ) → finish_time id es ≡ Some f → IsAhead r (id, f)) → AllByRecursion (IsAhead r) es
+unfolding IsStrictlySortedBy
+all_ahead r [] s h = tt
+all_ahead r (e ∷ es) s h = (h e.0 e.1 (at_head e e es refl), all_ahead r es s.1 (λ id f q. h id f (behind e (id, f) es (above_first e.0 id f es s q) q)))
+
+-- the first turn is that of the next stream
+pub first_is_next : (turns : List (ℕ × ℕ)) (ts : Times) (turn : ℕ × ℕ) → IsStrictlySortedBy nat_cmp (keys_of ts) → Indexes turns ts
+    → IsTrue (list_any (is_at (turn_cmp turn)) turns) → ((t : ℕ × ℕ) → IsTrue (list_any (is_at (turn_cmp t)) turns) → is_gt (turn_cmp turn t) ≡ false) → IsNext ts turn.1
+first_is_next turns ts turn sorted index member least = (turn.0, there (finish_time turn.1 ts) (subst IsTrue (index turn) member), all_ahead (turn.1, turn.0) ts sorted (λ id f h. not_greater turn.0 f turn.1 id (least (f, id) (subst IsTrue (sym (index (f, id) ∙ ap (is_time f) h ∙ itself f)) tt))))
+  where
+    never_true : false ≡ true → ⊥
+    never_true h = cc
+
+    equal : (a b : ℕ) → IsTrue (b == a) → b ≡ a
+    equal a b q = grind (arith, nat_tests)
+
+    there : (o : Option ℕ) → IsTrue (is_time turn.0 o) → o ≡ Some turn.0
+    there None h = absurd (never_true h)
+    there (Some f) h = ap (λ x. Some x) (equal turn.0 f h)
+
+    itself : (f : ℕ) → (f == f) ≡ true
+    itself f = grind (arith, nat_tests)
+
+pub no_turns : (turns : List (ℕ × ℕ)) (ts : Times) → Indexes turns ts → turns ≡ [] → ts ≡ []
+no_turns turns [] index none = refl
+no_turns turns (e ∷ es) index none = absurd (clash (ap (λ us. list_any (is_at (turn_cmp (e.1, e.0))) us) (sym none) ∙ index (e.1, e.0) ∙ ap (is_time e.1) (at_head e e es refl) ∙ itself e.1))
+  where
+    itself : (f : ℕ) → (f == f) ≡ true
+    itself f = grind (arith, nat_tests)
+
+    clash : false ≡ true → ⊥
+    clash h = cc

@@ -1,0 +1,75 @@
+//! An amount that tells when it falls to a threshold.
+
+ghost use Rattle.std.specs.Prelude.{◌≡◌, ℕ, ◌+◌, ◌≤◌, ◌<◌, ◌^◌};
+
+use std::marker::Model;
+
+/// An amount of bytes and its low threshold.
+#[derive(Drop)]
+pub struct ThresholdWatcher {
+    amount: usize,
+    low_threshold: usize,
+}
+
+impl Model for ThresholdWatcher {
+    ghost use Rattle.sctp_state.specs.Thresholds.{Watched};
+
+    ghost Value = { Watched };
+
+    ghost view = { λ w. record { amount = w.amount; low_threshold = w.low_threshold } };
+}
+
+impl ThresholdWatcher {
+    ghost use Rattle.sctp_state.specs.Thresholds.{watched, raised, lowered, set_low_threshold, crosses};
+
+    /// No bytes, with this threshold.
+    pub fn new(low_threshold: usize) -> ThresholdWatcher
+        ensures { result ≡ watched low_threshold }
+    {
+        ThresholdWatcher {
+            amount: 0,
+            low_threshold,
+        }
+    }
+
+    pub fn amount(&self) -> usize
+        ensures { result ≡ self.now.amount }
+    {
+        self.amount
+    }
+
+    pub fn low_threshold(&self) -> usize
+        ensures { result ≡ self.now.low_threshold }
+    {
+        self.low_threshold
+    }
+
+    /// Sets the threshold. The answer says whether an amount that was above the threshold is at most it now.
+    pub fn set_low_threshold(&mut self, bytes: usize) -> bool
+        ensures after { self.new ≡ set_low_threshold bytes self.old }
+        ensures answer { result ≡ crosses self.old self.new }
+    {
+        let was_above = self.low_threshold < self.amount;
+        self.low_threshold = bytes;
+        was_above && self.amount <= self.low_threshold
+    }
+
+    /// Adds bytes. No threshold is crossed downwards.
+    pub fn increase(&mut self, bytes: usize)
+        requires { self.old.amount + bytes < 2 ^ 64 }
+        ensures { self.new ≡ raised bytes self.old }
+    {
+        self.amount += bytes;
+    }
+
+    /// Takes bytes off. The answer says whether the amount fell from above the threshold to at most it.
+    pub fn decrease(&mut self, bytes: usize) -> bool
+        requires { bytes ≤ self.old.amount }
+        ensures after { self.new ≡ lowered bytes self.old }
+        ensures answer { result ≡ crosses self.old self.new }
+    {
+        let was_above = self.low_threshold < self.amount;
+        self.amount -= bytes;
+        was_above && self.amount <= self.low_threshold
+    }
+}
