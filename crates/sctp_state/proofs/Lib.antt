@@ -1,1 +1,2 @@
 pub mod SchedulerLemmas
+pub mod ReadinessLemmas

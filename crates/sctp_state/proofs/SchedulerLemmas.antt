@@ -190,7 +190,7 @@ all_ahead r (e ∷ es) s h = (h e.0 e.1 (at_head e e es refl), all_ahead r es s.
 -- the first turn is that of the next stream
 pub first_is_next : (turns : List (ℕ × ℕ)) (ts : Times) (turn : ℕ × ℕ) → IsStrictlySortedBy nat_cmp (keys_of ts) → Indexes turns ts
     → IsTrue (list_any (is_at (turn_cmp turn)) turns) → ((t : ℕ × ℕ) → IsTrue (list_any (is_at (turn_cmp t)) turns) → is_gt (turn_cmp turn t) ≡ false) → IsNext ts turn.1
-first_is_next turns ts turn sorted index member least = (turn.0, there (finish_time turn.1 ts) (subst IsTrue (index turn) member), all_ahead (turn.1, turn.0) ts sorted (λ id f h. not_greater turn.0 f turn.1 id (least (f, id) (subst IsTrue (sym (index (f, id) ∙ ap (is_time f) h ∙ itself f)) tt))))
+first_is_next turns ts turn sorted index member least = (turn.0, there (finish_time turn.1 ts) (subst IsTrue (index turn) member), all_ahead (turn.1, turn.0) ts sorted (λ id f h. not_greater turn.0 f turn.1 id (least (f, id) (subst IsTrue (sym (index (f, id) ∙ ap (is_time f) h ∙ itself f)) refl))))
   where
     never_true : false ≡ true → ⊥
     never_true h = cc

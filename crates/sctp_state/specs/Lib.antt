@@ -1,6 +1,10 @@
+pub mod Events
+pub mod Handover
 pub mod Numbers
 pub mod Options
+pub mod Readiness
 pub mod Rtt
 pub mod Scheduler
 pub mod Thresholds
 pub mod Timers
+pub mod Validity

@@ -2,12 +2,17 @@
 #![tactic(auto)]
 
 pub mod api;
+pub mod events;
 pub mod retransmission_timeout;
 pub mod stream_scheduler;
 pub mod threshold_watcher;
 pub mod timer;
 
-pub use api::{Options, SendOptions};
+pub use api::{
+    BatchFault, BatchSendError, CallError, ErrorKind, GivenUp, GivenUpCause, HandoverError, HandoverReadiness, Metrics, Options,
+    ResetStreamsError, RestoreError, SctpImplementation, SendError, SendOptions, SocketEvent, SocketHandoverState, SocketState,
+};
+pub use events::{EventSink, Events};
 pub use retransmission_timeout::RetransmissionTimeout;
 pub use stream_scheduler::StreamScheduler;
 pub use threshold_watcher::ThresholdWatcher;

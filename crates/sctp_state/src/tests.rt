@@ -36,3 +36,15 @@ fn timeout_follows_the_samples(rt: HostRuntime) {
         assert_eq!(rt; timeout.rto().as_millis(), rto);
     }
 }
+
+#[test]
+fn readiness_prints_its_reasons(rt: HostRuntime) -> Result<(), std::test::Fail> {
+    let text = format!(in rt.alloc(); "{} {}", HandoverReadiness(66), HandoverReadiness::READY)?;
+    assert_eq!(rt; text.as_str(), "send_queue_not_empty,stream_reset_deferred ");
+    let text = format!(in rt.alloc(); "{:?}", HandoverReadiness(4095))?;
+    let want = "wrong_connection_state,send_queue_not_empty,pending_stream_reset_request,\
+        data_tracker_tsn_blocks_pending,pending_stream_reset,stream_reset_deferred,stream_has_unassembled_chunks,\
+        retransmission_queue_outstanding_data,retransmission_queue_fast_recovery,retransmission_queue_not_empty";
+    assert_eq!(rt; text.as_str(), want);
+    Ok(())
+}

@@ -1,0 +1,100 @@
+//! The events that wait for the socket's user, and the records of messages given up.
+
+ghost use Rattle.std.specs.Prelude.{◌≡◌, ℕ, List, [], ◌∷◌, ◌++◌, drop, OnOk, OnErr, option_map};
+ghost use Rattle.sctp_state.specs.Events.{Event, event_of, first_of};
+
+use crate::api::{GivenUp, SocketEvent};
+use std::alloc::{AllocError, Global};
+use std::collections::VecDeque;
+use std::marker::Model;
+
+/// Where events go. They come out in the order in which they were added.
+pub trait EventSink {
+    // The events that wait, the first one first.
+    ghost waiting: { Self → List (Event (List ℕ)) };
+
+    /// Adds an event behind the others. Without memory for it nothing changes.
+    fn add(&mut self, event: SocketEvent) -> Result<(), AllocError>
+        ensures ok { OnOk result (waiting self.new ≡ waiting self.old ++ event_of event ∷ []) }
+        ensures err { OnErr result (waiting self.new ≡ waiting self.old) };
+
+    /// Takes the first event out.
+    fn next_event(&mut self) -> Option<SocketEvent>
+        ensures first { option_map event_of result ≡ first_of (waiting self.old) }
+        ensures rest { waiting self.new ≡ drop 1 (waiting self.old) };
+}
+
+/// A list of events and a list of records, each first in, first out.
+#[derive(Drop)]
+pub struct Events {
+    events: VecDeque<SocketEvent>,
+    given_up: VecDeque<GivenUp>,
+}
+
+impl Model for Events {
+    ghost use Rattle.std.specs.Prelude.{List, ℕ, map};
+    ghost use Rattle.sctp_state.specs.Events.{Told, event_of, given_up_of};
+
+    ghost Value = { Told (List ℕ) };
+
+    ghost view = { λ t. record { events = map event_of t.events.items; gone = map given_up_of t.given_up.items } };
+}
+
+impl Events {
+    ghost use Rattle.sctp_state.specs.Events.{silent, tell, tell_given_up, given_up_of};
+
+    pub fn new(alloc: Global) -> Events
+        ensures { result ≡ silent }
+    {
+        Events {
+            events: VecDeque::new(alloc),
+            given_up: VecDeque::new(alloc),
+        }
+    }
+
+    /// Adds an event behind the others. Without memory for it nothing changes.
+    pub fn add(&mut self, event: SocketEvent) -> Result<(), AllocError>
+        ensures ok { OnOk result (self.new ≡ tell (event_of event) self.old) }
+        ensures err { OnErr result (self.new ≡ self.old) }
+    {
+        self.events.push_back(event)?;
+        Ok(())
+    }
+
+    /// Takes the first event out.
+    pub fn next_event(&mut self) -> Option<SocketEvent>
+        ensures first { option_map event_of result ≡ first_of self.old.events }
+        ensures rest { self.new ≡ record self.old { events = drop 1 self.old.events } }
+    {
+        self.events.pop_front()
+    }
+
+    /// Adds the record of a message given up. Without memory for it nothing changes.
+    pub fn add_given_up(&mut self, given_up: GivenUp) -> Result<(), AllocError>
+        ensures ok { OnOk result (self.new ≡ tell_given_up (given_up_of given_up) self.old) }
+        ensures err { OnErr result (self.new ≡ self.old) }
+    {
+        self.given_up.push_back(given_up)?;
+        Ok(())
+    }
+
+    /// Takes the first record out.
+    pub fn next_given_up(&mut self) -> Option<GivenUp>
+        ensures first { option_map given_up_of result ≡ first_of self.old.gone }
+        ensures rest { self.new ≡ record self.old { gone = drop 1 self.old.gone } }
+    {
+        self.given_up.pop_front()
+    }
+}
+
+impl EventSink for Events {
+    ghost waiting = { λ t. t.events };
+
+    fn add(&mut self, event: SocketEvent) -> Result<(), AllocError> {
+        Events::add(self, event)
+    }
+
+    fn next_event(&mut self) -> Option<SocketEvent> {
+        Events::next_event(self)
+    }
+}
