@@ -1,0 +1,4 @@
+pub mod Chunk
+pub mod Written
+pub mod Grammar
+pub mod Views
