@@ -3,11 +3,7 @@ use Rattle.std.proofs.Common.{◌≡◌, ℕ, ◌+◌, ◌*◌, List, [], ◌∷
 use Rattle.std.specs.List.{flat_map}
 use Rattle.std.proofs.lemmas.List.{length-append}
 use Rattle.sctp_serial.specs.declared.api.StreamId.{StreamId}
-<<<<<<< HEAD
-use Rattle.sctp_serial.specs.declared.types.Tsn.{Tsn}
-=======
 use Rattle.sctp_serial.specs.declared.types.tsn.Tsn.{Tsn}
->>>>>>> 578a5f90fe2ec0bb6adfa92874167873d7404094
 use Rattle.sctp_wire.specs.Fields.{be16, be32, length_be16, length_be32}
 use Rattle.sctp_wire.specs.Parameter.{parameter_value, outgoing_reset_request, incoming_reset_request, reset_response, zero_checksum_acceptable, stream_bytes, optional_tsn_bytes}
 use Rattle.sctp_wire.proofs.SerializeLemmas.{length_entries}

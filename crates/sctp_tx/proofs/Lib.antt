@@ -1,0 +1,3 @@
+pub mod ProduceLemmas
+pub mod StreamLemmas
+pub mod StreamsLemmas

@@ -1,0 +1,4 @@
+pub mod Produced
+pub mod Queue
+pub mod Settings
+pub mod Views
