@@ -159,9 +159,9 @@ not_greater a b c d h =
     elim (cases_lt a b) [
       | inl less ↦ inl less
       | inr more ↦ elim (cases_lt b a) [
-          | inl less ↦ absurd (behind_it less)
-          | inr equal ↦ inr (omega (arith, more, equal), elim (cases_lt d c) [ inl above ↦ absurd (behind_same (omega (arith, more, equal)) above) | inr l ↦ l ])
-        ]
+        | inl less ↦ absurd (behind_it less)
+        | inr equal ↦ inr (omega (arith, more, equal), elim (cases_lt d c) [ inl above ↦ absurd (behind_same (omega (arith, more, equal)) above) | inr l ↦ l ])
+      ]
     ]
   where
     behind_it : b < a → ⊥

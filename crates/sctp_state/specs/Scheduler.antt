@@ -15,7 +15,7 @@ pub record Scheduler : Type 0 where
   pub times : Times
   pub virtual_time : ℕ
   pub is_interleaved : Bool
-  pub most_payload : ℕ          -- the largest payload of a fragment
+  pub most_payload : ℕ  -- the largest payload of a fragment
 
 -- no stream is active
 abbrev pub scheduler : ℕ → Scheduler

@@ -9,8 +9,9 @@ pub mod threshold_watcher;
 pub mod timer;
 
 pub use api::{
-    BatchFault, BatchSendError, CallError, ErrorKind, GivenUp, GivenUpCause, HandoverError, HandoverReadiness, Metrics, Options,
-    ResetStreamsError, RestoreError, SctpImplementation, SendError, SendOptions, SocketEvent, SocketHandoverState, SocketState,
+    BatchFault, BatchSendError, CallError, ErrorKind, GivenUp, GivenUpCause, HandoverError,
+    HandoverReadiness, Metrics, Options, ResetStreamsError, RestoreError, SctpImplementation,
+    SendError, SendOptions, SocketEvent, SocketHandoverState, SocketState,
 };
 pub use events::{EventSink, Events};
 pub use retransmission_timeout::RetransmissionTimeout;

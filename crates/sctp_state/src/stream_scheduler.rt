@@ -37,7 +37,11 @@ impl Model for StreamScheduler {
 }
 
 // Takes a stream out.
-fn leave(finish_times: &mut BTreeMap<u16, u128>, turns: &mut BTreeSet<(u128, u16)>, id: u16) -> Option<u128>
+fn leave(
+    finish_times: &mut BTreeMap<u16, u128>,
+    turns: &mut BTreeSet<(u128, u16)>,
+    id: u16,
+) -> Option<u128>
     requires { Indexes turns.old.keys finish_times.old.entries }
     ensures time { result ≡ finish_time id finish_times.old.entries }
     ensures times { finish_times.new.entries ≡ remove_entry (is_at (nat_cmp id)) finish_times.old.entries }
@@ -132,7 +136,12 @@ impl StreamScheduler {
     /// Tells how many bytes of its next message a stream has to send. With none it leaves. A stream that had none gets
     /// its finish time: the virtual time and 1, or with interleaving the bytes of its next fragment times 65,536 by its
     /// priority. One that has a finish time keeps it. Without memory nothing changes.
-    pub fn set_bytes_remaining(&mut self, id: StreamId, bytes: usize, priority: u16) -> Result<(), AllocError>
+    pub fn set_bytes_remaining(
+        &mut self,
+        id: StreamId,
+        bytes: usize,
+        priority: u16,
+    ) -> Result<(), AllocError>
         ensures ok { OnOk result (self.new ≡ set_bytes_remaining id.0 bytes priority self.old) }
         ensures err { OnErr result (self.new ≡ self.old) }
     {

@@ -18,7 +18,7 @@ pub record Produced : Type 0 where
   pub fragment : FragmentTree
   pub expires : Option ℕ
   pub limit : ℕ
-  pub lifecycle : Option ℕ      -- with the end alone
+  pub lifecycle : Option ℕ  -- with the end alone
 
 -- ---- expired messages
 
@@ -58,7 +58,8 @@ abbrev pub numbers_of : Stream → Queued → MessageNumbers
 numbers_of s m =
     unwrap_or m.numbers (record {
       ssn = if m.is_unordered then origin else s.next_ssn;
-      mid = if m.is_unordered then s.next_unordered_mid else s.next_ordered_mid })
+      mid = if m.is_unordered then s.next_unordered_mid else s.next_ordered_mid;
+    })
 
 -- the stream once the message has its numbers
 abbrev pub took : Queued → Stream → Stream
@@ -69,16 +70,28 @@ took m s =
 
 abbrev pub piece : ℕ → ℕ → MessageNumbers → Queued → FragmentTree
 piece id size n m = record {
-  stream_id = id; is_unordered = m.is_unordered; ssn = wire halves 0 n.ssn; mid = wire words 0 n.mid; fsn = m.fsn;
-  ppid = m.ppid; payload = take size (drop m.offset m.payload); is_beginning = m.offset == 0; is_end = nat_le (left m) size }
+  stream_id = id;
+  is_unordered = m.is_unordered;
+  ssn = wire halves 0 n.ssn;
+  mid = wire words 0 n.mid;
+  fsn = m.fsn;
+  ppid = m.ppid;
+  payload = take size (drop m.offset m.payload);
+  is_beginning = m.offset == 0;
+  is_end = nat_le (left m) size;
+}
 
 abbrev pub ends : ℕ → Queued → Bool
 ends size m = nat_le (left m) size
 
 abbrev pub made_of : ℕ → ℕ → MessageNumbers → Queued → Produced
 made_of id size n m = record {
-  number = m.number; fragment = piece id size n m; expires = m.expires; limit = m.limit;
-  lifecycle = if ends size m then m.lifecycle else None }
+  number = m.number;
+  fragment = piece id size n m;
+  expires = m.expires;
+  limit = m.limit;
+  lifecycle = if ends size m then m.lifecycle else None;
+}
 
 -- the message after a fragment that isn't its end
 abbrev pub moved : ℕ → MessageNumbers → Queued → Queued
@@ -120,7 +133,8 @@ pub record Cut : Type 0 where
 abbrev pub after_fragment : ℕ → Queued → List Queued → Stream → Stream
 after_fragment size m rest s = record (took m s) {
   messages = if ends size m then rest else moved size (numbers_of s m) m ∷ rest;
-  pause = if ends size m then settled s.pause else s.pause }
+  pause = if ends size m then settled s.pause else s.pause;
+}
 
 abbrev pub cut_front : ℕ → ℕ → List Queued → Stream → Cut
 cut_front id size [] s = record { stream = s; made = None }
@@ -165,7 +179,7 @@ abbrev pub told_of : {P : Type 0} → ℕ → ℕ → Streams → Told P → Tol
 told_of id size ss told =
     let c : Cut = cut id size (stream id ss) in
     told_made id (crosses (watched_amount (stream id ss)) (watched_amount c.stream))
-      (crosses (watched_total ss) (watched_total (streams_after id size ss))) c.made told
+    (crosses (watched_total ss) (watched_total (streams_after id size ss))) c.made told
 
 -- the stream that sent a fragment goes in line for its next one; one that had none leaves
 abbrev pub in_line : ℕ → ℕ → ℕ → Option Produced → Scheduler → Scheduler
@@ -185,9 +199,11 @@ turn_from id size ss q told =
       queue = record q {
         streams = after;
         scheduler = in_line id (sendable (stream id after)) (stream id after).priority c.made q.scheduler;
-        begun = begun_by id q.scheduler.is_interleaved c.made };
+        begun = begun_by id q.scheduler.is_interleaved c.made;
+      };
       told = told_of id size ss told;
-      made = c.made }
+      made = c.made;
+    }
 
 abbrev pub turn : {P : Type 0} → ℕ → ℕ → ℕ → Queue → Told P → Turn P
 turn now id size q told = turn_from id size (streams_without_stale now id q.streams) q (dropped now (stream id q.streams).messages told)
@@ -206,8 +222,8 @@ abbrev pub produce_within : {P : Type 0} → ℕ → ℕ → ℕ → Queue → T
 produce_within zero now size q told = idle q told
 produce_within (suc turns) now size q told =
     unwrap_or (option_map (λ id.
-      let t = turn now id size q told in
-      if is_some t.made then t else produce_within turns now size t.queue t.told) (next_stream q)) (idle q told)
+    let t = turn now id size q told in
+    if is_some t.made then t else produce_within turns now size t.queue t.told) (next_stream q)) (idle q told)
 
 -- each turn without a fragment ends a stream's line, so there are enough
 abbrev pub produce : {P : Type 0} → ℕ → ℕ → Queue → Told P → Turn P

@@ -8,7 +8,7 @@ use Rattle.sctp_serial.specs.Time.{later}
 use Rattle.sctp_serial.specs.Unwrapped.{origin}
 use Rattle.sctp_state.specs.Numbers.{ms}
 use Rattle.sctp_state.specs.Options.{Options}
-use Rattle.sctp_state.specs.Scheduler.{Scheduler, scheduler, set_bytes_remaining} 
+use Rattle.sctp_state.specs.Scheduler.{Scheduler, scheduler, set_bytes_remaining}
 use Rattle.sctp_state.specs.Thresholds.{Watched}
 use Rattle.sctp_tx.specs.declared.send_queue.message.MessageNumbers.{MessageNumbers}
 use Rattle.sctp_tx.specs.declared.send_queue.stream.PauseState.{PauseState}
@@ -18,16 +18,16 @@ use Rattle.sctp_tx.specs.declared.send_queue.stream.PauseState.TheVariants.{NotP
 
 -- a message that waits or is partly sent
 pub record Queued : Type 0 where
-  pub number : ℕ                -- its place in the order of acceptance
+  pub number : ℕ  -- its place in the order of acceptance
   pub ppid : ℕ
   pub payload : List ℕ
   pub is_unordered : Bool
   pub expires : Option ℕ
-  pub limit : ℕ                 -- how often a fragment may be sent again
+  pub limit : ℕ  -- how often a fragment may be sent again
   pub lifecycle : Option ℕ
-  pub offset : ℕ                -- how much of it is sent
+  pub offset : ℕ  -- how much of it is sent
   pub numbers : Option MessageNumbers
-  pub fsn : ℕ                   -- of its next fragment
+  pub fsn : ℕ  -- of its next fragment
 
 -- next numbers are unwrapped, and begin at `origin`
 pub record Stream : Type 0 where
@@ -53,14 +53,15 @@ pub record Queue : Type 0 where
   pub streams : Streams
   pub scheduler : Scheduler
   pub next_number : ℕ
-  pub begun : Option ℕ          -- without interleaving, the stream whose message is partly sent
+  pub begun : Option ℕ  -- without interleaving, the stream whose message is partly sent
 
 abbrev pub no_streams : Options → Streams
 no_streams o = record {
   entries = [];
   total_threshold = o.total_buffered_amount_low_threshold;
   default_threshold = o.default_stream_buffered_amount_low_threshold;
-  default_priority = o.default_stream_priority }
+  default_priority = o.default_stream_priority;
+}
 
 -- the largest payload of a fragment is what a packet holds besides its header and that of an I-DATA chunk
 abbrev pub queue : Options → Queue
@@ -87,8 +88,14 @@ watched_total ss = record { amount = total_of ss.entries; low_threshold = ss.tot
 
 abbrev pub blank_stream : ℕ → ℕ → Stream
 blank_stream priority threshold = record {
-  messages = []; pause = NotPaused; next_ssn = origin; next_ordered_mid = origin; next_unordered_mid = origin;
-  priority = priority; threshold = threshold }
+  messages = [];
+  pause = NotPaused;
+  next_ssn = origin;
+  next_ordered_mid = origin;
+  next_unordered_mid = origin;
+  priority = priority;
+  threshold = threshold;
+}
 
 abbrev pub blank : Streams → Stream
 blank ss = blank_stream ss.default_priority ss.default_threshold

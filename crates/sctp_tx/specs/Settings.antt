@@ -24,7 +24,8 @@ set_low_threshold id bytes q told =
     let s : Stream = stream id q.streams in
     record {
       queue = record q { streams = put id (with_threshold bytes s) (opened id q.streams) };
-      told = tell_all (when (crosses (watched_amount s) (watched_amount (with_threshold bytes s))) (OnBufferedAmountLow id)) told }
+      told = tell_all (when (crosses (watched_amount s) (watched_amount (with_threshold bytes s))) (OnBufferedAmountLow id)) told;
+    }
 
 -- a finish time that is there stays
 abbrev pub set_priority : ℕ → ℕ → Queue → Queue
@@ -63,7 +64,8 @@ abbrev pub discard_from : {P : Type 0} → ℕ → Streams → Option (Option �
 discard_from id ss None q told = record { queue = record q { streams = ss }; told = told }
 discard_from id ss (Some lifecycle) q told = record {
   queue = record q { streams = ss; scheduler = hears id (stream id ss) q.scheduler; begun = begun_without id q.begun };
-  told = tell_all (expiry lifecycle) told }
+  told = tell_all (expiry lifecycle) told;
+}
 
 abbrev pub discard : {P : Type 0} → ℕ → ℕ → Queue → Told P → Changed P
 discard id number q told = discard_from id (streams_discarded id number q.streams) (front_discarded number (stream id q.streams).messages) q told

@@ -1,11 +1,14 @@
 //! Messages that wait to be sent.
 
-ghost use Rattle.std.specs.Prelude.{◌≡◌, ℕ, Bool, ◌+◌, ◌-◌, ◌<◌, ◌≤◌, ◌^◌, ◌==◌, [], length, not, is_some, None, Some, IfOk, IfSome, OnOk, OnErr, option_map};
+ghost use Rattle.std.specs.Prelude.{◌≡◌, ℕ, Bool, ◌+◌, ◌-◌, ◌<◌, ◌≤◌, ◌^◌, ◌==◌, [], length, not, is_some, None, Some, IfOk, IfSome, OnOk, OnErr, option_map, map};
+ghost use Rattle.std.specs.List.{list_any};
+ghost use Rattle.std.specs.Map.{values_of};
 ghost use Rattle.sctp_state.specs.Options.{options_of};
 ghost use Rattle.sctp_state.specs.Scheduler.{accept, set_bytes_remaining};
 ghost use Rattle.sctp_tx.specs.Queue.{amount_of, total_of, stream, sendable, hears, queue, added, is_empty};
 ghost use Rattle.sctp_tx.specs.Produced.{in_line, begun_by, turn, produce, next_stream};
 ghost use Rattle.sctp_tx.specs.Settings.{set_low_threshold, set_priority, set_mode, discard, begun_without};
+ghost use Rattle.sctp_tx.specs.Resets.{prepare_reset, is_ready, requested, request_resets, commit_resets, roll_back_resets, stepped, each_stepped};
 ghost use Rattle.sctp_tx.specs.Views.{produced_of, queued_of};
 
 pub mod message;
@@ -19,6 +22,7 @@ use sctp_serial::{Message, OutgoingMessageId, SocketTime, StreamId};
 use sctp_state::{Events, Options, SendOptions, SocketEvent, StreamScheduler};
 use std::alloc::{AllocError, Global};
 use std::marker::Model;
+use stream::ResetStep;
 use streams::Streams;
 use telling::{tell_expired, tell_if};
 
@@ -148,7 +152,8 @@ impl SendQueue {
         self.streams.open(self.alloc, id)?;
         self.streams.push(id, message)?;
         let next = next_of(&self.streams, id);
-        self.scheduler.set_bytes_remaining(id, next.bytes, next.priority)?;
+        self.scheduler
+            .set_bytes_remaining(id, next.bytes, next.priority)?;
         self.next_message_id += 1;
         Ok(message_id)
     }
@@ -298,9 +303,79 @@ impl SendQueue {
             return Ok(());
         };
         let next = next_of(&self.streams, id);
-        self.scheduler.set_bytes_remaining(id, next.bytes, next.priority)?;
+        self.scheduler
+            .set_bytes_remaining(id, next.bytes, next.priority)?;
         self.begun = begun_without(id, self.begun);
         tell_expired(events, discarded.lifecycle_id)
+    }
+
+    /// Prepares the reset of a stream: its messages of which nothing is sent are dropped, with the end of their
+    /// lifecycles. The stream can be reset once its partly sent message has ended, and sends no other one until the
+    /// reset is answered.
+    pub fn prepare_reset_stream(
+        &mut self,
+        id: StreamId,
+        events: &mut Events,
+    ) -> Result<(), AllocError>
+        ensures queue { OnOk result (self.new ≡ (prepare_reset id.0 self.old events.old).queue) }
+        ensures told { OnOk result (events.new ≡ (prepare_reset id.0 self.old events.old).told) }
+    {
+        self.streams.open(self.alloc, id)?;
+        self.streams.prepare_reset(id, events)?;
+        let next = next_of(&self.streams, id);
+        self.scheduler
+            .set_bytes_remaining(id, next.bytes, next.priority)
+    }
+
+    /// Whether a stream can be reset, and is in no request.
+    pub fn has_streams_ready_to_be_reset(&self) -> bool
+        ensures { result ≡ list_any is_ready (values_of self.now.streams.entries) }
+    {
+        self.streams.has_ready()
+    }
+
+    /// The first streams that can be reset and are in no request, by ascending id and at most `most`: they are in one
+    /// from then on.
+    pub fn get_streams_ready_to_reset(&mut self, most: usize) -> Result<Vec<StreamId>, AllocError>
+        ensures streams { IfOk result (λ ids. map (λ id. id.0) ids.items ≡ requested most self.old) }
+        ensures queue { OnOk result (self.new ≡ request_resets most self.old) }
+    {
+        let mut ids = self.streams.ready(self.alloc)?;
+        ids.truncate(most);
+        self.take_steps(&ids, ResetStep::Requested)?;
+        Ok(ids)
+    }
+
+    /// The peer performed the reset of these streams: they send again, with numbers that begin again.
+    pub fn commit_reset_streams(&mut self, ids: &[StreamId]) -> Result<(), AllocError>
+        ensures { OnOk result (self.new ≡ commit_resets (map (λ id. id.0) ids.now) self.old) }
+    {
+        self.take_steps(ids, ResetStep::Performed)
+    }
+
+    /// The peer refused the reset of these streams: they send again.
+    pub fn rollback_reset_streams(&mut self, ids: &[StreamId]) -> Result<(), AllocError>
+        ensures { OnOk result (self.new ≡ roll_back_resets (map (λ id. id.0) ids.now) self.old) }
+    {
+        self.take_steps(ids, ResetStep::Refused)
+    }
+
+    fn take_step(&mut self, id: StreamId, step: ResetStep) -> Result<(), AllocError>
+        ensures { OnOk result (self.new ≡ stepped step id.0 self.old) }
+    {
+        self.streams.take_step(id, step);
+        let next = next_of(&self.streams, id);
+        self.scheduler
+            .set_bytes_remaining(id, next.bytes, next.priority)
+    }
+
+    fn take_steps(&mut self, ids: &[StreamId], step: ResetStep) -> Result<(), AllocError>
+        ensures { OnOk result (self.new ≡ each_stepped step (map (λ id. id.0) ids.now) self.old) }
+    {
+        for id in ids {
+            self.take_step(*id, step)?;
+        }
+        Ok(())
     }
 }
 

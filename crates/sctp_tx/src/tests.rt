@@ -112,16 +112,36 @@ fn thresholds_are_crossed_downwards_and_raised(rt: HostRuntime) -> Result<(), Fa
     assert!(rt; events.next_event().is_none());
     assert_eq!(rt; queue.buffered_amount(id), 4);
     queue.produce(at(0), 2, &mut events)?;
-    assert!(rt; matches!(&events.next_event(), Some(SocketEvent::OnBufferedAmountLow(StreamId(1)))));
-    assert!(rt; matches!(&events.next_event(), Some(SocketEvent::OnTotalBufferedAmountLow())));
+    assert!(rt;
+        matches!(
+            &events.next_event(),
+            Some(SocketEvent::OnBufferedAmountLow(StreamId(1)))
+        )
+    );
+    assert!(rt;
+        matches!(
+            &events.next_event(),
+            Some(SocketEvent::OnTotalBufferedAmountLow())
+        )
+    );
     queue.produce(at(0), 2, &mut events)?;
-    assert!(rt; matches!(&events.next_event(), Some(SocketEvent::OnLifecycleMessageFullySent(_))));
+    assert!(rt;
+        matches!(
+            &events.next_event(),
+            Some(SocketEvent::OnLifecycleMessageFullySent(_))
+        )
+    );
     assert!(rt; events.next_event().is_none());
     queue.add(at(0), message(alloc, 2, b"abcdef")?, &named)?;
     queue.set_buffered_amount_low_threshold(StreamId(2), 5, &mut events)?;
     assert!(rt; events.next_event().is_none());
     queue.set_buffered_amount_low_threshold(StreamId(2), 6, &mut events)?;
-    assert!(rt; matches!(&events.next_event(), Some(SocketEvent::OnBufferedAmountLow(StreamId(2)))));
+    assert!(rt;
+        matches!(
+            &events.next_event(),
+            Some(SocketEvent::OnBufferedAmountLow(StreamId(2)))
+        )
+    );
     assert_eq!(rt; queue.total_buffered_amount(), 6);
     Ok(())
 }
@@ -138,15 +158,31 @@ fn expired_messages_are_given_up(rt: HostRuntime) -> Result<(), Fail> {
         max_retransmissions: None,
         lifecycle_id: LifecycleId::new(4),
     };
-    assert_eq!(rt; queue.add(at(0), message(alloc, 1, b"begun")?, &short)?, OutgoingMessageId(0));
-    assert_eq!(rt; queue.add(at(0), message(alloc, 1, b"late")?, &short)?, OutgoingMessageId(1));
+    assert_eq!(rt;
+        queue.add(at(0), message(alloc, 1, b"begun")?, &short)?,
+        OutgoingMessageId(0)
+    );
+    assert_eq!(rt;
+        queue.add(at(0), message(alloc, 1, b"late")?, &short)?,
+        OutgoingMessageId(1)
+    );
     let made = queue.produce(at(1000), 3, &mut events)?.ok_or("none")?;
     assert_eq!(rt; made.message_id, OutgoingMessageId(0));
     let made = queue.produce(at(1001), 3, &mut events)?.ok_or("none")?;
     assert!(rt; made.data.is_end);
-    assert!(rt; matches!(&events.next_event(), Some(SocketEvent::OnLifecycleMessageFullySent(_))));
+    assert!(rt;
+        matches!(
+            &events.next_event(),
+            Some(SocketEvent::OnLifecycleMessageFullySent(_))
+        )
+    );
     assert!(rt; queue.produce(at(1001), 3, &mut events)?.is_none());
-    assert!(rt; matches!(&events.next_event(), Some(SocketEvent::OnLifecycleMessageExpired(_))));
+    assert!(rt;
+        matches!(
+            &events.next_event(),
+            Some(SocketEvent::OnLifecycleMessageExpired(_))
+        )
+    );
     assert!(rt; matches!(&events.next_event(), Some(SocketEvent::OnLifecycleEnd(_))));
     assert!(rt; events.next_event().is_none());
     let record = events.next_given_up().ok_or("no record")?;
@@ -176,5 +212,54 @@ fn the_rest_of_a_message_is_discarded(rt: HostRuntime) -> Result<(), Fail> {
     assert!(rt; queue.is_empty());
     assert!(rt; queue.produce(at(0), 3, &mut events)?.is_none());
     assert_eq!(rt; queue.get_priority(StreamId(5)), 256);
+    Ok(())
+}
+
+// A stream with a partly sent message and a waiting one: the waiting one is dropped at once, the other is ended, and
+// what is accepted then waits for the answer.
+#[test]
+fn a_stream_is_reset(rt: HostRuntime) -> Result<(), Fail> {
+    let alloc = rt.alloc();
+    let mut queue = SendQueue::new(alloc, &Options::default());
+    let mut events = Events::new(alloc);
+    let plain = SendOptions::default();
+    let named = SendOptions {
+        unordered: false,
+        lifetime: None,
+        max_retransmissions: None,
+        lifecycle_id: LifecycleId::new(8),
+    };
+    let id = StreamId(1);
+    queue.add(at(0), message(alloc, 1, b"partly")?, &plain)?;
+    queue.add(at(0), message(alloc, 1, b"waits")?, &named)?;
+    queue.produce(at(0), 3, &mut events)?;
+    queue.prepare_reset_stream(id, &mut events)?;
+    assert!(rt;
+        matches!(
+            &events.next_event(),
+            Some(SocketEvent::OnLifecycleMessageExpired(_))
+        )
+    );
+    assert!(rt; matches!(&events.next_event(), Some(SocketEvent::OnLifecycleEnd(_))));
+    assert!(rt; events.next_given_up().is_none());
+    assert_eq!(rt; queue.buffered_amount(id), 3);
+    assert!(rt; !queue.has_streams_ready_to_be_reset());
+    queue.add(at(0), message(alloc, 1, b"later")?, &plain)?;
+    let end = queue.produce(at(0), 9, &mut events)?.ok_or("no end")?;
+    assert!(rt; end.data.is_end);
+    assert!(rt; queue.has_streams_ready_to_be_reset());
+    assert!(rt; queue.produce(at(0), 9, &mut events)?.is_none());
+    queue.prepare_reset_stream(StreamId(4), &mut events)?;
+    let ids = queue.get_streams_ready_to_reset(1)?;
+    assert_eq!(rt; ids.len(), 1);
+    assert!(rt; queue.produce(at(0), 9, &mut events)?.is_none());
+    queue.commit_reset_streams(&ids)?;
+    let first = queue.produce(at(0), 9, &mut events)?.ok_or("none")?;
+    assert_eq!(rt; first.data.ssn.0, 0);
+    assert_eq!(rt; first.message_id, OutgoingMessageId(2));
+    let ids = queue.get_streams_ready_to_reset(1)?;
+    assert_eq!(rt; ids.len(), 1);
+    queue.rollback_reset_streams(&ids)?;
+    assert!(rt; !queue.has_streams_ready_to_be_reset());
     Ok(())
 }

@@ -6,12 +6,14 @@ ghost use Rattle.sctp_packet.specs.Written.{key_stream};
 ghost use Rattle.sctp_packet.specs.Views.{is_unordered_key};
 ghost use Rattle.sctp_tx.specs.Queue.{left, expiry_of};
 ghost use Rattle.sctp_tx.specs.Produced.{is_stale, is_due, made_of, moved};
+ghost use Rattle.sctp_tx.specs.Resets.{is_partly};
 ghost use Rattle.sctp_tx.specs.Views.{produced_of, queued_of};
 
 use crate::data_to_send::DataToSend;
 use sctp_packet::Data;
 use sctp_serial::{
-    Fsn, LifecycleId, Message, Mid, OutgoingMessageId, PpId, SerialNumber, SocketTime, Ssn, StreamId, StreamKey,
+    Fsn, LifecycleId, Message, Mid, OutgoingMessageId, PpId, SerialNumber, SocketTime, Ssn,
+    StreamId, StreamKey,
 };
 use sctp_state::SendOptions;
 use std::alloc::{AllocError, Global};
@@ -80,7 +82,12 @@ fn stream_key(is_unordered: bool, id: StreamId) -> StreamKey
 
 impl QueuedMessage {
     /// A message that is accepted now. It expires a millisecond after its lifetime.
-    pub fn new(message_id: OutgoingMessageId, now: SocketTime, message: Message, options: &SendOptions) -> QueuedMessage
+    pub fn new(
+        message_id: OutgoingMessageId,
+        now: SocketTime,
+        message: Message,
+        options: &SendOptions,
+    ) -> QueuedMessage
         requires some { 0 < length message.payload.items }
         requires small { length message.payload.items < 2 ^ 32 }
         ensures { result ≡ queued_of message_id.0 now message options.now }
@@ -128,6 +135,13 @@ impl QueuedMessage {
         ensures { result ≡ is_stale now self.now }
     {
         self.numbers.is_none() && is_due(self.expires_at, now)
+    }
+
+    /// Whether a fragment of it was sent.
+    pub fn is_partly_sent(&self) -> bool
+        ensures { result ≡ is_partly self.now }
+    {
+        0 < self.offset
     }
 
     /// The bytes that are not sent.

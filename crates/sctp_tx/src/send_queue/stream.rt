@@ -1,15 +1,16 @@
 //! What waits on one stream.
 
-ghost use Rattle.std.specs.Prelude.{◌≡◌, ℕ, Bool, ◌+◌, ◌-◌, ◌<◌, ◌≤◌, ◌^◌, ◌==◌, [], ◌∷◌, ◌++◌, length, sum_by, is_some, None, Some, IfOk, IfSome, OnOk, OnErr, option_map};
+ghost use Rattle.std.specs.Prelude.{◌≡◌, ℕ, Bool, ◌+◌, ◌-◌, ◌<◌, ◌≤◌, ◌^◌, ◌==◌, [], ◌∷◌, ◌++◌, length, sum_by, is_some, None, Some, IfOk, IfSome, OnOk, OnErr, option_map, filter};
 ghost use Rattle.sctp_state.specs.Thresholds.{crosses};
 ghost use Rattle.sctp_tx.specs.Queue.{Queued, left, amount_of, watched_amount, blank_stream, front_left, sendable, pushed, is_stopped};
 ghost use Rattle.sctp_tx.specs.Produced.{is_front_stale, fresh, dropped, without_stale, counted, front_numbers, front_made, moved_front, front_took, cut, pause_after, settled};
 ghost use Rattle.sctp_tx.specs.Settings.{with_threshold, with_priority, without_front, front_discarded, popped_if, is_front};
+ghost use Rattle.sctp_tx.specs.Resets.{is_ready, after_step, is_partly, told_waiting, prepared, waiting};
 ghost use Rattle.sctp_tx.specs.Views.{produced_of};
 
 use crate::data_to_send::DataToSend;
 use crate::send_queue::message::{MessageNumbers, QueuedMessage};
-use crate::send_queue::telling::tell_stale;
+use crate::send_queue::telling::{tell_expired, tell_stale};
 use sctp_serial::{LifecycleId, OutgoingMessageId, SocketTime, StreamId};
 use sctp_state::{Events, ThresholdWatcher};
 use std::alloc::{AllocError, Global};
@@ -27,6 +28,17 @@ pub enum PauseState {
     Paused,
     /// Its reset was requested and isn't answered.
     Resetting,
+}
+
+/// What happens to a stream that can be reset.
+#[derive(Clone, Copy, Debug, PartialEq, Eq)]
+pub enum ResetStep {
+    /// It goes into a request.
+    Requested,
+    /// The peer performed the request.
+    Performed,
+    /// The peer refused the request.
+    Refused,
 }
 
 /// The messages of a stream. `buffered` counts the bytes that are not sent.
@@ -135,6 +147,50 @@ fn pop_front_if(
     })
 }
 
+// Tells of the messages of which nothing is sent that they are dropped.
+fn tell_waiting(messages: &VecDeque<QueuedMessage>, events: &mut Events) -> Result<(), AllocError>
+    ensures { OnOk result (events.new ≡ told_waiting messages.now.items events.old) }
+{
+    for message in messages.iter() {
+        if !message.is_partly_sent() {
+            tell_expired(events, message.lifecycle_id())?;
+        }
+    }
+    Ok(())
+}
+
+fn bytes_left(messages: &VecDeque<QueuedMessage>) -> usize
+    requires { sum_by left messages.now.items < 2 ^ 64 }
+    ensures { result ≡ sum_by left messages.now.items }
+{
+    messages.iter().map(|message| message.left()).sum()
+}
+
+// Drops the messages of which nothing is sent.
+fn keep_partly_sent(messages: &mut VecDeque<QueuedMessage>, buffered: &mut ThresholdWatcher)
+    requires { buffered.old.amount ≡ sum_by left messages.old.items }
+    ensures messages { messages.new.items ≡ filter is_partly messages.old.items }
+    ensures amount { buffered.new.amount ≡ sum_by left messages.new.items }
+    ensures threshold { buffered.new.low_threshold ≡ buffered.old.low_threshold }
+    ensures less { buffered.new.amount ≤ buffered.old.amount }
+{
+    let before = buffered.amount();
+    messages.retain(|message| message.is_partly_sent());
+    let bytes = bytes_left(messages);
+    buffered.decrease(before - bytes);
+}
+
+// The pause of a stream that is to be reset.
+fn waiting(is_empty: bool, pause_state: PauseState) -> PauseState
+    ensures { result ≡ waiting is_empty pause_state }
+{
+    match pause_state {
+        PauseState::NotPaused if is_empty => PauseState::Paused,
+        PauseState::NotPaused => PauseState::Pending,
+        _ => pause_state,
+    }
+}
+
 fn is_front(messages: &VecDeque<QueuedMessage>, message_id: OutgoingMessageId) -> bool
     ensures { result ≡ is_front message_id.0 messages.now.items }
 {
@@ -236,7 +292,11 @@ impl Stream {
     pub fn sendable(&self) -> usize
         ensures { result ≡ sendable self.now }
     {
-        if self.is_stopped() { 0 } else { self.front_left() }
+        if self.is_stopped() {
+            0
+        } else {
+            self.front_left()
+        }
     }
 
     /// Adds a message behind the others. Without memory nothing changes.
@@ -355,5 +415,45 @@ impl Stream {
         let discarded = pop_front_if(&mut self.messages, &mut self.buffered, message_id)?;
         self.pause_state = settled(self.pause_state);
         Some(discarded)
+    }
+
+    /// Whether the stream can be reset, and is in no request.
+    pub fn is_ready(&self) -> bool
+        ensures { result ≡ is_ready self.now }
+    {
+        match self.pause_state {
+            PauseState::Paused => true,
+            PauseState::NotPaused | PauseState::Pending | PauseState::Resetting => false,
+        }
+    }
+
+    /// Takes a step of a reset.
+    pub fn take_step(&mut self, step: ResetStep)
+        ensures after { self.new ≡ after_step step self.old }
+        ensures amount { amount_of self.new ≡ amount_of self.old }
+    {
+        match step {
+            ResetStep::Requested => self.pause_state = PauseState::Resetting,
+            ResetStep::Refused => self.pause_state = PauseState::NotPaused,
+            ResetStep::Performed => {
+                self.pause_state = PauseState::NotPaused;
+                self.next_ssn = 1 << 32;
+                self.next_ordered_mid = 1 << 32;
+                self.next_unordered_mid = 1 << 32;
+            }
+        }
+    }
+
+    /// Drops the messages of which nothing is sent. The stream can be reset once none is partly sent.
+    pub fn prepare_reset(&mut self, events: &mut Events) -> Result<(), AllocError>
+        ensures ok { OnOk result (self.new ≡ prepared self.old) }
+        ensures told { OnOk result (events.new ≡ told_waiting self.old.messages events.old) }
+        ensures less { amount_of self.new ≤ amount_of self.old }
+        ensures err { OnErr result (self.new ≡ self.old) }
+    {
+        tell_waiting(&self.messages, events)?;
+        keep_partly_sent(&mut self.messages, &mut self.buffered);
+        self.pause_state = waiting(self.messages.is_empty(), self.pause_state);
+        Ok(())
     }
 }

@@ -1,8 +1,8 @@
 //! The streams that were named, and what is left on all of them.
 
-ghost use Rattle.std.specs.Prelude.{◌≡◌, ℕ, Bool, ◌+◌, ◌-◌, ◌<◌, ◌≤◌, ◌^◌, ◌==◌, [], length, is_some, None, Some, IsSome, IfOk, IfSome, OnOk, OnErr, option_map};
+ghost use Rattle.std.specs.Prelude.{◌≡◌, ℕ, Bool, ◌+◌, ◌-◌, ◌<◌, ◌≤◌, ◌^◌, ◌==◌, [], length, is_some, None, Some, IsSome, IfOk, IfSome, OnOk, OnErr, option_map, map};
 ghost use Rattle.std.specs.Map.{lookup, values_of};
-ghost use Rattle.std.specs.List.{list_all};
+ghost use Rattle.std.specs.List.{list_all, list_any};
 ghost use Rattle.std.specs.Ordering.{nat_cmp};
 ghost use Rattle.std.specs.BTreeMap.{is_at};
 ghost use Rattle.sctp_state.specs.Options.{options_of};
@@ -10,11 +10,12 @@ ghost use Rattle.sctp_state.specs.Thresholds.{crosses};
 ghost use Rattle.sctp_tx.specs.Queue.{Queued, left, amount_of, total_of, watched_amount, watched_total, no_streams, stream, opened, put, pushed, sendable, has_nothing};
 ghost use Rattle.sctp_tx.specs.Produced.{dropped, streams_without_stale, streams_after, told_of, cut};
 ghost use Rattle.sctp_tx.specs.Settings.{with_threshold, with_priority, streams_discarded, front_discarded};
+ghost use Rattle.sctp_tx.specs.Resets.{is_ready, after_step, ready, prepared, told_waiting};
 ghost use Rattle.sctp_tx.specs.Views.{produced_of};
 
 use crate::data_to_send::DataToSend;
 use crate::send_queue::message::QueuedMessage;
-use crate::send_queue::stream::{Cut, Discarded, Stream};
+use crate::send_queue::stream::{Cut, Discarded, ResetStep, Stream};
 use crate::send_queue::telling::tell_made;
 use sctp_serial::{OutgoingMessageId, SocketTime, StreamId};
 use sctp_state::{Events, Options, ThresholdWatcher};
@@ -127,7 +128,12 @@ impl Streams {
     }
 
     /// Drops the messages at the front of a stream that expired before they were begun.
-    pub fn drop_stale(&mut self, id: StreamId, now: SocketTime, events: &mut Events) -> Result<(), AllocError>
+    pub fn drop_stale(
+        &mut self,
+        id: StreamId,
+        now: SocketTime,
+        events: &mut Events,
+    ) -> Result<(), AllocError>
         ensures ok { OnOk result (self.new ≡ streams_without_stale now id.0 self.old) }
         ensures told { OnOk result (events.new ≡ dropped now (stream id.0 self.old).messages events.old) }
     {
@@ -206,4 +212,56 @@ impl Streams {
         self.total.decrease(before - stream.amount());
         discarded
     }
+
+    /// Drops the messages of a stream of which nothing is sent.
+    pub fn prepare_reset(&mut self, id: StreamId, events: &mut Events) -> Result<(), AllocError>
+        ensures ok { OnOk result (self.new ≡ put id.0 (prepared (stream id.0 self.old)) self.old) }
+        ensures told { OnOk result (events.new ≡ told_waiting (stream id.0 self.old).messages events.old) }
+    {
+        let Some(stream) = self.streams.get_mut(&id.0) else {
+            return Ok(());
+        };
+        let before = stream.amount();
+        let prepared = stream.prepare_reset(events);
+        self.total.decrease(before - stream.amount());
+        prepared
+    }
+
+    /// Takes a step of a stream's reset.
+    pub fn take_step(&mut self, id: StreamId, step: ResetStep)
+        ensures { self.new ≡ put id.0 (after_step step (stream id.0 self.old)) self.old }
+    {
+        let Some(stream) = self.streams.get_mut(&id.0) else {
+            return;
+        };
+        stream.take_step(step);
+    }
+
+    /// The streams that can be reset and are in no request, by ascending id.
+    pub fn ready(&self, alloc: Global) -> Result<Vec<StreamId>, AllocError>
+        ensures { IfOk result (λ ids. map (λ id. id.0) ids.items ≡ ready self.now.entries) }
+    {
+        ready_streams(alloc, &self.streams)
+    }
+
+    pub fn has_ready(&self) -> bool
+        ensures { result ≡ list_any is_ready (values_of self.now.entries) }
+    {
+        self.streams.values().any(|stream| stream.is_ready())
+    }
+}
+
+fn ready_streams(
+    alloc: Global,
+    streams: &BTreeMap<u16, Stream>,
+) -> Result<Vec<StreamId>, AllocError>
+    ensures { IfOk result (λ ids. map (λ id. id.0) ids.items ≡ ready streams.now.entries) }
+{
+    let mut ids = Vec::new(alloc);
+    for (id, stream) in streams {
+        if stream.is_ready() {
+            ids.push(StreamId(*id))?;
+        }
+    }
+    Ok(ids)
 }

@@ -12,7 +12,10 @@ use sctp_state::{Events, GivenUp, GivenUpCause, SocketEvent};
 use std::alloc::AllocError;
 
 // A message was dropped before it was fully sent.
-pub(crate) fn tell_expired(events: &mut Events, lifecycle_id: Option<LifecycleId>) -> Result<(), AllocError>
+pub(crate) fn tell_expired(
+    events: &mut Events,
+    lifecycle_id: Option<LifecycleId>,
+) -> Result<(), AllocError>
     ensures { OnOk result (events.new ≡ tell_all (expiry lifecycle_id) events.old) }
 {
     if let Some(id) = lifecycle_id {
@@ -37,7 +40,11 @@ pub(crate) fn tell_stale(
     tell_expired(events, lifecycle_id)
 }
 
-pub(crate) fn tell_if(events: &mut Events, condition: bool, event: SocketEvent) -> Result<(), AllocError>
+pub(crate) fn tell_if(
+    events: &mut Events,
+    condition: bool,
+    event: SocketEvent,
+) -> Result<(), AllocError>
     ensures { OnOk result (events.new ≡ tell_all (when condition (event_of event)) events.old) }
 {
     if condition {
@@ -65,7 +72,11 @@ fn tell_production(
     ensures { OnOk result (events.new ≡ tell_all (production id.0 is_low is_total_low lifecycle_id) events.old) }
 {
     tell_if(events, is_low, SocketEvent::OnBufferedAmountLow(id))?;
-    tell_if(events, is_total_low, SocketEvent::OnTotalBufferedAmountLow())?;
+    tell_if(
+        events,
+        is_total_low,
+        SocketEvent::OnTotalBufferedAmountLow(),
+    )?;
     tell_fully_sent(events, lifecycle_id)
 }
 

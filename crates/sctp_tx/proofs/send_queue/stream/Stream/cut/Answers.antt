@@ -22,9 +22,9 @@ pub returns-clause-low : goal.returns-clause-low
 returns-clause-low c =
     c.decrease-is_low.ensures.answer
     ∙ crosses-same c.self-2.inside.buffered c.decrease-is_low.new.self (watched_amount c.args.self.now)
-      (record { amount = sum_by left c.move_front_on.new.messages.items; low_threshold = c.decrease-is_low.new.self.low_threshold }) (c.self-2.invariant ∙ ap (λ ms. sum_by left ms) (same_messages c)) (same_threshold c)
-      (omega (arith, ap (λ w. w.amount) c.decrease-is_low.ensures.after, whole c, c.self-2.invariant, c.len.ensures))
-      refl
+    (record { amount = sum_by left c.move_front_on.new.messages.items; low_threshold = c.decrease-is_low.new.self.low_threshold }) (c.self-2.invariant ∙ ap (λ ms. sum_by left ms) (same_messages c)) (same_threshold c)
+    (omega (arith, ap (λ w. w.amount) c.decrease-is_low.ensures.after, whole c, c.self-2.invariant, c.len.ensures))
+    refl
 
 pub returns-clause-less : goal.returns-clause-less
 returns-clause-less c = omega (arith, whole c, ap (λ ms. sum_by left ms) (same_messages c))

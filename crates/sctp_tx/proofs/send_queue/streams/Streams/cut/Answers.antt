@@ -43,16 +43,16 @@ returns-clause-told c =
     let id = c.args.id.0 in
     let entries = c.self.inside.streams.entries in
     let is_stream : c.in-Some.stream.now ≡ stream id c.args.self.now =
-        ap (λ o. unwrap_or o (blank c.args.self.now)) c.in-Some.ensures.value ∙ ap (λ ss. unwrap_or (lookup (is_at (nat_cmp id)) ss.entries) (blank c.args.self.now)) c.self.view_is in
+    ap (λ o. unwrap_or o (blank c.args.self.now)) c.in-Some.ensures.value ∙ ap (λ ss. unwrap_or (lookup (is_at (nat_cmp id)) ss.entries) (blank c.args.self.now)) c.self.view_is in
     let written = (c.get_mut.follows.holds c.cut.new.self).0
-        ∙ ap (λ w. set_value (is_at (nat_cmp id)) entries w) (c.in_ok-made.ensures.after ∙ ap (λ t. (cut id c.args.size t).stream) is_stream)
-        ∙ ap (λ ss. set_value (is_at (nat_cmp id)) ss.entries (cut id c.args.size (stream id c.args.self.now)).stream) c.self.view_is in
+    ∙ ap (λ w. set_value (is_at (nat_cmp id)) entries w) (c.in_ok-made.ensures.after ∙ ap (λ t. (cut id c.args.size t).stream) is_stream)
+    ∙ ap (λ ss. set_value (is_at (nat_cmp id)) ss.entries (cut id c.args.size (stream id c.args.self.now)).stream) c.self.view_is in
     let sums = total-written id entries c.in-Some.stream.now c.cut.new.self c.in-Some.ensures.value in
     let most = amount-at_most id entries c.in-Some.stream.now c.in-Some.ensures.value in
     let amount = ap total_of (c.get_mut.follows.holds c.cut.new.self).0 in
     c.in_ok-tell_made.ensures
     ∙ told-is id c.args.size c.args.self.now c.in-Some.stream.now c.cut.new.self c.self.inside.total c.decrease-is_total_low.new.self c.in_ok-made.field-0.is_low c.decrease-is_total_low.result _ c.args.events.now
-      is_stream c.in_ok-made.ensures.after c.in_ok-made.ensures.made c.in_ok-made.ensures.low c.decrease-is_total_low.ensures.answer
-      (c.self.invariant ∙ ap (λ ss. total_of ss.entries) c.self.view_is) (ap (λ ss. ss.total_threshold) c.self.view_is)
-      (omega (arith, amount, ap total_of written, sums, most, c.amount-before.ensures, c.amount.ensures, c.cut.ensures.less, c.self.invariant, ap (λ w. w.amount) c.decrease-is_total_low.ensures.after))
-      (ap (λ w. w.low_threshold) c.decrease-is_total_low.ensures.after ∙ ap (λ ss. ss.total_threshold) c.self.view_is)
+    is_stream c.in_ok-made.ensures.after c.in_ok-made.ensures.made c.in_ok-made.ensures.low c.decrease-is_total_low.ensures.answer
+    (c.self.invariant ∙ ap (λ ss. total_of ss.entries) c.self.view_is) (ap (λ ss. ss.total_threshold) c.self.view_is)
+    (omega (arith, amount, ap total_of written, sums, most, c.amount-before.ensures, c.amount.ensures, c.cut.ensures.less, c.self.invariant, ap (λ w. w.amount) c.decrease-is_total_low.ensures.after))
+    (ap (λ w. w.low_threshold) c.decrease-is_total_low.ensures.after ∙ ap (λ ss. ss.total_threshold) c.self.view_is)
