@@ -32,7 +32,7 @@ pub record Options : Type 0 where
   pub cwnd_mtus_min : ℕ
   pub avoid_fragmentation_cwnd_mtus : ℕ
   pub immediate_sack_under_cwnd_mtus : ℕ
-  pub max_burst : ℕ  -- 0 where the option is negative
+  pub max_burst : ℕ                    -- 0 where the option is negative
   pub max_retransmissions : Option ℕ
   pub max_init_retransmits : Option ℕ
   pub enable_partial_reliability : Bool
@@ -49,83 +49,44 @@ at_least_zero (negsuc n) = 0
 -- the options that a program gives
 abbrev pub options_of : given.Options → Options
 options_of o = record {
-  local_port = o.local_port;
-  remote_port = o.remote_port;
+  local_port = o.local_port; remote_port = o.remote_port;
   announced_maximum_incoming_streams = o.announced_maximum_incoming_streams;
   announced_maximum_outgoing_streams = o.announced_maximum_outgoing_streams;
-  mtu = o.mtu;
-  max_message_size = o.max_message_size;
-  default_stream_priority = o.default_stream_priority;
-  max_receiver_window_buffer_size = o.max_receiver_window_buffer_size;
-  max_send_buffer_size = o.max_send_buffer_size;
+  mtu = o.mtu; max_message_size = o.max_message_size; default_stream_priority = o.default_stream_priority;
+  max_receiver_window_buffer_size = o.max_receiver_window_buffer_size; max_send_buffer_size = o.max_send_buffer_size;
   per_stream_send_queue_limit = o.per_stream_send_queue_limit;
   total_buffered_amount_low_threshold = o.total_buffered_amount_low_threshold;
   default_stream_buffered_amount_low_threshold = o.default_stream_buffered_amount_low_threshold;
-  rtt_max = as_nanos o.rtt_max;
-  rto_initial = as_nanos o.rto_initial;
-  rto_max = as_nanos o.rto_max;
-  rto_min = as_nanos o.rto_min;
-  t1_init_timeout = as_nanos o.t1_init_timeout;
-  t1_cookie_timeout = as_nanos o.t1_cookie_timeout;
-  t2_shutdown_timeout = as_nanos o.t2_shutdown_timeout;
+  rtt_max = as_nanos o.rtt_max; rto_initial = as_nanos o.rto_initial; rto_max = as_nanos o.rto_max;
+  rto_min = as_nanos o.rto_min; t1_init_timeout = as_nanos o.t1_init_timeout;
+  t1_cookie_timeout = as_nanos o.t1_cookie_timeout; t2_shutdown_timeout = as_nanos o.t2_shutdown_timeout;
   max_timer_backoff_duration = option_map as_nanos o.max_timer_backoff_duration;
-  heartbeat_interval = as_nanos o.heartbeat_interval;
-  delayed_ack_max_timeout = as_nanos o.delayed_ack_max_timeout;
-  min_rtt_variance = as_nanos o.min_rtt_variance;
-  cwnd_mtus_initial = o.cwnd_mtus_initial;
-  cwnd_mtus_min = o.cwnd_mtus_min;
-  avoid_fragmentation_cwnd_mtus = o.avoid_fragmentation_cwnd_mtus;
-  immediate_sack_under_cwnd_mtus = o.immediate_sack_under_cwnd_mtus;
-  max_burst = at_least_zero o.max_burst;
-  max_retransmissions = o.max_retransmissions;
-  max_init_retransmits = o.max_init_retransmits;
+  heartbeat_interval = as_nanos o.heartbeat_interval; delayed_ack_max_timeout = as_nanos o.delayed_ack_max_timeout;
+  min_rtt_variance = as_nanos o.min_rtt_variance; cwnd_mtus_initial = o.cwnd_mtus_initial;
+  cwnd_mtus_min = o.cwnd_mtus_min; avoid_fragmentation_cwnd_mtus = o.avoid_fragmentation_cwnd_mtus;
+  immediate_sack_under_cwnd_mtus = o.immediate_sack_under_cwnd_mtus; max_burst = at_least_zero o.max_burst;
+  max_retransmissions = o.max_retransmissions; max_init_retransmits = o.max_init_retransmits;
   enable_partial_reliability = o.enable_partial_reliability;
   enable_message_interleaving = o.enable_message_interleaving;
   heartbeat_interval_include_rtt = o.heartbeat_interval_include_rtt;
   zero_checksum_method = o.zero_checksum_alternate_error_detection_method.0;
   disable_checksum_verification = o.disable_checksum_verification;
-  enable_handover_with_outstanding_data = o.enable_handover_with_outstanding_data;
-}
+  enable_handover_with_outstanding_data = o.enable_handover_with_outstanding_data }
 
 abbrev pub defaults : Options
 defaults = record {
-  local_port = 5000;
-  remote_port = 5000;
-  announced_maximum_incoming_streams = 65535;
-  announced_maximum_outgoing_streams = 65535;
-  mtu = 1191;
-  max_message_size = 262144;
-  default_stream_priority = 256;
-  max_receiver_window_buffer_size = 5242880;
-  max_send_buffer_size = 2000000;
-  per_stream_send_queue_limit = 2000000;
-  total_buffered_amount_low_threshold = 1800000;
-  default_stream_buffered_amount_low_threshold = 0;
-  rtt_max = 60000 * ms;
-  rto_initial = 500 * ms;
-  rto_max = 60000 * ms;
-  rto_min = 400 * ms;
-  t1_init_timeout = 1000 * ms;
-  t1_cookie_timeout = 1000 * ms;
-  t2_shutdown_timeout = 1000 * ms;
-  max_timer_backoff_duration = None;
-  heartbeat_interval = 30000 * ms;
-  delayed_ack_max_timeout = 200 * ms;
-  min_rtt_variance = 220 * ms;
-  cwnd_mtus_initial = 10;
-  cwnd_mtus_min = 4;
-  avoid_fragmentation_cwnd_mtus = 6;
-  immediate_sack_under_cwnd_mtus = 10;
-  max_burst = 4;
-  max_retransmissions = Some 10;
-  max_init_retransmits = Some 8;
-  enable_partial_reliability = true;
-  enable_message_interleaving = false;
-  heartbeat_interval_include_rtt = true;
-  zero_checksum_method = 0;
-  disable_checksum_verification = false;
-  enable_handover_with_outstanding_data = false;
-}
+  local_port = 5000; remote_port = 5000;
+  announced_maximum_incoming_streams = 65535; announced_maximum_outgoing_streams = 65535;
+  mtu = 1191; max_message_size = 262144; default_stream_priority = 256;
+  max_receiver_window_buffer_size = 5242880; max_send_buffer_size = 2000000; per_stream_send_queue_limit = 2000000;
+  total_buffered_amount_low_threshold = 1800000; default_stream_buffered_amount_low_threshold = 0;
+  rtt_max = 60000 * ms; rto_initial = 500 * ms; rto_max = 60000 * ms; rto_min = 400 * ms;
+  t1_init_timeout = 1000 * ms; t1_cookie_timeout = 1000 * ms; t2_shutdown_timeout = 1000 * ms;
+  max_timer_backoff_duration = None; heartbeat_interval = 30000 * ms; delayed_ack_max_timeout = 200 * ms;
+  min_rtt_variance = 220 * ms; cwnd_mtus_initial = 10; cwnd_mtus_min = 4; avoid_fragmentation_cwnd_mtus = 6;
+  immediate_sack_under_cwnd_mtus = 10; max_burst = 4; max_retransmissions = Some 10; max_init_retransmits = Some 8;
+  enable_partial_reliability = true; enable_message_interleaving = false; heartbeat_interval_include_rtt = true;
+  zero_checksum_method = 0; disable_checksum_verification = false; enable_handover_with_outstanding_data = false }
 
 -- ---- which options a socket can be made with
 

@@ -16,15 +16,8 @@ pub record Rtt : Type 0 where
 
 abbrev pub unsampled : Options → Rtt
 unsampled o = record {
-  rtt_max = o.rtt_max;
-  rto_initial = o.rto_initial;
-  rto_max = o.rto_max;
-  rto_min = o.rto_min;
-  min_rtt_variance = o.min_rtt_variance;
-  is_sampled = false;
-  s8 = 0;
-  v4 = 0;
-}
+  rtt_max = o.rtt_max; rto_initial = o.rto_initial; rto_max = o.rto_max; rto_min = o.rto_min;
+  min_rtt_variance = o.min_rtt_variance; is_sampled = false; s8 = 0; v4 = 0 }
 
 abbrev pub srtt : Rtt → ℕ
 srtt r = if r.is_sampled then r.s8 / 8 else r.rto_initial

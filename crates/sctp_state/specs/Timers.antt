@@ -8,21 +8,15 @@ use Rattle.sctp_state.specs.declared.timer.BackoffAlgorithm.TheVariants.{Fixed, 
 pub record Timer : Type 0 where
   pub duration : ℕ
   pub backoff : BackoffAlgorithm
-  pub restarts : Option ℕ  -- how often it goes on after an expiry
-  pub most : Option ℕ  -- the longest wait after an expiry
-  pub due : Option ℕ  -- the next expiry, of a timer that runs
-  pub expiries : ℕ  -- since the start
+  pub restarts : Option ℕ       -- how often it goes on after an expiry
+  pub most : Option ℕ           -- the longest wait after an expiry
+  pub due : Option ℕ            -- the next expiry, of a timer that runs
+  pub expiries : ℕ              -- since the start
 
 -- a stopped timer
 abbrev pub timer : ℕ → BackoffAlgorithm → Option ℕ → Option ℕ → Timer
 timer duration backoff restarts most = record {
-  duration = duration;
-  backoff = backoff;
-  restarts = restarts;
-  most = most;
-  due = None;
-  expiries = 0;
-}
+  duration = duration; backoff = backoff; restarts = restarts; most = most; due = None; expiries = 0 }
 
 abbrev pub start : ℕ → Timer → Timer
 start now t = record t { expiries = 0; due = if t.duration == 0 then None else Some (later now t.duration) }

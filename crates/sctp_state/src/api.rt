@@ -5,11 +5,11 @@ pub mod handover;
 mod options;
 
 pub use errors::{
-    BatchFault, BatchSendError, CallError, HandoverError, ResetStreamsError, RestoreError,
-    SendError,
+    BatchFault, BatchSendError, CallError, HandoverError, ResetStreamsError, RestoreError, SendError,
 };
 pub use handover::{HandoverReadiness, SocketHandoverState};
 pub use options::{Options, SendOptions};
+
 use sctp_serial::{LifecycleId, OutgoingMessageId, StreamId};
 use std::time::Duration;
 

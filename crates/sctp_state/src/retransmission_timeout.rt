@@ -66,16 +66,13 @@ impl RetransmissionTimeout {
         if self.is_sampled {
             let srtt = self.scaled_srtt / 8;
             self.scaled_srtt = self.scaled_srtt - srtt + sample;
-            self.scaled_variance = self.scaled_variance - self.scaled_variance / 4
-                + sample.abs_diff(srtt);
+            self.scaled_variance = self.scaled_variance - self.scaled_variance / 4 + sample.abs_diff(srtt);
         } else {
             self.is_sampled = true;
             self.scaled_srtt = 8 * sample;
             self.scaled_variance = 2 * sample;
         }
-        self.scaled_variance = self
-            .scaled_variance
-            .max(self.min_rtt_variance.as_nanos() / 2);
+        self.scaled_variance = self.scaled_variance.max(self.min_rtt_variance.as_nanos() / 2);
     }
 
     /// How long to wait: the smoothed round trip time and four times its variance, held between `rto_min` and
@@ -87,9 +84,7 @@ impl RetransmissionTimeout {
             return self.rto_initial;
         }
         let nanos = self.scaled_srtt / 8 + self.scaled_variance;
-        let nanos = nanos
-            .max(self.rto_min.as_nanos())
-            .min(self.rto_max.as_nanos());
+        let nanos = nanos.max(self.rto_min.as_nanos()).min(self.rto_max.as_nanos());
         Duration::from_nanos_u128(nanos)
     }
 

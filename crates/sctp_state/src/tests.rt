@@ -9,12 +9,7 @@ fn at(millis: u64) -> SocketTime {
 // A timer of one second that doubles, asked late.
 #[test]
 fn timer_doubles_and_counts_from_the_old_expiry(rt: HostRuntime) {
-    let mut timer = Timer::new(
-        Duration::from_secs(1),
-        BackoffAlgorithm::Exponential,
-        None,
-        None,
-    );
+    let mut timer = Timer::new(Duration::from_secs(1), BackoffAlgorithm::Exponential, None, None);
     timer.start(at(0));
     assert!(rt; !timer.expire(at(999)));
     assert!(rt; timer.expire(at(1050)));
@@ -45,10 +40,7 @@ fn timeout_follows_the_samples(rt: HostRuntime) {
 #[test]
 fn readiness_prints_its_reasons(rt: HostRuntime) -> Result<(), std::test::Fail> {
     let text = format!(in rt.alloc(); "{} {}", HandoverReadiness(66), HandoverReadiness::READY)?;
-    assert_eq!(rt;
-        text.as_str(),
-        "send_queue_not_empty,stream_reset_deferred "
-    );
+    assert_eq!(rt; text.as_str(), "send_queue_not_empty,stream_reset_deferred ");
     let text = format!(in rt.alloc(); "{:?}", HandoverReadiness(4095))?;
     let want = "wrong_connection_state,send_queue_not_empty,pending_stream_reset_request,\
         data_tracker_tsn_blocks_pending,pending_stream_reset,stream_reset_deferred,stream_has_unassembled_chunks,\

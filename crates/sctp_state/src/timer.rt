@@ -71,11 +71,7 @@ impl Timer {
         ensures { self.new ≡ start now self.old }
     {
         self.expiry_count = 0;
-        self.next_expiry = if self.duration.is_zero() {
-            None
-        } else {
-            Some(now + self.duration)
-        };
+        self.next_expiry = if self.duration.is_zero() { None } else { Some(now + self.duration) };
     }
 
     pub fn stop(&mut self)

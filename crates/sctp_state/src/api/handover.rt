@@ -8,6 +8,7 @@ mod readiness;
 mod validity;
 
 pub use readiness::HandoverReadiness;
+
 use std::alloc::Global;
 
 /// Which of the two states a socket can be handed over in.

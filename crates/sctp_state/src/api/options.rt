@@ -5,8 +5,7 @@ ghost use Rattle.std.specs.Duration.{as_nanos};
 ghost use Rattle.sctp_state.specs.Options.{options_of, defaults, IsValid, HasValidSizes, HasValidTimes, HasValidWindows};
 
 use sctp_serial::{
-    LifecycleId, ZERO_CHECKSUM_ALTERNATE_ERROR_DETECTION_METHOD_NONE,
-    ZeroChecksumAlternateErrorDetectionMethod,
+    LifecycleId, ZERO_CHECKSUM_ALTERNATE_ERROR_DETECTION_METHOD_NONE, ZeroChecksumAlternateErrorDetectionMethod,
 };
 use std::time::Duration;
 

@@ -80,44 +80,14 @@ impl fmt::Display for HandoverReadiness {
         let r = *self;
         let first = r.write_reason(f, true, HandoverReadiness(1), "wrong_connection_state")?;
         let first = r.write_reason(f, first, HandoverReadiness(2), "send_queue_not_empty")?;
-        let first = r.write_reason(
-            f,
-            first,
-            HandoverReadiness(4),
-            "pending_stream_reset_request",
-        )?;
-        let first = r.write_reason(
-            f,
-            first,
-            HandoverReadiness(8),
-            "data_tracker_tsn_blocks_pending",
-        )?;
+        let first = r.write_reason(f, first, HandoverReadiness(4), "pending_stream_reset_request")?;
+        let first = r.write_reason(f, first, HandoverReadiness(8), "data_tracker_tsn_blocks_pending")?;
         let first = r.write_reason(f, first, HandoverReadiness(16), "pending_stream_reset")?;
         let first = r.write_reason(f, first, HandoverReadiness(64), "stream_reset_deferred")?;
-        let first = r.write_reason(
-            f,
-            first,
-            HandoverReadiness(128),
-            "stream_has_unassembled_chunks",
-        )?;
-        let first = r.write_reason(
-            f,
-            first,
-            HandoverReadiness(512),
-            "retransmission_queue_outstanding_data",
-        )?;
-        let first = r.write_reason(
-            f,
-            first,
-            HandoverReadiness(1024),
-            "retransmission_queue_fast_recovery",
-        )?;
-        r.write_reason(
-            f,
-            first,
-            HandoverReadiness(2048),
-            "retransmission_queue_not_empty",
-        )?;
+        let first = r.write_reason(f, first, HandoverReadiness(128), "stream_has_unassembled_chunks")?;
+        let first = r.write_reason(f, first, HandoverReadiness(512), "retransmission_queue_outstanding_data")?;
+        let first = r.write_reason(f, first, HandoverReadiness(1024), "retransmission_queue_fast_recovery")?;
+        r.write_reason(f, first, HandoverReadiness(2048), "retransmission_queue_not_empty")?;
         Ok(())
     }
 }
@@ -147,10 +117,6 @@ impl BitAnd<bool> for HandoverReadiness {
     ghost bitand_gives = { λ a holds r. r.0 ≡ (if holds then a.0 else 0) };
 
     fn bitand(self, holds: bool) -> HandoverReadiness {
-        if holds {
-            self
-        } else {
-            HandoverReadiness::READY
-        }
+        if holds { self } else { HandoverReadiness::READY }
     }
 }

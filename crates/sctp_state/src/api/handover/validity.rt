@@ -5,9 +5,8 @@ ghost use Rattle.sctp_state.specs.Handover.{stream_message_of, outstanding_data_
 ghost use Rattle.sctp_state.specs.Validity.{rises_from, outgoing_ids, ordered_ids, unordered_ids, has_small_numbers, is_valid_reception, has_stream, is_valid_message, are_valid_messages, has_message_id, message_ids_differ, has_partly_sent, first_alone_is_partly_sent, partly_sent_count, has_valid_queue, is_in_one_state, are_in_one_state, has_valid_items, queued_bytes, outstanding_bytes, payload_fits, is_valid_transmission, is_valid_connection, is_valid_state};
 
 use crate::api::handover::{
-    HandoverOrderedStream, HandoverOutgoingStream, HandoverOutstandingData, HandoverReceive,
-    HandoverSocketState, HandoverStreamMessage, HandoverTransmission, HandoverUnorderedStream,
-    SocketHandoverState,
+    HandoverOrderedStream, HandoverOutgoingStream, HandoverOutstandingData, HandoverReceive, HandoverSocketState,
+    HandoverStreamMessage, HandoverTransmission, HandoverUnorderedStream, SocketHandoverState,
 };
 
 impl SocketHandoverState {
@@ -57,11 +56,7 @@ impl HandoverTransmission {
         ensures { result ≡ has_valid_queue interleaving (transmission_of self.now) }
     {
         self.next_outgoing_message_id <= 1 << 32
-            && are_valid_messages(
-                &self.queued_messages,
-                &self.streams,
-                self.next_outgoing_message_id,
-            )
+            && are_valid_messages(&self.queued_messages, &self.streams, self.next_outgoing_message_id)
             && message_ids_differ(&self.queued_messages)
             && first_alone_is_partly_sent(&self.queued_messages)
             && (interleaving || partly_sent_count(&self.queued_messages) <= 1)
@@ -140,11 +135,7 @@ fn has_stream(streams: &[HandoverOutgoingStream], id: u16) -> bool
     streams.iter().any(|stream| stream.id == id)
 }
 
-fn is_valid_message(
-    message: &HandoverStreamMessage,
-    streams: &[HandoverOutgoingStream],
-    next: u64,
-) -> bool
+fn is_valid_message(message: &HandoverStreamMessage, streams: &[HandoverOutgoingStream], next: u64) -> bool
     ensures { result ≡ is_valid_message streams.now next (stream_message_of message.now) }
 {
     message.remaining_offset < message.payload.len()
@@ -152,11 +143,7 @@ fn is_valid_message(
         && message.message_id < next
 }
 
-fn are_valid_messages(
-    messages: &[HandoverStreamMessage],
-    streams: &[HandoverOutgoingStream],
-    next: u64,
-) -> bool
+fn are_valid_messages(messages: &[HandoverStreamMessage], streams: &[HandoverOutgoingStream], next: u64) -> bool
     ensures { result ≡ are_valid_messages streams.now next (map stream_message_of messages.now) }
 {
     'messages: for message in messages {
