@@ -1,8 +1,8 @@
 use super::*;
-use sctp_packet::Data;
 use sctp_serial::{LifecycleId, Message, OutgoingMessageId, PpId, SocketTime, StreamId};
-use sctp_state::{Events, GivenUp, GivenUpCause, Options, SendOptions, SocketEvent};
+use sctp_state::{Events, GivenUpCause, Options, SendOptions, SocketEvent};
 use std::alloc::{AllocError, Global};
+use std::process::Abort;
 use std::test::Fail;
 use std::time::Duration;
 
@@ -10,8 +10,19 @@ fn at(millis: u64) -> SocketTime {
     SocketTime::zero() + Duration::from_millis(millis)
 }
 
-fn message(alloc: Global, stream: u16, text: &[u8]) -> Result<Message, AllocError> {
-    Ok(Message::new(StreamId(stream), PpId(53), Vec::from_slice(alloc, text)?))
+fn accept(
+    rt: &impl Abort,
+    alloc: Global,
+    queue: &mut SendQueue,
+    stream: u16,
+    text: &[u8],
+    options: &SendOptions,
+) -> Result<OutgoingMessageId, AllocError> {
+    let payload = Vec::from_slice(alloc, text)?;
+    assert!(rt; !payload.is_empty());
+    assert!(rt; payload.len() < 1000);
+    assert!(rt; queue.total_buffered_amount() < 1000);
+    queue.add(at(0), Message::new(StreamId(stream), PpId(53), payload), options)
 }
 
 // Each stream's turn costs 1: those that wait are served by ascending id, and then the first again.
@@ -21,10 +32,10 @@ fn streams_take_turns_by_message(rt: HostRuntime) -> Result<(), Fail> {
     let mut queue = SendQueue::new(alloc, &Options::default());
     let mut events = Events::new(alloc);
     let plain = SendOptions::default();
-    queue.add(at(0), message(alloc, 3, b"c")?, &plain)?;
-    queue.add(at(0), message(alloc, 1, b"first")?, &plain)?;
-    queue.add(at(0), message(alloc, 1, b"again")?, &plain)?;
-    queue.add(at(0), message(alloc, 2, b"b")?, &plain)?;
+    accept(&rt, alloc, &mut queue, 3, b"c", &plain)?;
+    accept(&rt, alloc, &mut queue, 1, b"first", &plain)?;
+    accept(&rt, alloc, &mut queue, 1, b"again", &plain)?;
+    accept(&rt, alloc, &mut queue, 2, b"b", &plain)?;
     let order: [(u16, u16, bool, bool); 6] = [
         (1, 0, true, false),
         (1, 0, false, true),
@@ -59,7 +70,7 @@ fn interleaved_streams_take_turns_by_priority(rt: HostRuntime) -> Result<(), Fai
     queue.set_priority(StreamId(2), 2)?;
     let text = [7; 100];
     for id in [1, 2, 1, 2, 1, 2] {
-        queue.add(at(0), message(alloc, id, &text)?, &plain)?;
+        accept(&rt, alloc, &mut queue, id, &text, &plain)?;
     }
     let order: [(u16, u32); 6] = [(2, 0), (1, 0), (2, 1), (2, 2), (1, 1), (1, 2)];
     for (id, mid) in order {
@@ -78,8 +89,8 @@ fn fragments_of_messages_are_interleaved(rt: HostRuntime) -> Result<(), Fail> {
     let mut events = Events::new(alloc);
     let plain = SendOptions::default();
     queue.enable_message_interleaving(true);
-    queue.add(at(0), message(alloc, 1, b"abcdef")?, &plain)?;
-    queue.add(at(0), message(alloc, 2, b"xyz")?, &plain)?;
+    accept(&rt, alloc, &mut queue, 1, b"abcdef", &plain)?;
+    accept(&rt, alloc, &mut queue, 2, b"xyz", &plain)?;
     let order: [(u16, u32, &[u8]); 3] = [(2, 0, b"xyz"), (1, 0, b"abcd"), (1, 1, b"ef")];
     for (id, fsn, text) in order {
         let made = queue.produce(at(0), 4, &mut events)?.ok_or("none")?;
@@ -107,7 +118,7 @@ fn thresholds_are_crossed_downwards_and_raised(rt: HostRuntime) -> Result<(), Fa
     let id = StreamId(1);
     queue.set_buffered_amount_low_threshold(id, 3, &mut events)?;
     assert_eq!(rt; queue.buffered_amount_low_threshold(id), 3);
-    queue.add(at(0), message(alloc, 1, b"abcdef")?, &named)?;
+    accept(&rt, alloc, &mut queue, 1, b"abcdef", &named)?;
     queue.produce(at(0), 2, &mut events)?;
     assert!(rt; events.next_event().is_none());
     assert_eq!(rt; queue.buffered_amount(id), 4);
@@ -132,7 +143,7 @@ fn thresholds_are_crossed_downwards_and_raised(rt: HostRuntime) -> Result<(), Fa
         )
     );
     assert!(rt; events.next_event().is_none());
-    queue.add(at(0), message(alloc, 2, b"abcdef")?, &named)?;
+    accept(&rt, alloc, &mut queue, 2, b"abcdef", &named)?;
     queue.set_buffered_amount_low_threshold(StreamId(2), 5, &mut events)?;
     assert!(rt; events.next_event().is_none());
     queue.set_buffered_amount_low_threshold(StreamId(2), 6, &mut events)?;
@@ -159,11 +170,11 @@ fn expired_messages_are_given_up(rt: HostRuntime) -> Result<(), Fail> {
         lifecycle_id: LifecycleId::new(4),
     };
     assert_eq!(rt;
-        queue.add(at(0), message(alloc, 1, b"begun")?, &short)?,
+        accept(&rt, alloc, &mut queue, 1, b"begun", &short)?,
         OutgoingMessageId(0)
     );
     assert_eq!(rt;
-        queue.add(at(0), message(alloc, 1, b"late")?, &short)?,
+        accept(&rt, alloc, &mut queue, 1, b"late", &short)?,
         OutgoingMessageId(1)
     );
     let made = queue.produce(at(1000), 3, &mut events)?.ok_or("none")?;
@@ -200,8 +211,8 @@ fn the_rest_of_a_message_is_discarded(rt: HostRuntime) -> Result<(), Fail> {
     let mut queue = SendQueue::new(alloc, &Options::default());
     let mut events = Events::new(alloc);
     let plain = SendOptions::default();
-    queue.add(at(0), message(alloc, 5, b"partly")?, &plain)?;
-    queue.add(at(0), message(alloc, 1, b"x")?, &plain)?;
+    accept(&rt, alloc, &mut queue, 5, b"partly", &plain)?;
+    accept(&rt, alloc, &mut queue, 1, b"x", &plain)?;
     queue.discard(StreamId(1), OutgoingMessageId(7), &mut events)?;
     assert_eq!(rt; queue.buffered_amount(StreamId(1)), 1);
     let made = queue.produce(at(0), 1, &mut events)?.ok_or("none")?;
@@ -230,8 +241,8 @@ fn a_stream_is_reset(rt: HostRuntime) -> Result<(), Fail> {
         lifecycle_id: LifecycleId::new(8),
     };
     let id = StreamId(1);
-    queue.add(at(0), message(alloc, 1, b"partly")?, &plain)?;
-    queue.add(at(0), message(alloc, 1, b"waits")?, &named)?;
+    accept(&rt, alloc, &mut queue, 1, b"partly", &plain)?;
+    accept(&rt, alloc, &mut queue, 1, b"waits", &named)?;
     queue.produce(at(0), 3, &mut events)?;
     queue.prepare_reset_stream(id, &mut events)?;
     assert!(rt;
@@ -244,7 +255,7 @@ fn a_stream_is_reset(rt: HostRuntime) -> Result<(), Fail> {
     assert!(rt; events.next_given_up().is_none());
     assert_eq!(rt; queue.buffered_amount(id), 3);
     assert!(rt; !queue.has_streams_ready_to_be_reset());
-    queue.add(at(0), message(alloc, 1, b"later")?, &plain)?;
+    accept(&rt, alloc, &mut queue, 1, b"later", &plain)?;
     let end = queue.produce(at(0), 9, &mut events)?.ok_or("no end")?;
     assert!(rt; end.data.is_end);
     assert!(rt; queue.has_streams_ready_to_be_reset());
