@@ -1,0 +1,4 @@
+pub mod ProduceLemmas
+pub mod ResetLemmas
+pub mod StreamLemmas
+pub mod StreamsLemmas

@@ -1,0 +1,5 @@
+pub mod Produced
+pub mod Queue
+pub mod Resets
+pub mod Settings
+pub mod Views

@@ -1,0 +1,389 @@
+//! Messages that wait to be sent.
+
+ghost use Rattle.std.specs.Prelude.{◌≡◌, ℕ, Bool, ◌+◌, ◌-◌, ◌<◌, ◌≤◌, ◌^◌, ◌==◌, [], length, not, is_some, None, Some, IfOk, IfSome, OnOk, OnErr, option_map, map};
+ghost use Rattle.std.specs.List.{list_any};
+ghost use Rattle.std.specs.Map.{values_of};
+ghost use Rattle.sctp_state.specs.Options.{options_of};
+ghost use Rattle.sctp_state.specs.Scheduler.{accept, set_bytes_remaining};
+ghost use Rattle.sctp_tx.specs.Queue.{amount_of, total_of, stream, sendable, hears, queue, added, is_empty};
+ghost use Rattle.sctp_tx.specs.Produced.{in_line, begun_by, turn, produce, next_stream};
+ghost use Rattle.sctp_tx.specs.Settings.{set_low_threshold, set_priority, set_mode, discard, begun_without};
+ghost use Rattle.sctp_tx.specs.Resets.{prepare_reset, is_ready, requested, request_resets, commit_resets, roll_back_resets, stepped, each_stepped};
+ghost use Rattle.sctp_tx.specs.Views.{produced_of, queued_of};
+
+pub mod message;
+pub mod stream;
+pub mod streams;
+mod telling;
+
+use crate::data_to_send::DataToSend;
+use message::QueuedMessage;
+use sctp_serial::{Message, OutgoingMessageId, SocketTime, StreamId};
+use sctp_state::{Events, Options, SendOptions, SocketEvent, StreamScheduler};
+use std::alloc::{AllocError, Global};
+use std::marker::Model;
+use stream::ResetStep;
+use streams::Streams;
+use telling::{tell_expired, tell_if};
+
+/// The messages of all streams that wait or are partly sent, and which of them goes next.
+#[derive(Drop)]
+pub struct SendQueue {
+    alloc: Global,
+    streams: Streams,
+    scheduler: StreamScheduler,
+    next_message_id: OutgoingMessageId,
+    // without interleaving, the stream whose message is partly sent
+    begun: Option<StreamId>,
+}
+
+impl Model for SendQueue {
+    ghost use Rattle.std.specs.Prelude.{option_map};
+    ghost use Rattle.sctp_tx.specs.Queue.{Queue};
+
+    ghost Value = { Queue };
+
+    ghost view = { λ q. record { streams = q.streams; scheduler = q.scheduler; next_number = q.next_message_id.0; begun = option_map (λ id. id.0) q.begun } };
+}
+
+// What a stream has to send next.
+#[derive(Clone, Copy)]
+struct Next {
+    bytes: usize,
+    priority: u16,
+}
+
+fn next_of(streams: &Streams, id: StreamId) -> Next
+    ensures bytes { result.bytes ≡ sendable (stream id.0 streams.now) }
+    ensures priority { result.priority ≡ (stream id.0 streams.now).priority }
+{
+    Next {
+        bytes: streams.sendable(id),
+        priority: streams.priority(id),
+    }
+}
+
+fn accept(scheduler: &mut StreamScheduler, id: StreamId)
+    ensures { scheduler.new ≡ accept id.0 scheduler.old }
+{
+    if scheduler.is_active(id) {
+        scheduler.accept(id);
+    }
+}
+
+// The stream sent a fragment, or had none, and goes in line for its next one.
+fn put_in_line(
+    scheduler: &mut StreamScheduler,
+    id: StreamId,
+    next: Next,
+    made: &Option<DataToSend>,
+) -> Result<(), AllocError>
+    ensures { OnOk result (scheduler.new ≡ in_line id.0 next.bytes next.priority (option_map produced_of made.now) scheduler.old) }
+{
+    match made {
+        Some(_) => {
+            accept(scheduler, id);
+            scheduler.set_bytes_remaining(id, next.bytes, next.priority)
+        }
+        None => scheduler.set_bytes_remaining(id, 0, 0),
+    }
+}
+
+fn begun_by(id: StreamId, is_interleaved: bool, made: &Option<DataToSend>) -> Option<StreamId>
+    ensures { option_map (λ id. id.0) result ≡ begun_by id.0 is_interleaved (option_map produced_of made.now) }
+{
+    match made {
+        Some(made) if !made.data.is_end && !is_interleaved => Some(id),
+        _ => None,
+    }
+}
+
+impl SendQueue {
+    /// An empty queue without interleaving.
+    pub fn new(alloc: Global, options: &Options) -> SendQueue
+        ensures { result ≡ queue (options_of options.now) }
+    {
+        SendQueue {
+            alloc,
+            streams: Streams::new(alloc, options),
+            scheduler: StreamScheduler::new(alloc, options.mtu.saturating_sub(32)),
+            next_message_id: OutgoingMessageId(0),
+            begun: None,
+        }
+    }
+
+    /// The bytes of a stream that are not sent.
+    pub fn buffered_amount(&self, id: StreamId) -> usize
+        ensures { result ≡ amount_of (stream id.0 self.now.streams) }
+    {
+        self.streams.amount(id)
+    }
+
+    /// The bytes of all streams that are not sent.
+    pub fn total_buffered_amount(&self) -> usize
+        ensures { result ≡ total_of self.now.streams.entries }
+    {
+        self.streams.total()
+    }
+
+    /// Whether no message waits or is partly sent.
+    pub fn is_empty(&self) -> bool
+        ensures { result ≡ is_empty self.now }
+    {
+        self.streams.is_empty()
+    }
+
+    /// Accepts a message, and answers its number.
+    pub fn add(
+        &mut self,
+        now: SocketTime,
+        message: Message,
+        options: &SendOptions,
+    ) -> Result<OutgoingMessageId, AllocError>
+        requires some { 0 < length message.payload.items }
+        requires small { length message.payload.items < 2 ^ 32 }
+        requires room { total_of self.old.streams.entries + length message.payload.items < 2 ^ 64 }
+        ensures ok { OnOk result (self.new ≡ added message.stream_id.0 (queued_of self.old.next_number now message options.now) self.old) }
+        ensures number { IfOk result (λ id. id.0 ≡ self.old.next_number) }
+    {
+        let id = message.stream_id;
+        let message_id = self.next_message_id;
+        let message = QueuedMessage::new(message_id, now, message, options);
+        self.streams.open(self.alloc, id)?;
+        self.streams.push(id, message)?;
+        let next = next_of(&self.streams, id);
+        self.scheduler
+            .set_bytes_remaining(id, next.bytes, next.priority)?;
+        self.next_message_id += 1;
+        Ok(message_id)
+    }
+
+    // The stream that is next: one whose message was begun, unless messages are interleaved.
+    fn next_stream(&self) -> Option<StreamId>
+        ensures { option_map (λ id. id.0) result ≡ next_stream self.now }
+    {
+        if self.begun.is_some() {
+            return self.begun;
+        }
+        self.scheduler.peek()
+    }
+
+    // Asks one stream for a fragment.
+    fn turn(
+        &mut self,
+        now: SocketTime,
+        id: StreamId,
+        size: usize,
+        events: &mut Events,
+    ) -> Result<Option<DataToSend>, AllocError>
+        requires { 0 < size }
+        ensures queue { OnOk result (self.new ≡ (turn now id.0 size self.old events.old).queue) }
+        ensures told { OnOk result (events.new ≡ (turn now id.0 size self.old events.old).told) }
+        ensures made { IfOk result (λ found. option_map produced_of found ≡ (turn now id.0 size self.old events.old).made) }
+    {
+        self.streams.drop_stale(id, now, events)?;
+        let made = self.streams.cut(self.alloc, id, size, events)?;
+        let next = next_of(&self.streams, id);
+        put_in_line(&mut self.scheduler, id, next, &made)?;
+        self.begun = begun_by(id, self.scheduler.is_interleaved(), &made);
+        Ok(made)
+    }
+
+    // Asks streams until one gives a fragment, or none is left.
+    fn ask(
+        &mut self,
+        now: SocketTime,
+        size: usize,
+        events: &mut Events,
+    ) -> Result<Option<DataToSend>, AllocError>
+        requires { 0 < size }
+        ensures queue { OnOk result (self.new ≡ (produce now size self.old events.old).queue) }
+        ensures told { OnOk result (events.new ≡ (produce now size self.old events.old).told) }
+        ensures made { IfOk result (λ found. option_map produced_of found ≡ (produce now size self.old events.old).made) }
+    {
+        let mut turns = self.scheduler.active_count() + 2;
+        while turns > 0 {
+            let Some(id) = self.next_stream() else {
+                return Ok(None);
+            };
+            let made = self.turn(now, id, size, events)?;
+            if let Some(made) = made {
+                return Ok(Some(made));
+            }
+            turns -= 1;
+        }
+        Ok(None)
+    }
+
+    /// The next fragment, with a payload of at most `max_payload` bytes, in the scheduler's order. Messages that expired
+    /// before they were begun are dropped on the way: each is given up, and ends its lifecycle. Then events tell what
+    /// amounts fell to their thresholds, and that the message was handed out whole. `None` says that no stream has
+    /// anything to send.
+    pub fn produce(
+        &mut self,
+        now: SocketTime,
+        max_payload: usize,
+        events: &mut Events,
+    ) -> Result<Option<DataToSend>, AllocError>
+        requires { 0 < max_payload }
+        ensures queue { OnOk result (self.new ≡ (produce now max_payload self.old events.old).queue) }
+        ensures told { OnOk result (events.new ≡ (produce now max_payload self.old events.old).told) }
+        ensures made { IfOk result (λ found. option_map produced_of found ≡ (produce now max_payload self.old events.old).made) }
+        ensures idle { IfOk result (λ found. found ≡ None → self.new.scheduler.times ≡ []) }
+    {
+        let made = self.ask(now, max_payload, events)?;
+        Ok(made)
+    }
+
+    /// Whether a stream has anything to send.
+    pub fn has_data_to_send(&self) -> bool
+        ensures { result ≡ not (length self.now.scheduler.times == 0) }
+    {
+        self.scheduler.active_count() > 0
+    }
+
+    /// The amount at which a stream is low.
+    pub fn buffered_amount_low_threshold(&self, id: StreamId) -> usize
+        ensures { result ≡ (stream id.0 self.now.streams).threshold }
+    {
+        self.streams.low_threshold(id)
+    }
+
+    /// Sets the amount at which a stream is low. Where its amount was above the old one and is at most the new one, an
+    /// event says so.
+    pub fn set_buffered_amount_low_threshold(
+        &mut self,
+        id: StreamId,
+        bytes: usize,
+        events: &mut Events,
+    ) -> Result<(), AllocError>
+        ensures queue { OnOk result (self.new ≡ (set_low_threshold id.0 bytes self.old events.old).queue) }
+        ensures told { OnOk result (events.new ≡ (set_low_threshold id.0 bytes self.old events.old).told) }
+    {
+        self.streams.open(self.alloc, id)?;
+        let is_low = self.streams.set_low_threshold(id, bytes);
+        tell_if(events, is_low, SocketEvent::OnBufferedAmountLow(id))
+    }
+
+    /// The priority of a stream, by which it is weighed with interleaving.
+    pub fn get_priority(&self, id: StreamId) -> u16
+        ensures { result ≡ (stream id.0 self.now.streams).priority }
+    {
+        self.streams.priority(id)
+    }
+
+    /// Sets the priority of a stream, for its later fragments.
+    pub fn set_priority(&mut self, id: StreamId, priority: u16) -> Result<(), AllocError>
+        ensures { OnOk result (self.new ≡ set_priority id.0 priority self.old) }
+    {
+        self.streams.open(self.alloc, id)?;
+        self.streams.set_priority(id, priority);
+        Ok(())
+    }
+
+    /// Sets whether messages are interleaved (RFC 8260). To be called before the first fragment of an association.
+    pub fn enable_message_interleaving(&mut self, is_interleaved: bool)
+        ensures { self.new ≡ set_mode is_interleaved self.old }
+    {
+        self.scheduler.enable_message_interleaving(is_interleaved);
+    }
+
+    /// Drops what is left of a message that was given up, where it is the first of its stream, as a partly sent message
+    /// is. Its lifecycle ends.
+    pub fn discard(
+        &mut self,
+        id: StreamId,
+        message_id: OutgoingMessageId,
+        events: &mut Events,
+    ) -> Result<(), AllocError>
+        ensures queue { OnOk result (self.new ≡ (discard id.0 message_id.0 self.old events.old).queue) }
+        ensures told { OnOk result (events.new ≡ (discard id.0 message_id.0 self.old events.old).told) }
+    {
+        let Some(discarded) = self.streams.discard(id, message_id) else {
+            return Ok(());
+        };
+        let next = next_of(&self.streams, id);
+        self.scheduler
+            .set_bytes_remaining(id, next.bytes, next.priority)?;
+        self.begun = begun_without(id, self.begun);
+        tell_expired(events, discarded.lifecycle_id)
+    }
+
+    /// Prepares the reset of a stream: its messages of which nothing is sent are dropped, with the end of their
+    /// lifecycles. The stream can be reset once its partly sent message has ended, and sends no other one until the
+    /// reset is answered.
+    pub fn prepare_reset_stream(
+        &mut self,
+        id: StreamId,
+        events: &mut Events,
+    ) -> Result<(), AllocError>
+        ensures queue { OnOk result (self.new ≡ (prepare_reset id.0 self.old events.old).queue) }
+        ensures told { OnOk result (events.new ≡ (prepare_reset id.0 self.old events.old).told) }
+    {
+        self.streams.open(self.alloc, id)?;
+        self.streams.prepare_reset(id, events)?;
+        let next = next_of(&self.streams, id);
+        self.scheduler
+            .set_bytes_remaining(id, next.bytes, next.priority)
+    }
+
+    /// Whether a stream can be reset, and is in no request.
+    pub fn has_streams_ready_to_be_reset(&self) -> bool
+        ensures { result ≡ list_any is_ready (values_of self.now.streams.entries) }
+    {
+        self.streams.has_ready()
+    }
+
+    /// The first streams that can be reset and are in no request, by ascending id and at most `most`: they are in one
+    /// from then on.
+    pub fn get_streams_ready_to_reset(&mut self, most: usize) -> Result<Vec<StreamId>, AllocError>
+        ensures streams { IfOk result (λ ids. map (λ id. id.0) ids.items ≡ requested most self.old) }
+        ensures queue { OnOk result (self.new ≡ request_resets most self.old) }
+    {
+        let mut ids = self.streams.ready(self.alloc)?;
+        ids.truncate(most);
+        self.take_steps(&ids, ResetStep::Requested)?;
+        Ok(ids)
+    }
+
+    /// The peer performed the reset of these streams: they send again, with numbers that begin again.
+    pub fn commit_reset_streams(&mut self, ids: &[StreamId]) -> Result<(), AllocError>
+        ensures { OnOk result (self.new ≡ commit_resets (map (λ id. id.0) ids.now) self.old) }
+    {
+        self.take_steps(ids, ResetStep::Performed)
+    }
+
+    /// The peer refused the reset of these streams: they send again.
+    pub fn rollback_reset_streams(&mut self, ids: &[StreamId]) -> Result<(), AllocError>
+        ensures { OnOk result (self.new ≡ roll_back_resets (map (λ id. id.0) ids.now) self.old) }
+    {
+        self.take_steps(ids, ResetStep::Refused)
+    }
+
+    fn take_step(&mut self, id: StreamId, step: ResetStep) -> Result<(), AllocError>
+        ensures { OnOk result (self.new ≡ stepped step id.0 self.old) }
+    {
+        self.streams.take_step(id, step);
+        let next = next_of(&self.streams, id);
+        self.scheduler
+            .set_bytes_remaining(id, next.bytes, next.priority)
+    }
+
+    fn take_steps(&mut self, ids: &[StreamId], step: ResetStep) -> Result<(), AllocError>
+        ensures { OnOk result (self.new ≡ each_stepped step (map (λ id. id.0) ids.now) self.old) }
+    {
+        for id in ids {
+            self.take_step(*id, step)?;
+        }
+        Ok(())
+    }
+}
+
+fn begun_without(id: StreamId, begun: Option<StreamId>) -> Option<StreamId>
+    ensures { option_map (λ id. id.0) result ≡ begun_without id.0 (option_map (λ id. id.0) begun) }
+{
+    match begun {
+        Some(begun) if begun.0 != id.0 => Some(begun),
+        _ => None,
+    }
+}

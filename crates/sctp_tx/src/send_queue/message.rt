@@ -1,0 +1,197 @@
+//! A message that waits or is partly sent, and its fragments.
+
+ghost use Rattle.std.specs.Prelude.{◌≡◌, ℕ, ◌+◌, ◌-◌, ◌<◌, ◌≤◌, ◌^◌, Bool, length, IfOk, option_map};
+ghost use Rattle.std.specs.Duration.{as_nanos};
+ghost use Rattle.sctp_packet.specs.Written.{key_stream};
+ghost use Rattle.sctp_packet.specs.Views.{is_unordered_key};
+ghost use Rattle.sctp_tx.specs.Queue.{left, expiry_of};
+ghost use Rattle.sctp_tx.specs.Produced.{is_stale, is_due, made_of, moved};
+ghost use Rattle.sctp_tx.specs.Resets.{is_partly};
+ghost use Rattle.sctp_tx.specs.Views.{produced_of, queued_of};
+
+use crate::data_to_send::DataToSend;
+use sctp_packet::Data;
+use sctp_serial::{
+    Fsn, LifecycleId, Message, Mid, OutgoingMessageId, PpId, SerialNumber, SocketTime, Ssn,
+    StreamId, StreamKey,
+};
+use sctp_state::SendOptions;
+use std::alloc::{AllocError, Global};
+use std::marker::Model;
+use std::time::Duration;
+
+/// What a message takes with its first fragment, counted without wrapping: its number among the ordered messages of its
+/// stream, and that among the messages of its stream and kind, which is used with interleaving.
+#[derive(Clone, Copy, Debug, PartialEq, Eq)]
+pub struct MessageNumbers {
+    pub ssn: u64,
+    pub mid: u64,
+}
+
+/// A message of the send queue.
+#[derive(Drop)]
+pub struct QueuedMessage {
+    message_id: OutgoingMessageId,
+    ppid: PpId,
+    payload: Vec<u8>,
+    is_unordered: bool,
+    expires_at: Option<SocketTime>,
+    max_retransmissions: u16,
+    lifecycle_id: Option<LifecycleId>,
+    // how much of the payload was sent
+    offset: usize,
+    numbers: Option<MessageNumbers>,
+    next_fsn: Fsn,
+}
+
+impl Model for QueuedMessage {
+    ghost use Rattle.std.specs.Prelude.{◌<◌, ◌^◌, length};
+    ghost use Rattle.sctp_tx.specs.Queue.{Queued};
+
+    ghost Value = { Queued };
+
+    ghost view = { λ m. record { number = m.message_id.0; ppid = m.ppid.0; payload = m.payload.items; is_unordered = m.is_unordered; expires = m.expires_at; limit = m.max_retransmissions; lifecycle = m.lifecycle_id; offset = m.offset; numbers = m.numbers; fsn = m.next_fsn.0 } };
+
+    ghost invariant = { λ m. (m.offset < length m.payload.items) × (length m.payload.items < 2 ^ 32) };
+}
+
+fn expiry(now: SocketTime, lifetime: Option<Duration>) -> Option<SocketTime>
+    ensures { result ≡ expiry_of now (option_map as_nanos lifetime) }
+{
+    match lifetime {
+        Some(span) => Some(now + span + Duration::from_millis(1)),
+        None => None,
+    }
+}
+
+fn is_due(expires_at: Option<SocketTime>, now: SocketTime) -> bool
+    ensures { result ≡ is_due now expires_at }
+{
+    match expires_at {
+        Some(moment) => moment <= now,
+        None => false,
+    }
+}
+
+fn stream_key(is_unordered: bool, id: StreamId) -> StreamKey
+    ensures stream { key_stream result ≡ id.0 }
+    ensures kind { is_unordered_key result ≡ is_unordered }
+{
+    StreamKey::new(is_unordered, id)
+}
+
+impl QueuedMessage {
+    /// A message that is accepted now. It expires a millisecond after its lifetime.
+    pub fn new(
+        message_id: OutgoingMessageId,
+        now: SocketTime,
+        message: Message,
+        options: &SendOptions,
+    ) -> QueuedMessage
+        requires some { 0 < length message.payload.items }
+        requires small { length message.payload.items < 2 ^ 32 }
+        ensures { result ≡ queued_of message_id.0 now message options.now }
+    {
+        QueuedMessage {
+            message_id,
+            ppid: message.ppid,
+            payload: message.payload,
+            is_unordered: options.unordered,
+            expires_at: expiry(now, options.lifetime),
+            max_retransmissions: options.max_retransmissions.unwrap_or(u16::MAX),
+            lifecycle_id: options.lifecycle_id,
+            offset: 0,
+            numbers: None,
+            next_fsn: Fsn(0),
+        }
+    }
+
+    pub fn message_id(&self) -> OutgoingMessageId
+        ensures { result.0 ≡ self.now.number }
+    {
+        self.message_id
+    }
+
+    pub fn lifecycle_id(&self) -> Option<LifecycleId>
+        ensures { result ≡ self.now.lifecycle }
+    {
+        self.lifecycle_id
+    }
+
+    pub fn is_unordered(&self) -> bool
+        ensures { result ≡ self.now.is_unordered }
+    {
+        self.is_unordered
+    }
+
+    pub fn numbers(&self) -> Option<MessageNumbers>
+        ensures { result ≡ self.now.numbers }
+    {
+        self.numbers
+    }
+
+    /// Whether it expired before a fragment of it was sent.
+    pub fn is_stale(&self, now: SocketTime) -> bool
+        ensures { result ≡ is_stale now self.now }
+    {
+        self.numbers.is_none() && is_due(self.expires_at, now)
+    }
+
+    /// Whether a fragment of it was sent.
+    pub fn is_partly_sent(&self) -> bool
+        ensures { result ≡ is_partly self.now }
+    {
+        0 < self.offset
+    }
+
+    /// The bytes that are not sent.
+    pub fn left(&self) -> usize
+        ensures value { result ≡ left self.now }
+        ensures more { 0 < result }
+        ensures small { result < 2 ^ 32 }
+    {
+        self.payload.len() - self.offset
+    }
+
+    /// The next fragment, of at most `size` bytes, under these numbers.
+    pub fn fragment(
+        &self,
+        alloc: Global,
+        id: StreamId,
+        numbers: MessageNumbers,
+        size: usize,
+    ) -> Result<DataToSend, AllocError>
+        ensures { IfOk result (λ made. produced_of made ≡ made_of id.0 size numbers self.now) }
+    {
+        let left = self.payload.len() - self.offset;
+        let end = self.offset + left.min(size);
+        let is_end = left <= size;
+        let data = Data {
+            stream_key: stream_key(self.is_unordered, id),
+            ssn: Ssn::wrapped(Ssn(0), numbers.ssn),
+            mid: Mid::wrapped(Mid(0), numbers.mid),
+            fsn: self.next_fsn,
+            ppid: self.ppid,
+            payload: Vec::from_slice(alloc, &self.payload[self.offset..end])?,
+            is_beginning: self.offset == 0,
+            is_end,
+        };
+        Ok(DataToSend {
+            message_id: self.message_id,
+            data,
+            max_retransmissions: self.max_retransmissions,
+            expires_at: self.expires_at,
+            lifecycle_id: if is_end { self.lifecycle_id } else { None },
+        })
+    }
+
+    /// That fragment was sent, and it was not the end.
+    pub fn move_on(&mut self, numbers: MessageNumbers, size: usize)
+        requires { size < left self.old }
+        ensures { self.new ≡ moved size numbers self.old }
+    {
+        self.offset += size;
+        self.numbers = Some(numbers);
+        self.next_fsn += 1;
+    }
+}
