@@ -138,9 +138,14 @@ parameter_shape typ = cond (typ == 13) (in_steps 12 2) (cond (typ == 14) (in_ste
     (cond (typ == 0x8001) (exactly 4) (cond (typ == 0xC000) (exactly 0) any_length))))
 
 -- a response whose result is none of the seven
-abbrev pub HasNoResult : ℕ → List ℕ → Type 0
-HasNoResult typ value = (response : ℕ) × (result : ℕ) × (tsns : List ℕ) × (typ ≡ 16)
-    × (value ≡ be32 response ++ (be32 result ++ tsns)) × (6 < result) × (result < 2 ^ 32)
+pub record HasNoResult (typ : ℕ) (value : List ℕ) : Type 0 where
+  pub response_seq_nbr : ℕ
+  pub result : ℕ
+  pub tsns : List ℕ
+  pub typed : typ ≡ 16
+  pub valued : value ≡ be32 response_seq_nbr ++ (be32 result ++ tsns)
+  pub none : 6 < result
+  pub fits : result < 2 ^ 32
 
 abbrev pub RefusesParameterAs : ℕ → ℕ → List ℕ → ChunkParseError → Type 0
 RefusesParameterAs = RefusesAs parameter_shape HasNoResult
