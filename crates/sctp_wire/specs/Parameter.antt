@@ -3,8 +3,8 @@
 -- One grammar for reader and writer: the type and the value of a tree.
 use Rattle.std.specs.Prelude.{◌≡◌, ℕ, ◌<◌, ◌≤◌, ◌^◌, Bool, true, false, cond, ◌==◌, ◌||◌, List, [], ◌++◌, Option, None, Some, All, IfSome}
 use Rattle.std.specs.List.{flat_map}
-use Rattle.sctp_serial.specs.declared.api.StreamId.{StreamId}
-use Rattle.sctp_serial.specs.declared.types.tsn.Tsn.{Tsn}
+use Rattle.sctp_serial.specs.declared.ids.StreamId.{StreamId}
+use Rattle.sctp_serial.specs.declared.serial.Tsn.{Tsn}
 use Rattle.sctp_wire.specs.declared.error.ChunkParseError.{ChunkParseError}
 use Rattle.sctp_wire.specs.Fields.{be16, be32}
 use Rattle.sctp_wire.specs.Item.{Item}
@@ -138,9 +138,14 @@ parameter_shape typ = cond (typ == 13) (in_steps 12 2) (cond (typ == 14) (in_ste
     (cond (typ == 0x8001) (exactly 4) (cond (typ == 0xC000) (exactly 0) any_length))))
 
 -- a response whose result is none of the seven
-abbrev pub HasNoResult : ℕ → List ℕ → Type 0
-HasNoResult typ value = (response : ℕ) × (result : ℕ) × (tsns : List ℕ) × (typ ≡ 16)
-    × (value ≡ be32 response ++ (be32 result ++ tsns)) × (6 < result) × (result < 2 ^ 32)
+pub record HasNoResult (typ : ℕ) (value : List ℕ) : Type 0 where
+  pub response_seq_nbr : ℕ
+  pub result : ℕ
+  pub tsns : List ℕ
+  pub typed : typ ≡ 16
+  pub valued : value ≡ be32 response_seq_nbr ++ (be32 result ++ tsns)
+  pub none : 6 < result
+  pub fits : result < 2 ^ 32
 
 abbrev pub RefusesParameterAs : ℕ → ℕ → List ℕ → ChunkParseError → Type 0
 RefusesParameterAs = RefusesAs parameter_shape HasNoResult

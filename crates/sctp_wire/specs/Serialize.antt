@@ -1,6 +1,6 @@
 -- The bytes of written items (RFC 9260 section 3.2).
-use Rattle.std.specs.Prelude.{ℕ, ◌+◌, ◌<◌, ◌^◌, ◌/◌, ◌%◌, ◌*◌, List, [], ◌∷◌, ◌++◌, length, replicate, Bool, nat_lt, ◌&&◌}
-use Rattle.sctp_wire.specs.Item.{Item, item_bytes, padding}
+use Rattle.std.specs.Prelude.{◌≡◌, ℕ, ◌+◌, ◌<◌, ◌^◌, ◌/◌, ◌%◌, ◌*◌, List, [], ◌∷◌, ◌++◌, length, replicate, Bool, nat_lt, ◌&&◌}
+use Rattle.sctp_wire.specs.Item.{Item, item_bytes, padding, Takes}
 
 -- the length of an item fits its field
 abbrev pub IsEncodable : Item → Type 0
@@ -27,3 +27,10 @@ typed typ value = record { first = typ / 256; second = typ % 256; value = value 
 -- the type of a parameter or a cause
 abbrev pub type_of : Item → ℕ
 type_of i = 256 * i.first + i.second
+
+-- the bytes begin with a parameter or a cause of this type and this value
+pub record TakesTyped (bytes : List ℕ) (typ : ℕ) (value rest : List ℕ) : Type 0 where
+  pub item : Item
+  pub taken : Takes bytes item rest
+  pub typed : type_of item ≡ typ
+  pub valued : item.value ≡ value
