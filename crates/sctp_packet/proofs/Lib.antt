@@ -9,3 +9,5 @@ pub mod ReadBackLemmas
 pub mod StandsLemmas
 pub mod BuilderLemmas
 pub mod LawLemmas
+pub mod CoveredLemmas
+pub mod CoveredOnceLemmas

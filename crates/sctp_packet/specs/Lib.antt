@@ -11,3 +11,4 @@ pub mod BuilderView
 pub mod ReadBack
 pub mod ChunkView
 pub mod ChunkText
+pub mod Covered

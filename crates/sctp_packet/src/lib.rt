@@ -3,6 +3,7 @@
 
 mod builder;
 mod chunk;
+mod chunk_validators;
 mod cookie;
 mod data;
 mod error;
@@ -21,6 +22,7 @@ mod unknown;
 
 pub use builder::SctpPacketBuilder;
 pub use chunk::Chunk;
+pub use chunk_validators::{clean_sack, validate_sack};
 pub use cookie::{CookieAckChunk, CookieEchoChunk};
 pub use data::{Data, DataChunk, IDataChunk};
 pub use error::{AbortChunk, ErrorChunk};

@@ -6,8 +6,8 @@ use Rattle.std.specs.List.{flat_map}
 use Rattle.std.proofs.lemmas.List.{append-nil}
 use Rattle.std.proofs.lemmas.List.Concat.{flat_map-cons}
 use Rattle.std.proofs.lemmas.Nat.{from_be_bytes-to_be_bytes_4}
-use Rattle.sctp_serial.specs.declared.ids.StreamId.{StreamId}
-use Rattle.sctp_serial.specs.declared.serial.Tsn.{Tsn}
+use Rattle.sctp_serial.specs.declared.api.StreamId.{StreamId}
+use Rattle.sctp_serial.specs.declared.types.tsn.Tsn.{Tsn}
 use Rattle.sctp_wire.specs.Fields.{be16, be32, length_be32}
 use Rattle.sctp_wire.proofs.ParameterLemmas.{length_response}
 use Rattle.sctp_wire.specs.Item.{Item}

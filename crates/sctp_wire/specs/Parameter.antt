@@ -3,8 +3,8 @@
 -- One grammar for reader and writer: the type and the value of a tree.
 use Rattle.std.specs.Prelude.{◌≡◌, ℕ, ◌<◌, ◌≤◌, ◌^◌, Bool, true, false, cond, ◌==◌, ◌||◌, List, [], ◌++◌, Option, None, Some, All, IfSome}
 use Rattle.std.specs.List.{flat_map}
-use Rattle.sctp_serial.specs.declared.ids.StreamId.{StreamId}
-use Rattle.sctp_serial.specs.declared.serial.Tsn.{Tsn}
+use Rattle.sctp_serial.specs.declared.api.StreamId.{StreamId}
+use Rattle.sctp_serial.specs.declared.types.tsn.Tsn.{Tsn}
 use Rattle.sctp_wire.specs.declared.error.ChunkParseError.{ChunkParseError}
 use Rattle.sctp_wire.specs.Fields.{be16, be32}
 use Rattle.sctp_wire.specs.Item.{Item}

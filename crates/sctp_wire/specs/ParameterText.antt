@@ -1,8 +1,8 @@
 -- What is shown of a parameter: its name and its fields.
 use Rattle.std.specs.Prelude.{ℕ, List, [], ◌∷◌, map, codes, Option, None, Some}
 use Rattle.std.specs.Fmt.{decimal}
-use Rattle.sctp_serial.specs.declared.ids.StreamId.{StreamId}
-use Rattle.sctp_serial.specs.declared.serial.Tsn.{Tsn}
+use Rattle.sctp_serial.specs.declared.api.StreamId.{StreamId}
+use Rattle.sctp_serial.specs.declared.types.tsn.Tsn.{Tsn}
 use Rattle.sctp_wire.specs.Parameter.{ParameterTree, heartbeat_info, state_cookie, outgoing_reset_request, incoming_reset_request, ssn_tsn_reset_request, reset_response, add_outgoing_streams_request, add_incoming_streams_request, supported_extensions, forward_tsn_supported, zero_checksum_acceptable, unknown_parameter}
 use Rattle.sctp_wire.specs.Show.{FieldText, field, shown, bytes_text, joined}
 

@@ -1,5 +1,5 @@
 use Rattle.std.proofs.Common.{ℕ, ◌<◌, ◌^◌, get_or}
-use Rattle.sctp_serial.specs.declared.ids.StreamId.{StreamId}
+use Rattle.sctp_serial.specs.declared.api.StreamId.{StreamId}
 use Rattle.sctp_wire.proofs.laws.streams_fit.Given as goal
 
 abbrev pub invariant-loop-stream : goal.invariant-loop-stream

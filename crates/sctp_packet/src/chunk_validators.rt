@@ -1,0 +1,144 @@
+//! SACKs of peers: their blocks put into one form, and the test whether they are in it.
+
+ghost use Rattle.std.specs.Prelude.{◌≡◌, ◌≤◌, ◌↔◌, IsTrue, List, All, length};
+ghost use Rattle.sctp_packet.specs.declared.sack.GapAckBlock.{GapAckBlock};
+ghost use Rattle.sctp_packet.specs.Covered.{SameOffsets, IsMaximalRun, AreRuns, Ascend};
+
+use crate::sack::{GapAckBlock, SackChunk};
+
+/// The chunk with its gap ack blocks as the maximal runs of the offsets that they cover, ascending; the other fields stay.
+/// A block whose start is above its end covers nothing. It takes no memory, and n log n comparisons for n blocks.
+pub fn clean_sack(mut sack: SackChunk) -> SackChunk
+    ensures covered { SameOffsets result.gap_ack_blocks.items sack.gap_ack_blocks.items }
+    ensures maximal { All (IsMaximalRun sack.gap_ack_blocks.items) result.gap_ack_blocks.items }
+    ensures runs { AreRuns 0 result.gap_ack_blocks.items }
+    ensures kept { result ≡ record sack { gap_ack_blocks = result.gap_ack_blocks } }
+
+    // They are the only runs over these offsets, so a clean SACK stays as it is; and no list is shorter.
+    ensures only { (runs : List GapAckBlock) → AreRuns 0 runs
+        → SameOffsets runs sack.gap_ack_blocks.items → result.gap_ack_blocks.items ≡ runs }
+    ensures again { AreRuns 0 sack.gap_ack_blocks.items
+        → result.gap_ack_blocks.items ≡ sack.gap_ack_blocks.items }
+    ensures shortest { (others : List GapAckBlock) → SameOffsets others sack.gap_ack_blocks.items
+        → length result.gap_ack_blocks.items ≤ length others }
+{
+    clean(&mut sack.gap_ack_blocks);
+    sack
+}
+
+/// Whether the blocks are the maximal runs of the offsets that they cover, ascending, and none covers an offset below 2:
+/// offset 1 is the TSN right above the cumulative one, which would have been counted there.
+pub fn validate_sack(sack: &SackChunk) -> bool
+    ensures { IsTrue result ↔ AreRuns 2 sack.now.gap_ack_blocks.items }
+{
+    are_runs(&sack.gap_ack_blocks)
+}
+
+fn are_runs(blocks: &[GapAckBlock]) -> bool
+    ensures { IsTrue result ↔ AreRuns 2 blocks.now }
+{
+    let mut lowest = 2;
+    for block in blocks {
+        if u32::from(block.start) < lowest || block.end < block.start {
+            return false;
+        }
+        lowest = u32::from(block.end) + 2;
+    }
+    true
+}
+
+fn clean(blocks: &mut Vec<GapAckBlock>)
+    ensures covered { SameOffsets blocks.new.items blocks.old.items }
+    ensures runs { AreRuns 0 blocks.new.items }
+{
+    blocks.retain(|block| block.start <= block.end);
+    blocks.sort_unstable_by_key(|block| block.start);
+    join_touching(blocks);
+}
+
+// Joins blocks that overlap or follow one another. Each is put at its place in front of those that are still to be read.
+fn join_touching(blocks: &mut Vec<GapAckBlock>)
+    requires { Ascend 0 blocks.old.items }
+    ensures covered { SameOffsets blocks.new.items blocks.old.items }
+    ensures runs { AreRuns 0 blocks.new.items }
+{
+    let Some(&first) = blocks.first() else {
+        return;
+    };
+    let mut run = first;
+    let mut count = 0;
+    for place in 1..blocks.len() {
+        let block = blocks[place];
+        if block.start <= run.end || block.start - run.end == 1 {
+            run = GapAckBlock::new(run.start, run.end.max(block.end));
+        } else {
+            blocks[count] = run;
+            count += 1;
+            run = block;
+        }
+    }
+    blocks[count] = run;
+    blocks.truncate(count + 1);
+}
+
+#[cfg(test)]
+mod tests {
+    use super::*;
+    use sctp_serial::Tsn;
+    use std::alloc::{AllocError, Global};
+    use std::test::Fail;
+
+    fn blocks(alloc: Global, pairs: &[(u16, u16)]) -> Result<Vec<GapAckBlock>, AllocError> {
+        let mut blocks = Vec::new(alloc);
+        for &(start, end) in pairs {
+            blocks.push(GapAckBlock::new(start, end))?;
+        }
+        Ok(blocks)
+    }
+
+    fn sack(alloc: Global, pairs: &[(u16, u16)]) -> Result<SackChunk, AllocError> {
+        Ok(SackChunk {
+            cumulative_tsn_ack: Tsn(7),
+            a_rwnd: 4096,
+            gap_ack_blocks: blocks(alloc, pairs)?,
+            duplicate_tsns: Vec::from_slice(alloc, &[Tsn(3), Tsn(3)])?,
+        })
+    }
+
+    #[test]
+    fn blocks_become_runs(rt: HostRuntime) -> Result<(), Fail> {
+        let alloc = rt.alloc();
+        let cases: [(&[(u16, u16)], &[(u16, u16)]); 5] = [
+            (&[(5, 6), (2, 2), (3, 4), (9, 8)], &[(2, 6)]),
+            (&[(65_535, 65_535), (0, 1), (65_534, 65_534)], &[(0, 1), (65_534, 65_535)]),
+            (&[(0, 65_535), (7, 9), (9, 65_535)], &[(0, 65_535)]),
+            (&[(4, 4), (2, 2)], &[(2, 2), (4, 4)]),
+            (&[(9, 8)], &[]),
+        ];
+        for (given, runs) in cases {
+            let cleaned = clean_sack(sack(alloc, given)?);
+            assert_eq!(rt; cleaned.gap_ack_blocks, blocks(alloc, runs)?);
+            assert_eq!(rt; cleaned.cumulative_tsn_ack, Tsn(7));
+            assert_eq!(rt; cleaned.a_rwnd, 4096);
+            assert_eq!(rt; cleaned.duplicate_tsns.as_slice(), [Tsn(3), Tsn(3)].as_slice());
+        }
+        Ok(())
+    }
+
+    #[test]
+    fn runs_from_offset_two_on_are_valid(rt: HostRuntime) -> Result<(), Fail> {
+        let alloc = rt.alloc();
+        let cases: [(&[(u16, u16)], bool); 6] = [
+            (&[], true),
+            (&[(2, 2), (4, 65_535)], true),
+            (&[(2, 2), (3, 4)], false),
+            (&[(1, 3)], false),
+            (&[(3, 2)], false),
+            (&[(4, 4), (2, 2)], false),
+        ];
+        for (pairs, valid) in cases {
+            assert_eq!(rt; validate_sack(&sack(alloc, pairs)?), valid);
+        }
+        Ok(())
+    }
+}
