@@ -110,7 +110,10 @@ mod tests {
         let alloc = rt.alloc();
         let cases: [(&[(u16, u16)], &[(u16, u16)]); 5] = [
             (&[(5, 6), (2, 2), (3, 4), (9, 8)], &[(2, 6)]),
-            (&[(65_535, 65_535), (0, 1), (65_534, 65_534)], &[(0, 1), (65_534, 65_535)]),
+            (
+                &[(65_535, 65_535), (0, 1), (65_534, 65_534)],
+                &[(0, 1), (65_534, 65_535)],
+            ),
             (&[(0, 65_535), (7, 9), (9, 65_535)], &[(0, 65_535)]),
             (&[(4, 4), (2, 2)], &[(2, 2), (4, 4)]),
             (&[(9, 8)], &[]),
@@ -120,7 +123,10 @@ mod tests {
             assert_eq!(rt; cleaned.gap_ack_blocks, blocks(alloc, runs)?);
             assert_eq!(rt; cleaned.cumulative_tsn_ack, Tsn(7));
             assert_eq!(rt; cleaned.a_rwnd, 4096);
-            assert_eq!(rt; cleaned.duplicate_tsns.as_slice(), [Tsn(3), Tsn(3)].as_slice());
+            assert_eq!(rt;
+                cleaned.duplicate_tsns.as_slice(),
+                [Tsn(3), Tsn(3)].as_slice()
+            );
         }
         Ok(())
     }

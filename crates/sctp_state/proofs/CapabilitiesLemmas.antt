@@ -158,7 +158,7 @@ announced-writable o method =
     let p = o.enable_partial_reliability in
     let i = o.enable_message_interleaving in
     behind_forward_tsn p _ (behind_method (not (method == 0)) method _
-      (All-cons IsWritable (supported_extensions (types_by p i)) [] (extensions_writable p i) (All-nil IsWritable)))
+    (All-cons IsWritable (supported_extensions (types_by p i)) [] (extensions_writable p i) (All-nil IsWritable)))
 
 -- their bytes, but for the padding of the last one
 size_by : (p i h : Bool) (method : ℕ) → length (inner_items (map parameter_item (list_by p i h method))) ≤ 20

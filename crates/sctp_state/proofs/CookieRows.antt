@@ -13,10 +13,21 @@ use Rattle.sctp_state.specs.declared.state_cookie.StateCookieError.TheVariants.{
 
 abbrev worked : Cookie
 worked = record {
-  peer_tag = 123; my_tag = 321; peer_initial_tsn = 456; my_initial_tsn = 654; a_rwnd = 789; tie_tag = 1020304050;
+  peer_tag = 123;
+  my_tag = 321;
+  peer_initial_tsn = 456;
+  my_initial_tsn = 654;
+  a_rwnd = 789;
+  tie_tag = 1020304050;
   peer_capabilities = record {
-    partial_reliability = true; message_interleaving = false; reconfig = true; zero_checksum_method = 1;
-    incoming = 123; outgoing = 234 } }
+    partial_reliability = true;
+    message_interleaving = false;
+    reconfig = true;
+    zero_checksum_method = 1;
+    incoming = 123;
+    outgoing = 234;
+  };
+}
 
 abbrev tags : List ℕ
 tags = 0 ∷ 0 ∷ 0 ∷ 0x7b ∷ 0 ∷ 0 ∷ 1 ∷ 0x41 ∷ []
@@ -75,7 +86,13 @@ abbrev unreliable : Options
 unreliable = record all { enable_partial_reliability = false; announced_maximum_incoming_streams = 15; announced_maximum_outgoing_streams = 5 }
 
 agreed_by_both : agreed unreliable all ≡ record {
-  partial_reliability = false; message_interleaving = true; reconfig = true; zero_checksum_method = 1; incoming = 15; outgoing = 5 }
+  partial_reliability = false;
+  message_interleaving = true;
+  reconfig = true;
+  zero_checksum_method = 1;
+  incoming = 15;
+  outgoing = 5;
+}
 agreed_by_both = refl
 
 by_init : negotiated unreliable (told_by_init all) ≡ agreed unreliable all

@@ -20,9 +20,9 @@ pub use capabilities::{Capabilities, announced_parameters};
 pub use events::{EventSink, Events};
 pub use retransmission_timeout::RetransmissionTimeout;
 pub use state_cookie::{STATE_COOKIE_SIZE, StateCookie, StateCookieError};
-pub use timer::{BackoffAlgorithm, MAX_DURATION, MAX_RESTARTS, Timer};
 pub use stream_scheduler::StreamScheduler;
 pub use threshold_watcher::ThresholdWatcher;
+pub use timer::{BackoffAlgorithm, MAX_DURATION, MAX_RESTARTS, Timer};
 pub use tx_error_counter::TxErrorCounter;
 
 #[cfg(test)]

@@ -22,7 +22,11 @@ fn accept(
     assert!(rt; !payload.is_empty());
     assert!(rt; payload.len() < 1000);
     assert!(rt; queue.total_buffered_amount() < 1000);
-    queue.add(at(0), Message::new(StreamId(stream), PpId(53), payload), options)
+    queue.add(
+        at(0),
+        Message::new(StreamId(stream), PpId(53), payload),
+        options,
+    )
 }
 
 // Each stream's turn costs 1: those that wait are served by ascending id, and then the first again.
