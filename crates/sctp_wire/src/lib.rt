@@ -48,8 +48,8 @@ pub use reset::{
     ReconfigurationResponseParameter, ReconfigurationResponseResult,
 };
 pub use sctp_serial::{
-    Message, PpId, Ssn, StreamId, Tsn,
-    ZERO_CHECKSUM_ALTERNATE_ERROR_DETECTION_METHOD_LOWER_LAYER_DTLS,
+    Fsn, LifecycleId, Message, Mid, OutgoingMessageId, PpId, SerialNumber, SocketTime, Ssn,
+    StreamId, StreamKey, Tsn, ZERO_CHECKSUM_ALTERNATE_ERROR_DETECTION_METHOD_LOWER_LAYER_DTLS,
     ZERO_CHECKSUM_ALTERNATE_ERROR_DETECTION_METHOD_NONE, ZeroChecksumAlternateErrorDetectionMethod,
 };
 pub use serialize::{
