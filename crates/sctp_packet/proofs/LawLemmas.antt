@@ -29,7 +29,7 @@ header_of s d t = record { source_port = s; destination_port = d; verification_t
 same_header : (s d t s' d' t' : ℕ) → s ≡ s' → d ≡ d' → t ≡ t' → header_of s d t ≡ header_of s' d' t'
 same_header s d t s' d' t' a b c = cc
 
-abbrev packet_of : HeaderTree → ℕ → List ChunkTree → PacketTree
+abbrev pub packet_of : HeaderTree → ℕ → List ChunkTree → PacketTree
 packet_of h c cs = record { header = h; checksum = c; chunks = cs }
 
 same_packet : (h : HeaderTree) (c : ℕ) (cs : List ChunkTree) (h' : HeaderTree) (c' : ℕ) (cs' : List ChunkTree) → h ≡ h' → c ≡ c' → cs ≡ cs' → packet_of h c cs ≡ packet_of h' c' cs'

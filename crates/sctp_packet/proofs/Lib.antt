@@ -9,5 +9,6 @@ pub mod ReadBackLemmas
 pub mod StandsLemmas
 pub mod BuilderLemmas
 pub mod LawLemmas
+pub mod CanonicalLemmas
 pub mod CoveredLemmas
 pub mod CoveredOnceLemmas

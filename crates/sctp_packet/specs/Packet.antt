@@ -87,3 +87,7 @@ unsummed_bytes h body = with_zero_field (header_bytes h) body
 -- the bytes of the packet of these chunks, with the word in the checksum's field
 unfoldable pub packet_bytes : HeaderTree → ℕ → List ChunkTree → List ℕ
 packet_bytes h word chunks = joined_bytes h word (chunks_bytes chunks)
+
+-- the bytes that are written for a packet, the checksum's field zero
+abbrev pub canonical : PacketTree → List ℕ
+canonical p = packet_bytes p.header 0 p.chunks

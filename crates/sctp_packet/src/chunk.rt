@@ -1,10 +1,11 @@
 //! A chunk of any kind.
 
-ghost use Rattle.std.specs.Prelude.{◌≡◌, ◌+◌, ◌^◌, ◌-◌, min, true, [], ◌∷◌, ◌++◌, IfOk, IfErr, OnOk};
+ghost use Rattle.std.specs.Prelude.{◌≡◌, ◌+◌, ◌^◌, ◌-◌, min, true, [], ◌∷◌, ◌++◌, IfOk, IfErr, OnOk, Some};
 ghost use Rattle.sctp_packet.specs.Written.{chunk_item, chunk_is_whole};
 ghost use Rattle.sctp_packet.specs.Grammar.{IsChunk, RefusesChunk};
 ghost use Rattle.sctp_packet.specs.Views.{raw_chunk};
 ghost use Rattle.sctp_packet.specs.ChunkView.{chunk_tree};
+ghost use Rattle.sctp_packet.specs.ChunkText.{chunk_text};
 
 use crate::cookie::{CookieAckChunk, CookieEchoChunk};
 use crate::data::{DataChunk, IDataChunk};
@@ -19,6 +20,7 @@ use crate::shutdown::{ShutdownAckChunk, ShutdownChunk, ShutdownCompleteChunk};
 use crate::unknown::UnknownChunk;
 use sctp_wire::{ChunkParseError, FromItem, RawItem, SerializableTlv};
 use std::alloc::{AllocError, Global};
+use std::fmt;
 
 /// A chunk (RFC 9260 section 3.2).
 #[derive(Debug, Drop)]
@@ -177,6 +179,34 @@ impl SerializableTlv for Chunk {
             Chunk::IData(c) => c.push_value(output),
             Chunk::IForwardTsn(c) => c.push_value(output),
             Chunk::Unknown(c) => c.push_value(output),
+        }
+    }
+}
+
+#[tactic(auto, unfolding(crate::specs::ChunkText::chunk_text))]
+impl fmt::Display for Chunk {
+    ghost output = { λ c. Some (chunk_text (chunk_tree c)) };
+
+    fn fmt<W: fmt::Write>(&self, f: &mut fmt::Formatter<W>) -> fmt::Result {
+        match self {
+            Chunk::Data(c) => c.fmt(f),
+            Chunk::Init(c) => c.fmt(f),
+            Chunk::InitAck(c) => c.fmt(f),
+            Chunk::Sack(c) => c.fmt(f),
+            Chunk::HeartbeatRequest(c) => c.fmt(f),
+            Chunk::HeartbeatAck(c) => c.fmt(f),
+            Chunk::Abort(c) => c.fmt(f),
+            Chunk::Shutdown(c) => c.fmt(f),
+            Chunk::ShutdownAck(c) => c.fmt(f),
+            Chunk::Error(c) => c.fmt(f),
+            Chunk::CookieEcho(c) => c.fmt(f),
+            Chunk::CookieAck(c) => c.fmt(f),
+            Chunk::ShutdownComplete(c) => c.fmt(f),
+            Chunk::ReConfig(c) => c.fmt(f),
+            Chunk::ForwardTsn(c) => c.fmt(f),
+            Chunk::IData(c) => c.fmt(f),
+            Chunk::IForwardTsn(c) => c.fmt(f),
+            Chunk::Unknown(c) => c.fmt(f),
         }
     }
 }

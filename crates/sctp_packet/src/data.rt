@@ -282,3 +282,34 @@ impl fmt::Display for DataChunk {
         )
     }
 }
+
+#[tactic(auto, unfolding(crate::specs::ChunkText::chunk_text))]
+impl fmt::Display for IDataChunk {
+    ghost output = { λ c. Some (chunk_text (idata_chunk_tree c)) };
+
+    fn fmt<W: fmt::Write>(&self, f: &mut fmt::Formatter<W>) -> fmt::Result {
+        let flags = self.data.shown_flags(self.immediate_ack);
+        if self.data.is_beginning {
+            return write!(
+                f,
+                "I-DATA, tsn={}, stream_key={}, mid={}, ppid={}, payload={} bytes{}",
+                self.tsn.0,
+                self.data.stream_key.id().0,
+                self.data.mid.0,
+                self.data.ppid.0,
+                self.data.payload.len(),
+                flags
+            );
+        }
+        write!(
+            f,
+            "I-DATA, tsn={}, stream_key={}, mid={}, fsn={}, payload={} bytes{}",
+            self.tsn.0,
+            self.data.stream_key.id().0,
+            self.data.mid.0,
+            self.data.fsn.0,
+            self.data.payload.len(),
+            flags
+        )
+    }
+}

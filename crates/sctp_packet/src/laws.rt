@@ -1,6 +1,6 @@
 //! What holds of the definitions: bytes say one thing, what is read is not refused, and what was built is read back.
 
-ghost use Rattle.std.specs.Prelude.{◌≡◌, ◌≢◌, ℕ, ◌<◌, ◌≤◌, ◌^◌, Bool, true, if◌then◌else◌, List, ◌∷◌, length, map, All, Result, IfOk, IfErr, MatchResult};
+ghost use Rattle.std.specs.Prelude.{◌≡◌, ◌≢◌, ℕ, ◌<◌, ◌≤◌, ◌^◌, Bool, true, if◌then◌else◌, List, ◌∷◌, length, map, All, Result, IfOk, IfErr, MatchResult, ◌↔◌};
 ghost use Rattle.sctp_wire.specs.Item.{Item};
 ghost use Rattle.sctp_wire.specs.declared.checksum.Policy.{Policy};
 ghost use Rattle.sctp_packet.specs.declared.packet.PacketParseError.{PacketParseError};
@@ -8,7 +8,7 @@ ghost use Rattle.sctp_packet.specs.declared.packet.SctpPacket.{SctpPacket};
 ghost use Rattle.sctp_packet.specs.Chunk.{ChunkTree};
 ghost use Rattle.sctp_packet.specs.Grammar.{IsChunk, carried};
 ghost use Rattle.sctp_packet.specs.ReadBack.{ChunkReadsBack};
-ghost use Rattle.sctp_packet.specs.Packet.{HeaderTree, PacketTree, IsPacket, FitsHeader, Accepts, Refuses, IsFault, lets_through, packet_bytes};
+ghost use Rattle.sctp_packet.specs.Packet.{HeaderTree, PacketTree, IsPacket, FitsHeader, Accepts, Refuses, IsFault, lets_through, packet_bytes, canonical};
 ghost use Rattle.sctp_packet.specs.Written.{chunks_bytes};
 ghost use Rattle.sctp_packet.specs.Builder.{built};
 ghost use Rattle.sctp_packet.specs.PacketView.{packet_tree};
@@ -43,6 +43,15 @@ pub fn read_back()
         → IfErr answer (Refuses policy word (packet_bytes header field chunks))
         → MatchResult answer (λ p. packet_tree p ≡ record { header = header; checksum = field; chunks = map carried chunks })
         (λ fault. fault ≡ PacketParseError.Memory) }
+{}
+
+/// Accepted inputs, whose packets as they would be written fit, have the same ports, tag and chunks exactly where these
+/// packets are equal bytes.
+pub fn same_packets()
+    ensures { (policy other_policy : Policy) (word other_word : ℕ) (bytes others : List ℕ) (p q : PacketTree)
+        → Accepts policy word bytes p → Accepts other_policy other_word others q
+        → length (canonical p) ≤ 65535 → length (canonical q) ≤ 65535
+        → (canonical p ≡ canonical q) ↔ ((p.header ≡ q.header) × (p.chunks ≡ q.chunks)) }
 {}
 
 /// What `build` hands out is the packet of the chunks that the builder holds.

@@ -29,7 +29,7 @@ pub use error::{AbortChunk, ErrorChunk};
 pub use forward_tsn::{ForwardTsnChunk, IForwardTsnChunk, SkippedStream};
 pub use heartbeat::{HeartbeatAckChunk, HeartbeatRequestChunk};
 pub use init::{InitAckChunk, InitChunk};
-pub use laws::{built_packet, one_chunk, one_packet, read_back, refused_or_accepted};
+pub use laws::{built_packet, one_chunk, one_packet, read_back, refused_or_accepted, same_packets};
 pub use packet::{COMMON_HEADER_SIZE, CommonHeader, PacketParseError, SctpPacket};
 pub use raw::{RawChunk, write_chunk_header};
 pub use re_config::ReConfigChunk;

@@ -1,4 +1,5 @@
 mod packets;
+mod texts;
 
 use super::*;
 use packets::PACKETS;
@@ -6,6 +7,7 @@ use sctp_serial::{Fsn, Mid, PpId, Ssn, StreamId, StreamKey, Tsn};
 use sctp_wire::{ChunkParseError, Policy};
 use std::alloc::Global;
 use std::test::Fail;
+use texts::TEXTS;
 
 fn digit(byte: u8) -> Result<u8, Fail> {
     match byte {
@@ -88,6 +90,16 @@ fn chunk_of(alloc: Global, bytes: &[u8]) -> Result<Chunk, ChunkParseError> {
 fn only_chunk(alloc: Global, digits: &str) -> Result<Chunk, Fail> {
     let bytes = bytes_of(alloc, digits)?;
     chunk_of(alloc, &bytes).map_err(|_| "a chunk".into())
+}
+
+/// One of each kind.
+#[test]
+fn shown_texts(rt: HostRuntime) -> Result<(), Fail> {
+    for (digits, text) in TEXTS {
+        let chunk = only_chunk(rt.alloc(), digits)?;
+        assert_eq!(rt; chunk.to_string(rt.alloc())?.as_str(), text);
+    }
+    Ok(())
 }
 
 #[test]
