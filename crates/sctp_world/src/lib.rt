@@ -6,14 +6,11 @@
 mod answer;
 mod checksum;
 mod command;
-mod packet;
 mod probing;
-mod sack;
 mod script;
 
 pub use answer::{Probe, ProbeError};
 pub use checksum::ByteSum;
-pub use packet::{one_packet, refused_or_accepted};
 pub use probing::{one_answer, probe};
 pub use script::{ScriptFault, run_script};
 
