@@ -1,8 +1,8 @@
 -- Lengths of written items, and lists of items from the back.
-use Rattle.std.proofs.Common.{◌≡◌, Bool, true, false, ◌&&◌, ℕ, ◌+◌, ◌-◌, ◌*◌, ◌%◌, ◌<◌, ◌≢◌, ◌^◌, min, List, [], ◌∷◌, ◌++◌, length, take, map, refl, sym, ap, ◌∙◌, append_assoc, zero, suc, get_or, arith}
+use Rattle.std.proofs.Common.{◌≡◌, Bool, true, false, ◌&&◌, ℕ, ◌+◌, ◌-◌, ◌*◌, ◌%◌, ◌<◌, ◌≤◌, ◌≢◌, ◌^◌, min, List, [], ◌∷◌, ◌++◌, length, take, drop, map, refl, sym, ap, ◌∙◌, append_assoc, zero, suc, get_or, arith}
 use Rattle.std.specs.Prelude.{replicate, All, nat_lt}
 use Rattle.std.specs.List.{flat_map, list_all}
-use Rattle.std.proofs.lemmas.List.{length-append, length-replicate, map_more}
+use Rattle.std.proofs.lemmas.List.{length-append, length-replicate, map_more, map-append, take-append-drop}
 use Rattle.std.proofs.lemmas.Bool.{ltb-true}
 use Rattle.std.proofs.lemmas.List.Sums.{AllPass-from_list_all}
 use Rattle.std.proofs.lemmas.List.Concat.{flat_map-cons}
@@ -113,3 +113,20 @@ pub all_encodable_whole : {X : Type 0} (f : X → Item) (whole : X → Bool) (xs
     → All (λ x. whole x ≡ true) xs
 all_encodable_whole f whole xs e k d less =
     (encodable_parts (f (get_or xs k d)) (whole (get_or xs k d)) (AllPass-from_list_all (λ x. is_encodable (f x) (whole x)) xs e k d less)).1
+
+-- items at the front of others take no more than all of them
+inner_front : (is js : List Item) → length (inner_items is) ≤ length (inner_items (is ++ js))
+unfolding inner_items
+inner_front [] js = omega arith
+inner_front (i ∷ []) [] = omega arith
+inner_front (i ∷ []) (j ∷ js) = omega (arith, length-append (padded_item i) (inner_items (j ∷ js)), length_padded_item i, length_item_bytes i)
+inner_front (i ∷ k ∷ is) js =
+    omega (arith, inner_front (k ∷ is) js, length-append (padded_item i) (inner_items (k ∷ is)), length-append (padded_item i) (inner_items (k ∷ is ++ js)))
+
+-- one more item fits where all of them do
+pub item_fits : {X : Type 0} (f : X → Item) (xs : List X) (i : ℕ) (x : X) → i < length xs → x ≡ get_or xs i x
+    → length (inner_items (map f (take i xs))) + (padding (length (inner_items (map f (take i xs)))) + (4 + length (f x).value)) ≤ length (inner_items (map f xs))
+item_fits f xs i x low e =
+    let more = taken_more f xs i x low e in
+    let split : map f (take (i + 1) xs) ++ map f (drop (i + 1) xs) ≡ map f xs = sym (map-append f (take (i + 1) xs) (drop (i + 1) xs)) ∙ ap (map f) (take-append-drop (i + 1) xs) in
+    omega (arith, ap length (ap inner_items more), length_inner_items-more (map f (take i xs)) (f x), inner_front (map f (take (i + 1) xs)) (map f (drop (i + 1) xs)), ap length (ap inner_items split))

@@ -195,6 +195,7 @@ impl SerializableTlv for NoUserDataErrorCause {
         true
     }
 
+    #[tactic(auto, using(crate::proofs::CauseLemmas::length_no_user_data), unfolding(crate::specs::Cause::cause_value))]
     fn push_value(&self, output: &mut Vec<u8>) -> Result<(), AllocError> {
         push_u32(output, self.tsn.0)
     }

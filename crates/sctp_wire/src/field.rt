@@ -1,9 +1,10 @@
 //! Fields: numbers of two and four bytes, the most significant byte first, and lists of entries of one width.
 
-ghost use Rattle.std.specs.Prelude.{◌≡◌, ◌≢◌, ◌⊎◌, ℕ, ◌+◌, ◌%◌, ◌^◌, ◌<◌, List, [], ◌++◌, length, All, IfOk, OnErr, IfErr, OnOk};
+ghost use Rattle.std.specs.Prelude.{◌≡◌, ◌≢◌, ◌⊎◌, ℕ, ◌+◌, ◌*◌, ◌%◌, ◌^◌, ◌<◌, List, [], ◌++◌, length, All, IfOk, OnErr, IfErr, OnOk};
 ghost use Rattle.std.specs.List.{flat_map};
 ghost use Rattle.std.proofs.Common.{arith};
 ghost use Rattle.sctp_wire.specs.Fields.{be16, be32, be64, length_be16, length_be32};
+ghost use Rattle.sctp_wire.specs.Room.{Fills};
 
 use crate::ChunkParseError;
 use sctp_serial::{StreamId, Tsn};
@@ -69,7 +70,8 @@ pub fn ends_here(rest: &[u8]) -> Result<(), ChunkParseError>
 /// Appends the two bytes of a number.
 #[tactic(auto, unfolding(crate::specs::Fields::be16))]
 pub fn push_u16(output: &mut Vec<u8>, n: u16) -> Result<(), AllocError>
-    ensures { OnOk result (output.new.items ≡ output.old.items ++ be16 n) }
+    ensures wrote { OnOk result (output.new.items ≡ output.old.items ++ be16 n) }
+    ensures room { Fills output.old output.new 2 result }
 {
     output.extend_from_slice(&n.to_be_bytes())
 }
@@ -77,7 +79,8 @@ pub fn push_u16(output: &mut Vec<u8>, n: u16) -> Result<(), AllocError>
 /// Appends the four bytes of a number.
 #[tactic(auto, unfolding(crate::specs::Fields::be32))]
 pub fn push_u32(output: &mut Vec<u8>, n: u32) -> Result<(), AllocError>
-    ensures { OnOk result (output.new.items ≡ output.old.items ++ be32 n) }
+    ensures wrote { OnOk result (output.new.items ≡ output.old.items ++ be32 n) }
+    ensures room { Fills output.old output.new 4 result }
 {
     output.extend_from_slice(&n.to_be_bytes())
 }
@@ -85,7 +88,8 @@ pub fn push_u32(output: &mut Vec<u8>, n: u32) -> Result<(), AllocError>
 /// Appends the eight bytes of a number.
 #[tactic(auto, unfolding(crate::specs::Fields::be64))]
 pub fn push_u64(output: &mut Vec<u8>, n: u64) -> Result<(), AllocError>
-    ensures { OnOk result (output.new.items ≡ output.old.items ++ be64 n) }
+    ensures wrote { OnOk result (output.new.items ≡ output.old.items ++ be64 n) }
+    ensures room { Fills output.old output.new 8 result }
 {
     output.extend_from_slice(&n.to_be_bytes())
 }
@@ -108,7 +112,8 @@ pub trait Entry: Sized + Drop {
 
     /// Appends the entry's bytes.
     fn push_to(&self, output: &mut Vec<u8>) -> Result<(), AllocError>
-        ensures { OnOk result (output.new.items ≡ output.old.items ++ bytes_of self.now) };
+        ensures wrote { OnOk result (output.new.items ≡ output.old.items ++ bytes_of self.now) }
+        ensures room { Fills output.old output.new width result };
 
     ghost width_is_positive: { 0 < width };
 
@@ -134,7 +139,8 @@ pub fn entries_from_bytes<E: Entry>(alloc: Global, bytes: &[u8]) -> Result<Vec<E
 
 /// Appends the bytes of each entry.
 pub fn push_entries<E: Entry>(output: &mut Vec<u8>, entries: &[E]) -> Result<(), AllocError>
-    ensures { OnOk result (output.new.items ≡ output.old.items ++ flat_map E.bytes_of entries.now) }
+    ensures wrote { OnOk result (output.new.items ≡ output.old.items ++ flat_map E.bytes_of entries.now) }
+    ensures room { Fills output.old output.new (length entries.now * E.width) result }
 {
     for entry in entries {
         entry.push_to(output)?;

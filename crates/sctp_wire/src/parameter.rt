@@ -300,6 +300,7 @@ impl SerializableTlv for ZeroChecksumAcceptableParameter {
         true
     }
 
+    #[tactic(auto, using(crate::proofs::ParameterLemmas::length_zero_checksum), unfolding(crate::specs::Parameter::parameter_value))]
     fn push_value(&self, output: &mut Vec<u8>) -> Result<(), AllocError> {
         push_u32(output, self.method.0)
     }

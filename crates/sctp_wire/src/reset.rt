@@ -4,6 +4,7 @@ ghost use Rattle.std.specs.Prelude.{◌≡◌, ◌+◌, ◌^◌, ◌-◌, ◌<�
 ghost use Rattle.sctp_wire.specs.ParameterText.{parameter_text};
 ghost use Rattle.sctp_wire.specs.declared.error.ChunkParseError.TheVariants.{InvalidValue as no_value};
 ghost use Rattle.sctp_wire.specs.Parameter.{SaysParameter, RefusesParameterAs, parameter_item, parameter_value, parameter_is_whole, optional_tsn_bytes};
+ghost use Rattle.sctp_wire.specs.Room.{Fills};
 ghost use Rattle.sctp_wire.specs.ParameterViews.{outgoing_tree, incoming_tree, response_tree, result_number};
 
 use crate::ChunkParseError;
@@ -75,6 +76,7 @@ impl SerializableTlv for OutgoingSsnResetRequestParameter {
         true
     }
 
+    #[tactic(auto, using(crate::proofs::ParameterLemmas::length_outgoing), unfolding(crate::specs::Parameter::parameter_value))]
     fn push_value(&self, output: &mut Vec<u8>) -> Result<(), AllocError> {
         push_u32(output, self.request_seq_nbr)?;
         push_u32(output, self.response_seq_nbr)?;
@@ -151,6 +153,7 @@ impl SerializableTlv for IncomingSsnResetRequestParameter {
         true
     }
 
+    #[tactic(auto, using(crate::proofs::ParameterLemmas::length_incoming), unfolding(crate::specs::Parameter::parameter_value))]
     fn push_value(&self, output: &mut Vec<u8>) -> Result<(), AllocError> {
         push_u32(output, self.request_seq_nbr)?;
         push_entries(output, &self.streams)
@@ -298,6 +301,7 @@ impl SerializableTlv for ReconfigurationResponseParameter {
         self.sender_next_tsn.is_some() == self.receiver_next_tsn.is_some()
     }
 
+    #[tactic(auto, using(crate::proofs::ParameterLemmas::length_response), unfolding(crate::specs::Parameter::parameter_value))]
     fn push_value(&self, output: &mut Vec<u8>) -> Result<(), AllocError> {
         push_u32(output, self.response_seq_nbr)?;
         push_u32(output, self.result.number())?;
@@ -342,8 +346,10 @@ fn optional_tsn_size(tsn: Option<Tsn>) -> usize
     }
 }
 
+#[tactic(auto, using(crate::proofs::ParameterLemmas::length_present))]
 fn push_optional_tsn(output: &mut Vec<u8>, tsn: Option<Tsn>) -> Result<(), AllocError>
-    ensures { OnOk result (output.new.items ≡ output.old.items ++ optional_tsn_bytes tsn) }
+    ensures wrote { OnOk result (output.new.items ≡ output.old.items ++ optional_tsn_bytes tsn) }
+    ensures room { Fills output.old output.new (length (optional_tsn_bytes tsn)) result }
 {
     match tsn {
         Some(tsn) => push_u32(output, tsn.0),

@@ -4,6 +4,7 @@ ghost use Rattle.std.specs.Prelude.{◌≡◌, ◌≢◌, ℕ, ◌+◌, ◌-◌,
 ghost use Rattle.std.specs.List.{flat_map, list_all};
 ghost use Rattle.sctp_wire.specs.Fields.{be16};
 ghost use Rattle.sctp_wire.specs.Item.{Item, item_bytes, padding};
+ghost use Rattle.sctp_wire.specs.Room.{Fills};
 ghost use Rattle.sctp_wire.specs.Serialize.{IsEncodable, is_encodable, padded_item, inner_items};
 
 use crate::field::push_u16;
@@ -36,7 +37,8 @@ pub trait SerializableTlv {
     fn push_value(&self, output: &mut Vec<u8>) -> Result<(), AllocError>
         requires fits { IsEncodable (item_of self.now) }
         requires whole { parts_agree self.now ≡ true }
-        ensures { OnOk result (output.new.items ≡ output.old.items ++ (item_of self.now).value) };
+        ensures wrote { OnOk result (output.new.items ≡ output.old.items ++ (item_of self.now).value) }
+        ensures room { Fills output.old output.new (length (item_of self.now).value) result };
 
     /// Whether the item can be written: its length fits 16 bits, and it is whole.
     final fn encodable(&self) -> bool
@@ -59,17 +61,20 @@ pub trait SerializableTlv {
     final fn push_item(&self, output: &mut Vec<u8>) -> Result<(), AllocError>
         requires fits { IsEncodable (item_of self.now) }
         requires whole { parts_agree self.now ≡ true }
-        ensures { OnOk result (output.new.items ≡ output.old.items ++ item_bytes (item_of self.now)) }
+        ensures wrote { OnOk result (output.new.items ≡ output.old.items ++ item_bytes (item_of self.now)) }
+        ensures room { Fills output.old output.new (length (item_bytes (item_of self.now))) result }
     {
         write_item_header(self.kind(), self.value_size(), output)?;
         self.push_value(output)
     }
 
     /// Appends the item, and zeros up to a multiple of four bytes.
+    #[tactic(auto, using(crate::proofs::SerializeLemmas::length_padded_item))]
     final fn serialize_to(&self, output: &mut Vec<u8>) -> Result<(), AllocError>
         requires fits { IsEncodable (item_of self.now) }
         requires whole { parts_agree self.now ≡ true }
-        ensures { OnOk result (output.new.items ≡ output.old.items ++ padded_item (item_of self.now)) }
+        ensures wrote { OnOk result (output.new.items ≡ output.old.items ++ padded_item (item_of self.now)) }
+        ensures room { Fills output.old output.new (length (padded_item (item_of self.now))) result }
     {
         self.push_item(output)?;
         push_zeros(padding_len(self.value_size()), output)
@@ -86,7 +91,8 @@ pub fn padding_len(size: usize) -> usize
 /// Appends up to three zeros.
 fn push_zeros(count: usize, output: &mut Vec<u8>) -> Result<(), AllocError>
     requires { count < 4 }
-    ensures { OnOk result (output.new.items ≡ output.old.items ++ replicate count 0) }
+    ensures wrote { OnOk result (output.new.items ≡ output.old.items ++ replicate count 0) }
+    ensures room { Fills output.old output.new count result }
 {
     output.extend_from_slice(&[0, 0, 0][..count])
 }
@@ -98,7 +104,8 @@ pub fn write_item_header(
     output: &mut Vec<u8>,
 ) -> Result<(), AllocError>
     requires { 4 + value_size < 2 ^ 16 }
-    ensures { OnOk result (output.new.items ≡ output.old.items ++ (kind ++ be16 (4 + value_size))) }
+    ensures wrote { OnOk result (output.new.items ≡ output.old.items ++ (kind ++ be16 (4 + value_size))) }
+    ensures room { Fills output.old output.new 4 result }
 {
     output.extend_from_slice(&kind)?;
     push_u16(output, (4 + value_size) as u16)
@@ -111,7 +118,8 @@ pub fn write_parameter_header(
     output: &mut Vec<u8>,
 ) -> Result<(), AllocError>
     requires { 4 + value_size < 2 ^ 16 }
-    ensures { OnOk result (output.new.items ≡ output.old.items ++ (be16 typ ++ be16 (4 + value_size))) }
+    ensures wrote { OnOk result (output.new.items ≡ output.old.items ++ (be16 typ ++ be16 (4 + value_size))) }
+    ensures room { Fills output.old output.new 4 result }
 {
     push_u16(output, typ)?;
     push_u16(output, (4 + value_size) as u16)
@@ -142,13 +150,15 @@ pub fn all_encodable<T: SerializableTlv>(items: &[T]) -> bool
 }
 
 /// Appends the items as part of the value around them: each but the last with its padding.
+#[tactic(auto, using(crate::proofs::SerializeLemmas::item_fits))]
 pub fn parameters_serialize_to<T: SerializableTlv>(
     parameters: &[T],
     output: &mut Vec<u8>,
 ) -> Result<(), AllocError>
     requires fit { All (λ parameter. IsEncodable (T.item_of parameter)) parameters.now }
     requires whole { All (λ parameter. T.parts_agree parameter ≡ true) parameters.now }
-    ensures { OnOk result (output.new.items ≡ output.old.items ++ inner_items (map T.item_of parameters.now)) }
+    ensures wrote { OnOk result (output.new.items ≡ output.old.items ++ inner_items (map T.item_of parameters.now)) }
+    ensures room { Fills output.old output.new (length (inner_items (map T.item_of parameters.now))) result }
 {
     let mut padding = 0;
     for parameter in parameters {

@@ -4,9 +4,9 @@ use Rattle.sctp_wire.specs.Item.{padding}
 use Rattle.sctp_wire.proofs.SerializeLemmas.{item_padded}
 use Rattle.sctp_wire.proofs.serialize.SerializableTlv.serialize_to.Goals as goal
 
-pub returns : goal.returns
-returns g c =
+pub returns-clause-wrote : goal.returns-clause-wrote
+returns-clause-wrote g c =
     let item = g.Self.SerializableTlv.item_of c.args.self.now in
     let pad : c.padding_len.result ≡ padding (length item.value) = omega arith in
-    IfOk-equal c.push_zeros.result _ _ _ c.push_zeros.ensures
-    (item_padded c.args.output.now.items _ item _ c.in_ok-push_item.ensures pad)
+    IfOk-equal c.push_zeros.result _ _ _ c.push_zeros.ensures.wrote
+    (item_padded c.args.output.now.items _ item _ c.in_ok-push_item.ensures.wrote pad)
