@@ -58,6 +58,29 @@ still_packet h limit old new t has room first more =
       fits = λ some. omega (arith, room, ap length whole, length_unsummed h (drop 12 old ++ chunk_bytes t), length-append (drop 12 old) (chunk_bytes t), chunk_is_some t);
     }
 
+-- the room that was reserved stays
+pub still_reserved : (old : List ℕ) (limit before after : ℕ) → (0 < length old → limit ≤ before) → (old ≡ [] → limit ≤ after) → (0 < length old → before ≤ after) → limit ≤ after
+still_reserved [] limit before after had first more = first refl
+still_reserved (b ∷ old) limit before after had first more =
+    let kept : limit ≤ before = had (omega arith) in
+    let grown : before ≤ after = more (omega arith) in
+    omega arith
+
+-- a chunk that fits has room behind others
+pub has_no_lack : (h : HeaderTree) (limit capacity n size : ℕ) (bytes : List ℕ) → HasPacket h limit bytes → (0 < length bytes → limit ≤ capacity) → n ≡ length bytes → 0 < length bytes
+    → size ≤ limit - (12 + length (drop 12 bytes)) → capacity < n + size → ⊥
+has_no_lack h limit capacity n size bytes has reserved len some room lack =
+    omega (arith, has.more_than_header some, has.fits some, reserved some, length-drop 12 bytes)
+
+-- behind a header something was added
+pub some_body : (bytes : List ℕ) → (drop 12 bytes ≢ []) → 0 < length bytes
+some_body [] other = absurd (other refl)
+some_body (b ∷ bytes) other = omega arith
+
+pub no_body : (h : HeaderTree) (limit : ℕ) (bytes : List ℕ) → HasPacket h limit bytes → (0 < length bytes → ⊥) → bytes ≡ []
+no_body h limit [] has none = refl
+no_body h limit (b ∷ bytes) has none = absurd (none (omega arith))
+
 chunks_bytes-push : (chunks : List ChunkTree) (t : ChunkTree) → chunks_bytes (chunks ++ t ∷ []) ≡ chunks_bytes chunks ++ chunk_bytes t
 unfolding chunks_bytes
 chunks_bytes-push [] t = flat_map-cons chunk_bytes t [] ∙ append-nil (chunk_bytes t)

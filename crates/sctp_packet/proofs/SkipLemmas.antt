@@ -1,16 +1,41 @@
 -- Entries of FORWARD-TSN and I-FORWARD-TSN.
-use Rattle.std.proofs.Common.{◌≡◌, ℕ, ◌+◌, ◌*◌, ◌%◌, ◌<◌, ◌≢◌, ◌^◌, Bool, true, false, List, [], ◌∷◌, ◌++◌, length, refl, sym, ap, ◌∙◌, append_assoc, arith}
+use Rattle.std.proofs.Common.{◌≡◌, ℕ, zero, suc, ◌+◌, ◌*◌, ◌%◌, ◌<◌, ◌≤◌, ◌≢◌, ◌^◌, Bool, true, false, List, [], ◌∷◌, ◌++◌, length, take, get_or, refl, sym, ap, ◌∙◌, append_assoc, arith}
 use Rattle.std.specs.List.{flat_map, list_all}
 use Rattle.std.proofs.lemmas.List.{length-append, append-nil}
 use Rattle.std.proofs.lemmas.List.Concat.{flat_map-cons}
 use Rattle.std.proofs.lemmas.Nat.{mod-mul-add}
 use Rattle.sctp_serial.specs.declared.api.StreamId.{StreamId}
 use Rattle.sctp_serial.specs.declared.types.ssn.Ssn.{Ssn}
+use Rattle.sctp_serial.specs.declared.types.mid.Mid.{Mid}
+use Rattle.sctp_serial.specs.declared.types.StreamKey.{StreamKey}
 use Rattle.sctp_wire.specs.Fields.{be16, be32}
 use Rattle.sctp_packet.specs.declared.forward_tsn.SkippedStream.{SkippedStream}
 use Rattle.sctp_packet.specs.declared.forward_tsn.SkippedStream.TheVariants as skips
 use Rattle.sctp_packet.specs.Written.{skip_bytes, is_ssn_skip}
 use Rattle.sctp_packet.specs.Grammar.{Each, SaysSkip, SaysSkips}
+
+-- one more fits where all of them do
+pub front_fits : {X : Type 0} (f : X → List ℕ) (xs : List X) (i : ℕ) (d : X) → i < length xs
+    → length (flat_map f (take i xs)) + length (f (get_or xs i d)) ≤ length (flat_map f xs)
+front_fits f [] i d low = absurd (omega arith)
+front_fits f (y ∷ ys) zero d low = omega (arith, ap length (flat_map-cons f y ys), length-append (f y) (flat_map f ys))
+front_fits f (y ∷ ys) (suc i) d low =
+    omega (
+      arith,
+      front_fits f ys i d (omega arith),
+      ap length (flat_map-cons f y ys),
+      length-append (f y) (flat_map f ys),
+      ap length (flat_map-cons f y (take i ys)),
+      length-append (f y) (flat_map f (take i ys)),
+    )
+
+pub length_ssn_skip : (id : StreamId) (ssn : Ssn) → length (skip_bytes (skips.ForwardTsn id ssn)) ≡ 4
+unfolding skip_bytes be16
+length_ssn_skip id ssn = refl
+
+pub length_mid_skip : (key : StreamKey) (mid : Mid) → length (skip_bytes (skips.IForwardTsn key mid)) ≡ 8
+unfolding skip_bytes be16 be32
+length_mid_skip key mid = refl
 
 pub length_ssn_skips : (ss : List SkippedStream) → list_all is_ssn_skip ss ≡ true → length (flat_map skip_bytes ss) ≡ length ss * 4
 unfolding skip_bytes be16

@@ -23,6 +23,16 @@ pub length_idata : (tsn : ℕ) (i : Bool) (f : FragmentTree) → length (chunk_v
 unfolding chunk_value idata_value be16 be32
 length_idata tsn i f = omega arith
 
+-- the same of their fields
+pub length_data_fields : (tsn stream ssn ppid : ℕ) (payload : List ℕ) → length (be32 tsn ++ (be16 stream ++ (be16 ssn ++ (be32 ppid ++ payload)))) ≡ 12 + length payload
+unfolding be16 be32
+length_data_fields tsn stream ssn ppid payload = omega arith
+
+pub length_idata_fields : (tsn stream reserved mid number : ℕ) (payload : List ℕ)
+    → length (be32 tsn ++ (be16 stream ++ (be16 reserved ++ (be32 mid ++ (be32 number ++ payload))))) ≡ 16 + length payload
+unfolding be16 be32
+length_idata_fields tsn stream reserved mid number payload = omega arith
+
 pub length_shutdown : (tsn : ℕ) → length (chunk_value (shutdown_chunk tsn)) ≡ 4
 unfolding chunk_value be32
 length_shutdown tsn = refl

@@ -1,5 +1,5 @@
 -- What a builder's fields mean.
-use Rattle.std.specs.Prelude.{◌≡◌, ◌<◌, length, drop, ℕ, List}
+use Rattle.std.specs.Prelude.{◌≡◌, ◌<◌, ◌≤◌, length, drop, ℕ, List, vec_capacity}
 use Rattle.sctp_packet.specs.declared.builder.SctpPacketBuilder.TheInside.{Inside}
 use Rattle.sctp_packet.specs.Packet.{HeaderTree}
 use Rattle.sctp_packet.specs.Builder.{BuilderTree, HasPacket}
@@ -10,5 +10,7 @@ builder_header b = record { source_port = b.source_port; destination_port = b.de
 abbrev pub builder_tree : Inside → BuilderTree
 builder_tree b = record { header = builder_header b; limit = b.limit; writes_checksum = b.write_checksum; body = drop 12 b.bytes.items }
 
-abbrev pub IsBuilder : Inside → Type 0
-IsBuilder b = HasPacket (builder_header b) b.limit b.bytes.items
+-- a packet so far, and room for all that may follow
+pub record IsBuilder (b : Inside) : Type 0 where
+  pub packet : HasPacket (builder_header b) b.limit b.bytes.items
+  pub reserved : 0 < length b.bytes.items → b.limit ≤ vec_capacity b.bytes

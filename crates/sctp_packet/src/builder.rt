@@ -1,8 +1,9 @@
 //! Packets written: chunks one after the other behind a common header, up to a limit.
 
-ghost use Rattle.std.specs.Prelude.{◌≡◌, ◌≢◌, ◌⊎◌, ℕ, ◌+◌, ◌-◌, ◌<◌, ◌≤◌, ◌^◌, ◌==◌, ◌&&◌, nat_le, Bool, true, false, if◌then◌else◌, List, [], ◌∷◌, ◌++◌, length, take, drop, IfOk, OnOk, OnErr, IsTrue, ◌↔◌};
+ghost use Rattle.std.specs.Prelude.{◌≡◌, ◌≢◌, ◌⊎◌, ℕ, ◌+◌, ◌-◌, ◌<◌, ◌≤◌, ◌^◌, ◌==◌, ◌&&◌, nat_le, Bool, true, false, if◌then◌else◌, List, [], ◌∷◌, ◌++◌, length, take, drop, IfOk, IsOk, OnOk, OnErr, IsTrue, ◌↔◌, vec_capacity};
 ghost use Rattle.sctp_wire.specs.Fields.{be16, be32};
 ghost use Rattle.sctp_wire.specs.Serialize.{IsEncodable, is_encodable, padded_item};
+ghost use Rattle.sctp_wire.specs.Room.{Fills};
 ghost use Rattle.sctp_packet.specs.Chunk.{ChunkTree};
 ghost use Rattle.sctp_packet.specs.Written.{chunk_item, chunk_bytes, chunk_is_whole};
 ghost use Rattle.sctp_packet.specs.ChunkView.{chunk_tree};
@@ -118,7 +119,8 @@ impl SctpPacketBuilder {
     /// Adds a chunk behind those that were added.
     ///
     /// The caller sees to it that the chunk can be written (`encodable`) and that its `serialized_size` is at most
-    /// `bytes_remaining`. The first call reserves the limit. Where there is no memory the builder is empty.
+    /// `bytes_remaining`. The first call reserves the limit, and later ones take no memory. Where there is none the
+    /// builder is as it was, which is empty.
     pub fn add(&mut self, chunk: &Chunk) -> Result<(), AllocError>
         requires encodable { IsEncodable (chunk_item (chunk_tree chunk.now)) }
         requires whole { chunk_is_whole (chunk_tree chunk.now) ≡ true }
@@ -126,7 +128,8 @@ impl SctpPacketBuilder {
         ensures ok { OnOk result (self.new ≡ record self.old { body = self.old.body ++ chunk_bytes (chunk_tree chunk.now) }) }
         ensures holds { (chunks : List ChunkTree) → Holds self.old chunks
             → OnOk result (Holds self.new (chunks ++ chunk_tree chunk.now ∷ [])) }
-        ensures err { OnErr result (self.new ≡ record self.old { body = [] }) }
+        ensures later { self.old.body ≢ [] → IsOk result }
+        ensures err { OnErr result (self.new ≡ self.old) }
     {
         let header = CommonHeader {
             source_port: self.source_port,
@@ -175,6 +178,8 @@ fn push_chunk(
 ) -> Result<(), AllocError>
     requires encodable { IsEncodable (chunk_item (chunk_tree chunk.now)) }
     requires whole { chunk_is_whole (chunk_tree chunk.now) ≡ true }
+    ensures reserved { bytes.old.items ≡ [] → OnOk result (limit ≤ vec_capacity bytes.new) }
+    ensures room { 0 < length bytes.old.items → Fills bytes.old bytes.new (length (chunk_bytes (chunk_tree chunk.now))) result }
     ensures first { bytes.old.items ≡ [] → OnOk result (bytes.new.items ≡ unsummed_bytes (header_tree header) (chunk_bytes (chunk_tree chunk.now))) }
     ensures more { 0 < length bytes.old.items → OnOk result (bytes.new.items ≡ bytes.old.items ++ chunk_bytes (chunk_tree chunk.now)) }
 {
@@ -188,7 +193,8 @@ fn push_chunk(
 /// Appends a header, its checksum zero.
 #[tactic(auto, unfolding(crate::specs::Packet::unsummed_bytes, crate::specs::Packet::header_bytes))]
 fn push_header(bytes: &mut Vec<u8>, header: CommonHeader) -> Result<(), AllocError>
-    ensures { OnOk result (bytes.new.items ≡ bytes.old.items ++ unsummed_bytes (header_tree header) []) }
+    ensures wrote { OnOk result (bytes.new.items ≡ bytes.old.items ++ unsummed_bytes (header_tree header) []) }
+    ensures room { Fills bytes.old bytes.new 12 result }
 {
     push_u16(bytes, header.source_port)?;
     push_u16(bytes, header.destination_port)?;

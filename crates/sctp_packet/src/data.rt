@@ -184,6 +184,7 @@ impl SerializableTlv for DataChunk {
         true
     }
 
+    #[tactic(auto, using(crate::proofs::ValueLemmas::length_data_fields), unfolding(crate::specs::Written::chunk_value, crate::specs::Written::data_value))]
     fn push_value(&self, output: &mut Vec<u8>) -> Result<(), AllocError> {
         push_u32(output, self.tsn.0)?;
         push_u16(output, self.data.stream_key.id().0)?;
@@ -255,6 +256,7 @@ impl SerializableTlv for IDataChunk {
         true
     }
 
+    #[tactic(auto, using(crate::proofs::ValueLemmas::length_idata_fields), unfolding(crate::specs::Written::chunk_value, crate::specs::Written::idata_value))]
     fn push_value(&self, output: &mut Vec<u8>) -> Result<(), AllocError> {
         push_u32(output, self.tsn.0)?;
         push_u16(output, self.data.stream_key.id().0)?;

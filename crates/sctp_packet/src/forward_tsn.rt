@@ -2,6 +2,7 @@
 
 ghost use Rattle.std.specs.Prelude.{◌≡◌, ◌≢◌, ◌⊎◌, ℕ, List, ◌+◌, ◌*◌, ◌%◌, ◌^◌, ◌-◌, ◌<◌, ◌≤◌, min, Bool, true, [], ◌∷◌, ◌++◌, length, IfOk, IfErr, OnOk, OnErr};
 ghost use Rattle.std.specs.List.{flat_map, list_all};
+ghost use Rattle.sctp_wire.specs.Room.{Fills};
 ghost use Rattle.sctp_packet.specs.Written.{chunk_item, chunk_is_whole, skip_bytes, is_ssn_skip, is_mid_skip, key_flag, key_stream, flag};
 ghost use Rattle.sctp_packet.specs.Grammar.{IsChunk, RefusesChunkAs};
 ghost use Rattle.sctp_packet.specs.Views.{raw_chunk, forward_tsn_tree, i_forward_tsn_tree};
@@ -61,8 +62,10 @@ impl SkippedStream {
     }
 
     /// Appends the entry.
+    #[tactic(auto, using(crate::proofs::SkipLemmas::length_ssn_skip, crate::proofs::SkipLemmas::length_mid_skip), unfolding(crate::specs::Written::skip_bytes))]
     fn push_to(&self, output: &mut Vec<u8>) -> Result<(), AllocError>
-        ensures { OnOk result (output.new.items ≡ output.old.items ++ skip_bytes self.now) }
+        ensures wrote { OnOk result (output.new.items ≡ output.old.items ++ skip_bytes self.now) }
+        ensures room { Fills output.old output.new (length (skip_bytes self.now)) result }
     {
         match self {
             SkippedStream::ForwardTsn(id, ssn) => {
@@ -99,8 +102,10 @@ fn skips_size(skipped: &[SkippedStream]) -> usize
 }
 
 /// Appends the entries.
+#[tactic(auto, using(crate::proofs::SkipLemmas::front_fits))]
 fn push_skips(skipped: &[SkippedStream], output: &mut Vec<u8>) -> Result<(), AllocError>
-    ensures { OnOk result (output.new.items ≡ output.old.items ++ flat_map skip_bytes skipped.now) }
+    ensures wrote { OnOk result (output.new.items ≡ output.old.items ++ flat_map skip_bytes skipped.now) }
+    ensures room { Fills output.old output.new (length (flat_map skip_bytes skipped.now)) result }
 {
     for skip in skipped {
         skip.push_to(output)?;
@@ -264,6 +269,7 @@ impl SerializableTlv for ForwardTsnChunk {
         are_ssn_skips(&self.skipped_streams)
     }
 
+    #[tactic(auto, using(crate::proofs::ValueLemmas::length_forward), unfolding(crate::specs::Written::chunk_value, crate::specs::Written::forward_value))]
     fn push_value(&self, output: &mut Vec<u8>) -> Result<(), AllocError> {
         push_u32(output, self.new_cumulative_tsn.0)?;
         push_skips(&self.skipped_streams, output)
@@ -289,6 +295,7 @@ impl SerializableTlv for IForwardTsnChunk {
         are_mid_skips(&self.skipped_streams)
     }
 
+    #[tactic(auto, using(crate::proofs::ValueLemmas::length_i_forward), unfolding(crate::specs::Written::chunk_value, crate::specs::Written::forward_value))]
     fn push_value(&self, output: &mut Vec<u8>) -> Result<(), AllocError> {
         push_u32(output, self.new_cumulative_tsn.0)?;
         push_skips(&self.skipped_streams, output)

@@ -1,6 +1,7 @@
 //! INIT and INIT ACK (RFC 9260 sections 3.3.2 and 3.3.3).
 
 ghost use Rattle.std.specs.Prelude.{◌≡◌, ◌⊎◌, ◌+◌, ◌^◌, ◌-◌, ◌<◌, ◌≤◌, min, true, [], ◌∷◌, ◌++◌, length, map, drop, IfOk, IfErr, OnOk, OnErr};
+ghost use Rattle.sctp_wire.specs.Room.{Fills};
 ghost use Rattle.sctp_packet.specs.Written.{chunk_item, chunk_is_whole};
 ghost use Rattle.sctp_packet.specs.Grammar.{IsChunk, RefusesChunkAs};
 ghost use Rattle.sctp_packet.specs.Written.{init_fields};
@@ -58,7 +59,8 @@ impl InitFields {
     }
 
     fn push_to(self, output: &mut Vec<u8>) -> Result<(), AllocError>
-        ensures { OnOk result (output.new.items ≡ output.old.items ++ init_front self) }
+        ensures wrote { OnOk result (output.new.items ≡ output.old.items ++ init_front self) }
+        ensures room { Fills output.old output.new 16 result }
     {
         push_u32(output, self.initiate_tag)?;
         push_u32(output, self.a_rwnd)?;

@@ -2,6 +2,7 @@
 
 ghost use Rattle.std.specs.Prelude.{◌≡◌, ◌+◌, ◌^◌, ◌-◌, ◌<◌, min, true, ◌++◌, length, map, OnOk};
 ghost use Rattle.std.specs.List.{list_all};
+ghost use Rattle.sctp_wire.specs.Room.{Fills};
 ghost use Rattle.sctp_wire.specs.Serialize.{inner_items};
 ghost use Rattle.sctp_wire.specs.Parameter.{parameter_item, parameter_is_whole};
 ghost use Rattle.sctp_wire.specs.ParameterViews.{parameter_tree};
@@ -36,7 +37,8 @@ pub fn parameters_size(parameters: &[Parameter]) -> usize
 pub fn push_parameters(parameters: &[Parameter], output: &mut Vec<u8>) -> Result<(), AllocError>
     requires fits { 4 + length (inner_items (map parameter_item (map parameter_tree parameters.now))) < 2 ^ 16 }
     requires whole { list_all parameter_is_whole (map parameter_tree parameters.now) ≡ true }
-    ensures { OnOk result (output.new.items ≡ output.old.items ++ inner_items (map parameter_item (map parameter_tree parameters.now))) }
+    ensures wrote { OnOk result (output.new.items ≡ output.old.items ++ inner_items (map parameter_item (map parameter_tree parameters.now))) }
+    ensures room { Fills output.old output.new (length (inner_items (map parameter_item (map parameter_tree parameters.now)))) result }
 {
     parameters_serialize_to(parameters, output)
 }
@@ -51,7 +53,8 @@ pub fn causes_size(causes: &[ErrorCause]) -> usize
 /// Appends the causes as a value.
 pub fn push_causes(causes: &[ErrorCause], output: &mut Vec<u8>) -> Result<(), AllocError>
     requires { 4 + length (inner_items (map cause_item (map cause_tree causes.now))) < 2 ^ 16 }
-    ensures { OnOk result (output.new.items ≡ output.old.items ++ inner_items (map cause_item (map cause_tree causes.now))) }
+    ensures wrote { OnOk result (output.new.items ≡ output.old.items ++ inner_items (map cause_item (map cause_tree causes.now))) }
+    ensures room { Fills output.old output.new (length (inner_items (map cause_item (map cause_tree causes.now)))) result }
 {
     parameters_serialize_to(causes, output)
 }

@@ -5,6 +5,7 @@ ghost use Rattle.std.specs.Prelude.{◌≡◌, ◌≢◌, ◌+◌, ◌<◌, ◌^
 ghost use Rattle.sctp_wire.specs.Fields.{be16};
 ghost use Rattle.sctp_wire.specs.Item.{Takes, TakesNone};
 ghost use Rattle.sctp_wire.specs.Views.{raw_item};
+ghost use Rattle.sctp_wire.specs.Room.{Fills};
 ghost use Rattle.sctp_packet.specs.Views.{raw_chunk};
 
 use sctp_wire::{ChunkParseError, RawItem, write_item_header};
@@ -61,7 +62,8 @@ pub fn write_chunk_header(
     output: &mut Vec<u8>,
 ) -> Result<(), AllocError>
     requires { 4 + value_size < 2 ^ 16 }
-    ensures { OnOk result (output.new.items ≡ output.old.items ++ ((typ ∷ flags ∷ []) ++ be16 (4 + value_size))) }
+    ensures wrote { OnOk result (output.new.items ≡ output.old.items ++ ((typ ∷ flags ∷ []) ++ be16 (4 + value_size))) }
+    ensures room { Fills output.old output.new 4 result }
 {
     write_item_header([typ, flags], value_size, output)
 }

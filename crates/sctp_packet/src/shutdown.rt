@@ -59,6 +59,7 @@ impl SerializableTlv for ShutdownChunk {
         true
     }
 
+    #[tactic(auto, using(crate::proofs::ValueLemmas::length_shutdown), unfolding(crate::specs::Written::chunk_value))]
     fn push_value(&self, output: &mut Vec<u8>) -> Result<(), AllocError> {
         push_u32(output, self.cumulative_tsn_ack.0)
     }

@@ -11,7 +11,7 @@ unfolding chunk_bytes
 returns-clause-first c none =
     elim c.if-is_empty.branch [
       | then-is_empty+in_ok-reserve_exact+in_ok-push_header w ↦
-          IfOk-equal c.serialize_to.result _ _ _ c.serialize_to.ensures
-          (chunk_behind_header (header_tree c.args.header) c.args.bytes.now.items c.if-is_empty.bytes.items _ none (rw (w.bytes-is, w.in_ok-push_header.ensures, w.reserve_exact.ensures.items) refl))
+          IfOk-equal c.serialize_to.result _ _ _ c.serialize_to.ensures.wrote
+          (chunk_behind_header (header_tree c.args.header) c.args.bytes.now.items c.if-is_empty.bytes.items _ none (rw (w.bytes-is, w.in_ok-push_header.ensures.wrote, w.reserve_exact.ensures.items) refl))
       | else-is_empty w ↦ absurd (not_empty (vec_len c.args.bytes.now) c.args.bytes.now.items w.if-is_empty.ensures c.args.bytes.now.ok.0 none)
     ]

@@ -14,5 +14,8 @@ use Rattle.sctp_packet.proofs.inner.push_causes.Goals as goal
 pub parameters_serialize_to-requires-clause-fit : goal.parameters_serialize_to-requires-clause-fit
 parameters_serialize_to-requires-clause-fit c = each_fits (λ it. cause_item (cause_tree it)) c.args.causes.now (rw map-map at c.requires)
 
-pub returns : goal.returns
-returns c = rw map-map (search rules)
+pub returns-clause-wrote : goal.returns-clause-wrote
+returns-clause-wrote c = rw map-map (search rules)
+
+pub returns-clause-room : goal.returns-clause-room
+returns-clause-room c = rw map-map (search rules)

@@ -18,5 +18,8 @@ pub parameters_serialize_to-requires-clause-whole : goal.parameters_serialize_to
 parameters_serialize_to-requires-clause-whole c =
     AllPass-from_list_all (λ it. parameter_is_whole (parameter_tree it)) c.args.parameters.now (rw list_all-map at c.requires.whole)
 
-pub returns : goal.returns
-returns c = rw map-map (search rules)
+pub returns-clause-wrote : goal.returns-clause-wrote
+returns-clause-wrote c = rw map-map (search rules)
+
+pub returns-clause-room : goal.returns-clause-room
+returns-clause-room c = rw map-map (search rules)

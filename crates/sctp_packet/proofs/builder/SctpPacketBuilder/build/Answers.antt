@@ -13,8 +13,8 @@ returns-clause-packet c =
       | then-self+then-not-is_empty w ↦
           let some : 0 < length bytes = some_bytes (vec_len c.replace-bytes.result) c.replace-bytes.result.items bytes w.if-not-is_empty.ensures c.replace-bytes.result.ok.0 taken in
           let wrote : w.write_word.new.bytes ≡ take 8 bytes ++ (be32 c.args.word ++ drop 12 bytes) = rw (w.deref_mut.ensures.value, taken) at w.write_word.ensures in
-          let long : 12 ≤ length bytes = omega (arith, c.self.invariant.more_than_header some) in
-          built_summed (builder_header c.self.inside) c.self.inside.limit bytes c.if-self.bytes.items c.args.word c.self.inside.write_checksum c.self.invariant
+          let long : 12 ≤ length bytes = omega (arith, c.self.invariant.packet.more_than_header some) in
+          built_summed (builder_header c.self.inside) c.self.inside.limit bytes c.if-self.bytes.items c.args.word c.self.inside.write_checksum c.self.invariant.packet
           some w.if-self.true
           (ap (λ (v : Vec ℕ Global). v.items) w.bytes-is
           ∙ written_whole c.replace-bytes.result.len w.write_word.new.bytes _ bytes c.args.word (c.replace-bytes.result.ok.0 ∙ ap length taken) long wrote ∙ wrote)
@@ -23,11 +23,11 @@ returns-clause-packet c =
             ap (λ (v : Vec ℕ Global). v.items) w.bytes-is ∙ taken ∙ built_none (builder_header c.self.inside) bytes c.args.word c.self.inside.write_checksum
             (no_bytes (vec_len c.replace-bytes.result) c.replace-bytes.result.items bytes v.if-not-is_empty.ensures c.replace-bytes.result.ok.0 taken)
         | else-self-via-else-self v ↦
-            ap (λ (v : Vec ℕ Global). v.items) w.bytes-is ∙ taken ∙ built_off (builder_header c.self.inside) c.self.inside.limit bytes c.args.word c.self.inside.write_checksum c.self.invariant v.if-self.false
+            ap (λ (v : Vec ℕ Global). v.items) w.bytes-is ∙ taken ∙ built_off (builder_header c.self.inside) c.self.inside.limit bytes c.args.word c.self.inside.write_checksum c.self.invariant.packet v.if-self.false
       ]
     ])
 
 pub returns-clause-short : goal.returns-clause-short
 returns-clause-short c =
     let is_built = rw (← c.self.view_is) at (returns-clause-packet c) in
-    rw (← c.self.view_is) (built_short (builder_header c.self.inside) c.self.inside.limit c.self.inside.bytes.items c.if-self.bytes.items c.args.word c.self.inside.write_checksum c.self.invariant is_built)
+    rw (← c.self.view_is) (built_short (builder_header c.self.inside) c.self.inside.limit c.self.inside.bytes.items c.if-self.bytes.items c.args.word c.self.inside.write_checksum c.self.invariant.packet is_built)
