@@ -1,4 +1,6 @@
+pub mod BegunLemmas
 pub mod ProduceLemmas
 pub mod ResetLemmas
 pub mod StreamLemmas
 pub mod StreamsLemmas
+pub mod TellingLemmas

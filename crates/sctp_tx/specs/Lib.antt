@@ -1,3 +1,5 @@
+pub mod Begun
+pub mod Interrupted
 pub mod Produced
 pub mod Queue
 pub mod Resets

@@ -45,10 +45,6 @@ abbrev pub is_front : ℕ → List Queued → Bool
 is_front number [] = false
 is_front number (m ∷ rest) = m.number == number
 
-abbrev pub popped_if : ℕ → List Queued → List Queued
-popped_if number [] = []
-popped_if number (m ∷ rest) = if m.number == number then rest else m ∷ rest
-
 abbrev pub without_front : ℕ → List Queued → Stream → Stream
 without_front number [] s = s
 without_front number (m ∷ rest) s = if m.number == number then record s { messages = rest; pause = settled s.pause } else s
