@@ -113,7 +113,6 @@ inserted-written id a b (e ∷ es) none = go (nat_cmp id e.0) refl none (inserte
     go Equal q none ih = absurd (cc)
     go Greater q none ih = ap (λ t. cond (is_eq t) ((e.0, b) ∷ insert_entry nat_cmp es id a) (e ∷ set_value (is_at (nat_cmp id)) (insert_entry nat_cmp es id a) b)) q ∙ ap (λ xs. e ∷ xs) (ih none)
 
-
 -- a stream that goes into a request has nothing to send
 pub requested-sendable : (id : ℕ) (ss : Streams) → sendable (stream id (put id (after_step Requested (stream id ss)) ss)) ≡ 0
 requested-sendable id ss = go (lookup (is_at (nat_cmp id)) ss.entries) refl

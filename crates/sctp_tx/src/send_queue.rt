@@ -427,7 +427,14 @@ impl SendQueue {
         let bytes = self.streams.sendable_without(id, message_id);
         let priority = self.streams.priority_without(id, message_id);
         let lifecycle_id = discarded.lifecycle_id;
-        leave_line(&mut self.scheduler, events, id, bytes, priority, lifecycle_id)?;
+        leave_line(
+            &mut self.scheduler,
+            events,
+            id,
+            bytes,
+            priority,
+            lifecycle_id,
+        )?;
         self.streams.discard(id, message_id);
         self.begun = begun_without(id, self.begun);
         Ok(())

@@ -101,7 +101,12 @@ fn interleaved_streams_take_turns_by_priority(rt: HostRuntime) -> Result<(), Fai
     let text: &[u8] = &[7; 100];
     for id in [1, 2, 3] {
         queue.set_priority(StreamId(id), id)?;
-        accept_all(&rt, rt.alloc(), &mut queue, &[(id, text), (id, text), (id, text)])?;
+        accept_all(
+            &rt,
+            rt.alloc(),
+            &mut queue,
+            &[(id, text), (id, text), (id, text)],
+        )?;
     }
     let order: [(u16, u16, u32, &[u8]); 9] = [
         (3, 0, 0, text),

@@ -295,7 +295,11 @@ fn sendable(pause_state: PauseState, left: usize) -> usize
 fn pause_after(is_end: bool, pause_state: PauseState) -> PauseState
     ensures { result ≡ pause_after is_end pause_state }
 {
-    if is_end { settled(pause_state) } else { pause_state }
+    if is_end {
+        settled(pause_state)
+    } else {
+        pause_state
+    }
 }
 
 impl Stream {

@@ -312,11 +312,7 @@ impl Streams {
     }
 
     /// The lifecycle id of the message at the front of a stream, if it is this one.
-    pub fn front_discarded(
-        &self,
-        id: StreamId,
-        message_id: OutgoingMessageId,
-    ) -> Option<Discarded>
+    pub fn front_discarded(&self, id: StreamId, message_id: OutgoingMessageId) -> Option<Discarded>
         ensures { option_map (λ d. d.lifecycle_id) result ≡ front_discarded message_id.0 (stream id.0 self.now).messages }
     {
         match self.streams.get(&id.0) {

@@ -20,8 +20,8 @@ loop-turns-preserved c =
       passed = (
         suc passed.0,
         passed-as (suc passed.0) c.args.now c.args.size c.args.self.now (turn c.args.now c.in-Some.id.0 c.args.size c.loop-turns.self c.loop-turns.events).queue c.turn.new.self c.args.events.now
-        (turn c.args.now c.in-Some.id.0 c.args.size c.loop-turns.self c.loop-turns.events).told c.turn.new.events
-        (passed-more passed.0 c.args.now c.args.size c.in-Some.id.0 c.args.self.now c.loop-turns.self c.args.events.now c.loop-turns.events passed.1 next (sym none)) c.in_ok-made.ensures.queue c.in_ok-made.ensures.told
+            (turn c.args.now c.in-Some.id.0 c.args.size c.loop-turns.self c.loop-turns.events).told c.turn.new.events
+            (passed-more passed.0 c.args.now c.args.size c.in-Some.id.0 c.args.self.now c.loop-turns.self c.args.events.now c.loop-turns.events passed.1 next (sym none)) c.in_ok-made.ensures.queue c.in_ok-made.ensures.told,
       );
     }
 

@@ -16,7 +16,7 @@ invariant_of-self-2 c =
       ap amount_of (c.in_ok-push.ensures.ok ∙ ap (λ s. pushed c.args.message s) c.new-stream.ensures),
       c.left-bytes.ensures.value,
       c.self.invariant,
-      ap (λ w. w.amount) c.increase.ensures
+      ap (λ w. w.amount) c.increase.ensures,
     )
 
 pub returns-clause-ok : goal.returns-clause-ok
