@@ -2,6 +2,8 @@ pub mod Begun
 pub mod Interrupted
 pub mod Produced
 pub mod Queue
+pub mod Readiness
 pub mod Resets
+pub mod Restarted
 pub mod Settings
 pub mod Views

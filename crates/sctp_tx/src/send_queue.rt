@@ -1,6 +1,6 @@
 //! Messages that wait to be sent.
 
-ghost use Rattle.std.specs.Prelude.{◌≡◌, ℕ, Bool, ◌+◌, ◌-◌, ◌<◌, ◌≤◌, ◌^◌, ◌==◌, [], length, not, is_some, None, Some, IsSome, IfOk, IfSome, OnOk, OnErr, option_map, map};
+ghost use Rattle.std.specs.Prelude.{◌≡◌, ℕ, Bool, ◌+◌, ◌-◌, ◌*◌, ◌<◌, ◌≤◌, ◌^◌, ◌==◌, [], length, not, is_some, None, Some, IsSome, IfOk, IfSome, OnOk, OnErr, option_map, map, take};
 ghost use Rattle.std.specs.List.{list_any};
 ghost use Rattle.std.specs.Map.{lookup, values_of};
 ghost use Rattle.std.specs.Ordering.{nat_cmp};
@@ -16,6 +16,8 @@ ghost use Rattle.sctp_tx.specs.Settings.{set_low_threshold, set_priority, set_mo
 ghost use Rattle.sctp_tx.specs.Resets.{prepare_reset, told_waiting, is_ready, requested, request_resets, commit_resets, roll_back_resets, stepped, each_stepped};
 ghost use Rattle.sctp_tx.specs.Begun.{Begins, GoesOn};
 ghost use Rattle.sctp_tx.specs.Interrupted.{Same, Freed, Stopped, Interrupted, SomeStepped};
+ghost use Rattle.sctp_tx.specs.Readiness.{readiness};
+ghost use Rattle.sctp_tx.specs.Restarted.{reset, restarted_one, each_restarted, SomeRestarted};
 ghost use Rattle.sctp_tx.specs.Views.{produced_of, queued_of};
 
 pub mod message;
@@ -26,7 +28,7 @@ mod telling;
 use crate::data_to_send::DataToSend;
 use message::QueuedMessage;
 use sctp_serial::{LifecycleId, Message, OutgoingMessageId, SocketTime, StreamId};
-use sctp_state::{Events, Options, SendOptions, SocketEvent, StreamScheduler};
+use sctp_state::{Events, HandoverReadiness, Options, SendOptions, SocketEvent, StreamScheduler};
 use std::alloc::{AllocError, Global};
 use std::marker::Model;
 use stream::ResetStep;
@@ -489,6 +491,62 @@ impl SendQueue {
             return Ok(());
         }
         self.scheduler.set_bytes_remaining(id, bytes, priority)?;
+        Ok(())
+    }
+
+    /// What stands in the way of a handover: messages, where `is_strict` says that none may be handed over, and streams
+    /// whose reset waits or is to be answered.
+    pub fn get_handover_readiness(&self, is_strict: bool) -> HandoverReadiness
+        ensures { result.0 ≡ readiness is_strict self.now }
+    {
+        let has_messages = is_strict && !self.streams.is_empty();
+        (HandoverReadiness::SEND_QUEUE_NOT_EMPTY & has_messages)
+            | (HandoverReadiness::PENDING_STREAM_RESET & self.streams.has_waiting())
+    }
+
+    /// How many streams were named.
+    pub fn stream_count(&self) -> usize
+        ensures { result ≡ length self.now.streams.entries }
+    {
+        self.streams.count()
+    }
+
+    /// A new association begins: the message that is partly sent is whole again, each stream is open, and its numbers
+    /// begin again. Numbers of messages go on. Without memory nothing changes, or this is done for some of the first
+    /// streams alone.
+    pub fn reset(&mut self) -> Result<(), AllocError>
+        requires { total_of self.old.streams.entries + 2 ^ 32 * length self.old.streams.entries + 2 ^ 32 < 2 ^ 64 }
+        ensures ok { OnOk result (self.new ≡ reset self.old) }
+        ensures err { OnErr result (SomeRestarted self.old self.new) }
+    {
+        let ids = self.streams.ids(self.alloc)?;
+        self.begun = None;
+        self.restart_all(&ids)?;
+        Ok(())
+    }
+
+    fn restart_all(&mut self, ids: &[StreamId]) -> Result<(), AllocError>
+        requires { total_of self.old.streams.entries + 2 ^ 32 * length ids.now + 2 ^ 32 < 2 ^ 64 }
+        ensures ok { OnOk result (self.new ≡ each_restarted (map (λ id. id.0) ids.now) self.old) }
+        ensures err { OnErr result ((count : ℕ) × (self.new ≡ each_restarted (take count (map (λ id. id.0) ids.now)) self.old)) }
+    {
+        for id in ids {
+            self.restart_one(*id)?;
+        }
+        Ok(())
+    }
+
+    // A new association begins for a stream. Without memory nothing changes.
+    fn restart_one(&mut self, id: StreamId) -> Result<(), AllocError>
+        requires { total_of self.old.streams.entries + 2 ^ 32 < 2 ^ 64 }
+        ensures ok { OnOk result (self.new ≡ restarted_one id.0 self.old) }
+        ensures most { total_of self.new.streams.entries ≤ total_of self.old.streams.entries + 2 ^ 32 }
+        ensures err { OnErr result (self.new ≡ self.old) }
+    {
+        let bytes = self.streams.sendable_restarted(id);
+        let priority = self.streams.priority_restarted(id);
+        self.scheduler.set_bytes_remaining(id, bytes, priority)?;
+        self.streams.restart(id);
         Ok(())
     }
 

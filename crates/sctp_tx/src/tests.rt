@@ -309,3 +309,44 @@ fn a_reset_is_refused(rt: HostRuntime) -> Result<(), Fail> {
     queue.rollback_reset_streams(&ids)?;
     produce_all(&rt, rt.alloc(), &mut queue, 9, &[(1, 1, 1, b"later")])
 }
+
+// Messages stand in the way where none may be handed over, and a stream that is to be reset does always.
+#[test]
+fn messages_and_resets_stand_in_the_way_of_a_handover(rt: HostRuntime) -> Result<(), Fail> {
+    let mut events = Events::new(rt.alloc());
+    let mut queue = SendQueue::new(rt.alloc(), &Options::default());
+    assert!(rt; queue.get_handover_readiness(true).is_ready());
+    accept_all(&rt, rt.alloc(), &mut queue, &[(1, b"one")])?;
+    assert_eq!(rt; queue.get_handover_readiness(true).0, 2);
+    assert!(rt; queue.get_handover_readiness(false).is_ready());
+    queue.prepare_reset_stream(StreamId(2), &mut events)?;
+    assert_eq!(rt; queue.get_handover_readiness(false).0, 16);
+    Ok(())
+}
+
+fn restart(rt: &impl Abort, queue: &mut SendQueue) -> Result<(), AllocError> {
+    assert!(rt; queue.total_buffered_amount() < 1000);
+    assert!(rt; queue.stream_count() < 1000);
+    queue.reset()
+}
+
+// A partly sent message is whole again, a paused stream sends, SSNs begin again and numbers of messages go on.
+#[test]
+fn a_queue_is_reset(rt: HostRuntime) -> Result<(), Fail> {
+    let mut events = Events::new(rt.alloc());
+    let mut queue = SendQueue::new(rt.alloc(), &Options::default());
+    let messages: [(u16, &[u8]); 2] = [(1, b"one"), (1, b"partly")];
+    accept_all(&rt, rt.alloc(), &mut queue, &messages)?;
+    produce_all(
+        &rt,
+        rt.alloc(),
+        &mut queue,
+        4,
+        &[(1, 0, 0, b"one"), (1, 1, 1, b"part")],
+    )?;
+    queue.prepare_reset_stream(StreamId(2), &mut events)?;
+    restart(&rt, &mut queue)?;
+    assert_eq!(rt; queue.total_buffered_amount(), 6);
+    assert!(rt; !queue.has_streams_ready_to_be_reset());
+    produce_all(&rt, rt.alloc(), &mut queue, 9, &[(1, 0, 0, b"partly")])
+}

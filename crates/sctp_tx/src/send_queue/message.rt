@@ -7,6 +7,7 @@ ghost use Rattle.sctp_packet.specs.Views.{is_unordered_key};
 ghost use Rattle.sctp_tx.specs.Queue.{left, expiry_of};
 ghost use Rattle.sctp_tx.specs.Produced.{is_stale, is_due, made_of, moved};
 ghost use Rattle.sctp_tx.specs.Resets.{is_partly};
+ghost use Rattle.sctp_tx.specs.Restarted.{whole};
 ghost use Rattle.sctp_tx.specs.Views.{produced_of, queued_of};
 
 use crate::data_to_send::DataToSend;
@@ -151,6 +152,23 @@ impl QueuedMessage {
         ensures small { result < 2 ^ 32 }
     {
         self.payload.len() - self.offset
+    }
+
+    /// The bytes that are sent.
+    pub fn sent(&self) -> usize
+        ensures whole { left self.now + result ≡ length self.now.payload }
+        ensures small { result < 2 ^ 32 }
+    {
+        self.offset
+    }
+
+    /// It is sent from its beginning again.
+    pub fn make_whole(&mut self)
+        ensures { self.new ≡ whole self.old }
+    {
+        self.offset = 0;
+        self.numbers = None;
+        self.next_fsn = Fsn(0);
     }
 
     /// The next fragment, of at most `size` bytes, under these numbers.

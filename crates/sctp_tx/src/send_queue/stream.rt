@@ -7,6 +7,8 @@ ghost use Rattle.sctp_tx.specs.Queue.{Queued, left, amount_of, watched_amount, b
 ghost use Rattle.sctp_tx.specs.Produced.{is_front_stale, fresh, dropped, without_stale, counted, front_numbers, front_made, front_ends, moved_front, front_took, next_fragment, advanced, front_left_after, pause_after, settled};
 ghost use Rattle.sctp_tx.specs.Settings.{with_threshold, with_priority, without_front, front_discarded, is_front};
 ghost use Rattle.sctp_tx.specs.Resets.{is_ready, after_step, is_partly, told_waiting, prepared, waiting};
+ghost use Rattle.sctp_tx.specs.Readiness.{is_waiting};
+ghost use Rattle.sctp_tx.specs.Restarted.{whole_front, restarted};
 ghost use Rattle.sctp_tx.specs.Views.{produced_of};
 
 use crate::data_to_send::DataToSend;
@@ -223,6 +225,30 @@ fn front_fragment(
     }
 }
 
+// The message at the front is sent from its beginning again. The answer is how many bytes of it were sent.
+fn make_front_whole(messages: &mut VecDeque<QueuedMessage>) -> usize
+    ensures messages { messages.new.items ≡ whole_front messages.old.items }
+    ensures sum { sum_by left messages.new.items ≡ sum_by left messages.old.items + result }
+    ensures small { result < 2 ^ 32 }
+{
+    let Some(message) = messages.front_mut() else {
+        return 0;
+    };
+    let sent = message.sent();
+    message.make_whole();
+    sent
+}
+
+// What is left of the message at the front once it is whole.
+fn front_whole(messages: &VecDeque<QueuedMessage>) -> usize
+    ensures { result ≡ front_left (whole_front messages.now.items) }
+{
+    match messages.front() {
+        Some(message) => message.left() + message.sent(),
+        None => 0,
+    }
+}
+
 // Whether a fragment of this size is the end of the message at the front.
 fn front_ends(messages: &VecDeque<QueuedMessage>, size: usize) -> bool
     ensures { result ≡ front_ends size messages.now.items }
@@ -391,6 +417,13 @@ impl Stream {
             ResetStep::Requested => 0,
             ResetStep::Performed | ResetStep::Refused => front_left(&self.messages),
         }
+    }
+
+    /// The same once a new association begins.
+    pub fn sendable_restarted(&self) -> usize
+        ensures { result ≡ sendable (restarted self.now) }
+    {
+        front_whole(&self.messages)
     }
 
     /// Adds a message behind the others. Without memory nothing changes.
@@ -562,6 +595,16 @@ impl Stream {
         }
     }
 
+    /// Whether a reset of the stream waits, or is to be answered.
+    pub fn is_waiting(&self) -> bool
+        ensures { result ≡ is_waiting self.now }
+    {
+        match self.pause_state {
+            PauseState::NotPaused => false,
+            PauseState::Pending | PauseState::Paused | PauseState::Resetting => true,
+        }
+    }
+
     /// Takes a step of a reset.
     pub fn take_step(&mut self, step: ResetStep)
         ensures after { self.new ≡ after_step step self.old }
@@ -594,5 +637,20 @@ impl Stream {
     {
         keep_partly_sent(&mut self.messages, &mut self.buffered);
         self.pause_state = waiting(self.messages.is_empty(), self.pause_state);
+    }
+
+    /// A new association begins: the message at the front is whole again, and the numbers begin again.
+    pub fn restart(&mut self)
+        requires { amount_of self.old + 2 ^ 32 < 2 ^ 64 }
+        ensures after { self.new ≡ restarted self.old }
+        ensures least { amount_of self.old ≤ amount_of self.new }
+        ensures most { amount_of self.new ≤ amount_of self.old + 2 ^ 32 }
+    {
+        let sent = make_front_whole(&mut self.messages);
+        self.buffered.increase(sent);
+        self.pause_state = PauseState::NotPaused;
+        self.next_ssn = 1 << 32;
+        self.next_ordered_mid = 1 << 32;
+        self.next_unordered_mid = 1 << 32;
     }
 }

@@ -1,7 +1,7 @@
 //! The streams that were named, and what is left on all of them.
 
 ghost use Rattle.std.specs.Prelude.{◌≡◌, ℕ, Bool, ◌+◌, ◌-◌, ◌<◌, ◌≤◌, ◌^◌, ◌==◌, [], length, is_some, None, Some, IsSome, IfOk, IfSome, OnOk, OnErr, option_map, map};
-ghost use Rattle.std.specs.Map.{lookup, values_of};
+ghost use Rattle.std.specs.Map.{lookup, keys_of, values_of};
 ghost use Rattle.std.specs.List.{list_all, list_any};
 ghost use Rattle.std.specs.Ordering.{nat_cmp};
 ghost use Rattle.std.specs.BTreeMap.{is_at};
@@ -12,6 +12,8 @@ ghost use Rattle.sctp_tx.specs.Queue.{Queued, left, amount_of, total_of, watched
 ghost use Rattle.sctp_tx.specs.Produced.{dropped, streams_without_stale, streams_after, advanced, next_fragment};
 ghost use Rattle.sctp_tx.specs.Settings.{with_threshold, with_priority, streams_discarded, front_discarded};
 ghost use Rattle.sctp_tx.specs.Resets.{is_ready, after_step, ready, prepared, told_waiting};
+ghost use Rattle.sctp_tx.specs.Readiness.{is_waiting};
+ghost use Rattle.sctp_tx.specs.Restarted.{restarted};
 ghost use Rattle.sctp_tx.specs.Views.{produced_of};
 
 use crate::data_to_send::DataToSend;
@@ -411,11 +413,63 @@ impl Streams {
         stream.take_step(step);
     }
 
+    /// The bytes that a stream has to send once a new association begins.
+    pub fn sendable_restarted(&self, id: StreamId) -> usize
+        ensures { result ≡ sendable (stream id.0 (put id.0 (restarted (stream id.0 self.now)) self.now)) }
+    {
+        match self.streams.get(&id.0) {
+            Some(stream) => stream.sendable_restarted(),
+            None => 0,
+        }
+    }
+
+    /// A stream's priority, which a new association doesn't change.
+    pub fn priority_restarted(&self, id: StreamId) -> u16
+        ensures { result ≡ (stream id.0 (put id.0 (restarted (stream id.0 self.now)) self.now)).priority }
+    {
+        self.priority(id)
+    }
+
+    /// A new association begins for a stream.
+    pub fn restart(&mut self, id: StreamId)
+        requires { total_of self.old.entries + 2 ^ 32 < 2 ^ 64 }
+        ensures after { self.new ≡ put id.0 (restarted (stream id.0 self.old)) self.old }
+        ensures most { total_of self.new.entries ≤ total_of self.old.entries + 2 ^ 32 }
+    {
+        let Some(stream) = self.streams.get_mut(&id.0) else {
+            return;
+        };
+        let before = stream.amount();
+        stream.restart();
+        self.total.increase(stream.amount() - before);
+    }
+
+    /// How many streams there are.
+    pub fn count(&self) -> usize
+        ensures { result ≡ length self.now.entries }
+    {
+        self.streams.len()
+    }
+
+    /// All streams, by ascending id.
+    pub fn ids(&self, alloc: Global) -> Result<Vec<StreamId>, AllocError>
+        ensures { IfOk result (λ ids. map (λ id. id.0) ids.items ≡ keys_of self.now.entries) }
+    {
+        stream_ids(alloc, &self.streams)
+    }
+
     /// The streams that can be reset and are in no request, by ascending id.
     pub fn ready(&self, alloc: Global) -> Result<Vec<StreamId>, AllocError>
         ensures { IfOk result (λ ids. map (λ id. id.0) ids.items ≡ ready self.now.entries) }
     {
         ready_streams(alloc, &self.streams)
+    }
+
+    /// Whether a reset of a stream waits, or is to be answered.
+    pub fn has_waiting(&self) -> bool
+        ensures { result ≡ list_any is_waiting (values_of self.now.entries) }
+    {
+        self.streams.values().any(|stream| stream.is_waiting())
     }
 
     pub fn has_ready(&self) -> bool
@@ -436,6 +490,16 @@ fn ready_streams(
         if stream.is_ready() {
             ids.push(StreamId(*id))?;
         }
+    }
+    Ok(ids)
+}
+
+fn stream_ids(alloc: Global, streams: &BTreeMap<u16, Stream>) -> Result<Vec<StreamId>, AllocError>
+    ensures { IfOk result (λ ids. map (λ id. id.0) ids.items ≡ keys_of streams.now.entries) }
+{
+    let mut ids = Vec::new(alloc);
+    for (id, _) in streams {
+        ids.push(StreamId(*id))?;
     }
     Ok(ids)
 }

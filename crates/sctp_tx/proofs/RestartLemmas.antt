@@ -1,0 +1,24 @@
+-- A new association, a stream at a time.
+use Rattle.std.proofs.Common.{◌≡◌, ℕ, zero, suc, ◌+◌, ◌<◌, List, [], ◌∷◌, length, take, drop, get_or, ap, sym, ◌∙◌, arith, add-one}
+use Rattle.std.specs.Prelude.{map}
+use Rattle.std.proofs.Math.Seq.{drop-cons}
+use Rattle.sctp_serial.specs.declared.api.StreamId.{StreamId}
+use Rattle.sctp_tx.specs.Queue.{Queue}
+use Rattle.sctp_tx.specs.Restarted.{restarted_one, each_restarted}
+
+pub restart-each : (ids : List StreamId) (i : ℕ) (none : StreamId) (q r : Queue) → i < length ids → r ≡ restarted_one (get_or ids i none).0 q
+    → each_restarted (map (λ id. id.0) (drop (i + 1) ids)) r ≡ each_restarted (map (λ id. id.0) (drop i ids)) q
+restart-each ids i none q r more after =
+    ap (λ k. each_restarted (map (λ id. id.0) (drop k ids)) r) (add-one i)
+    ∙ ap (λ s. each_restarted (map (λ id. id.0) (drop (suc i) ids)) s) after
+    ∙ sym (ap (λ (xs : List StreamId). each_restarted (map (λ id. id.0) xs) q) (drop-cons ids i none more))
+
+more-restarted : (ids : List StreamId) (i : ℕ) (none : StreamId) (q p r : Queue) → i < length ids → p ≡ each_restarted (take i (map (λ id. id.0) ids)) q
+    → r ≡ restarted_one (get_or ids i none).0 p → r ≡ each_restarted (take (suc i) (map (λ id. id.0) ids)) q
+more-restarted [] i none q p r more is after = absurd (omega (arith, more))
+more-restarted (id ∷ ids) zero none q p r more is after = after ∙ ap (λ x. restarted_one id.0 x) is
+more-restarted (id ∷ ids) (suc i) none q p r more is after = more-restarted ids i none (restarted_one id.0 q) p r (omega (arith, more)) is after
+
+pub restarted-more : (ids : List StreamId) (i : ℕ) (none : StreamId) (q p r : Queue) → i < length ids → p ≡ each_restarted (take i (map (λ id. id.0) ids)) q
+    → r ≡ restarted_one (get_or ids i none).0 p → r ≡ each_restarted (take (i + 1) (map (λ id. id.0) ids)) q
+restarted-more ids i none q p r more is after = more-restarted ids i none q p r more is after ∙ ap (λ k. each_restarted (take k (map (λ id. id.0) ids)) q) (sym (add-one i))
