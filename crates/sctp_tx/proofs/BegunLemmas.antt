@@ -1,5 +1,5 @@
 -- A begun message goes on until its end, and its fragments together are its payload.
-use Rattle.std.proofs.Common.{◌≡◌, ℕ, zero, suc, ◌+◌, ◌-◌, ◌<◌, ◌≤◌, Bool, true, false, cond, List, [], ◌∷◌, ◌++◌, length, Option, Some, None, refl, ap, sym, ◌∙◌, arith, subst, take, drop, take_all, length-drop, take-append-drop, drop-drop}
+use Rattle.std.proofs.Common.{◌≡◌, ℕ, zero, suc, ◌+◌, ◌<◌, ◌≤◌, Bool, true, false, cond, List, [], ◌∷◌, ◌++◌, length, Option, Some, None, refl, ap, sym, ◌∙◌, arith, subst, take, drop, take_all, length-drop, take-append-drop, drop-drop}
 use Rattle.std.specs.Prelude.{is_some, unwrap_or, nat_lt, not, ◌&&◌}
 use Rattle.std.specs.Map.{lookup}
 use Rattle.std.specs.Ordering.{nat_cmp}
@@ -14,7 +14,7 @@ use Rattle.sctp_tx.specs.Queue.{Queued, Queue, Stream, Streams, blank_stream, st
 use Rattle.sctp_tx.specs.Produced.{Produced, Turn, is_due, fresh, streams_without_stale, made_of, front_made, front_numbers, moved_front, moved, ends, begun_by, turn, next_fragment, advanced, next_stream, produce_within, produce, in_line, streams_after}
 use Rattle.sctp_tx.specs.Begun.{begun_number, IsBegun, Begins, GoesOn, joined, is_ended}
 use Rattle.sctp_tx.proofs.StreamsLemmas.{put-nowhere, put-same, stream-put, stream-nowhere}
-use Rattle.sctp_tx.proofs.ProduceLemmas.{idles, gives, turned, few_tries}
+use Rattle.sctp_tx.proofs.ProduceLemmas.{idles, gives, turned}
 
 -- ---- a begun message is next
 

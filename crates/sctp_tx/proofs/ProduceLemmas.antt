@@ -11,8 +11,7 @@ use Rattle.sctp_state.specs.Scheduler.{Times, best, peek, stream_in, finish_time
 use Rattle.sctp_state.proofs.SchedulerLemmas.{none_is}
 use Rattle.sctp_tx.specs.Queue.{Queue, Streams, stream, sendable}
 use Rattle.sctp_tx.specs.Produced.{Produced, Turn, turn, idle, next_stream, produce_within, produce, in_line, begun_by, streams_after, streams_without_stale}
-use Rattle.sctp_tx.specs.Interrupted.{Passed, Same}
-use Rattle.sctp_tx.proofs.StreamsLemmas.{none-from}
+use Rattle.sctp_tx.specs.Interrupted.{Passed}
 
 -- ---- one turn
 

@@ -1,7 +1,6 @@
 -- What a fragment takes from its stream.
-use Rattle.std.proofs.Common.{◌≡◌, ℕ, ◌+◌, ◌-◌, ◌<◌, ◌≤◌, Bool, true, false, cond, List, [], ◌∷◌, length, sum_by, Option, Some, None, refl, ap, arith, take, drop, length-take, length-drop}
-use Rattle.std.specs.Prelude.{is_some, nat_le, min}
-use Rattle.std.proofs.lemmas.Bool.{lt-ltb, le-ltb, cases_lt}
+use Rattle.std.proofs.Common.{◌≡◌, ℕ, ◌+◌, ◌-◌, ◌<◌, ◌≤◌, Bool, true, false, cond, List, [], ◌∷◌, sum_by, refl, arith}
+use Rattle.std.specs.Prelude.{is_some, min}
 use Rattle.std.proofs.lemmas.Bool.Decides.{nat_tests}
 use Rattle.std.proofs.lemmas.List.Sums.{sum_by-cons}
 use Rattle.sctp_state.specs.Thresholds.{Watched, crosses}

@@ -1,5 +1,5 @@
 -- What was told stands, whatever is told behind it.
-use Rattle.std.proofs.Common.{◌≡◌, ℕ, Bool, true, false, cond, List, [], ◌∷◌, Option, Some, None, ap, sym, subst, ◌∙◌}
+use Rattle.std.proofs.Common.{◌≡◌, ℕ, Bool, true, false, cond, List, [], ◌∷◌, Option, Some, None, sym, subst}
 use Rattle.sctp_state.specs.declared.api.GivenUpCause.TheVariants.{Lifetime}
 use Rattle.sctp_state.specs.Events.{Event, Told, Grown, tell_all, give_up, expiry}
 use Rattle.sctp_state.proofs.EventLemmas.{grown-same, grown-through, grown-told, grown-given_up}

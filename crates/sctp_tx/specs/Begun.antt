@@ -1,6 +1,6 @@
 -- Without interleaving a begun message is ended before another begins, also one of another stream: its fragments have
 -- numbers in sequence (RFC 9260 section 6.9). And what the fragments of a message are together.
-use Rattle.std.specs.Prelude.{◌≡◌, ℕ, ◌+◌, ◌&&◌, nat_lt, Bool, true, false, if◌then◌else◌, Option, Some, None, is_some, List, [], ◌∷◌, ◌++◌, drop, take}
+use Rattle.std.specs.Prelude.{◌≡◌, ℕ, ◌&&◌, nat_lt, Bool, true, false, if◌then◌else◌, Option, Some, None, is_some, List, [], ◌∷◌, ◌++◌, drop, take}
 use Rattle.sctp_tx.specs.declared.send_queue.message.MessageNumbers.{MessageNumbers}
 use Rattle.sctp_tx.specs.Queue.{Queued, Queue, stream}
 use Rattle.sctp_tx.specs.Produced.{Produced, moved, ends}

@@ -1,8 +1,8 @@
 -- What a call leaves that ran out of memory before its end: nothing is lost but messages that expired, and these are told.
-use Rattle.std.specs.Prelude.{◌≡◌, ◌⊎◌, ℕ, zero, suc, Option, Some, None, List, take}
+use Rattle.std.specs.Prelude.{◌≡◌, ◌⊎◌, ℕ, zero, suc, Some, None, List, take}
 use Rattle.sctp_state.specs.Events.{Told}
 use Rattle.sctp_tx.specs.declared.send_queue.stream.ResetStep.{ResetStep}
-use Rattle.sctp_tx.specs.Queue.{Queue, Stream, stream}
+use Rattle.sctp_tx.specs.Queue.{Queue, stream}
 use Rattle.sctp_tx.specs.Produced.{turn, next_stream, streams_without_stale, dropped}
 use Rattle.sctp_tx.specs.Resets.{each_stepped}
 

@@ -1,16 +1,16 @@
 -- Fragments of queued messages, in the scheduler's order; messages that expired before their first one; and what is left
 -- of a message that was given up.
-use Rattle.std.specs.Prelude.{ℕ, zero, suc, ◌+◌, ◌-◌, ◌%◌, ◌^◌, ◌==◌, ◌&&◌, not, nat_lt, nat_le, Bool, true, false, if◌then◌else◌, Option, Some, None, is_some, unwrap_or, option_map, List, [], ◌∷◌, ◌++◌, length, take, drop}
+use Rattle.std.specs.Prelude.{ℕ, zero, suc, ◌+◌, ◌-◌, ◌%◌, ◌^◌, ◌==◌, ◌&&◌, not, nat_le, Bool, true, false, if◌then◌else◌, Option, Some, None, is_some, unwrap_or, option_map, List, [], ◌∷◌, ◌++◌, length, take, drop}
 use Rattle.sctp_serial.specs.Unwrapped.{origin, words, halves, wire}
 use Rattle.sctp_state.specs.Events.{Event, OnBufferedAmountLow, OnTotalBufferedAmountLow, OnLifecycleMessageFullySent, Told, tell_all, give_up, expiry}
 use Rattle.sctp_state.specs.declared.api.GivenUpCause.TheVariants.{Lifetime}
 use Rattle.sctp_state.specs.Scheduler.{Scheduler, accept, peek, set_bytes_remaining}
-use Rattle.sctp_state.specs.Thresholds.{Watched, crosses}
+use Rattle.sctp_state.specs.Thresholds.{crosses}
 use Rattle.sctp_packet.specs.Chunk.{FragmentTree}
 use Rattle.sctp_tx.specs.declared.send_queue.message.MessageNumbers.{MessageNumbers}
 use Rattle.sctp_tx.specs.declared.send_queue.stream.PauseState.{PauseState}
 use Rattle.sctp_tx.specs.declared.send_queue.stream.PauseState.TheVariants.{NotPaused, Pending, Paused, Resetting}
-use Rattle.sctp_tx.specs.Queue.{Queued, Stream, Streams, Queue, left, amount_of, watched_amount, watched_total, stream, put, sendable, front_left, hears}
+use Rattle.sctp_tx.specs.Queue.{Queued, Stream, Streams, Queue, left, watched_amount, watched_total, stream, put, sendable, front_left}
 
 -- a fragment, and what its message was accepted with
 pub record Produced : Type 0 where

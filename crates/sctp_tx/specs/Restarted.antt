@@ -1,5 +1,5 @@
 -- A new association: what waits is sent from its beginning, under numbers that begin again.
-use Rattle.std.specs.Prelude.{◌≡◌, ◌⊎◌, ℕ, Option, None, List, [], ◌∷◌, take}
+use Rattle.std.specs.Prelude.{◌≡◌, ◌⊎◌, ℕ, None, List, [], ◌∷◌, take}
 use Rattle.std.specs.Map.{keys_of}
 use Rattle.sctp_serial.specs.Unwrapped.{origin}
 use Rattle.sctp_tx.specs.declared.send_queue.stream.PauseState.TheVariants.{NotPaused}

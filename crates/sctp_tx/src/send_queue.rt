@@ -504,18 +504,11 @@ impl SendQueue {
             | (HandoverReadiness::PENDING_STREAM_RESET & self.streams.has_waiting())
     }
 
-    /// How many streams were named.
-    pub fn stream_count(&self) -> usize
-        ensures { result ≡ length self.now.streams.entries }
-    {
-        self.streams.count()
-    }
-
     /// A new association begins: the message that is partly sent is whole again, each stream is open, and its numbers
     /// begin again. Numbers of messages go on. Without memory nothing changes, or this is done for some of the first
     /// streams alone.
     pub fn reset(&mut self) -> Result<(), AllocError>
-        requires { total_of self.old.streams.entries + 2 ^ 32 * length self.old.streams.entries + 2 ^ 32 < 2 ^ 64 }
+        requires { total_of self.old.streams.entries < 2 ^ 63 }
         ensures ok { OnOk result (self.new ≡ reset self.old) }
         ensures err { OnErr result (SomeRestarted self.old self.new) }
     {

@@ -326,7 +326,6 @@ fn messages_and_resets_stand_in_the_way_of_a_handover(rt: HostRuntime) -> Result
 
 fn restart(rt: &impl Abort, queue: &mut SendQueue) -> Result<(), AllocError> {
     assert!(rt; queue.total_buffered_amount() < 1000);
-    assert!(rt; queue.stream_count() < 1000);
     queue.reset()
 }
 

@@ -444,16 +444,10 @@ impl Streams {
         self.total.increase(stream.amount() - before);
     }
 
-    /// How many streams there are.
-    pub fn count(&self) -> usize
-        ensures { result ≡ length self.now.entries }
-    {
-        self.streams.len()
-    }
-
     /// All streams, by ascending id.
     pub fn ids(&self, alloc: Global) -> Result<Vec<StreamId>, AllocError>
-        ensures { IfOk result (λ ids. map (λ id. id.0) ids.items ≡ keys_of self.now.entries) }
+        ensures ids { IfOk result (λ ids. map (λ id. id.0) ids.items ≡ keys_of self.now.entries) }
+        ensures few { IfOk result (λ ids. length ids.items ≤ 65536) }
     {
         stream_ids(alloc, &self.streams)
     }
@@ -495,8 +489,10 @@ fn ready_streams(
 }
 
 fn stream_ids(alloc: Global, streams: &BTreeMap<u16, Stream>) -> Result<Vec<StreamId>, AllocError>
-    ensures { IfOk result (λ ids. map (λ id. id.0) ids.items ≡ keys_of streams.now.entries) }
+    ensures ids { IfOk result (λ ids. map (λ id. id.0) ids.items ≡ keys_of streams.now.entries) }
+    ensures few { IfOk result (λ ids. length ids.items ≤ 65536) }
 {
+    let _count = streams.len();
     let mut ids = Vec::new(alloc);
     for (id, _) in streams {
         ids.push(StreamId(*id))?;

@@ -1,4 +1,4 @@
-use Rattle.std.proofs.Common.{◌≡◌, ℕ, ap, sym, ◌∙◌}
+use Rattle.std.proofs.Common.{ap, sym, ◌∙◌}
 use Rattle.std.specs.Prelude.{option_map}
 use Rattle.sctp_state.specs.Scheduler.{Scheduler, left}
 use Rattle.sctp_state.proofs.SchedulerLemmas.{withdraws}

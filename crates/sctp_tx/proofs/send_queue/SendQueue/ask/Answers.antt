@@ -1,6 +1,6 @@
 use Rattle.std.proofs.Common.{◌≡◌, suc, ap, sym, ◌∙◌, arith, rules}
 use Rattle.std.specs.Prelude.{option_map}
-use Rattle.sctp_tx.specs.Produced.{turn, produce, next_stream}
+use Rattle.sctp_tx.specs.Produced.{turn, produce}
 use Rattle.sctp_tx.specs.Interrupted.{Interrupted}
 use Rattle.sctp_tx.specs.Views.{produced_of}
 use Rattle.sctp_tx.proofs.ProduceLemmas.{step, given, passed-more, passed-as}

@@ -1,9 +1,9 @@
-use Rattle.std.proofs.Common.{◌≡◌, ap, sym, ◌∙◌, take}
+use Rattle.std.proofs.Common.{ap, sym, ◌∙◌, take}
 use Rattle.std.specs.Prelude.{map}
 use Rattle.std.proofs.lemmas.List.{take-map}
 use Rattle.sctp_serial.specs.declared.api.StreamId.{StreamId}
 use Rattle.sctp_tx.specs.declared.send_queue.stream.ResetStep.TheVariants.{Requested}
-use Rattle.sctp_tx.specs.Resets.{each_stepped, requested, ready}
+use Rattle.sctp_tx.specs.Resets.{each_stepped, requested}
 use Rattle.sctp_tx.proofs.send_queue.SendQueue.get_streams_ready_to_reset.Goals as goal
 
 pub returns-clause-streams : goal.returns-clause-streams

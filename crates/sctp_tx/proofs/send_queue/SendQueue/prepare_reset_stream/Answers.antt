@@ -1,6 +1,5 @@
-use Rattle.std.proofs.Common.{◌≡◌, ap, sym, ◌∙◌}
+use Rattle.std.proofs.Common.{ap, ◌∙◌}
 use Rattle.sctp_tx.specs.Queue.{Queue}
-use Rattle.sctp_tx.specs.Resets.{prepare_reset}
 use Rattle.sctp_tx.proofs.ResetLemmas.{prepared-is}
 use Rattle.sctp_tx.proofs.send_queue.SendQueue.prepare_reset_stream.Goals as goal
 

@@ -1,4 +1,4 @@
-use Rattle.std.proofs.Common.{◌∙◌, arith}
+use Rattle.std.proofs.Common.{◌∙◌}
 use Rattle.sctp_tx.specs.declared.send_queue.stream.ResetStep.TheVariants.{Requested}
 use Rattle.sctp_tx.proofs.ResetLemmas.{step-each}
 use Rattle.sctp_tx.proofs.send_queue.SendQueue.request.Goals as goal

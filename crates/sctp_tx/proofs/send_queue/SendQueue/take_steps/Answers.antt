@@ -1,4 +1,4 @@
-use Rattle.std.proofs.Common.{◌∙◌, arith, rules}
+use Rattle.std.proofs.Common.{◌∙◌, rules}
 use Rattle.std.specs.Prelude.{map}
 use Rattle.sctp_tx.specs.Interrupted.{SomeStepped}
 use Rattle.sctp_tx.proofs.ResetLemmas.{step-each, stepped-more}
