@@ -1,4 +1,5 @@
 pub mod Begun
+pub mod Handover
 pub mod Interrupted
 pub mod Produced
 pub mod Queue

@@ -16,6 +16,8 @@ ghost use Rattle.sctp_tx.specs.Settings.{set_low_threshold, set_priority, set_mo
 ghost use Rattle.sctp_tx.specs.Resets.{prepare_reset, told_waiting, is_ready, requested, request_resets, commit_resets, roll_back_resets, stepped, each_stepped};
 ghost use Rattle.sctp_tx.specs.Begun.{Begins, GoesOn};
 ghost use Rattle.sctp_tx.specs.Interrupted.{Same, Freed, Stopped, Interrupted, SomeStepped};
+ghost use Rattle.sctp_state.specs.Handover.{handover_state_of};
+ghost use Rattle.sctp_tx.specs.Handover.{written};
 ghost use Rattle.sctp_tx.specs.Readiness.{readiness};
 ghost use Rattle.sctp_tx.specs.Restarted.{reset, restarted_one, each_restarted, SomeRestarted};
 ghost use Rattle.sctp_tx.specs.Views.{produced_of, queued_of};
@@ -28,7 +30,10 @@ mod telling;
 use crate::data_to_send::DataToSend;
 use message::QueuedMessage;
 use sctp_serial::{LifecycleId, Message, OutgoingMessageId, SocketTime, StreamId};
-use sctp_state::{Events, HandoverReadiness, Options, SendOptions, SocketEvent, StreamScheduler};
+use sctp_state::{
+    Events, HandoverReadiness, Options, SendOptions, SocketEvent, SocketHandoverState,
+    StreamScheduler,
+};
 use std::alloc::{AllocError, Global};
 use std::marker::Model;
 use stream::ResetStep;
@@ -502,6 +507,24 @@ impl SendQueue {
         let has_messages = is_strict && !self.streams.is_empty();
         (HandoverReadiness::SEND_QUEUE_NOT_EMPTY & has_messages)
             | (HandoverReadiness::PENDING_STREAM_RESET & self.streams.has_waiting())
+    }
+
+    /// Writes the streams, the messages and the count of accepted messages into the record of a socket that is handed
+    /// over now. Without memory the record stays as it was.
+    pub fn add_to_handover_state(
+        &self,
+        now: SocketTime,
+        state: &mut SocketHandoverState,
+    ) -> Result<(), AllocError>
+        ensures ok { OnOk result (let old = handover_state_of state.old in handover_state_of state.new ≡ record old { tx = written now self.now old.tx }) }
+        ensures err { OnErr result (state.new ≡ state.old) }
+    {
+        let streams = self.streams.handed_over(self.alloc)?;
+        let messages = self.streams.messages_handed_over(self.alloc, now)?;
+        state.tx.next_outgoing_message_id = u64::from(self.next_message_id.0);
+        state.tx.streams = streams;
+        state.tx.queued_messages = messages;
+        Ok(())
     }
 
     /// A new association begins: the message that is partly sent is whole again, each stream is open, and its numbers

@@ -1,6 +1,6 @@
 use super::*;
 use sctp_serial::{LifecycleId, Message, OutgoingMessageId, PpId, SocketTime, StreamId};
-use sctp_state::{Events, GivenUpCause, Options, SendOptions, SocketEvent};
+use sctp_state::{Events, GivenUpCause, Options, SendOptions, SocketEvent, SocketHandoverState};
 use std::alloc::{AllocError, Global};
 use std::process::Abort;
 use std::test::Fail;
@@ -321,6 +321,29 @@ fn messages_and_resets_stand_in_the_way_of_a_handover(rt: HostRuntime) -> Result
     assert!(rt; queue.get_handover_readiness(false).is_ready());
     queue.prepare_reset_stream(StreamId(2), &mut events)?;
     assert_eq!(rt; queue.get_handover_readiness(false).0, 16);
+    Ok(())
+}
+
+// A message of which 4 bytes are sent, a second and a millisecond before it expires, and half a millisecond late.
+#[test]
+fn a_queue_is_written_to_be_handed_over(rt: HostRuntime) -> Result<(), Fail> {
+    let mut state = SocketHandoverState::empty(rt.alloc());
+    let mut queue = SendQueue::new(rt.alloc(), &Options::default());
+    let mut options = named(4);
+    options.lifetime = Some(Duration::from_secs(1));
+    accept(&rt, rt.alloc(), &mut queue, 7, b"partly", &options)?;
+    produce_all(&rt, rt.alloc(), &mut queue, 4, &[(7, 0, 0, b"part")])?;
+    let late = at(1001) + Duration::from_micros(500);
+    for (now, left) in [(at(0), 1001), (late, -1)] {
+        queue.add_to_handover_state(now, &mut state)?;
+        assert_eq!(rt; state.tx.next_outgoing_message_id, 1);
+        let stream = state.tx.streams.get(0).ok_or("no stream")?;
+        assert_eq!(rt; stream.next_ssn, 1);
+        let message = state.tx.queued_messages.get(0).ok_or("no message")?;
+        assert_eq!(rt; message.remaining_offset, 4);
+        assert_eq!(rt; message.ssn, Some(0));
+        assert_eq!(rt; message.expires_in_ms, Some(left));
+    }
     Ok(())
 }
 

@@ -1,12 +1,14 @@
 //! What waits on one stream.
 
-ghost use Rattle.std.specs.Prelude.{◌≡◌, ℕ, Bool, ◌+◌, ◌-◌, ◌<◌, ◌≤◌, ◌^◌, ◌==◌, [], ◌∷◌, ◌++◌, length, sum_by, drop, is_some, None, Some, IfOk, IfSome, OnOk, OnErr, option_map, filter, if◌then◌else◌};
+ghost use Rattle.std.specs.Prelude.{◌≡◌, ℕ, Bool, ◌+◌, ◌-◌, ◌<◌, ◌≤◌, ◌^◌, ◌==◌, [], ◌∷◌, ◌++◌, length, sum_by, drop, is_some, None, Some, IfOk, IfSome, OnOk, OnErr, option_map, filter, map, if◌then◌else◌};
 ghost use Rattle.sctp_state.specs.Events.{Grown};
 ghost use Rattle.sctp_state.specs.Thresholds.{crosses};
 ghost use Rattle.sctp_tx.specs.Queue.{Queued, left, amount_of, watched_amount, blank_stream, front_left, sendable, pushed, is_stopped};
 ghost use Rattle.sctp_tx.specs.Produced.{is_front_stale, fresh, dropped, without_stale, counted, front_numbers, front_made, front_ends, moved_front, front_took, next_fragment, advanced, front_left_after, pause_after, settled};
 ghost use Rattle.sctp_tx.specs.Settings.{with_threshold, with_priority, without_front, front_discarded, is_front};
 ghost use Rattle.sctp_tx.specs.Resets.{is_ready, after_step, is_partly, told_waiting, prepared, waiting};
+ghost use Rattle.sctp_state.specs.Handover.{stream_message_of};
+ghost use Rattle.sctp_tx.specs.Handover.{queued_message, messages_of, outgoing_stream};
 ghost use Rattle.sctp_tx.specs.Readiness.{is_waiting};
 ghost use Rattle.sctp_tx.specs.Restarted.{whole_front, restarted};
 ghost use Rattle.sctp_tx.specs.Views.{produced_of};
@@ -14,7 +16,8 @@ ghost use Rattle.sctp_tx.specs.Views.{produced_of};
 use crate::data_to_send::DataToSend;
 use crate::send_queue::message::{MessageNumbers, QueuedMessage};
 use crate::send_queue::telling::{tell_expired, tell_stale};
-use sctp_serial::{LifecycleId, OutgoingMessageId, SocketTime, StreamId};
+use sctp_serial::{LifecycleId, Mid, OutgoingMessageId, SerialNumber, SocketTime, Ssn, StreamId};
+use sctp_state::api::handover::{HandoverOutgoingStream, HandoverStreamMessage};
 use sctp_state::{Events, ThresholdWatcher};
 use std::alloc::{AllocError, Global};
 use std::collections::VecDeque;
@@ -223,6 +226,21 @@ fn front_fragment(
         Some(message) => Ok(Some(message.fragment(alloc, id, numbers, size)?)),
         None => Ok(None),
     }
+}
+
+fn hand_over_all(
+    messages: &VecDeque<QueuedMessage>,
+    alloc: Global,
+    now: SocketTime,
+    id: StreamId,
+    records: &mut Vec<HandoverStreamMessage>,
+) -> Result<(), AllocError>
+    ensures { OnOk result (map stream_message_of records.new.items ≡ map stream_message_of records.old.items ++ map (queued_message now id.0) messages.now.items) }
+{
+    for message in messages.iter() {
+        records.push(message.handed_over(alloc, now, id)?)?;
+    }
+    Ok(())
 }
 
 // The message at the front is sent from its beginning again. The answer is how many bytes of it were sent.
@@ -652,5 +670,31 @@ impl Stream {
         self.next_ssn = 1 << 32;
         self.next_ordered_mid = 1 << 32;
         self.next_unordered_mid = 1 << 32;
+    }
+
+    /// It in the record of a socket that is handed over.
+    pub fn handed_over(&self, id: StreamId) -> HandoverOutgoingStream
+        ensures { result ≡ outgoing_stream id.0 self.now }
+    {
+        HandoverOutgoingStream {
+            id: id.0,
+            next_ssn: Ssn::wrapped(Ssn(0), self.next_ssn).0,
+            next_unordered_mid: Mid::wrapped(Mid(0), self.next_unordered_mid).0,
+            next_ordered_mid: Mid::wrapped(Mid(0), self.next_ordered_mid).0,
+            priority: self.priority,
+        }
+    }
+
+    /// Adds its messages to those of the record.
+    pub fn hand_messages_over(
+        &self,
+        alloc: Global,
+        now: SocketTime,
+        id: StreamId,
+        records: &mut Vec<HandoverStreamMessage>,
+    ) -> Result<(), AllocError>
+        ensures { OnOk result (map stream_message_of records.new.items ≡ map stream_message_of records.old.items ++ messages_of now id.0 self.now) }
+    {
+        hand_over_all(&self.messages, alloc, now, id, records)
     }
 }

@@ -12,6 +12,8 @@ ghost use Rattle.sctp_tx.specs.Queue.{Queued, left, amount_of, total_of, watched
 ghost use Rattle.sctp_tx.specs.Produced.{dropped, streams_without_stale, streams_after, advanced, next_fragment};
 ghost use Rattle.sctp_tx.specs.Settings.{with_threshold, with_priority, streams_discarded, front_discarded};
 ghost use Rattle.sctp_tx.specs.Resets.{is_ready, after_step, ready, prepared, told_waiting};
+ghost use Rattle.sctp_state.specs.Handover.{stream_message_of};
+ghost use Rattle.sctp_tx.specs.Handover.{outgoing_streams, queued_messages};
 ghost use Rattle.sctp_tx.specs.Readiness.{is_waiting};
 ghost use Rattle.sctp_tx.specs.Restarted.{restarted};
 ghost use Rattle.sctp_tx.specs.Views.{produced_of};
@@ -20,6 +22,7 @@ use crate::data_to_send::DataToSend;
 use crate::send_queue::message::QueuedMessage;
 use crate::send_queue::stream::{Discarded, ResetStep, Stream};
 use sctp_serial::{OutgoingMessageId, SocketTime, StreamId};
+use sctp_state::api::handover::{HandoverOutgoingStream, HandoverStreamMessage};
 use sctp_state::{Events, Options, ThresholdWatcher};
 use std::alloc::{AllocError, Global};
 use std::collections::BTreeMap;
@@ -444,6 +447,24 @@ impl Streams {
         self.total.increase(stream.amount() - before);
     }
 
+    /// The streams in the record of a socket that is handed over.
+    pub fn handed_over(&self, alloc: Global) -> Result<Vec<HandoverOutgoingStream>, AllocError>
+        ensures { IfOk result (λ records. records.items ≡ outgoing_streams self.now.entries) }
+    {
+        outgoing_streams(alloc, &self.streams)
+    }
+
+    /// The messages of all streams in that record.
+    pub fn messages_handed_over(
+        &self,
+        alloc: Global,
+        now: SocketTime,
+    ) -> Result<Vec<HandoverStreamMessage>, AllocError>
+        ensures { IfOk result (λ records. map stream_message_of records.items ≡ queued_messages now self.now.entries) }
+    {
+        queued_messages(alloc, now, &self.streams)
+    }
+
     /// All streams, by ascending id.
     pub fn ids(&self, alloc: Global) -> Result<Vec<StreamId>, AllocError>
         ensures ids { IfOk result (λ ids. map (λ id. id.0) ids.items ≡ keys_of self.now.entries) }
@@ -498,4 +519,31 @@ fn stream_ids(alloc: Global, streams: &BTreeMap<u16, Stream>) -> Result<Vec<Stre
         ids.push(StreamId(*id))?;
     }
     Ok(ids)
+}
+
+fn outgoing_streams(
+    alloc: Global,
+    streams: &BTreeMap<u16, Stream>,
+) -> Result<Vec<HandoverOutgoingStream>, AllocError>
+    ensures { IfOk result (λ records. records.items ≡ outgoing_streams streams.now.entries) }
+{
+    let mut records = Vec::new(alloc);
+    for (id, stream) in streams {
+        records.push(stream.handed_over(StreamId(*id)))?;
+    }
+    Ok(records)
+}
+
+fn queued_messages(
+    alloc: Global,
+    now: SocketTime,
+    streams: &BTreeMap<u16, Stream>,
+) -> Result<Vec<HandoverStreamMessage>, AllocError>
+    ensures { IfOk result (λ records. map stream_message_of records.items ≡ queued_messages now streams.now.entries) }
+{
+    let mut records = Vec::new(alloc);
+    for (id, stream) in streams {
+        stream.hand_messages_over(alloc, now, StreamId(*id), &mut records)?;
+    }
+    Ok(records)
 }
