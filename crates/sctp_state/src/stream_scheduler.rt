@@ -212,12 +212,7 @@ impl StreamScheduler {
 
     /// The stream sends, as `accept` says, if it is active, and then has so many bytes of its next message to send, as
     /// `set_bytes_remaining` says. Without memory nothing changes.
-    pub fn take_turn(
-        &mut self,
-        id: StreamId,
-        bytes: usize,
-        priority: u16,
-    ) -> Result<(), AllocError>
+    pub fn take_turn(&mut self, id: StreamId, bytes: usize, priority: u16) -> Result<(), AllocError>
         ensures ok { OnOk result (self.new ≡ set_bytes_remaining id.0 bytes priority (accept id.0 self.old)) }
         ensures err { OnErr result (self.new ≡ self.old) }
     {
