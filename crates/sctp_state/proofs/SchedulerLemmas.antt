@@ -1,13 +1,14 @@
 -- The next stream: the best of the finish times is ahead of all, and is the first turn of the index.
-use Rattle.std.proofs.Common.{◌≡◌, ℕ, ◌<◌, ◌≤◌, Bool, true, false, cond, List, [], ◌∷◌, length, Option, Some, None, refl, ap, sym, subst, ◌∙◌, inl, inr, arith, ◌⊎◌, Less, IsTrue, option_map, ◌==◌}
+use Rattle.std.proofs.Common.{◌≡◌, ℕ, ◌<◌, ◌≤◌, Bool, true, false, cond, List, [], ◌∷◌, length, Option, Some, None, is_some, refl, ap, sym, subst, ◌∙◌, inl, inr, arith, ◌⊎◌, Less, Equal, Greater, IsTrue, option_map, ◌==◌}
 use Rattle.std.proofs.lemmas.Bool.{lt-ltb, le-ltb, cases_lt}
 use Rattle.std.proofs.lemmas.Bool.Decides.{nat_tests}
-use Rattle.std.specs.Ordering.{nat_cmp, is_gt}
+use Rattle.std.specs.Ordering.{nat_cmp, is_gt, is_eq, match_ordering}
+use Rattle.std.specs.declared.cmp.Ordering.{Ordering}
 use Rattle.std.specs.List.{AllByRecursion, list_any}
 use Rattle.std.specs.List.Sorted.{IsStrictlySortedBy}
-use Rattle.std.specs.Map.{lookup, keys_of}
-use Rattle.std.specs.BTreeMap.{is_at}
-use Rattle.sctp_state.specs.Scheduler.{Times, best, IsAhead, IsNext, Indexes, finish_time, is_time, turn_cmp, stream_in}
+use Rattle.std.specs.Map.{lookup, remove_entry, keys_of}
+use Rattle.std.specs.BTreeMap.{is_at, insert_entry}
+use Rattle.sctp_state.specs.Scheduler.{Times, Scheduler, best, IsAhead, IsNext, Indexes, finish_time, finish_now, is_time, is_active, left, entered, set_bytes_remaining, turn_cmp, stream_in}
 
 above : (m k : ℕ) → nat_cmp m k ≡ Less → m < k
 above m k e = grind (arith, nat_tests)
@@ -170,6 +171,11 @@ not_greater a b c d h =
     behind_same : a ≡ b → d < c → ⊥
     behind_same e l = grind (arith, nat_tests)
 
+rest_sorted : (m : ℕ) (ks : List ℕ) → IsStrictlySortedBy nat_cmp (m ∷ ks) → IsStrictlySortedBy nat_cmp ks
+unfolding IsStrictlySortedBy
+rest_sorted m [] s = tt
+rest_sorted m (k ∷ ks) s = s.1
+
 above_first : (m id f : ℕ) (es : Times) → IsStrictlySortedBy nat_cmp (m ∷ keys_of es) → finish_time id es ≡ Some f → m < id
 unfolding IsStrictlySortedBy
 above_first m id f [] s h = absurd (cc)
@@ -214,3 +220,83 @@ no_turns turns (e ∷ es) index none = absurd (clash (ap (λ us. list_any (is_at
 
     clash : false ≡ true → ⊥
     clash h = cc
+
+-- ---- a stream that gets another time
+
+first_entry : (id next : ℕ) (es : Times) → IsStrictlySortedBy nat_cmp (id ∷ keys_of es) → insert_entry nat_cmp es id next ≡ (id, next) ∷ es
+unfolding IsStrictlySortedBy
+first_entry id next [] s = refl
+first_entry id next (e ∷ es) s = ap (λ (o : Ordering). match_ordering o ((id, next) ∷ e ∷ es) ((e.0, next) ∷ es) (e ∷ insert_entry nat_cmp es id next)) s.0.0
+
+same_id : (a b : ℕ) → nat_cmp a b ≡ Equal → b ≡ a
+same_id a b q = grind (arith, nat_tests)
+
+below : (a b : ℕ) → nat_cmp a b ≡ Less → a < b
+below a b q = grind (arith, nat_tests)
+
+pub renewed : (id next f : ℕ) (es : Times) → IsStrictlySortedBy nat_cmp (keys_of es) → finish_time id es ≡ Some f
+    → insert_entry nat_cmp es id next ≡ insert_entry nat_cmp (remove_entry (is_at (nat_cmp id)) es) id next
+unfolding IsStrictlySortedBy
+renewed id next f [] s h = absurd (cc)
+renewed id next f (e ∷ es) s h = go (nat_cmp id e.0) refl h (renewed id next f es)
+  where
+    go : (o : Ordering) → nat_cmp id e.0 ≡ o → cond (is_eq o) (Some e.1) (finish_time id es) ≡ Some f
+        → (IsStrictlySortedBy nat_cmp (keys_of es) → finish_time id es ≡ Some f → insert_entry nat_cmp es id next ≡ insert_entry nat_cmp (remove_entry (is_at (nat_cmp id)) es) id next)
+        → match_ordering o ((id, next) ∷ e ∷ es) ((e.0, next) ∷ es) (e ∷ insert_entry nat_cmp es id next) ≡ insert_entry nat_cmp (cond (is_eq o) es (e ∷ remove_entry (is_at (nat_cmp id)) es)) id next
+    go Equal q h ih = ap (λ k. (k, next) ∷ es) (same_id id e.0 q) ∙ sym (first_entry id next es (subst (λ k. IsStrictlySortedBy nat_cmp (k ∷ keys_of es)) (same_id id e.0 q) s))
+    go Less q h ih = absurd (omega (arith, below id e.0 q, above_first e.0 id f es s h))
+    go Greater q h ih =
+        ap (λ xs. e ∷ xs) (ih (rest_sorted e.0 (keys_of es) s) h)
+        ∙ sym (ap (λ (o : Ordering). match_ordering o ((id, next) ∷ e ∷ remove_entry (is_at (nat_cmp id)) es) ((e.0, next) ∷ remove_entry (is_at (nat_cmp id)) es) (e ∷ insert_entry nat_cmp (remove_entry (is_at (nat_cmp id)) es) id next)) q)
+
+equal_id : (a b : ℕ) → is_at (nat_cmp a) b ≡ true → b ≡ a
+equal_id a b q = grind (arith, nat_tests)
+
+pub removed : (id : ℕ) (es : Times) → IsStrictlySortedBy nat_cmp (keys_of es) → finish_time id (remove_entry (is_at (nat_cmp id)) es) ≡ None
+removed id [] s = refl
+removed id (e ∷ es) s = go (is_at (nat_cmp id) e.0) refl (removed id es (rest_sorted e.0 (keys_of es) s))
+  where
+    behind_it : (o : Option ℕ) → finish_time id es ≡ o → e.0 ≡ id → finish_time id es ≡ None
+    behind_it None q same = q
+    behind_it (Some f) q same = absurd (omega (arith, above_first e.0 id f es s q, same))
+
+    go : (b : Bool) → is_at (nat_cmp id) e.0 ≡ b → finish_time id (remove_entry (is_at (nat_cmp id)) es) ≡ None → finish_time id (cond b es (e ∷ remove_entry (is_at (nat_cmp id)) es)) ≡ None
+    go true q ih = behind_it (finish_time id es) refl (equal_id id e.0 q)
+    go false q ih = ap (λ t. cond t (Some e.1) (finish_time id (remove_entry (is_at (nat_cmp id)) es))) q ∙ ih
+
+-- a stream that entered and leaves
+pub withdrawn : (id finish : ℕ) (es : Times) → finish_time id es ≡ None → remove_entry (is_at (nat_cmp id)) (insert_entry nat_cmp es id finish) ≡ es
+withdrawn id finish [] none = ap (λ t. cond t [] ((id, finish) ∷ [])) (at_itself id)
+withdrawn id finish (e ∷ es) none = go (nat_cmp id e.0) refl none (withdrawn id finish es)
+  where
+    go : (o : Ordering) → nat_cmp id e.0 ≡ o → cond (is_eq o) (Some e.1) (finish_time id es) ≡ None → (finish_time id es ≡ None → remove_entry (is_at (nat_cmp id)) (insert_entry nat_cmp es id finish) ≡ es)
+        → remove_entry (is_at (nat_cmp id)) (match_ordering o ((id, finish) ∷ e ∷ es) ((e.0, finish) ∷ es) (e ∷ insert_entry nat_cmp es id finish)) ≡ e ∷ es
+    go Less q none ih = ap (λ t. cond t (e ∷ es) ((id, finish) ∷ remove_entry (is_at (nat_cmp id)) (e ∷ es))) (at_itself id)
+    go Equal q none ih = absurd (cc)
+    go Greater q none ih = ap (λ o. cond (is_eq o) (insert_entry nat_cmp es id finish) (e ∷ remove_entry (is_at (nat_cmp id)) (insert_entry nat_cmp es id finish))) q ∙ ap (λ xs. e ∷ xs) (ih none)
+
+-- the same of the scheduler: who had nothing to send, was told of, and leaves
+pub withdraws : (id bytes priority : ℕ) (s : Scheduler) → is_active id s ≡ false → left id (set_bytes_remaining id bytes priority s) ≡ s
+withdraws id bytes priority s absent = go (bytes == 0)
+  where
+    none : (o : Option ℕ) → is_some o ≡ false → o ≡ None
+    none None h = refl
+    none (Some f) h = absurd (cc)
+
+    times : Times → Scheduler
+    times ts = record s { times = ts }
+
+    never_there : (es : Times) → finish_time id es ≡ None → remove_entry (is_at (nat_cmp id)) es ≡ es
+    never_there [] h = refl
+    never_there (e ∷ es) h = pick (is_at (nat_cmp id) e.0) h (never_there es)
+      where
+        pick : (b : Bool) → cond b (Some e.1) (finish_time id es) ≡ None → (finish_time id es ≡ None → remove_entry (is_at (nat_cmp id)) es ≡ es) → cond b es (e ∷ remove_entry (is_at (nat_cmp id)) es) ≡ e ∷ es
+        pick true h ih = absurd (cc)
+        pick false h ih = ap (λ xs. e ∷ xs) (ih h)
+
+    gone : left id s ≡ s
+    gone = ap times (never_there s.times (none (finish_time id s.times) absent))
+
+    go : (b : Bool) → left id (cond b (left id s) (cond (is_active id s) s (entered id (finish_now bytes priority s) s))) ≡ s
+    go true = ap (left id) gone ∙ gone
+    go false = ap (λ t. left id (cond t s (entered id (finish_now bytes priority s) s))) absent ∙ ap times (withdrawn id (finish_now bytes priority s) s.times (none (finish_time id s.times) absent))

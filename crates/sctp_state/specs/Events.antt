@@ -1,10 +1,11 @@
 -- What a socket tells its user, in order: events in one list, records of messages given up in another. The packets of
 -- events are of a type P: bytes to the user, trees to the rules of the association.
-use Rattle.std.specs.Prelude.{ℕ, Option, Some, None, List, [], ◌∷◌, ◌++◌, map, string_bytes}
+use Rattle.std.specs.Prelude.{◌≡◌, ℕ, Option, Some, None, List, [], ◌∷◌, ◌++◌, map, length, take, string_bytes}
 use Rattle.sctp_state.specs.declared.api.ErrorKind.{ErrorKind}
 use Rattle.sctp_state.specs.declared.api.GivenUpCause.{GivenUpCause}
 use Rattle.sctp_state.specs.declared.api.GivenUp as record_given
 use Rattle.sctp_state.specs.declared.api.SocketEvent as given
+use Rattle.sctp_state.specs.declared.events.EventMark.{EventMark}
 use Rattle.sctp_state.specs.declared.api.SocketEvent.TheVariants as told
 use Rattle.sctp_serial.specs.declared.api.StreamId.{StreamId}
 
@@ -86,3 +87,16 @@ expiry (Some id) = OnLifecycleMessageExpired id ∷ OnLifecycleEnd id ∷ []
 abbrev pub first_of : {X : Type 0} → List X → Option X
 first_of [] = None
 first_of (x ∷ xs) = Some x
+
+-- ---- what was told since a moment is taken back
+
+abbrev pub mark_of : {P : Type 0} → Told P → EventMark
+mark_of t = record { events = length t.events; given_up = length t.gone }
+
+abbrev pub rolled_back : {P : Type 0} → EventMark → Told P → Told P
+rolled_back m t = record { events = take m.events t.events; gone = take m.given_up t.gone }
+
+-- what was told stands, and more may stand behind it
+pub record Grown {P : Type 0} (old now : Told P) : Type 0 where
+  pub events : take (length old.events) now.events ≡ old.events
+  pub gone : take (length old.gone) now.gone ≡ old.gone

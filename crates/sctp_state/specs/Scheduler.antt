@@ -33,9 +33,12 @@ is_active id s = is_some (finish_time id s.times)
 abbrev pub cost : ℕ → ℕ → Scheduler → ℕ
 cost bytes priority s = if s.is_interleaved then min bytes s.most_payload * 65536 / max priority 1 else 1
 
--- of a stream that becomes active now
+-- of a stream that becomes active at a virtual time
+abbrev pub finish_at : ℕ → ℕ → ℕ → Scheduler → ℕ
+finish_at time bytes priority s = min (time + cost bytes priority s) (2 ^ 128 - 1)
+
 abbrev pub finish_now : ℕ → ℕ → Scheduler → ℕ
-finish_now bytes priority s = min (s.virtual_time + cost bytes priority s) (2 ^ 128 - 1)
+finish_now bytes priority s = finish_at s.virtual_time bytes priority s
 
 abbrev pub left : ℕ → Scheduler → Scheduler
 left id s = record s { times = remove_entry (is_at (nat_cmp id)) s.times }

@@ -24,6 +24,13 @@ pub trait EventSink {
         ensures rest { waiting self.new ≡ drop 1 (waiting self.old) };
 }
 
+/// How many events and records wait at a moment.
+#[derive(Clone, Copy, Debug)]
+pub struct EventMark {
+    pub events: usize,
+    pub given_up: usize,
+}
+
 /// A list of events and a list of records, each first in, first out.
 #[derive(Drop)]
 pub struct Events {
@@ -41,7 +48,7 @@ impl Model for Events {
 }
 
 impl Events {
-    ghost use Rattle.sctp_state.specs.Events.{silent, tell, tell_given_up, given_up_of};
+    ghost use Rattle.sctp_state.specs.Events.{silent, tell, tell_given_up, given_up_of, mark_of, rolled_back};
 
     pub fn new(alloc: Global) -> Events
         ensures { result ≡ silent }
@@ -84,6 +91,25 @@ impl Events {
         ensures rest { self.new ≡ record self.old { gone = drop 1 self.old.gone } }
     {
         self.given_up.pop_front()
+    }
+
+    /// How much waits now.
+    pub fn mark(&self) -> EventMark
+        ensures { result ≡ mark_of self.now }
+    {
+        EventMark {
+            events: self.events.len(),
+            given_up: self.given_up.len(),
+        }
+    }
+
+    /// Leaves the first events and records, as many as waited when the mark was made: what was added since, if nothing
+    /// was taken out, is taken back.
+    pub fn roll_back(&mut self, mark: EventMark)
+        ensures { self.new ≡ rolled_back mark self.old }
+    {
+        self.events.truncate(mark.events);
+        self.given_up.truncate(mark.given_up);
     }
 }
 

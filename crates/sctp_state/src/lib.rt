@@ -17,7 +17,7 @@ pub use api::{
     SendError, SendOptions, SocketEvent, SocketHandoverState, SocketState,
 };
 pub use capabilities::{Capabilities, announced_parameters};
-pub use events::{EventSink, Events};
+pub use events::{EventMark, EventSink, Events};
 pub use retransmission_timeout::RetransmissionTimeout;
 pub use state_cookie::{STATE_COOKIE_SIZE, StateCookie, StateCookieError};
 pub use stream_scheduler::StreamScheduler;

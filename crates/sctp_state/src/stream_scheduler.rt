@@ -75,6 +75,31 @@ fn enter(
     }
 }
 
+// Gives a stream that is there another time. Without memory nothing changes.
+fn renew(
+    finish_times: &mut BTreeMap<u16, u128>,
+    turns: &mut BTreeSet<(u128, u16)>,
+    id: u16,
+    finish: u128,
+    next: u128,
+) -> Result<(), AllocError>
+    requires there { finish_time id finish_times.old.entries ≡ Some finish }
+    requires index { Indexes turns.old.keys finish_times.old.entries }
+    ensures ok { OnOk result (finish_times.new.entries ≡ insert_entry nat_cmp (remove_entry (is_at (nat_cmp id)) finish_times.old.entries) id next) }
+    ensures absent { OnOk result (finish_time id (remove_entry (is_at (nat_cmp id)) finish_times.old.entries) ≡ None) }
+    ensures err { OnErr result (finish_times.new.entries ≡ finish_times.old.entries) }
+    ensures indexed { Indexes turns.new.keys finish_times.new.entries }
+{
+    if next == finish {
+        finish_times.insert(id, next)?;
+        return Ok(());
+    }
+    turns.insert((next, id))?;
+    turns.remove(&(finish, id));
+    finish_times.insert(id, next)?;
+    Ok(())
+}
+
 fn first_turn(finish_times: &BTreeMap<u16, u128>, turns: &BTreeSet<(u128, u16)>) -> Option<u16>
     requires { Indexes turns.now.keys finish_times.now.entries }
     ensures value { result ≡ option_map stream_in (best None finish_times.now.entries) }
@@ -90,7 +115,7 @@ fn first_turn(finish_times: &BTreeMap<u16, u128>, turns: &BTreeSet<(u128, u16)>)
 }
 
 impl StreamScheduler {
-    ghost use Rattle.sctp_state.specs.Scheduler.{scheduler, is_active, set_bytes_remaining, accept, peek, enable_message_interleaving, finish_now};
+    ghost use Rattle.sctp_state.specs.Scheduler.{scheduler, is_active, set_bytes_remaining, accept, peek, enable_message_interleaving, left, finish_at};
 
     /// No stream has anything to send. `max_payload` is the largest payload of a fragment, in bytes.
     pub fn new(alloc: Global, max_payload: usize) -> StreamScheduler
@@ -152,7 +177,7 @@ impl StreamScheduler {
         if self.finish_times.contains_key(&id.0) {
             return Ok(());
         }
-        let finish = self.finish_now(bytes, priority);
+        let finish = self.finish_at(self.virtual_time, bytes, priority);
         enter(&mut self.finish_times, &mut self.turns, id.0, finish)
     }
 
@@ -178,13 +203,47 @@ impl StreamScheduler {
         }
     }
 
-    fn finish_now(&self, bytes: usize, priority: u16) -> u128
-        ensures { result ≡ finish_now bytes priority self.now }
+    /// The stream has nothing to send any more.
+    pub fn leave(&mut self, id: StreamId)
+        ensures { self.new ≡ left id.0 self.old }
+    {
+        leave(&mut self.finish_times, &mut self.turns, id.0);
+    }
+
+    /// The stream sends, as `accept` says, if it is active, and then has so many bytes of its next message to send, as
+    /// `set_bytes_remaining` says. Without memory nothing changes.
+    pub fn take_turn(&mut self, id: StreamId, bytes: usize, priority: u16) -> Result<(), AllocError>
+        ensures ok { OnOk result (self.new ≡ set_bytes_remaining id.0 bytes priority (accept id.0 self.old)) }
+        ensures err { OnErr result (self.new ≡ self.old) }
+    {
+        let Some(finish) = self.finish_time(id) else {
+            return self.set_bytes_remaining(id, bytes, priority);
+        };
+        if bytes == 0 {
+            self.accept(id);
+            self.leave(id);
+            return Ok(());
+        }
+        let next = self.finish_at(finish, bytes, priority);
+        renew(&mut self.finish_times, &mut self.turns, id.0, finish, next)?;
+        self.virtual_time = finish;
+        Ok(())
+    }
+
+    fn finish_time(&self, id: StreamId) -> Option<u128>
+        ensures { result ≡ finish_time id.0 self.now.times }
+    {
+        self.finish_times.get(&id.0).copied()
+    }
+
+    // The finish time of a stream that becomes active at this virtual time.
+    fn finish_at(&self, virtual_time: u128, bytes: usize, priority: u16) -> u128
+        ensures { result ≡ finish_at virtual_time bytes priority self.now }
     {
         if !self.is_interleaved {
-            return self.virtual_time.saturating_add(1);
+            return virtual_time.saturating_add(1);
         }
         let cost = bytes.min(self.max_payload) as u128 * 65_536 / priority.max(1) as u128;
-        self.virtual_time.saturating_add(cost)
+        virtual_time.saturating_add(cost)
     }
 }

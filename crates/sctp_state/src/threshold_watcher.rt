@@ -72,4 +72,19 @@ impl ThresholdWatcher {
         self.amount -= bytes;
         was_above && self.amount <= self.low_threshold
     }
+
+    /// Whether the amount would fall from above the threshold to at most it, if these bytes were taken off.
+    pub fn is_crossed_by(&self, bytes: usize) -> bool
+        requires { bytes ≤ self.now.amount }
+        ensures { result ≡ crosses self.now (lowered bytes self.now) }
+    {
+        self.low_threshold < self.amount && self.amount - bytes <= self.low_threshold
+    }
+
+    /// Whether the amount would be above the threshold that is there and at most this one.
+    pub fn is_crossed_at(&self, low_threshold: usize) -> bool
+        ensures { result ≡ crosses self.now (set_low_threshold low_threshold self.now) }
+    {
+        self.low_threshold < self.amount && self.amount <= low_threshold
+    }
 }

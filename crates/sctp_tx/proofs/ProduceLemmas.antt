@@ -1,5 +1,5 @@
 -- `produce` asks enough streams: where it gives no fragment, none is active.
-use Rattle.std.proofs.Common.{◌≡◌, ℕ, suc, zero, ◌+◌, ◌-◌, ◌<◌, ◌≤◌, Bool, true, false, cond, [], ◌∷◌, length, Option, Some, None, refl, ap, sym, ◌∙◌, arith, inl, inr, ◌⊎◌}
+use Rattle.std.proofs.Common.{◌≡◌, ℕ, suc, zero, ◌+◌, ◌-◌, ◌<◌, ◌≤◌, Bool, true, false, cond, [], ◌∷◌, length, Option, Some, None, refl, ap, sym, subst, ◌∙◌, arith, inl, inr, ◌⊎◌}
 use Rattle.std.specs.Prelude.{is_some, unwrap_or, option_map}
 use Rattle.std.specs.Map.{lookup, remove_entry}
 use Rattle.std.specs.Ordering.{nat_cmp}
@@ -10,24 +10,24 @@ use Rattle.sctp_state.specs.Events.{Told}
 use Rattle.sctp_state.specs.Scheduler.{Times, best, peek, stream_in, finish_time}
 use Rattle.sctp_state.proofs.SchedulerLemmas.{none_is}
 use Rattle.sctp_tx.specs.Queue.{Queue, Streams, stream, sendable}
-use Rattle.sctp_tx.specs.Produced.{Produced, Turn, turn, idle, next_stream, produce_within, produce, in_line, begun_by, cut, streams_after, streams_without_stale}
-use Rattle.sctp_tx.proofs.StreamsLemmas.{none-from}
+use Rattle.sctp_tx.specs.Produced.{Produced, Turn, turn, idle, next_stream, produce_within, produce, in_line, begun_by, streams_after, streams_without_stale}
+use Rattle.sctp_tx.specs.Interrupted.{Passed}
 
 -- ---- one turn
 
 abbrev tried : {P : Type 0} → ℕ → ℕ → ℕ → Queue → Told P → ℕ → Turn P
 tried m now size q told i = cond (is_some (turn now i size q told).made) (turn now i size q told) (produce_within m now size (turn now i size q told).queue (turn now i size q told).told)
 
-idles : {P : Type 0} (m now size : ℕ) (q : Queue) (told : Told P) → next_stream q ≡ None → produce_within (suc m) now size q told ≡ idle q told
+pub idles : {P : Type 0} (m now size : ℕ) (q : Queue) (told : Told P) → next_stream q ≡ None → produce_within (suc m) now size q told ≡ idle q told
 idles m now size q told next = ap (λ (o : Option ℕ). unwrap_or (option_map (tried m now size q told) o) (idle q told)) next
 
-gives : {P : Type 0} (m now size id : ℕ) (q : Queue) (told : Told P) (made : Produced) → next_stream q ≡ Some id → Some made ≡ (turn now id size q told).made
+pub gives : {P : Type 0} (m now size id : ℕ) (q : Queue) (told : Told P) (made : Produced) → next_stream q ≡ Some id → Some made ≡ (turn now id size q told).made
     → produce_within (suc m) now size q told ≡ turn now id size q told
 gives m now size id q told made next is =
     ap (λ (o : Option ℕ). unwrap_or (option_map (tried m now size q told) o) (idle q told)) next
     ∙ ap (λ (o : Option Produced). cond (is_some o) (turn now id size q told) (produce_within m now size (turn now id size q told).queue (turn now id size q told).told)) (sym is)
 
-turned : {P : Type 0} (m now size id : ℕ) (q : Queue) (told : Told P) → next_stream q ≡ Some id → None ≡ (turn now id size q told).made
+pub turned : {P : Type 0} (m now size id : ℕ) (q : Queue) (told : Told P) → next_stream q ≡ Some id → None ≡ (turn now id size q told).made
     → produce_within (suc m) now size q told ≡ produce_within m now size (turn now id size q told).queue (turn now id size q told).told
 turned m now size id q told next none =
     ap (λ (o : Option ℕ). unwrap_or (option_map (tried m now size q told) o) (idle q told)) next
@@ -50,6 +50,17 @@ pub ended : {P : Type 0} (n now size : ℕ) (q : Queue) (told : Told P) → 0 < 
 ended n now size q told more next =
     let e : n ≡ suc (n - 1) = omega (arith, more) in
     ap (λ k. produce_within k now size q told) e ∙ idles (n - 1) now size q told next
+
+-- one more turn without a fragment
+pub passed-more : {P : Type 0} (turns now size id : ℕ) (q p : Queue) (told later : Told P) → Passed turns now size q told p later → next_stream p ≡ Some id → (turn now id size p later).made ≡ None
+    → Passed (suc turns) now size q told (turn now id size p later).queue (turn now id size p later).told
+passed-more {P} zero now size id q p told later h next none =
+    let same : turn now id size p later ≡ turn now id size q told = ap (λ x. turn now id size x later) h.queue ∙ ap (λ t. turn now id size q t) h.events in
+    (id, (ap next_stream (sym h.queue) ∙ next, (ap (λ (t : Turn P). t.made) (sym same) ∙ none, record { queue = ap (λ (t : Turn P). t.queue) same; events = ap (λ (t : Turn P). t.told) same })))
+passed-more (suc turns) now size id q p told later h next none = (h.0, (h.1.0, (h.1.1.0, passed-more turns now size id (turn now h.0 size q told).queue p (turn now h.0 size q told).told later h.1.1.1 next none)))
+
+pub passed-as : {P : Type 0} (turns now size : ℕ) (q p r : Queue) (told later last : Told P) → Passed turns now size q told p later → r ≡ p → last ≡ later → Passed turns now size q told r last
+passed-as {P} turns now size q p r told later last h is_queue is_told = subst (λ (t : Told P). Passed turns now size q told r t) (sym is_told) (subst (λ x. Passed turns now size q told x later) (sym is_queue) h)
 
 -- ---- the next stream is active
 
@@ -160,7 +171,7 @@ none_active q h = go q.begun h
     go None h = h
     go (Some k) h = absurd (cc)
 
-few_tries : (q : Queue) → tries q < length q.scheduler.times + 2
+pub few_tries : (q : Queue) → tries q < length q.scheduler.times + 2
 few_tries q = go q.begun
   where
     go : (begun : Option ℕ) → length q.scheduler.times + cond (is_some begun) 1 0 < length q.scheduler.times + 2

@@ -1,18 +1,18 @@
 -- The bytes of all streams when one stream changes.
-use Rattle.std.proofs.Common.{◌≡◌, ℕ, ◌+◌, ◌≤◌, Bool, true, false, cond, List, [], ◌∷◌, Option, Some, None, refl, ap, sym, ◌∙◌, arith}
+use Rattle.std.proofs.Common.{◌≡◌, ℕ, ◌+◌, ◌-◌, ◌≤◌, Bool, true, false, cond, List, [], ◌∷◌, Option, Some, None, Less, Equal, Greater, refl, ap, sym, ◌∙◌, arith}
 use Rattle.std.specs.Prelude.{unwrap_or, is_some, option_map, IsSome}
-use Rattle.std.specs.Ordering.{nat_cmp}
+use Rattle.std.specs.Ordering.{nat_cmp, is_eq, match_ordering}
+use Rattle.std.specs.declared.cmp.Ordering.{Ordering}
+use Rattle.std.proofs.lemmas.Bool.Decides.{nat_tests}
 use Rattle.std.specs.List.Sorted.{IsStrictlySortedBy}
 use Rattle.std.specs.Map.{lookup, set_value, keys_of}
 use Rattle.std.specs.BTreeMap.{is_at, insert_entry}
 use Rattle.std.proofs.lemmas.Cmp.{nat_cmp_total}
 use Rattle.std.proofs.lemmas.Map.Entries.{sum_by-set_value, sum_by-insert_entry}
-use Rattle.sctp_tx.specs.Queue.{Stream, Streams, Entries, Queued, watched_amount, watched_total, amount_of, total_of, blank_stream, put, opened, stream, pushed, sendable, hears, added, Queue, next_number}
-use Rattle.sctp_state.specs.Events.{Told}
-use Rattle.sctp_state.specs.Scheduler.{Scheduler, set_bytes_remaining}
-use Rattle.sctp_state.specs.Thresholds.{Watched, crosses}
-use Rattle.sctp_tx.specs.Produced.{Produced, cut, streams_after, told_made, told_of}
-use Rattle.sctp_tx.proofs.StreamLemmas.{crosses-same}
+use Rattle.sctp_tx.specs.Queue.{Stream, Streams, Entries, amount_of, total_of, Queued, blank_stream, blank, put, pushed, opened, stream, sendable}
+use Rattle.sctp_tx.specs.Produced.{advanced, streams_after}
+use Rattle.sctp_tx.specs.declared.send_queue.stream.ResetStep.TheVariants.{Requested}
+use Rattle.sctp_tx.specs.Resets.{after_step}
 
 -- the total after a write
 pub total-written : (id : ℕ) (es : Entries) (v w : Stream) → Some v ≡ lookup (is_at (nat_cmp id)) es → total_of (set_value (is_at (nat_cmp id)) es w) + amount_of v ≡ total_of es + amount_of w
@@ -76,35 +76,76 @@ lookup-written test v (e ∷ es) there = go (test e.0) refl there (lookup-writte
 pub stream-put : (id : ℕ) (s : Stream) (ss : Streams) → IsSome (lookup (is_at (nat_cmp id)) ss.entries) → stream id (put id s ss) ≡ s
 stream-put id s ss there = ap (λ o. unwrap_or o (blank_stream ss.default_priority ss.default_threshold)) (lookup-written (is_at (nat_cmp id)) s ss.entries there)
 
--- a message is accepted: the stream is opened, the message pushed, the scheduler told
-pub added-is : (id n bytes priority : ℕ) (m : Queued) (q : Queue) (first after : Streams) (sch : Scheduler) → IsSome (lookup (is_at (nat_cmp id)) first.entries)
-    → first ≡ opened id q.streams → stream id first ≡ stream id q.streams → after ≡ put id (pushed m (stream id first)) first
-    → bytes ≡ sendable (stream id after) → priority ≡ (stream id after).priority → sch ≡ set_bytes_remaining id bytes priority q.scheduler → n ≡ next_number q.next_number
-    → (let r : Queue = record q { streams = after; scheduler = sch; next_number = n } in r) ≡ added id m q
-added-is id n bytes priority m q first after sch there is_open same is_after is_bytes is_priority is_scheduled is_next =
-    ap (λ ss. queue ss sch n) streams ∙ ap (λ x. queue (put id s (opened id q.streams)) x n) scheduled ∙ ap (λ k. queue (put id s (opened id q.streams)) (hears id s q.scheduler) k) is_next
+-- what changes no priority changes none where it is put
+pub priority-put : (id : ℕ) (f : Stream → Stream) (ss : Streams) → ((s : Stream) → (f s).priority ≡ s.priority) → (stream id (put id (f (stream id ss)) ss)).priority ≡ (stream id ss).priority
+priority-put id f ss keeps = go (lookup (is_at (nat_cmp id)) ss.entries) refl
   where
-    queue : Streams → Scheduler → ℕ → Queue
-    queue ss x k = record q { streams = ss; scheduler = x; next_number = k }
+    go : (o : Option Stream) → lookup (is_at (nat_cmp id)) ss.entries ≡ o → (stream id (put id (f (stream id ss)) ss)).priority ≡ (stream id ss).priority
+    go None e = ap (λ (x : Streams). (stream id x).priority) (put-nowhere id (f (stream id ss)) ss (sym e))
+    go (Some s) e = ap (λ (t : Stream). t.priority) (stream-put id (f (stream id ss)) ss (ap is_some e)) ∙ keeps (stream id ss)
 
-    s : Stream
-    s = pushed m (stream id q.streams)
+-- the stream where it is there, and where it isn't
+pub stream-there : (id : ℕ) (s : Stream) (ss : Streams) → Some s ≡ lookup (is_at (nat_cmp id)) ss.entries → stream id ss ≡ s
+stream-there id s ss at = ap (λ o. unwrap_or o (blank ss)) (sym at)
 
-    streams : after ≡ put id s (opened id q.streams)
-    streams = is_after ∙ ap (λ t. put id (pushed m t) first) same ∙ ap (λ ss. put id s ss) is_open
+pub stream-nowhere : (id : ℕ) (ss : Streams) → None ≡ lookup (is_at (nat_cmp id)) ss.entries → stream id ss ≡ blank ss
+stream-nowhere id ss at = ap (λ o. unwrap_or o (blank ss)) (sym at)
 
-    now : stream id after ≡ s
-    now = ap (λ ss. stream id ss) is_after ∙ stream-put id (pushed m (stream id first)) first there ∙ ap (λ t. pushed m t) same
+-- what a stream is after a change, where it is there, and where it isn't
+pub changed-there : (id : ℕ) (s t : Stream) (ss : Streams) → Some s ≡ lookup (is_at (nat_cmp id)) ss.entries → stream id (put id t ss) ≡ t
+changed-there id s t ss at = stream-put id t ss (ap is_some (sym at))
 
-    scheduled : sch ≡ hears id s q.scheduler
-    scheduled = is_scheduled ∙ ap (λ b. set_bytes_remaining id b priority q.scheduler) (is_bytes ∙ ap (λ t. sendable t) now) ∙ ap (λ p. set_bytes_remaining id (sendable s) p q.scheduler) (is_priority ∙ ap (λ t. t.priority) now)
+pub changed-nowhere : (id : ℕ) (t : Stream) (ss : Streams) → None ≡ lookup (is_at (nat_cmp id)) ss.entries → stream id (put id t ss) ≡ blank ss
+changed-nowhere id t ss at = ap (λ x. stream id x) (put-nowhere id t ss at) ∙ stream-nowhere id ss at
 
--- what is told of a fragment
-pub told-is : {P : Type 0} (id size : ℕ) (old : Streams) (s t : Stream) (w x : Watched) (is_low is_total_low : Bool) (made : Option Produced) (told : Told P)
-    → s ≡ stream id old → t ≡ (cut id size s).stream → made ≡ (cut id size s).made → is_low ≡ crosses (watched_amount s) (watched_amount t) → is_total_low ≡ crosses w x
-    → w.amount ≡ total_of old.entries → w.low_threshold ≡ old.total_threshold → x.amount ≡ total_of (streams_after id size old).entries → x.low_threshold ≡ old.total_threshold
-    → told_made id is_low is_total_low made told ≡ told_of id size old told
-told-is id size old s t w x is_low is_total_low made told is_stream is_after is_made low total_low a b c d =
-    ap (λ l. told_made id l is_total_low made told) (low ∙ ap (λ v. crosses (watched_amount s) (watched_amount v)) is_after ∙ ap (λ v. crosses (watched_amount v) (watched_amount (cut id size v).stream)) is_stream)
-    ∙ ap (λ l. told_made id (crosses (watched_amount (stream id old)) (watched_amount (cut id size (stream id old)).stream)) l made told) (total_low ∙ crosses-same w x (watched_total old) (watched_total (streams_after id size old)) a b c d)
-    ∙ ap (λ m. told_made id (crosses (watched_amount (stream id old)) (watched_amount (cut id size (stream id old)).stream)) (crosses (watched_total old) (watched_total (streams_after id size old))) m told) (is_made ∙ ap (λ v. (cut id size v).made) is_stream)
+at_itself : (k : ℕ) → is_at (nat_cmp k) k ≡ true
+at_itself k = grind (arith, nat_tests)
+
+-- a stream that was not there is put there at once
+pub inserted-written : (id : ℕ) (a b : Stream) (es : Entries) → None ≡ lookup (is_at (nat_cmp id)) es → set_value (is_at (nat_cmp id)) (insert_entry nat_cmp es id a) b ≡ insert_entry nat_cmp es id b
+inserted-written id a b [] none = ap (λ t. cond t ((id, b) ∷ []) ((id, a) ∷ [])) (at_itself id)
+inserted-written id a b (e ∷ es) none = go (nat_cmp id e.0) refl none (inserted-written id a b es)
+  where
+    go : (o : Ordering) → nat_cmp id e.0 ≡ o → None ≡ cond (is_eq o) (Some e.1) (lookup (is_at (nat_cmp id)) es)
+        → (None ≡ lookup (is_at (nat_cmp id)) es → set_value (is_at (nat_cmp id)) (insert_entry nat_cmp es id a) b ≡ insert_entry nat_cmp es id b)
+        → set_value (is_at (nat_cmp id)) (match_ordering o ((id, a) ∷ e ∷ es) ((e.0, a) ∷ es) (e ∷ insert_entry nat_cmp es id a)) b ≡ match_ordering o ((id, b) ∷ e ∷ es) ((e.0, b) ∷ es) (e ∷ insert_entry nat_cmp es id b)
+    go Less q none ih = ap (λ t. cond t ((id, b) ∷ e ∷ es) ((id, a) ∷ set_value (is_at (nat_cmp id)) (e ∷ es) b)) (at_itself id)
+    go Equal q none ih = absurd (cc)
+    go Greater q none ih = ap (λ t. cond (is_eq t) ((e.0, b) ∷ insert_entry nat_cmp es id a) (e ∷ set_value (is_at (nat_cmp id)) (insert_entry nat_cmp es id a) b)) q ∙ ap (λ xs. e ∷ xs) (ih none)
+
+-- a stream that goes into a request has nothing to send
+pub requested-sendable : (id : ℕ) (ss : Streams) → sendable (stream id (put id (after_step Requested (stream id ss)) ss)) ≡ 0
+requested-sendable id ss = go (lookup (is_at (nat_cmp id)) ss.entries) refl
+  where
+    go : (o : Option Stream) → lookup (is_at (nat_cmp id)) ss.entries ≡ o → sendable (stream id (put id (after_step Requested (stream id ss)) ss)) ≡ 0
+    go None e = ap sendable (changed-nowhere id (after_step Requested (stream id ss)) ss (sym e))
+    go (Some s) e = ap sendable (changed-there id s (after_step Requested (stream id ss)) ss (sym e))
+
+pub total-inserted : (id : ℕ) (s : Stream) (es : Entries) → IsStrictlySortedBy nat_cmp (keys_of es) → None ≡ lookup (is_at (nat_cmp id)) es → total_of (insert_entry nat_cmp es id s) ≡ total_of es + amount_of s
+total-inserted id s es sorted none =
+    let sums = sum_by-insert_entry amount_of nat_cmp_total es id s sorted in
+    let gone : unwrap_or (option_map amount_of (lookup (is_at (nat_cmp id)) es)) 0 ≡ 0 = ap (λ o. unwrap_or (option_map amount_of o) 0) (sym none) in
+    omega (arith, sums, gone)
+
+-- the first message of a stream that is made with it
+pub first-is : (id : ℕ) (m : Queued) (ss : Streams) (es : Entries) (threshold : ℕ) → None ≡ lookup (is_at (nat_cmp id)) ss.entries → es ≡ insert_entry nat_cmp ss.entries id (pushed m (blank ss)) → threshold ≡ ss.total_threshold
+    → (let r : Streams = record ss { entries = es; total_threshold = threshold } in r) ≡ put id (pushed m (stream id ss)) (opened id ss)
+first-is id m ss es threshold none is_entries is_threshold =
+    ap (λ e. streams e threshold) is_entries ∙ ap (λ t. streams (insert_entry nat_cmp ss.entries id (pushed m (blank ss))) t) is_threshold ∙ sym back
+  where
+    streams : Entries → ℕ → Streams
+    streams e t = record ss { entries = e; total_threshold = t }
+
+    back : put id (pushed m (stream id ss)) (opened id ss) ≡ streams (insert_entry nat_cmp ss.entries id (pushed m (blank ss))) ss.total_threshold
+    back =
+        ap (λ s. put id (pushed m s) (opened id ss)) (stream-nowhere id ss none)
+        ∙ ap (λ (o : Option Stream). put id (pushed m (blank ss)) (cond (is_some o) ss (streams (insert_entry nat_cmp ss.entries id (blank ss)) ss.total_threshold))) (sym none)
+        ∙ ap (λ e. streams e ss.total_threshold) (inserted-written id (blank ss) (pushed m (blank ss)) ss.entries none)
+
+-- the total after a fragment
+pub total-after : (id size bytes amount : ℕ) (s : Stream) (ss : Streams) → Some s ≡ lookup (is_at (nat_cmp id)) ss.entries → amount_of (advanced size s) + bytes ≡ amount_of s → amount ≡ total_of ss.entries
+    → amount - bytes ≡ total_of (streams_after id size ss).entries
+total-after id size bytes amount s ss at whole is =
+    let sums = total-written id ss.entries s (advanced size (stream id ss)) at in
+    let same = ap (λ t. amount_of (advanced size t)) (stream-there id s ss at) in
+    omega (arith, sums, same, whole, is, amount-at_most id ss.entries s at)

@@ -1,5 +1,10 @@
+pub mod Begun
+pub mod Handover
+pub mod Interrupted
 pub mod Produced
 pub mod Queue
+pub mod Readiness
 pub mod Resets
+pub mod Restarted
 pub mod Settings
 pub mod Views

@@ -1,16 +1,16 @@
 -- Fragments of queued messages, in the scheduler's order; messages that expired before their first one; and what is left
 -- of a message that was given up.
-use Rattle.std.specs.Prelude.{ℕ, zero, suc, ◌+◌, ◌-◌, ◌%◌, ◌^◌, ◌==◌, ◌&&◌, not, nat_lt, nat_le, Bool, true, false, if◌then◌else◌, Option, Some, None, is_some, unwrap_or, option_map, List, [], ◌∷◌, ◌++◌, length, take, drop}
+use Rattle.std.specs.Prelude.{ℕ, zero, suc, ◌+◌, ◌-◌, ◌%◌, ◌^◌, ◌==◌, ◌&&◌, not, nat_le, Bool, true, false, if◌then◌else◌, Option, Some, None, is_some, unwrap_or, option_map, List, [], ◌∷◌, ◌++◌, length, take, drop}
 use Rattle.sctp_serial.specs.Unwrapped.{origin, words, halves, wire}
 use Rattle.sctp_state.specs.Events.{Event, OnBufferedAmountLow, OnTotalBufferedAmountLow, OnLifecycleMessageFullySent, Told, tell_all, give_up, expiry}
 use Rattle.sctp_state.specs.declared.api.GivenUpCause.TheVariants.{Lifetime}
 use Rattle.sctp_state.specs.Scheduler.{Scheduler, accept, peek, set_bytes_remaining}
-use Rattle.sctp_state.specs.Thresholds.{Watched, crosses}
+use Rattle.sctp_state.specs.Thresholds.{crosses}
 use Rattle.sctp_packet.specs.Chunk.{FragmentTree}
 use Rattle.sctp_tx.specs.declared.send_queue.message.MessageNumbers.{MessageNumbers}
 use Rattle.sctp_tx.specs.declared.send_queue.stream.PauseState.{PauseState}
 use Rattle.sctp_tx.specs.declared.send_queue.stream.PauseState.TheVariants.{NotPaused, Pending, Paused, Resetting}
-use Rattle.sctp_tx.specs.Queue.{Queued, Stream, Streams, Queue, left, amount_of, watched_amount, watched_total, stream, put, sendable, hears}
+use Rattle.sctp_tx.specs.Queue.{Queued, Stream, Streams, Queue, left, watched_amount, watched_total, stream, put, sendable, front_left}
 
 -- a fragment, and what its message was accepted with
 pub record Produced : Type 0 where
@@ -104,10 +104,6 @@ settled Pending = Paused
 settled Paused = Paused
 settled Resetting = Resetting
 
--- a fragment that is the end of its message
-abbrev pub pause_after : Produced → PauseState → PauseState
-pause_after made p = if made.fragment.is_end then settled p else p
-
 -- the same by the list of the stream's messages
 abbrev pub front_numbers : List Queued → Stream → MessageNumbers
 front_numbers [] s = record { ssn = 0; mid = 0 }
@@ -121,27 +117,32 @@ abbrev pub front_made : ℕ → ℕ → MessageNumbers → List Queued → Optio
 front_made id size n [] = None
 front_made id size n (m ∷ rest) = Some (made_of id size n m)
 
+abbrev pub front_ends : ℕ → List Queued → Bool
+front_ends size [] = false
+front_ends size (m ∷ rest) = ends size m
+
+abbrev pub pause_after : Bool → PauseState → PauseState
+pause_after is_end p = if is_end then settled p else p
+
 abbrev pub moved_front : ℕ → MessageNumbers → List Queued → List Queued
 moved_front size n [] = []
 moved_front size n (m ∷ rest) = if ends size m then rest else moved size n m ∷ rest
 
--- the fragment, and the stream after it
-pub record Cut : Type 0 where
-  pub stream : Stream
-  pub made : Option Produced
+-- what is left of the message at the front then
+abbrev pub front_left_after : ℕ → List Queued → ℕ
+front_left_after size [] = 0
+front_left_after size (m ∷ rest) = if ends size m then front_left rest else left m - size
 
-abbrev pub after_fragment : ℕ → Queued → List Queued → Stream → Stream
-after_fragment size m rest s = record (took m s) {
-  messages = if ends size m then rest else moved size (numbers_of s m) m ∷ rest;
-  pause = if ends size m then settled s.pause else s.pause;
+-- the fragment that a stream gives next
+abbrev pub next_fragment : ℕ → ℕ → Stream → Option Produced
+next_fragment id size s = front_made id size (front_numbers s.messages s) s.messages
+
+-- the stream after it
+abbrev pub advanced : ℕ → Stream → Stream
+advanced size s = record (front_took s.messages s) {
+  messages = moved_front size (front_numbers s.messages s) s.messages;
+  pause = pause_after (front_ends size s.messages) s.pause;
 }
-
-abbrev pub cut_front : ℕ → ℕ → List Queued → Stream → Cut
-cut_front id size [] s = record { stream = s; made = None }
-cut_front id size (m ∷ rest) s = record { stream = after_fragment size m rest s; made = Some (made_of id size (numbers_of s m) m) }
-
-abbrev pub cut : ℕ → ℕ → Stream → Cut
-cut id size s = cut_front id size s.messages s
 
 -- ---- what is told of a fragment
 
@@ -169,7 +170,7 @@ abbrev pub streams_without_stale : ℕ → ℕ → Streams → Streams
 streams_without_stale now id ss = put id (without_stale now (stream id ss)) ss
 
 abbrev pub streams_after : ℕ → ℕ → Streams → Streams
-streams_after id size ss = put id (cut id size (stream id ss)).stream ss
+streams_after id size ss = put id (advanced size (stream id ss)) ss
 
 abbrev pub told_made : {P : Type 0} → ℕ → Bool → Bool → Option Produced → Told P → Told P
 told_made id is_low is_total_low None told = told
@@ -177,9 +178,9 @@ told_made id is_low is_total_low (Some made) told = tell_all (production id is_l
 
 abbrev pub told_of : {P : Type 0} → ℕ → ℕ → Streams → Told P → Told P
 told_of id size ss told =
-    let c : Cut = cut id size (stream id ss) in
-    told_made id (crosses (watched_amount (stream id ss)) (watched_amount c.stream))
-    (crosses (watched_total ss) (watched_total (streams_after id size ss))) c.made told
+    let s : Stream = stream id ss in
+    told_made id (crosses (watched_amount s) (watched_amount (advanced size s)))
+    (crosses (watched_total ss) (watched_total (streams_after id size ss))) (next_fragment id size s) told
 
 -- the stream that sent a fragment goes in line for its next one; one that had none leaves
 abbrev pub in_line : ℕ → ℕ → ℕ → Option Produced → Scheduler → Scheduler
@@ -193,16 +194,16 @@ begun_by id is_interleaved (Some made) = if made.fragment.is_end then None else 
 
 abbrev pub turn_from : {P : Type 0} → ℕ → ℕ → Streams → Queue → Told P → Turn P
 turn_from id size ss q told =
-    let c : Cut = cut id size (stream id ss) in
+    let made : Option Produced = next_fragment id size (stream id ss) in
     let after : Streams = streams_after id size ss in
     record {
       queue = record q {
         streams = after;
-        scheduler = in_line id (sendable (stream id after)) (stream id after).priority c.made q.scheduler;
-        begun = begun_by id q.scheduler.is_interleaved c.made;
+        scheduler = in_line id (sendable (stream id after)) (stream id after).priority made q.scheduler;
+        begun = begun_by id q.scheduler.is_interleaved made;
       };
       told = told_of id size ss told;
-      made = c.made;
+      made = made;
     }
 
 abbrev pub turn : {P : Type 0} → ℕ → ℕ → ℕ → Queue → Told P → Turn P

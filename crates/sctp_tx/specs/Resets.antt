@@ -1,7 +1,5 @@
 -- Outgoing streams that are reset (RFC 6525 section 5.1.2).
-use Rattle.std.specs.Prelude.{ℕ, ◌==◌, nat_lt, Bool, true, false, if◌then◌else◌, List, [], ◌∷◌, ◌++◌, length, take, filter, map}
-use Rattle.std.specs.List.{list_any}
-use Rattle.std.specs.Map.{values_of}
+use Rattle.std.specs.Prelude.{ℕ, ◌==◌, nat_lt, Bool, true, false, if◌then◌else◌, List, [], ◌∷◌, length, take, filter}
 use Rattle.sctp_serial.specs.Unwrapped.{origin}
 use Rattle.sctp_state.specs.Events.{Told, tell_all, expiry}
 use Rattle.sctp_tx.specs.declared.send_queue.stream.PauseState.{PauseState}

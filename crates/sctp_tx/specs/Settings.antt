@@ -1,7 +1,7 @@
 -- Thresholds and priorities of streams, and messages that are given up while they are partly sent.
-use Rattle.std.specs.Prelude.{ℕ, ◌==◌, Bool, true, false, if◌then◌else◌, Option, Some, None, List, [], ◌∷◌}
+use Rattle.std.specs.Prelude.{ℕ, ◌==◌, Bool, false, if◌then◌else◌, Option, Some, None, List, [], ◌∷◌}
 use Rattle.sctp_state.specs.Events.{Told, tell_all, expiry, OnBufferedAmountLow}
-use Rattle.sctp_state.specs.Scheduler.{Scheduler, enable_message_interleaving}
+use Rattle.sctp_state.specs.Scheduler.{enable_message_interleaving}
 use Rattle.sctp_state.specs.Thresholds.{crosses}
 use Rattle.sctp_tx.specs.Queue.{Queued, Stream, Streams, Queue, watched_amount, stream, opened, put, hears}
 use Rattle.sctp_tx.specs.Produced.{settled, when}
@@ -44,10 +44,6 @@ front_discarded number (m ∷ rest) = if m.number == number then Some m.lifecycl
 abbrev pub is_front : ℕ → List Queued → Bool
 is_front number [] = false
 is_front number (m ∷ rest) = m.number == number
-
-abbrev pub popped_if : ℕ → List Queued → List Queued
-popped_if number [] = []
-popped_if number (m ∷ rest) = if m.number == number then rest else m ∷ rest
 
 abbrev pub without_front : ℕ → List Queued → Stream → Stream
 without_front number [] s = s

@@ -1,5 +1,5 @@
 -- What the program's values say, without where they lie in memory.
-use Rattle.std.specs.Prelude.{ℕ, Option, Some, None, unwrap_or, option_map, List}
+use Rattle.std.specs.Prelude.{ℕ, None, unwrap_or, option_map}
 use Rattle.std.specs.Duration.{as_nanos}
 use Rattle.sctp_serial.specs.declared.api.Message.{Message}
 use Rattle.sctp_state.specs.declared.api.options.SendOptions.{SendOptions}

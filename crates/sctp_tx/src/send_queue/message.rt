@@ -1,12 +1,16 @@
 //! A message that waits or is partly sent, and its fragments.
 
-ghost use Rattle.std.specs.Prelude.{◌≡◌, ℕ, ◌+◌, ◌-◌, ◌<◌, ◌≤◌, ◌^◌, Bool, length, IfOk, option_map};
+ghost use Rattle.std.specs.Prelude.{◌≡◌, ℕ, ◌+◌, ◌-◌, ◌<◌, ◌≤◌, ◌^◌, Bool, length, IfOk, None, option_map, unwrap_or, pos, min, if◌then◌else◌};
 ghost use Rattle.std.specs.Duration.{as_nanos};
 ghost use Rattle.sctp_packet.specs.Written.{key_stream};
 ghost use Rattle.sctp_packet.specs.Views.{is_unordered_key};
 ghost use Rattle.sctp_tx.specs.Queue.{left, expiry_of};
 ghost use Rattle.sctp_tx.specs.Produced.{is_stale, is_due, made_of, moved};
 ghost use Rattle.sctp_tx.specs.Resets.{is_partly};
+ghost use Rattle.sctp_serial.specs.Unwrapped.{words, halves, wire};
+ghost use Rattle.sctp_state.specs.Handover.{stream_message_of};
+ghost use Rattle.sctp_tx.specs.Handover.{ms_from, queued_message};
+ghost use Rattle.sctp_tx.specs.Restarted.{whole};
 ghost use Rattle.sctp_tx.specs.Views.{produced_of, queued_of};
 
 use crate::data_to_send::DataToSend;
@@ -16,6 +20,7 @@ use sctp_serial::{
     StreamId, StreamKey,
 };
 use sctp_state::SendOptions;
+use sctp_state::api::handover::HandoverStreamMessage;
 use std::alloc::{AllocError, Global};
 use std::marker::Model;
 use std::time::Duration;
@@ -80,7 +85,90 @@ fn stream_key(is_unordered: bool, id: StreamId) -> StreamKey
     StreamKey::new(is_unordered, id)
 }
 
+// At most the greatest number of 31 bits.
+fn bounded(millis: u128) -> i32
+    ensures { result ≡ pos (min millis (2 ^ 31 - 1)) }
+{
+    millis.min(2_147_483_647) as i32
+}
+
+// The milliseconds from now to a moment.
+fn millis_to(now: SocketTime, moment: SocketTime) -> i32
+    ensures { result ≡ ms_from now moment }
+{
+    let now = now.as_nanos();
+    let moment = moment.as_nanos();
+    if now <= moment {
+        return bounded((moment - now) / 1_000_000);
+    }
+    -1 - bounded((now - moment - 1) / 1_000_000)
+}
+
+fn expires_in(now: SocketTime, expires_at: Option<SocketTime>) -> Option<i32>
+    ensures { result ≡ option_map (ms_from now) expires_at }
+{
+    match expires_at {
+        Some(moment) => Some(millis_to(now, moment)),
+        None => None,
+    }
+}
+
+fn lifecycle_number(id: Option<LifecycleId>) -> u64
+    ensures { result ≡ unwrap_or id 0 }
+{
+    match id {
+        Some(id) => id.value(),
+        None => 0,
+    }
+}
+
+fn mid_of(numbers: Option<MessageNumbers>) -> Option<u32>
+    ensures { result ≡ option_map (λ n. wire words 0 n.mid) numbers }
+{
+    match numbers {
+        Some(numbers) => Some(Mid::wrapped(Mid(0), numbers.mid).0),
+        None => None,
+    }
+}
+
+fn ssn_of(is_unordered: bool, numbers: Option<MessageNumbers>) -> Option<u16>
+    ensures { result ≡ (if is_unordered then None else option_map (λ n. wire halves 0 n.ssn) numbers) }
+{
+    if is_unordered {
+        return None;
+    }
+    match numbers {
+        Some(numbers) => Some(Ssn::wrapped(Ssn(0), numbers.ssn).0),
+        None => None,
+    }
+}
+
 impl QueuedMessage {
+    /// It, on a stream, in the record of a socket that is handed over now.
+    pub fn handed_over(
+        &self,
+        alloc: Global,
+        now: SocketTime,
+        id: StreamId,
+    ) -> Result<HandoverStreamMessage, AllocError>
+        ensures { IfOk result (λ m. stream_message_of m ≡ queued_message now id.0 self.now) }
+    {
+        Ok(HandoverStreamMessage {
+            stream_id: id.0,
+            ppid: self.ppid.0,
+            payload: Vec::from_slice(alloc, &self.payload)?,
+            expires_in_ms: expires_in(now, self.expires_at),
+            max_retransmissions: self.max_retransmissions,
+            unordered: self.is_unordered,
+            lifecycle_id: lifecycle_number(self.lifecycle_id),
+            message_id: u64::from(self.message_id.0),
+            remaining_offset: self.offset,
+            mid: mid_of(self.numbers),
+            ssn: ssn_of(self.is_unordered, self.numbers),
+            fsn: self.next_fsn.0,
+        })
+    }
+
     /// A message that is accepted now. It expires a millisecond after its lifetime.
     pub fn new(
         message_id: OutgoingMessageId,
@@ -151,6 +239,23 @@ impl QueuedMessage {
         ensures small { result < 2 ^ 32 }
     {
         self.payload.len() - self.offset
+    }
+
+    /// The bytes that are sent.
+    pub fn sent(&self) -> usize
+        ensures whole { left self.now + result ≡ length self.now.payload }
+        ensures small { result < 2 ^ 32 }
+    {
+        self.offset
+    }
+
+    /// It is sent from its beginning again.
+    pub fn make_whole(&mut self)
+        ensures { self.new ≡ whole self.old }
+    {
+        self.offset = 0;
+        self.numbers = None;
+        self.next_fsn = Fsn(0);
     }
 
     /// The next fragment, of at most `size` bytes, under these numbers.

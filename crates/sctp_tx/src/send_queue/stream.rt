@@ -1,17 +1,23 @@
 //! What waits on one stream.
 
-ghost use Rattle.std.specs.Prelude.{◌≡◌, ℕ, Bool, ◌+◌, ◌-◌, ◌<◌, ◌≤◌, ◌^◌, ◌==◌, [], ◌∷◌, ◌++◌, length, sum_by, is_some, None, Some, IfOk, IfSome, OnOk, OnErr, option_map, filter};
+ghost use Rattle.std.specs.Prelude.{◌≡◌, ℕ, Bool, ◌+◌, ◌-◌, ◌<◌, ◌≤◌, ◌^◌, ◌==◌, [], ◌∷◌, ◌++◌, length, sum_by, drop, is_some, None, Some, IfOk, IfSome, OnOk, OnErr, option_map, filter, map, if◌then◌else◌};
+ghost use Rattle.sctp_state.specs.Events.{Grown};
 ghost use Rattle.sctp_state.specs.Thresholds.{crosses};
 ghost use Rattle.sctp_tx.specs.Queue.{Queued, left, amount_of, watched_amount, blank_stream, front_left, sendable, pushed, is_stopped};
-ghost use Rattle.sctp_tx.specs.Produced.{is_front_stale, fresh, dropped, without_stale, counted, front_numbers, front_made, moved_front, front_took, cut, pause_after, settled};
-ghost use Rattle.sctp_tx.specs.Settings.{with_threshold, with_priority, without_front, front_discarded, popped_if, is_front};
+ghost use Rattle.sctp_tx.specs.Produced.{is_front_stale, fresh, dropped, without_stale, counted, front_numbers, front_made, front_ends, moved_front, front_took, next_fragment, advanced, front_left_after, pause_after, settled};
+ghost use Rattle.sctp_tx.specs.Settings.{with_threshold, with_priority, without_front, front_discarded, is_front};
 ghost use Rattle.sctp_tx.specs.Resets.{is_ready, after_step, is_partly, told_waiting, prepared, waiting};
+ghost use Rattle.sctp_state.specs.Handover.{stream_message_of};
+ghost use Rattle.sctp_tx.specs.Handover.{queued_message, messages_of, outgoing_stream};
+ghost use Rattle.sctp_tx.specs.Readiness.{is_waiting};
+ghost use Rattle.sctp_tx.specs.Restarted.{whole_front, restarted};
 ghost use Rattle.sctp_tx.specs.Views.{produced_of};
 
 use crate::data_to_send::DataToSend;
 use crate::send_queue::message::{MessageNumbers, QueuedMessage};
 use crate::send_queue::telling::{tell_expired, tell_stale};
-use sctp_serial::{LifecycleId, OutgoingMessageId, SocketTime, StreamId};
+use sctp_serial::{LifecycleId, Mid, OutgoingMessageId, SerialNumber, SocketTime, Ssn, StreamId};
+use sctp_state::api::handover::{HandoverOutgoingStream, HandoverStreamMessage};
 use sctp_state::{Events, ThresholdWatcher};
 use std::alloc::{AllocError, Global};
 use std::collections::VecDeque;
@@ -64,14 +70,6 @@ impl Model for Stream {
     ghost invariant = { λ s. s.buffered.amount ≡ sum_by left s.messages.items };
 }
 
-/// The next fragment of a stream, if it has one.
-#[derive(Drop)]
-pub struct Cut {
-    pub made: Option<DataToSend>,
-    /// Whether the stream's amount fell to its threshold.
-    pub is_low: bool,
-}
-
 /// A message that was dropped before it was fully sent.
 #[derive(Clone, Copy)]
 pub struct Discarded {
@@ -87,28 +85,42 @@ fn is_front_stale(messages: &VecDeque<QueuedMessage>, now: SocketTime) -> bool
     }
 }
 
-// Drops the messages at the front that expired before they were begun. `buffered` keeps counting what is left.
-fn drop_stale(
-    messages: &mut VecDeque<QueuedMessage>,
-    buffered: &mut ThresholdWatcher,
+// Tells of the messages at the front that expired before they were begun.
+fn tell_stale_front(
+    messages: &VecDeque<QueuedMessage>,
     now: SocketTime,
     events: &mut Events,
 ) -> Result<(), AllocError>
+    ensures ok { OnOk result (events.new ≡ dropped now messages.now.items events.old) }
+    ensures err { OnErr result (Grown events.old events.new) }
+{
+    for message in messages.iter() {
+        if !message.is_stale(now) {
+            return Ok(());
+        }
+        tell_stale(events, message.message_id(), message.lifecycle_id())?;
+    }
+    Ok(())
+}
+
+// Drops the messages at the front that expired before they were begun.
+fn drop_stale_front(
+    messages: &mut VecDeque<QueuedMessage>,
+    buffered: &mut ThresholdWatcher,
+    now: SocketTime,
+)
     requires { buffered.old.amount ≡ sum_by left messages.old.items }
-    ensures messages { OnOk result (messages.new.items ≡ fresh now messages.old.items) }
-    ensures told { OnOk result (events.new ≡ dropped now messages.old.items events.old) }
+    ensures messages { messages.new.items ≡ fresh now messages.old.items }
     ensures amount { buffered.new.amount ≡ sum_by left messages.new.items }
     ensures threshold { buffered.new.low_threshold ≡ buffered.old.low_threshold }
     ensures less { buffered.new.amount ≤ buffered.old.amount }
 {
     while is_front_stale(messages, now) {
         let Some(message) = messages.pop_front() else {
-            return Ok(());
+            return;
         };
         buffered.decrease(message.left());
-        tell_stale(events, message.message_id(), message.lifecycle_id())?;
     }
-    Ok(())
 }
 
 fn move_front_on(messages: &mut VecDeque<QueuedMessage>, numbers: MessageNumbers, size: usize)
@@ -124,32 +136,23 @@ fn move_front_on(messages: &mut VecDeque<QueuedMessage>, numbers: MessageNumbers
     messages.pop_front();
 }
 
-// Takes the message at the front out, if it is this one.
-fn pop_front_if(
-    messages: &mut VecDeque<QueuedMessage>,
-    buffered: &mut ThresholdWatcher,
-    message_id: OutgoingMessageId,
-) -> Option<Discarded>
+// Drops the message at the front.
+fn pop_front(messages: &mut VecDeque<QueuedMessage>, buffered: &mut ThresholdWatcher)
     requires { buffered.old.amount ≡ sum_by left messages.old.items }
-    ensures messages { messages.new.items ≡ popped_if message_id.0 messages.old.items }
-    ensures found { option_map (λ d. d.lifecycle_id) result ≡ front_discarded message_id.0 messages.old.items }
+    ensures messages { messages.new.items ≡ drop 1 messages.old.items }
     ensures amount { buffered.new.amount ≡ sum_by left messages.new.items }
     ensures threshold { buffered.new.low_threshold ≡ buffered.old.low_threshold }
     ensures less { buffered.new.amount ≤ buffered.old.amount }
 {
-    if !is_front(messages, message_id) {
-        return None;
+    if let Some(message) = messages.pop_front() {
+        buffered.decrease(message.left());
     }
-    let message = messages.pop_front()?;
-    buffered.decrease(message.left());
-    Some(Discarded {
-        lifecycle_id: message.lifecycle_id(),
-    })
 }
 
 // Tells of the messages of which nothing is sent that they are dropped.
 fn tell_waiting(messages: &VecDeque<QueuedMessage>, events: &mut Events) -> Result<(), AllocError>
-    ensures { OnOk result (events.new ≡ told_waiting messages.now.items events.old) }
+    ensures ok { OnOk result (events.new ≡ told_waiting messages.now.items events.old) }
+    ensures err { OnErr result (Grown events.old events.new) }
 {
     for message in messages.iter() {
         if !message.is_partly_sent() {
@@ -225,13 +228,121 @@ fn front_fragment(
     }
 }
 
-// The pause after this fragment.
-fn pause_after(pause_state: PauseState, data: &DataToSend) -> PauseState
-    ensures { result ≡ pause_after (produced_of data.now) pause_state }
+fn hand_over_all(
+    messages: &VecDeque<QueuedMessage>,
+    alloc: Global,
+    now: SocketTime,
+    id: StreamId,
+    records: &mut Vec<HandoverStreamMessage>,
+) -> Result<(), AllocError>
+    ensures { OnOk result (map stream_message_of records.new.items ≡ map stream_message_of records.old.items ++ map (queued_message now id.0) messages.now.items) }
+{
+    for message in messages.iter() {
+        records.push(message.handed_over(alloc, now, id)?)?;
+    }
+    Ok(())
+}
+
+// The message at the front is sent from its beginning again. The answer is how many bytes of it were sent.
+fn make_front_whole(messages: &mut VecDeque<QueuedMessage>) -> usize
+    ensures messages { messages.new.items ≡ whole_front messages.old.items }
+    ensures sum { sum_by left messages.new.items ≡ sum_by left messages.old.items + result }
+    ensures small { result < 2 ^ 32 }
+{
+    let Some(message) = messages.front_mut() else {
+        return 0;
+    };
+    let sent = message.sent();
+    message.make_whole();
+    sent
+}
+
+// What is left of the message at the front once it is whole.
+fn front_whole(messages: &VecDeque<QueuedMessage>) -> usize
+    ensures { result ≡ front_left (whole_front messages.now.items) }
+{
+    match messages.front() {
+        Some(message) => message.left() + message.sent(),
+        None => 0,
+    }
+}
+
+// Whether a fragment of this size is the end of the message at the front.
+fn front_ends(messages: &VecDeque<QueuedMessage>, size: usize) -> bool
+    ensures { result ≡ front_ends size messages.now.items }
+{
+    match messages.front() {
+        Some(message) => message.left() <= size,
+        None => false,
+    }
+}
+
+fn front_left(messages: &VecDeque<QueuedMessage>) -> usize
+    ensures { result ≡ front_left messages.now.items }
+{
+    match messages.front() {
+        Some(message) => message.left(),
+        None => 0,
+    }
+}
+
+// What is left of the message behind the front.
+fn second_left(messages: &VecDeque<QueuedMessage>) -> usize
+    ensures { result ≡ front_left (drop 1 messages.now.items) }
+{
+    match messages.get(1) {
+        Some(message) => message.left(),
+        None => 0,
+    }
+}
+
+// What is left of the message at the front, after a fragment of this size.
+fn left_after(messages: &VecDeque<QueuedMessage>, size: usize) -> usize
+    ensures { result ≡ front_left_after size messages.now.items }
+{
+    let left = front_left(messages);
+    if left <= size {
+        return second_left(messages);
+    }
+    left - size
+}
+
+// What is left of the message at the front, once those of which nothing is sent are dropped.
+fn partly_left(messages: &VecDeque<QueuedMessage>) -> usize
+    ensures { result ≡ front_left (filter is_partly messages.now.items) }
+{
+    for message in messages.iter() {
+        if message.is_partly_sent() {
+            return message.left();
+        }
+    }
+    0
+}
+
+fn is_stopped(pause_state: PauseState) -> bool
+    ensures { result ≡ is_stopped pause_state }
 {
     match pause_state {
-        PauseState::Pending if data.data.is_end => PauseState::Paused,
-        _ => pause_state,
+        PauseState::NotPaused | PauseState::Pending => false,
+        PauseState::Paused | PauseState::Resetting => true,
+    }
+}
+
+// What a stream has to send.
+fn sendable(pause_state: PauseState, left: usize) -> usize
+    ensures { result ≡ (if is_stopped pause_state then 0 else left) }
+{
+    if is_stopped(pause_state) { 0 } else { left }
+}
+
+// The pause after a fragment.
+fn pause_after(is_end: bool, pause_state: PauseState) -> PauseState
+    ensures { result ≡ pause_after is_end pause_state }
+{
+    if is_end {
+        settled(pause_state)
+    } else {
+        pause_state
     }
 }
 
@@ -270,33 +381,67 @@ impl Stream {
         self.messages.is_empty()
     }
 
-    fn is_stopped(&self) -> bool
-        ensures { result ≡ is_stopped self.now.pause }
-    {
-        match self.pause_state {
-            PauseState::NotPaused | PauseState::Pending => false,
-            PauseState::Paused | PauseState::Resetting => true,
-        }
-    }
-
-    fn front_left(&self) -> usize
-        ensures { result ≡ front_left self.now.messages }
-    {
-        match self.messages.front() {
-            Some(message) => message.left(),
-            None => 0,
-        }
-    }
-
     /// The bytes that are not sent of the message that goes next; 0 where the stream is paused.
     pub fn sendable(&self) -> usize
         ensures { result ≡ sendable self.now }
     {
-        if self.is_stopped() {
-            0
-        } else {
-            self.front_left()
+        sendable(self.pause_state, front_left(&self.messages))
+    }
+
+    /// The same once a message was added.
+    pub fn sendable_with(&self, message: &QueuedMessage) -> usize
+        ensures { result ≡ sendable (pushed message.now self.now) }
+    {
+        if self.messages.is_empty() {
+            return sendable(self.pause_state, message.left());
         }
+        self.sendable()
+    }
+
+    /// The same after the next fragment, of at most `size` bytes.
+    pub fn sendable_after(&self, size: usize) -> usize
+        ensures { result ≡ sendable (advanced size self.now) }
+    {
+        let is_end = front_ends(&self.messages, size);
+        sendable(
+            pause_after(is_end, self.pause_state),
+            left_after(&self.messages, size),
+        )
+    }
+
+    /// The same without the message at the front, if it is this one.
+    pub fn sendable_without(&self, message_id: OutgoingMessageId) -> usize
+        ensures { result ≡ sendable (without_front message_id.0 self.now.messages self.now) }
+    {
+        if is_front(&self.messages, message_id) {
+            return sendable(settled(self.pause_state), second_left(&self.messages));
+        }
+        self.sendable()
+    }
+
+    /// The same once the stream is to be reset.
+    pub fn sendable_prepared(&self) -> usize
+        ensures { result ≡ sendable (prepared self.now) }
+    {
+        let left = partly_left(&self.messages);
+        sendable(waiting(left == 0, self.pause_state), left)
+    }
+
+    /// The same after a step of the stream's reset.
+    pub fn sendable_stepped(&self, step: ResetStep) -> usize
+        ensures { result ≡ sendable (after_step step self.now) }
+    {
+        match step {
+            ResetStep::Requested => 0,
+            ResetStep::Performed | ResetStep::Refused => front_left(&self.messages),
+        }
+    }
+
+    /// The same once a new association begins.
+    pub fn sendable_restarted(&self) -> usize
+        ensures { result ≡ sendable (restarted self.now) }
+    {
+        front_whole(&self.messages)
     }
 
     /// Adds a message behind the others. Without memory nothing changes.
@@ -311,13 +456,20 @@ impl Stream {
         Ok(())
     }
 
-    /// Drops the messages at the front that expired before they were begun.
-    pub fn drop_stale(&mut self, now: SocketTime, events: &mut Events) -> Result<(), AllocError>
-        ensures ok { OnOk result (self.new ≡ without_stale now self.old) }
-        ensures told { OnOk result (events.new ≡ dropped now self.old.messages events.old) }
+    /// Tells of the messages at the front that expired before they were begun.
+    pub fn tell_stale(&self, now: SocketTime, events: &mut Events) -> Result<(), AllocError>
+        ensures ok { OnOk result (events.new ≡ dropped now self.now.messages events.old) }
+        ensures err { OnErr result (Grown events.old events.new) }
+    {
+        tell_stale_front(&self.messages, now, events)
+    }
+
+    /// Drops these messages.
+    pub fn drop_stale(&mut self, now: SocketTime)
+        ensures after { self.new ≡ without_stale now self.old }
         ensures less { amount_of self.new ≤ amount_of self.old }
     {
-        drop_stale(&mut self.messages, &mut self.buffered, now, events)
+        drop_stale_front(&mut self.messages, &mut self.buffered, now);
     }
 
     fn front_numbers(&self) -> MessageNumbers
@@ -357,30 +509,46 @@ impl Stream {
         }
     }
 
-    /// The next fragment, of at most `size` bytes.
-    pub fn cut(&mut self, alloc: Global, id: StreamId, size: usize) -> Result<Cut, AllocError>
-        requires { 0 < size }
-        ensures after { OnOk result (self.new ≡ (cut id.0 size self.old).stream) }
-        ensures made { IfOk result (λ c. option_map produced_of c.made ≡ (cut id.0 size self.old).made) }
-        ensures low { IfOk result (λ c. c.is_low ≡ crosses (watched_amount self.old) (watched_amount self.new)) }
-        ensures less { amount_of self.new ≤ amount_of self.old }
-        ensures err { OnErr result (self.new ≡ self.old) }
+    /// The next fragment, of at most `size` bytes. The stream goes on by `advance`.
+    pub fn fragment(
+        &self,
+        alloc: Global,
+        id: StreamId,
+        size: usize,
+    ) -> Result<Option<DataToSend>, AllocError>
+        ensures { IfOk result (λ found. option_map produced_of found ≡ next_fragment id.0 size self.now) }
     {
         let numbers = self.front_numbers();
-        let Some(data) = front_fragment(&self.messages, alloc, id, numbers, size)? else {
-            return Ok(Cut {
-                made: None,
-                is_low: false,
-            });
-        };
+        front_fragment(&self.messages, alloc, id, numbers, size)
+    }
+
+    /// How many bytes the next fragment has.
+    pub fn fragment_size(&self, size: usize) -> usize
+        ensures { amount_of (advanced size self.now) + result ≡ amount_of self.now }
+    {
+        front_left(&self.messages).min(size)
+    }
+
+    /// Whether the stream's amount falls to its threshold by the next fragment.
+    pub fn is_low_after(&self, size: usize) -> bool
+        ensures { result ≡ crosses (watched_amount self.now) (watched_amount (advanced size self.now)) }
+    {
+        let bytes = self.fragment_size(size);
+        self.buffered.is_crossed_by(bytes)
+    }
+
+    /// The next fragment is sent.
+    pub fn advance(&mut self, size: usize)
+        ensures after { self.new ≡ advanced size self.old }
+        ensures less { amount_of self.new ≤ amount_of self.old }
+    {
+        let bytes = self.fragment_size(size);
+        let numbers = self.front_numbers();
+        let is_end = front_ends(&self.messages, size);
         self.number_front();
         move_front_on(&mut self.messages, numbers, size);
-        self.pause_state = pause_after(self.pause_state, &data);
-        let is_low = self.buffered.decrease(data.data.payload.len());
-        Ok(Cut {
-            made: Some(data),
-            is_low,
-        })
+        self.pause_state = pause_after(is_end, self.pause_state);
+        self.buffered.decrease(bytes);
     }
 
     /// The amount at which the stream is low.
@@ -390,13 +558,19 @@ impl Stream {
         self.buffered.low_threshold()
     }
 
-    /// Sets the threshold. The answer says whether an amount that was above it is at most it now.
-    pub fn set_low_threshold(&mut self, bytes: usize) -> bool
+    /// Whether the amount is above the threshold and would be at most this one.
+    pub fn is_low_at(&self, bytes: usize) -> bool
+        ensures { result ≡ crosses (watched_amount self.now) (watched_amount (with_threshold bytes self.now)) }
+    {
+        self.buffered.is_crossed_at(bytes)
+    }
+
+    /// Sets the threshold.
+    pub fn set_low_threshold(&mut self, bytes: usize)
         ensures after { self.new ≡ with_threshold bytes self.old }
-        ensures low { result ≡ crosses (watched_amount self.old) (watched_amount self.new) }
         ensures amount { amount_of self.new ≡ amount_of self.old }
     {
-        self.buffered.set_low_threshold(bytes)
+        self.buffered.set_low_threshold(bytes);
     }
 
     pub fn set_priority(&mut self, priority: u16)
@@ -406,15 +580,27 @@ impl Stream {
         self.priority = priority;
     }
 
+    /// The lifecycle id of the message at the front, if it is this one.
+    pub fn front_discarded(&self, message_id: OutgoingMessageId) -> Option<Discarded>
+        ensures { option_map (λ d. d.lifecycle_id) result ≡ front_discarded message_id.0 self.now.messages }
+    {
+        match self.messages.front() {
+            Some(message) if message.message_id().0 == message_id.0 => Some(Discarded {
+                lifecycle_id: message.lifecycle_id(),
+            }),
+            _ => None,
+        }
+    }
+
     /// Drops the message at the front, if it is this one.
-    pub fn discard(&mut self, message_id: OutgoingMessageId) -> Option<Discarded>
+    pub fn discard(&mut self, message_id: OutgoingMessageId)
         ensures after { self.new ≡ without_front message_id.0 self.old.messages self.old }
-        ensures found { option_map (λ d. d.lifecycle_id) result ≡ front_discarded message_id.0 self.old.messages }
         ensures less { amount_of self.new ≤ amount_of self.old }
     {
-        let discarded = pop_front_if(&mut self.messages, &mut self.buffered, message_id)?;
-        self.pause_state = settled(self.pause_state);
-        Some(discarded)
+        if is_front(&self.messages, message_id) {
+            pop_front(&mut self.messages, &mut self.buffered);
+            self.pause_state = settled(self.pause_state);
+        }
     }
 
     /// Whether the stream can be reset, and is in no request.
@@ -424,6 +610,16 @@ impl Stream {
         match self.pause_state {
             PauseState::Paused => true,
             PauseState::NotPaused | PauseState::Pending | PauseState::Resetting => false,
+        }
+    }
+
+    /// Whether a reset of the stream waits, or is to be answered.
+    pub fn is_waiting(&self) -> bool
+        ensures { result ≡ is_waiting self.now }
+    {
+        match self.pause_state {
+            PauseState::NotPaused => false,
+            PauseState::Pending | PauseState::Paused | PauseState::Resetting => true,
         }
     }
 
@@ -444,16 +640,61 @@ impl Stream {
         }
     }
 
-    /// Drops the messages of which nothing is sent. The stream can be reset once none is partly sent.
-    pub fn prepare_reset(&mut self, events: &mut Events) -> Result<(), AllocError>
-        ensures ok { OnOk result (self.new ≡ prepared self.old) }
-        ensures told { OnOk result (events.new ≡ told_waiting self.old.messages events.old) }
-        ensures less { amount_of self.new ≤ amount_of self.old }
-        ensures err { OnErr result (self.new ≡ self.old) }
+    /// Tells of the messages of which nothing is sent that they are dropped.
+    pub fn tell_waiting(&self, events: &mut Events) -> Result<(), AllocError>
+        ensures ok { OnOk result (events.new ≡ told_waiting self.now.messages events.old) }
+        ensures err { OnErr result (Grown events.old events.new) }
     {
-        tell_waiting(&self.messages, events)?;
+        tell_waiting(&self.messages, events)
+    }
+
+    /// Drops these messages. The stream can be reset once none is partly sent.
+    pub fn prepare_reset(&mut self)
+        ensures after { self.new ≡ prepared self.old }
+        ensures less { amount_of self.new ≤ amount_of self.old }
+    {
         keep_partly_sent(&mut self.messages, &mut self.buffered);
         self.pause_state = waiting(self.messages.is_empty(), self.pause_state);
-        Ok(())
+    }
+
+    /// A new association begins: the message at the front is whole again, and the numbers begin again.
+    pub fn restart(&mut self)
+        requires { amount_of self.old + 2 ^ 32 < 2 ^ 64 }
+        ensures after { self.new ≡ restarted self.old }
+        ensures least { amount_of self.old ≤ amount_of self.new }
+        ensures most { amount_of self.new ≤ amount_of self.old + 2 ^ 32 }
+    {
+        let sent = make_front_whole(&mut self.messages);
+        self.buffered.increase(sent);
+        self.pause_state = PauseState::NotPaused;
+        self.next_ssn = 1 << 32;
+        self.next_ordered_mid = 1 << 32;
+        self.next_unordered_mid = 1 << 32;
+    }
+
+    /// It in the record of a socket that is handed over.
+    pub fn handed_over(&self, id: StreamId) -> HandoverOutgoingStream
+        ensures { result ≡ outgoing_stream id.0 self.now }
+    {
+        HandoverOutgoingStream {
+            id: id.0,
+            next_ssn: Ssn::wrapped(Ssn(0), self.next_ssn).0,
+            next_unordered_mid: Mid::wrapped(Mid(0), self.next_unordered_mid).0,
+            next_ordered_mid: Mid::wrapped(Mid(0), self.next_ordered_mid).0,
+            priority: self.priority,
+        }
+    }
+
+    /// Adds its messages to those of the record.
+    pub fn hand_messages_over(
+        &self,
+        alloc: Global,
+        now: SocketTime,
+        id: StreamId,
+        records: &mut Vec<HandoverStreamMessage>,
+    ) -> Result<(), AllocError>
+        ensures { OnOk result (map stream_message_of records.new.items ≡ map stream_message_of records.old.items ++ messages_of now id.0 self.now) }
+    {
+        hand_over_all(&self.messages, alloc, now, id, records)
     }
 }

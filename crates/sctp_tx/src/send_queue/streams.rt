@@ -1,27 +1,39 @@
 //! The streams that were named, and what is left on all of them.
 
 ghost use Rattle.std.specs.Prelude.{◌≡◌, ℕ, Bool, ◌+◌, ◌-◌, ◌<◌, ◌≤◌, ◌^◌, ◌==◌, [], length, is_some, None, Some, IsSome, IfOk, IfSome, OnOk, OnErr, option_map, map};
-ghost use Rattle.std.specs.Map.{lookup, values_of};
+ghost use Rattle.std.specs.Map.{lookup, keys_of, values_of};
 ghost use Rattle.std.specs.List.{list_all, list_any};
 ghost use Rattle.std.specs.Ordering.{nat_cmp};
 ghost use Rattle.std.specs.BTreeMap.{is_at};
+ghost use Rattle.sctp_state.specs.Events.{Grown};
 ghost use Rattle.sctp_state.specs.Options.{options_of};
 ghost use Rattle.sctp_state.specs.Thresholds.{crosses};
-ghost use Rattle.sctp_tx.specs.Queue.{Queued, left, amount_of, total_of, watched_amount, watched_total, no_streams, stream, opened, put, pushed, sendable, has_nothing};
-ghost use Rattle.sctp_tx.specs.Produced.{dropped, streams_without_stale, streams_after, told_of, cut};
+ghost use Rattle.sctp_tx.specs.Queue.{Queued, left, amount_of, total_of, watched_amount, watched_total, no_streams, stream, opened, put, pushed, sendable, front_left, has_nothing};
+ghost use Rattle.sctp_tx.specs.Produced.{dropped, streams_without_stale, streams_after, advanced, next_fragment};
 ghost use Rattle.sctp_tx.specs.Settings.{with_threshold, with_priority, streams_discarded, front_discarded};
 ghost use Rattle.sctp_tx.specs.Resets.{is_ready, after_step, ready, prepared, told_waiting};
+ghost use Rattle.sctp_state.specs.Handover.{stream_message_of};
+ghost use Rattle.sctp_tx.specs.Handover.{outgoing_streams, queued_messages};
+ghost use Rattle.sctp_tx.specs.Readiness.{is_waiting};
+ghost use Rattle.sctp_tx.specs.Restarted.{restarted};
 ghost use Rattle.sctp_tx.specs.Views.{produced_of};
 
 use crate::data_to_send::DataToSend;
 use crate::send_queue::message::QueuedMessage;
-use crate::send_queue::stream::{Cut, Discarded, ResetStep, Stream};
-use crate::send_queue::telling::tell_made;
+use crate::send_queue::stream::{Discarded, ResetStep, Stream};
 use sctp_serial::{OutgoingMessageId, SocketTime, StreamId};
+use sctp_state::api::handover::{HandoverOutgoingStream, HandoverStreamMessage};
 use sctp_state::{Events, Options, ThresholdWatcher};
 use std::alloc::{AllocError, Global};
 use std::collections::BTreeMap;
 use std::marker::Model;
+
+/// Which amounts fall to their thresholds.
+#[derive(Clone, Copy)]
+pub struct Lows {
+    pub is_low: bool,
+    pub is_total_low: bool,
+}
 
 /// The streams by id. `total` counts the bytes on all of them that are not sent.
 #[derive(Drop)]
@@ -111,8 +123,25 @@ impl Streams {
         Ok(())
     }
 
-    /// Adds a message behind the others of its stream. Without memory nothing changes.
-    pub fn push(&mut self, id: StreamId, message: QueuedMessage) -> Result<(), AllocError>
+    /// Adds a message behind the others of its stream, which is made where there is none. Without memory nothing changes.
+    pub fn push(
+        &mut self,
+        alloc: Global,
+        id: StreamId,
+        message: QueuedMessage,
+    ) -> Result<(), AllocError>
+        requires { total_of self.old.entries + left message < 2 ^ 64 }
+        ensures ok { OnOk result (self.new ≡ put id.0 (pushed message (stream id.0 self.old)) (opened id.0 self.old)) }
+        ensures err { OnErr result (self.new ≡ self.old) }
+    {
+        if self.streams.contains_key(&id.0) {
+            return self.push_behind(id, message);
+        }
+        self.push_first(alloc, id, message)
+    }
+
+    // Adds a message to a stream that is there.
+    fn push_behind(&mut self, id: StreamId, message: QueuedMessage) -> Result<(), AllocError>
         requires there { IsSome (lookup (is_at (nat_cmp id.0)) self.old.entries) }
         requires room { total_of self.old.entries + left message < 2 ^ 64 }
         ensures ok { OnOk result (self.new ≡ put id.0 (pushed message (stream id.0 self.old)) self.old) }
@@ -127,46 +156,126 @@ impl Streams {
         Ok(())
     }
 
-    /// Drops the messages at the front of a stream that expired before they were begun.
-    pub fn drop_stale(
+    // Makes a stream with a message.
+    fn push_first(
         &mut self,
+        alloc: Global,
+        id: StreamId,
+        message: QueuedMessage,
+    ) -> Result<(), AllocError>
+        requires absent { None ≡ lookup (is_at (nat_cmp id.0)) self.old.entries }
+        requires room { total_of self.old.entries + left message < 2 ^ 64 }
+        ensures ok { OnOk result (self.new ≡ put id.0 (pushed message (stream id.0 self.old)) (opened id.0 self.old)) }
+        ensures err { OnErr result (self.new ≡ self.old) }
+    {
+        let bytes = message.left();
+        let mut stream = Stream::new(alloc, self.default_priority, self.default_threshold);
+        stream.push(message)?;
+        self.streams.insert(id.0, stream)?;
+        self.total.increase(bytes);
+        Ok(())
+    }
+
+    /// The bytes that a stream has to send once a message was added.
+    pub fn sendable_with(&self, id: StreamId, message: &QueuedMessage) -> usize
+        ensures { result ≡ sendable (pushed message.now (stream id.0 self.now)) }
+    {
+        match self.streams.get(&id.0) {
+            Some(stream) => stream.sendable_with(message),
+            None => message.left(),
+        }
+    }
+
+    /// Tells of the messages at the front of a stream that expired before they were begun.
+    pub fn tell_stale(
+        &self,
         id: StreamId,
         now: SocketTime,
         events: &mut Events,
     ) -> Result<(), AllocError>
-        ensures ok { OnOk result (self.new ≡ streams_without_stale now id.0 self.old) }
-        ensures told { OnOk result (events.new ≡ dropped now (stream id.0 self.old).messages events.old) }
+        ensures ok { OnOk result (events.new ≡ dropped now (stream id.0 self.now).messages events.old) }
+        ensures err { OnErr result (Grown events.old events.new) }
     {
-        let Some(stream) = self.streams.get_mut(&id.0) else {
-            return Ok(());
-        };
-        let before = stream.amount();
-        let dropped = stream.drop_stale(now, events);
-        self.total.decrease(before - stream.amount());
-        dropped
+        match self.streams.get(&id.0) {
+            Some(stream) => stream.tell_stale(now, events),
+            None => Ok(()),
+        }
     }
 
-    /// The next fragment of a stream, of at most `size` bytes, and what is told of it.
-    pub fn cut(
-        &mut self,
+    /// Drops these messages.
+    pub fn drop_stale(&mut self, id: StreamId, now: SocketTime)
+        ensures { self.new ≡ streams_without_stale now id.0 self.old }
+    {
+        let Some(stream) = self.streams.get_mut(&id.0) else {
+            return;
+        };
+        let before = stream.amount();
+        stream.drop_stale(now);
+        self.total.decrease(before - stream.amount());
+    }
+
+    /// The next fragment of a stream, of at most `size` bytes. The stream goes on by `advance`.
+    pub fn fragment(
+        &self,
         alloc: Global,
         id: StreamId,
         size: usize,
-        events: &mut Events,
     ) -> Result<Option<DataToSend>, AllocError>
-        requires { 0 < size }
-        ensures after { OnOk result (self.new ≡ streams_after id.0 size self.old) }
-        ensures made { IfOk result (λ found. option_map produced_of found ≡ (cut id.0 size (stream id.0 self.old)).made) }
-        ensures told { OnOk result (events.new ≡ told_of id.0 size self.old events.old) }
+        ensures { IfOk result (λ found. option_map produced_of found ≡ next_fragment id.0 size (stream id.0 self.now)) }
+    {
+        match self.streams.get(&id.0) {
+            Some(stream) => stream.fragment(alloc, id, size),
+            None => Ok(None),
+        }
+    }
+
+    /// Which amounts fall to their thresholds by the next fragment.
+    pub fn lows_after(&self, id: StreamId, size: usize) -> Lows
+        ensures stream { result.is_low ≡ crosses (watched_amount (stream id.0 self.now)) (watched_amount (advanced size (stream id.0 self.now))) }
+        ensures total { result.is_total_low ≡ crosses (watched_total self.now) (watched_total (streams_after id.0 size self.now)) }
+    {
+        match self.streams.get(&id.0) {
+            Some(stream) => {
+                let bytes = stream.fragment_size(size);
+                Lows {
+                    is_low: stream.is_low_after(size),
+                    is_total_low: self.total.is_crossed_by(bytes),
+                }
+            }
+            None => Lows {
+                is_low: false,
+                is_total_low: false,
+            },
+        }
+    }
+
+    /// The bytes that a stream has to send after its next fragment.
+    pub fn sendable_after(&self, id: StreamId, size: usize) -> usize
+        ensures { result ≡ sendable (stream id.0 (streams_after id.0 size self.now)) }
+    {
+        match self.streams.get(&id.0) {
+            Some(stream) => stream.sendable_after(size),
+            None => 0,
+        }
+    }
+
+    /// A stream's priority, which no fragment changes.
+    pub fn priority_after(&self, id: StreamId, _size: usize) -> u16
+        ensures { result ≡ (stream id.0 (streams_after id.0 _size self.now)).priority }
+    {
+        self.priority(id)
+    }
+
+    /// The next fragment of a stream is sent.
+    pub fn advance(&mut self, id: StreamId, size: usize)
+        ensures { self.new ≡ streams_after id.0 size self.old }
     {
         let Some(stream) = self.streams.get_mut(&id.0) else {
-            return Ok(None);
+            return;
         };
         let before = stream.amount();
-        let Cut { made, is_low } = stream.cut(alloc, id, size)?;
-        let is_total_low = self.total.decrease(before - stream.amount());
-        tell_made(events, id, is_low, is_total_low, &made)?;
-        Ok(made)
+        stream.advance(size);
+        self.total.decrease(before - stream.amount());
     }
 
     pub fn low_threshold(&self, id: StreamId) -> usize
@@ -178,16 +287,24 @@ impl Streams {
         }
     }
 
-    /// Sets a stream's threshold. The answer says whether an amount that was above it is at most it now.
-    pub fn set_low_threshold(&mut self, id: StreamId, bytes: usize) -> bool
-        requires { IsSome (lookup (is_at (nat_cmp id.0)) self.old.entries) }
-        ensures after { self.new ≡ put id.0 (with_threshold bytes (stream id.0 self.old)) self.old }
-        ensures low { result ≡ crosses (watched_amount (stream id.0 self.old)) (watched_amount (with_threshold bytes (stream id.0 self.old))) }
+    /// Whether a stream's amount is above its threshold and would be at most this one.
+    pub fn is_low_at(&self, id: StreamId, bytes: usize) -> bool
+        ensures { result ≡ crosses (watched_amount (stream id.0 self.now)) (watched_amount (with_threshold bytes (stream id.0 self.now))) }
+    {
+        match self.streams.get(&id.0) {
+            Some(stream) => stream.is_low_at(bytes),
+            None => false,
+        }
+    }
+
+    /// Sets a stream's threshold.
+    pub fn set_low_threshold(&mut self, id: StreamId, bytes: usize)
+        ensures { self.new ≡ put id.0 (with_threshold bytes (stream id.0 self.old)) self.old }
     {
         let Some(stream) = self.streams.get_mut(&id.0) else {
-            return false;
+            return;
         };
-        stream.set_low_threshold(bytes)
+        stream.set_low_threshold(bytes);
     }
 
     pub fn set_priority(&mut self, id: StreamId, priority: u16)
@@ -199,32 +316,94 @@ impl Streams {
         stream.set_priority(priority);
     }
 
+    /// The lifecycle id of the message at the front of a stream, if it is this one.
+    pub fn front_discarded(&self, id: StreamId, message_id: OutgoingMessageId) -> Option<Discarded>
+        ensures { option_map (λ d. d.lifecycle_id) result ≡ front_discarded message_id.0 (stream id.0 self.now).messages }
+    {
+        match self.streams.get(&id.0) {
+            Some(stream) => stream.front_discarded(message_id),
+            None => None,
+        }
+    }
+
+    /// A stream's priority, which no message changes.
+    pub fn priority_without(&self, id: StreamId, _message_id: OutgoingMessageId) -> u16
+        ensures { result ≡ (stream id.0 (streams_discarded id.0 _message_id.0 self.now)).priority }
+    {
+        self.priority(id)
+    }
+
+    /// The bytes that a stream has to send without that message.
+    pub fn sendable_without(&self, id: StreamId, message_id: OutgoingMessageId) -> usize
+        ensures { result ≡ sendable (stream id.0 (streams_discarded id.0 message_id.0 self.now)) }
+    {
+        match self.streams.get(&id.0) {
+            Some(stream) => stream.sendable_without(message_id),
+            None => 0,
+        }
+    }
+
     /// Drops the message at the front of a stream, if it is this one.
-    pub fn discard(&mut self, id: StreamId, message_id: OutgoingMessageId) -> Option<Discarded>
-        ensures after { self.new ≡ streams_discarded id.0 message_id.0 self.old }
-        ensures found { option_map (λ d. d.lifecycle_id) result ≡ front_discarded message_id.0 (stream id.0 self.old).messages }
+    pub fn discard(&mut self, id: StreamId, message_id: OutgoingMessageId)
+        ensures { self.new ≡ streams_discarded id.0 message_id.0 self.old }
     {
         let Some(stream) = self.streams.get_mut(&id.0) else {
-            return None;
+            return;
         };
         let before = stream.amount();
-        let discarded = stream.discard(message_id);
+        stream.discard(message_id);
         self.total.decrease(before - stream.amount());
-        discarded
+    }
+
+    /// Tells of the messages of a stream of which nothing is sent that they are dropped.
+    pub fn tell_waiting(&self, id: StreamId, events: &mut Events) -> Result<(), AllocError>
+        ensures ok { OnOk result (events.new ≡ told_waiting (stream id.0 self.now).messages events.old) }
+        ensures err { OnErr result (Grown events.old events.new) }
+    {
+        match self.streams.get(&id.0) {
+            Some(stream) => stream.tell_waiting(events),
+            None => Ok(()),
+        }
+    }
+
+    /// The bytes that a stream has to send once it is to be reset. Where there is no such stream there are none.
+    pub fn sendable_prepared(&self, id: StreamId) -> usize
+        ensures value { result ≡ sendable (prepared (stream id.0 self.now)) }
+        ensures there { 0 < result → IsSome (lookup (is_at (nat_cmp id.0)) self.now.entries) }
+    {
+        match self.streams.get(&id.0) {
+            Some(stream) => stream.sendable_prepared(),
+            None => 0,
+        }
     }
 
     /// Drops the messages of a stream of which nothing is sent.
-    pub fn prepare_reset(&mut self, id: StreamId, events: &mut Events) -> Result<(), AllocError>
-        ensures ok { OnOk result (self.new ≡ put id.0 (prepared (stream id.0 self.old)) self.old) }
-        ensures told { OnOk result (events.new ≡ told_waiting (stream id.0 self.old).messages events.old) }
+    pub fn prepare_reset(&mut self, id: StreamId)
+        ensures { self.new ≡ put id.0 (prepared (stream id.0 self.old)) self.old }
     {
         let Some(stream) = self.streams.get_mut(&id.0) else {
-            return Ok(());
+            return;
         };
         let before = stream.amount();
-        let prepared = stream.prepare_reset(events);
+        stream.prepare_reset();
         self.total.decrease(before - stream.amount());
-        prepared
+    }
+
+    /// The bytes that a stream has to send after a step of its reset.
+    pub fn sendable_stepped(&self, id: StreamId, step: ResetStep) -> usize
+        ensures { result ≡ sendable (stream id.0 (put id.0 (after_step step (stream id.0 self.now)) self.now)) }
+    {
+        match self.streams.get(&id.0) {
+            Some(stream) => stream.sendable_stepped(step),
+            None => 0,
+        }
+    }
+
+    /// A stream's priority, which no step of its reset changes.
+    pub fn priority_stepped(&self, id: StreamId, _step: ResetStep) -> u16
+        ensures { result ≡ (stream id.0 (put id.0 (after_step _step (stream id.0 self.now)) self.now)).priority }
+    {
+        self.priority(id)
     }
 
     /// Takes a step of a stream's reset.
@@ -237,11 +416,75 @@ impl Streams {
         stream.take_step(step);
     }
 
+    /// The bytes that a stream has to send once a new association begins.
+    pub fn sendable_restarted(&self, id: StreamId) -> usize
+        ensures { result ≡ sendable (stream id.0 (put id.0 (restarted (stream id.0 self.now)) self.now)) }
+    {
+        match self.streams.get(&id.0) {
+            Some(stream) => stream.sendable_restarted(),
+            None => 0,
+        }
+    }
+
+    /// A stream's priority, which a new association doesn't change.
+    pub fn priority_restarted(&self, id: StreamId) -> u16
+        ensures { result ≡ (stream id.0 (put id.0 (restarted (stream id.0 self.now)) self.now)).priority }
+    {
+        self.priority(id)
+    }
+
+    /// A new association begins for a stream.
+    pub fn restart(&mut self, id: StreamId)
+        requires { total_of self.old.entries + 2 ^ 32 < 2 ^ 64 }
+        ensures after { self.new ≡ put id.0 (restarted (stream id.0 self.old)) self.old }
+        ensures most { total_of self.new.entries ≤ total_of self.old.entries + 2 ^ 32 }
+    {
+        let Some(stream) = self.streams.get_mut(&id.0) else {
+            return;
+        };
+        let before = stream.amount();
+        stream.restart();
+        self.total.increase(stream.amount() - before);
+    }
+
+    /// The streams in the record of a socket that is handed over.
+    pub fn handed_over(&self, alloc: Global) -> Result<Vec<HandoverOutgoingStream>, AllocError>
+        ensures { IfOk result (λ records. records.items ≡ outgoing_streams self.now.entries) }
+    {
+        outgoing_streams(alloc, &self.streams)
+    }
+
+    /// The messages of all streams in that record.
+    pub fn messages_handed_over(
+        &self,
+        alloc: Global,
+        now: SocketTime,
+    ) -> Result<Vec<HandoverStreamMessage>, AllocError>
+        ensures { IfOk result (λ records. map stream_message_of records.items ≡ queued_messages now self.now.entries) }
+    {
+        queued_messages(alloc, now, &self.streams)
+    }
+
+    /// All streams, by ascending id.
+    pub fn ids(&self, alloc: Global) -> Result<Vec<StreamId>, AllocError>
+        ensures ids { IfOk result (λ ids. map (λ id. id.0) ids.items ≡ keys_of self.now.entries) }
+        ensures few { IfOk result (λ ids. length ids.items ≤ 65536) }
+    {
+        stream_ids(alloc, &self.streams)
+    }
+
     /// The streams that can be reset and are in no request, by ascending id.
     pub fn ready(&self, alloc: Global) -> Result<Vec<StreamId>, AllocError>
         ensures { IfOk result (λ ids. map (λ id. id.0) ids.items ≡ ready self.now.entries) }
     {
         ready_streams(alloc, &self.streams)
+    }
+
+    /// Whether a reset of a stream waits, or is to be answered.
+    pub fn has_waiting(&self) -> bool
+        ensures { result ≡ list_any is_waiting (values_of self.now.entries) }
+    {
+        self.streams.values().any(|stream| stream.is_waiting())
     }
 
     pub fn has_ready(&self) -> bool
@@ -264,4 +507,43 @@ fn ready_streams(
         }
     }
     Ok(ids)
+}
+
+fn stream_ids(alloc: Global, streams: &BTreeMap<u16, Stream>) -> Result<Vec<StreamId>, AllocError>
+    ensures ids { IfOk result (λ ids. map (λ id. id.0) ids.items ≡ keys_of streams.now.entries) }
+    ensures few { IfOk result (λ ids. length ids.items ≤ 65536) }
+{
+    let _count = streams.len();
+    let mut ids = Vec::new(alloc);
+    for (id, _) in streams {
+        ids.push(StreamId(*id))?;
+    }
+    Ok(ids)
+}
+
+fn outgoing_streams(
+    alloc: Global,
+    streams: &BTreeMap<u16, Stream>,
+) -> Result<Vec<HandoverOutgoingStream>, AllocError>
+    ensures { IfOk result (λ records. records.items ≡ outgoing_streams streams.now.entries) }
+{
+    let mut records = Vec::new(alloc);
+    for (id, stream) in streams {
+        records.push(stream.handed_over(StreamId(*id)))?;
+    }
+    Ok(records)
+}
+
+fn queued_messages(
+    alloc: Global,
+    now: SocketTime,
+    streams: &BTreeMap<u16, Stream>,
+) -> Result<Vec<HandoverStreamMessage>, AllocError>
+    ensures { IfOk result (λ records. map stream_message_of records.items ≡ queued_messages now streams.now.entries) }
+{
+    let mut records = Vec::new(alloc);
+    for (id, stream) in streams {
+        stream.hand_messages_over(alloc, now, StreamId(*id), &mut records)?;
+    }
+    Ok(records)
 }

@@ -1,12 +1,13 @@
 //! What the send queue tells the socket's user.
 
-ghost use Rattle.std.specs.Prelude.{◌≡◌, Bool, [], ◌∷◌, ◌++◌, OnOk, option_map};
-ghost use Rattle.sctp_state.specs.Events.{event_of, expiry, give_up, tell_all};
+ghost use Rattle.std.specs.Prelude.{◌≡◌, Bool, [], ◌∷◌, ◌++◌, OnOk, OnErr, option_map};
+ghost use Rattle.sctp_state.specs.Events.{event_of, expiry, give_up, tell_all, Grown};
 ghost use Rattle.sctp_state.specs.declared.api.GivenUpCause.TheVariants.{Lifetime};
 ghost use Rattle.sctp_tx.specs.Produced.{when, fully_sent, production, told_made};
 ghost use Rattle.sctp_tx.specs.Views.{produced_of};
 
 use crate::data_to_send::DataToSend;
+use crate::send_queue::streams::Lows;
 use sctp_serial::{LifecycleId, OutgoingMessageId, StreamId};
 use sctp_state::{Events, GivenUp, GivenUpCause, SocketEvent};
 use std::alloc::AllocError;
@@ -16,7 +17,8 @@ pub(crate) fn tell_expired(
     events: &mut Events,
     lifecycle_id: Option<LifecycleId>,
 ) -> Result<(), AllocError>
-    ensures { OnOk result (events.new ≡ tell_all (expiry lifecycle_id) events.old) }
+    ensures ok { OnOk result (events.new ≡ tell_all (expiry lifecycle_id) events.old) }
+    ensures err { OnErr result (Grown events.old events.new) }
 {
     if let Some(id) = lifecycle_id {
         events.add(SocketEvent::OnLifecycleMessageExpired(id))?;
@@ -31,13 +33,15 @@ pub(crate) fn tell_stale(
     number: OutgoingMessageId,
     lifecycle_id: Option<LifecycleId>,
 ) -> Result<(), AllocError>
-    ensures { OnOk result (events.new ≡ tell_all (expiry lifecycle_id) (give_up number.0 Lifetime events.old)) }
+    ensures ok { OnOk result (events.new ≡ tell_all (expiry lifecycle_id) (give_up number.0 Lifetime events.old)) }
+    ensures err { OnErr result (Grown events.old events.new) }
 {
     events.add_given_up(GivenUp {
         number,
         cause: GivenUpCause::Lifetime,
     })?;
-    tell_expired(events, lifecycle_id)
+    tell_expired(events, lifecycle_id)?;
+    Ok(())
 }
 
 pub(crate) fn tell_if(
@@ -45,7 +49,8 @@ pub(crate) fn tell_if(
     condition: bool,
     event: SocketEvent,
 ) -> Result<(), AllocError>
-    ensures { OnOk result (events.new ≡ tell_all (when condition (event_of event)) events.old) }
+    ensures ok { OnOk result (events.new ≡ tell_all (when condition (event_of event)) events.old) }
+    ensures err { OnErr result (Grown events.old events.new) }
 {
     if condition {
         events.add(event)?;
@@ -54,7 +59,8 @@ pub(crate) fn tell_if(
 }
 
 fn tell_fully_sent(events: &mut Events, lifecycle_id: Option<LifecycleId>) -> Result<(), AllocError>
-    ensures { OnOk result (events.new ≡ tell_all (fully_sent lifecycle_id) events.old) }
+    ensures ok { OnOk result (events.new ≡ tell_all (fully_sent lifecycle_id) events.old) }
+    ensures err { OnErr result (Grown events.old events.new) }
 {
     if let Some(id) = lifecycle_id {
         events.add(SocketEvent::OnLifecycleMessageFullySent(id))?;
@@ -65,33 +71,34 @@ fn tell_fully_sent(events: &mut Events, lifecycle_id: Option<LifecycleId>) -> Re
 fn tell_production(
     events: &mut Events,
     id: StreamId,
-    is_low: bool,
-    is_total_low: bool,
+    lows: Lows,
     lifecycle_id: Option<LifecycleId>,
 ) -> Result<(), AllocError>
-    ensures { OnOk result (events.new ≡ tell_all (production id.0 is_low is_total_low lifecycle_id) events.old) }
+    ensures ok { OnOk result (events.new ≡ tell_all (production id.0 lows.is_low lows.is_total_low lifecycle_id) events.old) }
+    ensures err { OnErr result (Grown events.old events.new) }
 {
-    tell_if(events, is_low, SocketEvent::OnBufferedAmountLow(id))?;
+    tell_if(events, lows.is_low, SocketEvent::OnBufferedAmountLow(id))?;
     tell_if(
         events,
-        is_total_low,
+        lows.is_total_low,
         SocketEvent::OnTotalBufferedAmountLow(),
     )?;
-    tell_fully_sent(events, lifecycle_id)
+    tell_fully_sent(events, lifecycle_id)?;
+    Ok(())
 }
 
 // A fragment was handed out, if there was one.
 pub(crate) fn tell_made(
     events: &mut Events,
     id: StreamId,
-    is_low: bool,
-    is_total_low: bool,
+    lows: Lows,
     made: &Option<DataToSend>,
 ) -> Result<(), AllocError>
-    ensures { OnOk result (events.new ≡ told_made id.0 is_low is_total_low (option_map produced_of made.now) events.old) }
+    ensures ok { OnOk result (events.new ≡ told_made id.0 lows.is_low lows.is_total_low (option_map produced_of made.now) events.old) }
+    ensures err { OnErr result (Grown events.old events.new) }
 {
     match made {
-        Some(made) => tell_production(events, id, is_low, is_total_low, made.lifecycle_id),
+        Some(made) => tell_production(events, id, lows, made.lifecycle_id),
         None => Ok(()),
     }
 }

@@ -1,5 +1,4 @@
-use Rattle.std.proofs.Common.{◌≡◌, ◌<◌, ◌^◌, ap, sym, ◌∙◌, arith, rules, sum_by}
-use Rattle.std.specs.Prelude.{filter}
+use Rattle.std.proofs.Common.{ap, arith, rules, sum_by}
 use Rattle.std.proofs.lemmas.Fn.{filter_same}
 use Rattle.sctp_tx.specs.Queue.{left}
 use Rattle.sctp_tx.specs.Resets.{is_partly}

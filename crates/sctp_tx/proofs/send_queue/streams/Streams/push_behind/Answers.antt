@@ -1,11 +1,11 @@
-use Rattle.std.proofs.Common.{◌≡◌, ap, sym, ◌∙◌, arith, Some, rules}
-use Rattle.std.specs.Map.{set_value, lookup}
+use Rattle.std.proofs.Common.{ap, ◌∙◌, arith, rules}
+use Rattle.std.specs.Map.{set_value}
 use Rattle.std.specs.Ordering.{nat_cmp}
 use Rattle.std.specs.BTreeMap.{is_at}
 use Rattle.std.proofs.lemmas.List.Sums.{sum_by_push}
 use Rattle.sctp_tx.specs.Queue.{Streams, Entries, total_of, amount_of, left}
-use Rattle.sctp_tx.proofs.StreamsLemmas.{total-written, amount-at_most, written-same}
-use Rattle.sctp_tx.proofs.send_queue.streams.Streams.push.Goals as goal
+use Rattle.sctp_tx.proofs.StreamsLemmas.{total-written, written-same}
+use Rattle.sctp_tx.proofs.send_queue.streams.Streams.push_behind.Goals as goal
 
 pub invariant_of-self-in_err-push : goal.invariant_of-self-in_err-push
 invariant_of-self-in_err-push c =

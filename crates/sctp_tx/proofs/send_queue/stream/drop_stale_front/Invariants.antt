@@ -1,12 +1,11 @@
 use Rattle.std.proofs.Common.{◌≡◌, ◌≤◌, length, sum_by}
 use Rattle.sctp_tx.specs.Queue.{left}
-use Rattle.sctp_tx.specs.Produced.{fresh, dropped}
-use Rattle.sctp_tx.proofs.send_queue.stream.drop_stale.Given as goal
+use Rattle.sctp_tx.specs.Produced.{fresh}
+use Rattle.sctp_tx.proofs.send_queue.stream.drop_stale_front.Given as goal
 
 abbrev pub invariant-loop-now : goal.invariant-loop-now
 invariant-loop-now l = record {
   messages : fresh l.now l.messages.items ≡ fresh l.now l.initial.messages.items;
-  told : dropped l.now l.messages.items l.events ≡ dropped l.now l.initial.messages.items l.initial.events;
   less : l.buffered.amount ≤ l.initial.buffered.amount;
   threshold : l.buffered.low_threshold ≡ l.initial.buffered.low_threshold;
   amount : l.buffered.amount ≡ sum_by left l.messages.items;
