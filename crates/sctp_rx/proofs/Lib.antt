@@ -13,3 +13,5 @@ pub mod FindLemmas
 pub mod PopLemmas
 pub mod ReassemblyRowsLemmas
 pub mod DeliverLemmas
+pub mod EntriesLemmas
+pub mod SkipLemmas

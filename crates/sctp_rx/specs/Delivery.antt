@@ -86,9 +86,12 @@ unordered_arrival h s =
 abbrev pub unordered_forward : ℕ → UnorderedStream → UnorderedStream
 unordered_forward n s = record { near = max s.near n; passed = max s.passed (suc n); held = from_rank rank_of (pair_rank (suc n) 0) s.held }
 
+abbrev pub held_from : ℕ → UnorderedStream → UnorderedStream
+held_from rank s = record s { held = from_rank rank_of rank s.held }
+
 -- without interleaving, it passes the TSNs up to n, whatever the message
 abbrev pub unordered_forward_tsn : ℕ → UnorderedStream → UnorderedStream
-unordered_forward_tsn n s = record s { held = from_rank rank_of (pair_rank origin (suc n)) s.held }
+unordered_forward_tsn n s = held_from (pair_rank origin (n + 1)) s
 
 -- what is true of every unordered stream: no complete message stays
 pub record IsUnordered (s : UnorderedStream) : Type 0 where

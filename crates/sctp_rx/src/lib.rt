@@ -5,18 +5,28 @@
 pub mod data_tracker;
 pub mod interval;
 pub mod interval_laws;
+pub mod interleaved_reassembly_streams;
 pub mod interval_list;
 mod message;
+mod near;
 mod ordered_stream;
+mod ordered_streams;
 pub mod ready_messages;
 pub mod reassembly_key;
+pub mod reassembly_streams;
+mod sorted_skips;
+pub mod traditional_reassembly_streams;
 mod unordered_stream;
+mod unordered_streams;
 
 pub use data_tracker::DataTracker;
 pub use interval::{Entry, Interval};
 pub use interval_laws::messages_are_intervals;
+pub use interleaved_reassembly_streams::InterleavedReassemblyStreams;
 pub use interval_list::IntervalList;
 pub use ready_messages::ReadyMessages;
+pub use reassembly_streams::ReassemblyStreams;
+pub use traditional_reassembly_streams::TraditionalReassemblyStreams;
 pub use reassembly_key::{
     InterleavedKey, ReassemblyKey, TraditionalKey, UnorderedInterleavedKey, is_before, is_same,
     leads_to, touch,

@@ -63,7 +63,8 @@ fn take_in<K: ReassemblyKey>(
 }
 
 impl<K: ReassemblyKey> UnorderedStream<K> {
-    ghost use Rattle.sctp_rx.specs.Delivery.{fresh_unordered, unordered_arrival, unordered_forward, unordered_forward_tsn};
+    ghost use Rattle.sctp_rx.specs.Delivery.{fresh_unordered, unordered_arrival, unordered_forward, held_from};
+    ghost use Rattle.sctp_rx.specs.Key.{rank_at};
 
     /// A stream of which nothing came.
     pub fn new(alloc: Global) -> UnorderedStream<K>
@@ -128,7 +129,7 @@ impl<K: ReassemblyKey> UnorderedStream<K> {
 
     /// Drops the fragments before the key.
     pub fn forward_to(&mut self, first: K)
-        ensures value { (n : ℕ) → K.number first ≡ origin → K.index first ≡ suc n → self.new ≡ unordered_forward_tsn n self.old }
+        ensures value { self.new ≡ held_from (rank_at K.number K.index first) self.old }
         ensures bytes { bytes_of self.new.held ≤ bytes_of self.old.held }
     {
         self.list.retain(first);
