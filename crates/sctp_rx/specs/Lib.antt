@@ -10,3 +10,5 @@ pub mod Held
 pub mod Intervals
 pub mod Delivery
 pub mod Streams
+pub mod ReassemblyQueue
+pub mod Forms

@@ -13,6 +13,7 @@ mod ordered_stream;
 mod ordered_streams;
 pub mod ready_messages;
 pub mod reassembly_key;
+pub mod reassembly_queue;
 pub mod reassembly_streams;
 mod sorted_skips;
 pub mod traditional_reassembly_streams;
@@ -25,6 +26,7 @@ pub use interval_laws::messages_are_intervals;
 pub use interleaved_reassembly_streams::InterleavedReassemblyStreams;
 pub use interval_list::IntervalList;
 pub use ready_messages::ReadyMessages;
+pub use reassembly_queue::ReassemblyQueue;
 pub use reassembly_streams::ReassemblyStreams;
 pub use traditional_reassembly_streams::TraditionalReassemblyStreams;
 pub use reassembly_key::{
