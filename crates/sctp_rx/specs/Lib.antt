@@ -12,3 +12,4 @@ pub mod Delivery
 pub mod Streams
 pub mod ReassemblyQueue
 pub mod Forms
+pub mod WaitingViews
