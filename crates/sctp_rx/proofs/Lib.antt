@@ -15,3 +15,4 @@ pub mod ReassemblyRowsLemmas
 pub mod DeliverLemmas
 pub mod EntriesLemmas
 pub mod SkipLemmas
+pub mod WaitingLemmas

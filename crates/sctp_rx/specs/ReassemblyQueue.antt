@@ -47,6 +47,19 @@ abbrev pub waiting_bytes : Waiting → ℕ
 waiting_bytes (Added tsn f) = length f.payload
 waiting_bytes (Forwarded tsn es) = 0
 
+abbrev pub waiting_number : Waiting → ℕ
+waiting_number (Added tsn f) = tsn
+waiting_number (Forwarded tsn es) = tsn
+
+-- what is true of what waits
+abbrev pub AreSmall : List Waiting → Type 0
+AreSmall [] = Unit {0}
+AreSmall (w ∷ ws) = (waiting_number w < 2 ^ 63) × AreSmall ws
+
+pub record IsDeferred (bytes : ℕ) (ws : List Waiting) : Type 0 where
+  pub counted : bytes ≡ sum_by waiting_bytes ws
+  pub small : AreSmall ws
+
 abbrev pub deferred_bytes : Option Deferred → ℕ
 deferred_bytes None = 0
 deferred_bytes (Some d) = sum_by waiting_bytes d.waiting

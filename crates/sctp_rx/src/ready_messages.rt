@@ -1,6 +1,6 @@
 //! Messages that are ready, until they are taken.
 
-ghost use Rattle.std.specs.Prelude.{◌≡◌, ◌==◌, ◌+◌, ◌<◌, ◌^◌, ◌++◌, ◌∷◌, [], length, option_map, OnOk, OnErr, IfOk, IfSome};
+ghost use Rattle.std.specs.Prelude.{◌≡◌, ◌==◌, ◌+◌, ◌<◌, ◌^◌, ◌++◌, ◌∷◌, [], length, option_map, OnOk, OnErr, IfOk, IfSome, IfNone, IsSome, ◌↔◌, slice_index_or};
 ghost use Rattle.std.specs.Option.{option_to_list};
 ghost use Rattle.sctp_serial.specs.Messages.{message_of};
 
@@ -67,9 +67,18 @@ impl ReadyMessages {
         Ok(())
     }
 
+    /// The one at the place, where there are so many.
+    pub fn get(&self, place: usize) -> Option<&Message>
+        ensures some { IsSome result ↔ (place < length self.now) }
+        ensures value { IfSome result (λ m. message_of m.now ≡ slice_index_or self.now place (message_of m.now)) }
+    {
+        self.messages.get(place)
+    }
+
     /// Takes the first one.
     pub fn pop(&mut self) -> Option<Message>
-        ensures { self.old ≡ option_to_list (option_map message_of result) ++ self.new }
+        ensures value { self.old ≡ option_to_list (option_map message_of result) ++ self.new }
+        ensures none { IfNone result (self.old ≡ []) }
     {
         let message = self.messages.pop_front()?;
         self.bytes -= message.payload.len();

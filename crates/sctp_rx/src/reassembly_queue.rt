@@ -1,6 +1,7 @@
 //! Messages put together of their fragments, and taken one after the other.
 
-ghost use Rattle.std.specs.Prelude.{◌≡◌, ℕ, ◌+◌, ◌-◌, ◌<◌, ◌≤◌, ◌^◌, ◌++◌, nat_le, max, length, option_map, OnOk, OnErr, IfSome, Some, unwrap_or};
+ghost use Rattle.std.specs.Prelude.{◌≡◌, [], ℕ, ◌+◌, ◌-◌, ◌<◌, ◌≤◌, ◌^◌, ◌++◌, nat_le, max, length, option_map, OnOk, OnErr, IsSome, IfSome, IfNone, ◌↔◌, slice_index_or, Some, unwrap_or};
+ghost use Rattle.std.specs.List.{sum_by};
 ghost use Rattle.std.specs.Option.{option_to_list};
 ghost use Rattle.sctp_serial.specs.Messages.{message_of};
 ghost use Rattle.sctp_packet.specs.Views.{fragment_tree};
@@ -51,7 +52,7 @@ impl Model for ReassemblyQueue {
 }
 
 impl ReassemblyQueue {
-    ghost use Rattle.sctp_rx.specs.ReassemblyQueue.{reassembly, queued_bytes, watermark, number_of, came, add_now, forward_now, fragment_waits, point_waits, waits, waiting_bytes, add, forward, defer};
+    ghost use Rattle.sctp_rx.specs.ReassemblyQueue.{reassembly, queued_bytes, watermark, number_of, came, add_now, forward_now, fragment_waits, point_waits, waits, waiting_bytes, waiting_number, add, forward, defer, apply, apply_each, reset};
     ghost use Rattle.sctp_rx.specs.WaitingViews.{waiting_of};
 
     /// An empty queue, which is full at `max_size` bytes. Takes no memory.
@@ -120,6 +121,7 @@ impl ReassemblyQueue {
     /// Takes the first of the ready messages.
     pub fn get_next_message(&mut self) -> Option<Message>
         ensures ready { self.old.ready ≡ option_to_list (option_map message_of result) ++ self.new.ready }
+        ensures none { IfNone result (self.old.ready ≡ []) }
         ensures others { self.new ≡ record self.old { ready = self.new.ready } }
     {
         self.ready.pop()
@@ -194,7 +196,8 @@ impl ReassemblyQueue {
 
     // Has something wait for the reset.
     fn wait(&mut self, waiting: Waiting) -> Result<(), AllocError>
-        requires { queued_bytes self.old + waiting_bytes (waiting_of waiting) < 2 ^ 64 }
+        requires room { queued_bytes self.old + waiting_bytes (waiting_of waiting) < 2 ^ 64 }
+        requires small { waiting_number (waiting_of waiting) < 2 ^ 63 }
         ensures { OnOk result (self.new ≡ waits (waiting_of waiting) self.old) }
     {
         match &mut self.deferred {
@@ -262,4 +265,54 @@ impl ReassemblyQueue {
         self.deferred = Some(deferred);
         Ok(())
     }
+
+    // Takes what waited.
+    fn apply(&mut self, waiting: Waiting) -> Result<(), AllocError>
+        requires room { queued_bytes self.old + waiting_bytes (waiting_of waiting) < 2 ^ 64 }
+        requires small { waiting_number (waiting_of waiting) < 2 ^ 63 }
+        ensures ok { OnOk result (self.new ≡ apply (waiting_of waiting) self.old) }
+        ensures bytes { queued_bytes self.new ≤ queued_bytes self.old + waiting_bytes (waiting_of waiting) }
+    {
+        match waiting {
+            Waiting::Fragment(number, fragment) => self.add_now(number, fragment),
+            Waiting::Point(number, skipped) => self.forward_now(number, &skipped),
+        }
+    }
+
+    // Takes all that waited, in order.
+    fn apply_each(&mut self, mut deferred: Deferred) -> Result<(), AllocError>
+        requires { queued_bytes self.old + sum_by waiting_bytes deferred.waiting < 2 ^ 64 }
+        ensures { OnOk result (self.new ≡ apply_each deferred.waiting self.old) }
+    {
+        while let Some(waiting) = deferred.pop() {
+            self.apply(waiting)?;
+        }
+        Ok(())
+    }
+
+    /// Resets the streams, or all where none is named: nothing is held of them, and their numbers begin anew. Then comes
+    /// what waited for a reset, in order, whatever streams that reset named.
+    ///
+    /// Without memory the queue may hold a part of what it should.
+    pub fn reset_streams_and_leave_deferred_reset(
+        &mut self,
+        streams: &[StreamId],
+    ) -> Result<(), AllocError>
+        ensures { OnOk result (self.new ≡ reset streams.now self.old) }
+    {
+        self.streams.reset_streams(streams);
+        match self.deferred.take() {
+            Some(deferred) => self.apply_each(deferred),
+            None => Ok(()),
+        }
+    }
+
+    /// The ready message at the place, where there are so many.
+    pub fn ready(&self, place: usize) -> Option<&Message>
+        ensures some { IsSome result ↔ (place < length self.now.ready) }
+        ensures value { IfSome result (λ m. message_of m.now ≡ slice_index_or self.now.ready place (message_of m.now)) }
+    {
+        self.ready.get(place)
+    }
 }
+

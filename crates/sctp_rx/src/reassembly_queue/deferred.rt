@@ -1,6 +1,6 @@
 //! A reset that is deferred.
 
-ghost use Rattle.std.specs.Prelude.{◌≡◌, ◌+◌, ◌<◌, ◌^◌, ◌++◌, ◌∷◌, ◌&&◌, [], nat_lt, option_map, IfOk, IfSome, OnOk, OnErr};
+ghost use Rattle.std.specs.Prelude.{◌≡◌, ◌+◌, ◌<◌, ◌^◌, ◌++◌, ◌∷◌, ◌&&◌, [], nat_lt, option_map, IfOk, IfSome, IfNone, OnOk, OnErr};
 ghost use Rattle.std.specs.List.{sum_by};
 ghost use Rattle.std.specs.Option.{option_to_list};
 ghost use Rattle.sctp_rx.specs.Streams.{is_named};
@@ -23,20 +23,19 @@ pub(crate) struct Deferred {
 }
 
 impl Model for Deferred {
-    ghost use Rattle.std.specs.Prelude.{◌≡◌, map};
-    ghost use Rattle.std.specs.List.{sum_by};
-    ghost use Rattle.sctp_rx.specs.ReassemblyQueue.{Deferred, waiting_bytes};
+    ghost use Rattle.std.specs.Prelude.{map};
+    ghost use Rattle.sctp_rx.specs.ReassemblyQueue.{Deferred, IsDeferred};
     ghost use Rattle.sctp_rx.specs.WaitingViews.{waiting_of};
 
     ghost Value = { Deferred };
 
     ghost view = { λ d. record { last = d.last; streams = d.streams.items; waiting = map waiting_of d.waiting.items } };
 
-    ghost invariant = { λ d. d.bytes ≡ sum_by waiting_bytes (map waiting_of d.waiting.items) };
+    ghost invariant = { λ d. IsDeferred d.bytes (map waiting_of d.waiting.items) };
 }
 
 impl Deferred {
-    ghost use Rattle.sctp_rx.specs.ReassemblyQueue.{waiting_bytes};
+    ghost use Rattle.sctp_rx.specs.ReassemblyQueue.{waiting_bytes, waiting_number};
 
     /// A reset for which nothing waits.
     pub fn new(alloc: Global, last: u64, ids: &[StreamId]) -> Result<Deferred, AllocError>
@@ -73,7 +72,8 @@ impl Deferred {
 
     /// Has it wait behind the others. Without memory nothing changes.
     pub fn push(&mut self, waiting: Waiting) -> Result<(), AllocError>
-        requires { sum_by waiting_bytes self.old.waiting + waiting_bytes (waiting_of waiting) < 2 ^ 64 }
+        requires room { sum_by waiting_bytes self.old.waiting + waiting_bytes (waiting_of waiting) < 2 ^ 64 }
+        requires small { waiting_number (waiting_of waiting) < 2 ^ 63 }
         ensures ok { OnOk result (self.new ≡ record self.old { waiting = self.old.waiting ++ waiting_of waiting ∷ [] }) }
         ensures err { OnErr result (self.new ≡ self.old) }
     {
@@ -85,7 +85,9 @@ impl Deferred {
 
     /// Takes the first that waits.
     pub fn pop(&mut self) -> Option<Waiting>
-        ensures { self.old.waiting ≡ option_to_list (option_map waiting_of result) ++ self.new.waiting }
+        ensures value { self.old.waiting ≡ option_to_list (option_map waiting_of result) ++ self.new.waiting }
+        ensures none { IfNone result (self.old.waiting ≡ []) }
+        ensures small { IfSome result (λ w. waiting_number (waiting_of w) < 2 ^ 63) }
     {
         let waiting = self.waiting.pop_front()?;
         self.bytes -= bytes_of(&waiting);
