@@ -59,7 +59,7 @@ put_more e d xs i whole h read least before =
     let up : suc i ≡ i + 1 = omega arith in
     let rest : drop i xs ≡ d ∷ drop (i + 1) xs = drop-cons xs i d h ∙ (ap (λ (t : SkippedStream). t ∷ drop (suc i) xs) (sym read) ∙ ap (λ (k : ℕ). d ∷ drop k xs) up) in
     let head : put_skip e (d ∷ drop (i + 1) xs) ≡ d ∷ put_skip e (drop (i + 1) xs) =
-        ap (λ (b : Bool). cond b (e ∷ (d ∷ drop (i + 1) xs)) (d ∷ put_skip e (drop (i + 1) xs))) (le-ltb (skipped_id e) (skipped_id d) least) in
+    ap (λ (b : Bool). cond b (e ∷ (d ∷ drop (i + 1) xs)) (d ∷ put_skip e (drop (i + 1) xs))) (le-ltb (skipped_id e) (skipped_id d) least) in
     ap (λ (t : List SkippedStream). t ++ put_skip e (drop (i + 1) xs)) (take_more xs i d h ∙ ap (λ (t : SkippedStream). take i xs ++ t ∷ []) (sym read))
     ∙ (append_assoc (take i xs) (d ∷ []) (put_skip e (drop (i + 1) xs)) ∙ (ap (λ (t : List SkippedStream). take i xs ++ t) (sym head ∙ ap (put_skip e) (sym rest)) ∙ before))
 

@@ -8,5 +8,4 @@ ghost use Rattle.sctp_rx.specs.Held.{Held, rank_of, goes_on, begins, ends, inter
 /// stand among fragments.
 pub fn messages_are_intervals()
     ensures { (front run back : List Held) → IsMessage rank_of goes_on begins ends run → intervals_of (front ++ (run ++ back)) ≡ intervals_of front ++ run ∷ intervals_of back }
-{
-}
+{}

@@ -2,9 +2,9 @@
 
 ghost use Rattle.std.specs.Prelude.{◌≡◌, ◌==◌, ℕ, suc, ◌+◌, ◌<◌, ◌≤◌, ◌^◌, ◌&&◌, ◌++◌, ◌∷◌, [], List, Option, Some, None, nat_lt, not, false, true, length, take, drop, is_none, option_map, slice_index_or, IfOk, OnOk, OnErr, IfSome, IfNone, IsTrue};
 
-use sctp_packet::Data;
 use crate::interval::{Entry, Interval, goes_on_to};
 use crate::reassembly_key::{ReassemblyKey, is_before};
+use sctp_packet::Data;
 use std::alloc::{AllocError, Global};
 use std::collections::VecDeque;
 use std::marker::Model;

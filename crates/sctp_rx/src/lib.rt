@@ -3,9 +3,9 @@
 #![tactic(auto)]
 
 pub mod data_tracker;
+pub mod interleaved_reassembly_streams;
 pub mod interval;
 pub mod interval_laws;
-pub mod interleaved_reassembly_streams;
 pub mod interval_list;
 mod message;
 mod near;
@@ -21,15 +21,15 @@ mod unordered_stream;
 mod unordered_streams;
 
 pub use data_tracker::DataTracker;
+pub use interleaved_reassembly_streams::InterleavedReassemblyStreams;
 pub use interval::{Entry, Interval};
 pub use interval_laws::messages_are_intervals;
-pub use interleaved_reassembly_streams::InterleavedReassemblyStreams;
 pub use interval_list::IntervalList;
 pub use ready_messages::ReadyMessages;
-pub use reassembly_queue::ReassemblyQueue;
-pub use reassembly_streams::ReassemblyStreams;
-pub use traditional_reassembly_streams::TraditionalReassemblyStreams;
 pub use reassembly_key::{
     InterleavedKey, ReassemblyKey, TraditionalKey, UnorderedInterleavedKey, is_before, is_same,
     leads_to, touch,
 };
+pub use reassembly_queue::ReassemblyQueue;
+pub use reassembly_streams::ReassemblyStreams;
+pub use traditional_reassembly_streams::TraditionalReassemblyStreams;

@@ -22,9 +22,5 @@ pub fn message_of<K: ReassemblyKey>(
 {
     let payload = interval.collect_payload(alloc)?;
     let first = interval.first();
-    Ok(Message::new(
-        first.fragment.stream_key.id(),
-        first.fragment.ppid,
-        payload,
-    ))
+    Ok(Message::new(first.fragment.stream_key.id(), first.fragment.ppid, payload))
 }

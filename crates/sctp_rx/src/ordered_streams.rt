@@ -174,7 +174,6 @@ impl<K: ReassemblyKey> OrderedStreams<K> {
 }
 
 ghost use Rattle.sctp_rx.specs.Streams.{ordered_bytes};
-
 ghost use Rattle.std.specs.Prelude.{◌==◌};
 ghost use Rattle.std.specs.List.{list_any};
 ghost use Rattle.sctp_rx.specs.Streams.{is_named};

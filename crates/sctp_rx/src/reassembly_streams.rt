@@ -17,12 +17,7 @@ pub trait ReassemblyStreams {
     ghost streams: { Self → Streams };
 
     /// Takes a fragment with the unwrapped TSN.
-    fn add(
-        &mut self,
-        tsn: u64,
-        fragment: Data,
-        ready: &mut ReadyMessages,
-    ) -> Result<(), AllocError>
+    fn add(&mut self, tsn: u64, fragment: Data, ready: &mut ReadyMessages) -> Result<(), AllocError>
         requires room { held_bytes (streams self.old) + ready_bytes ready.old + length fragment.payload.items < 2 ^ 64 }
         requires small { tsn < 2 ^ 63 }
         ensures ok { OnOk result (streams self.new ≡ (add tsn (fragment_tree fragment) (streams self.old)).streams) }
