@@ -316,3 +316,5 @@ impl ReassemblyQueue {
     }
 }
 
+#[cfg(test)]
+mod tests;

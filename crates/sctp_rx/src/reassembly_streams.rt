@@ -83,3 +83,5 @@ fn skip_each<S: ReassemblyStreams>(
     Ok(())
 }
 
+#[cfg(test)]
+mod tests;
