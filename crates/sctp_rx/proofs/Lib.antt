@@ -5,3 +5,14 @@ pub mod SeenPassingLemmas
 pub mod SeenOneFormLemmas
 pub mod TrackerLemmas
 pub mod TrackerRowsLemmas
+pub mod RunLemmas
+pub mod PlaceLemmas
+pub mod InsertLemmas
+pub mod ListLemmas
+pub mod FindLemmas
+pub mod PopLemmas
+pub mod ReassemblyRowsLemmas
+pub mod DeliverLemmas
+pub mod EntriesLemmas
+pub mod SkipLemmas
+pub mod WaitingLemmas

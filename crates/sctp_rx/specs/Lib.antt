@@ -3,3 +3,13 @@ pub mod SeenSteps
 pub mod Tracker
 pub mod Sack
 pub mod TrackerHandover
+pub mod Runs
+pub mod Key
+pub mod KeyLaws
+pub mod Held
+pub mod Intervals
+pub mod Delivery
+pub mod Streams
+pub mod ReassemblyQueue
+pub mod Forms
+pub mod WaitingViews

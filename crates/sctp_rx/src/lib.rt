@@ -1,6 +1,35 @@
-//! What comes from the peer: which TSNs were seen, and when they are acknowledged.
+//! What comes from the peer: which TSNs were seen, and when they are acknowledged; and messages put together of their
+//! fragments.
 #![tactic(auto)]
 
 pub mod data_tracker;
+pub mod interleaved_reassembly_streams;
+pub mod interval;
+pub mod interval_laws;
+pub mod interval_list;
+mod message;
+mod near;
+mod ordered_stream;
+mod ordered_streams;
+pub mod ready_messages;
+pub mod reassembly_key;
+pub mod reassembly_queue;
+pub mod reassembly_streams;
+mod sorted_skips;
+pub mod traditional_reassembly_streams;
+mod unordered_stream;
+mod unordered_streams;
 
 pub use data_tracker::DataTracker;
+pub use interleaved_reassembly_streams::InterleavedReassemblyStreams;
+pub use interval::{Entry, Interval};
+pub use interval_laws::messages_are_intervals;
+pub use interval_list::IntervalList;
+pub use ready_messages::ReadyMessages;
+pub use reassembly_key::{
+    InterleavedKey, ReassemblyKey, TraditionalKey, UnorderedInterleavedKey, is_before, is_same,
+    leads_to, touch,
+};
+pub use reassembly_queue::ReassemblyQueue;
+pub use reassembly_streams::ReassemblyStreams;
+pub use traditional_reassembly_streams::TraditionalReassemblyStreams;

@@ -1,0 +1,125 @@
+//! A stream whose messages become ready in the order of their numbers.
+
+ghost use Rattle.std.specs.Prelude.{◌≡◌, ℕ, suc, ◌+◌, ◌<◌, ◌≤◌, ◌^◌, ◌++◌, max, length, OnOk, [], false, nat_lt};
+ghost use Rattle.sctp_serial.specs.Unwrapped.{origin};
+ghost use Rattle.sctp_rx.specs.Held.{bytes_of, rank_of};
+ghost use Rattle.sctp_rx.specs.Key.{rank_at};
+ghost use Rattle.sctp_rx.specs.Intervals.{held};
+ghost use Rattle.sctp_rx.specs.Runs.{from_rank};
+ghost use Rattle.sctp_rx.specs.Delivery.{deliver, ordered_arrival, ready_bytes};
+
+use crate::interval_list::IntervalList;
+use crate::message::message_of;
+use crate::ready_messages::ReadyMessages;
+use crate::reassembly_key::ReassemblyKey;
+use sctp_packet::Data;
+use std::alloc::{AllocError, Global};
+use std::marker::Model;
+
+/// The number of a stream's first message. Numbers may lie below it, as those of messages from before a reset.
+pub const FIRST: u64 = 1 << 32;
+
+/// The fragments of a stream's ordered messages, and which message is next.
+#[derive(Drop)]
+pub struct OrderedStream<K: ReassemblyKey> {
+    alloc: Global,
+    // wide enough for the number behind that of any key
+    next: u128,
+    list: IntervalList<K>,
+}
+
+impl<K: ReassemblyKey> Model for OrderedStream<K> {
+    ghost use Rattle.std.specs.Prelude.{◌≤◌};
+    ghost use Rattle.sctp_serial.specs.Unwrapped.{origin};
+    ghost use Rattle.sctp_rx.specs.Delivery.{OrderedStream};
+
+    ghost Value = { OrderedStream };
+
+    ghost view = { λ s. record { next = s.next; held = s.list } };
+
+    ghost invariant = { λ s. origin ≤ s.next };
+}
+
+// Makes the complete messages ready that are in turn, one after the other.
+fn deliver<K: ReassemblyKey>(
+    alloc: Global,
+    next: &mut u128,
+    list: &mut IntervalList<K>,
+    ready: &mut ReadyMessages,
+) -> Result<(), AllocError>
+    requires { bytes_of list.old + ready_bytes ready.old < 2 ^ 64 }
+    ensures next { OnOk result (next.new ≡ (deliver next.old list.old).stream.next) }
+    ensures held { OnOk result (list.new ≡ (deliver next.old list.old).stream.held) }
+    ensures ready { OnOk result (ready.new ≡ ready.old ++ (deliver next.old list.old).messages) }
+    ensures onward { next.old ≤ next.new }
+    ensures bytes { bytes_of list.new + ready_bytes ready.new ≤ bytes_of list.old + ready_bytes ready.old }
+{
+    while let Some(interval) = list.pop_front_if_complete_and(*next) {
+        let number = interval.first().key.number();
+        let message = message_of(alloc, &interval)?;
+        ready.push(message)?;
+        *next = number as u128 + 1;
+    }
+    Ok(())
+}
+
+impl<K: ReassemblyKey> OrderedStream<K> {
+    ghost use Rattle.sctp_rx.specs.Delivery.{fresh_ordered, ordered_arrival, ordered_forward};
+
+    /// A stream of which nothing came.
+    pub fn new(alloc: Global) -> OrderedStream<K>
+        ensures { result ≡ fresh_ordered }
+    {
+        OrderedStream {
+            alloc,
+            next: FIRST as u128,
+            list: IntervalList::new(alloc),
+        }
+    }
+
+    /// The number of the message that becomes ready next.
+    pub fn next(&self) -> u128
+        ensures value { result ≡ self.now.next }
+        ensures range { origin ≤ result }
+    {
+        self.next
+    }
+
+    /// How many bytes of payload are held.
+    pub fn queued_bytes(&self) -> usize
+        ensures { result ≡ bytes_of self.now.held }
+    {
+        self.list.total_bytes()
+    }
+
+    /// Adds a fragment, unless its message is below the next one; what is in turn then becomes ready.
+    pub fn add(
+        &mut self,
+        key: K,
+        fragment: Data,
+        ready: &mut ReadyMessages,
+    ) -> Result<(), AllocError>
+        requires { bytes_of self.old.held + ready_bytes ready.old + length fragment.payload.items < 2 ^ 64 }
+        ensures ok { OnOk result (self.new ≡ (ordered_arrival (held (K.number key) (K.index key) fragment) self.old).stream) }
+        ensures ready { OnOk result (ready.new ≡ ready.old ++ (ordered_arrival (held (K.number key) (K.index key) fragment) self.old).messages) }
+        ensures bytes { bytes_of self.new.held + ready_bytes ready.new ≤ bytes_of self.old.held + ready_bytes ready.old + length fragment.payload.items }
+    {
+        if (key.number() as u128) < self.next {
+            return Ok(());
+        }
+        self.list.add(key, fragment)?;
+        deliver(self.alloc, &mut self.next, &mut self.list, ready)
+    }
+
+    /// Drops the messages up to the number before that of the key, and moves the next number to it, never back.
+    pub fn forward(&mut self, first: K, ready: &mut ReadyMessages) -> Result<(), AllocError>
+        requires { bytes_of self.old.held + ready_bytes ready.old < 2 ^ 64 }
+        ensures ok { (n : ℕ) → K.number first ≡ suc n → K.index first ≡ 0 → OnOk result (self.new ≡ (ordered_forward n self.old).stream) }
+        ensures ready { (n : ℕ) → K.number first ≡ suc n → K.index first ≡ 0 → OnOk result (ready.new ≡ ready.old ++ (ordered_forward n self.old).messages) }
+        ensures bytes { bytes_of self.new.held + ready_bytes ready.new ≤ bytes_of self.old.held + ready_bytes ready.old }
+    {
+        self.list.retain(first);
+        self.next = self.next.max(first.number() as u128);
+        deliver(self.alloc, &mut self.next, &mut self.list, ready)
+    }
+}

@@ -1,0 +1,199 @@
+//! Streams with ordered messages, by their ids.
+
+ghost use Rattle.std.specs.Prelude.{◌≡◌, ℕ, suc, ◌+◌, ◌<◌, ◌≤◌, ◌^◌, ◌++◌, [], length, IsSome, OnOk, OnErr};
+ghost use Rattle.std.specs.Map.{lookup};
+ghost use Rattle.std.specs.Ordering.{nat_cmp};
+ghost use Rattle.std.specs.BTreeMap.{is_at};
+ghost use Rattle.sctp_serial.specs.Unwrapped.{origin};
+
+use crate::ordered_stream::{FIRST, OrderedStream};
+use crate::ready_messages::ReadyMessages;
+use crate::reassembly_key::ReassemblyKey;
+use sctp_packet::Data;
+use sctp_serial::StreamId;
+use std::alloc::{AllocError, Global};
+use std::collections::BTreeMap;
+use std::marker::Model;
+
+/// The streams that were named, and how many bytes of payload they hold.
+#[derive(Drop)]
+pub struct OrderedStreams<K: ReassemblyKey> {
+    alloc: Global,
+    streams: BTreeMap<u16, OrderedStream<K>>,
+    bytes: usize,
+}
+
+impl<K: ReassemblyKey> Model for OrderedStreams<K> {
+    ghost use Rattle.std.specs.Prelude.{◌≡◌};
+    ghost use Rattle.sctp_rx.specs.Delivery.{OrderedStream};
+    ghost use Rattle.sctp_rx.specs.Streams.{Entries, ordered_bytes};
+
+    ghost Value = { Entries OrderedStream };
+
+    ghost view = { λ s. s.streams.entries };
+
+    ghost invariant = { λ s. s.bytes ≡ ordered_bytes s.streams.entries };
+}
+
+impl<K: ReassemblyKey> OrderedStreams<K> {
+    ghost use Rattle.sctp_rx.specs.Intervals.{held};
+    ghost use Rattle.sctp_rx.specs.Delivery.{fresh_ordered, ordered_arrival, ordered_forward, ready_bytes};
+    ghost use Rattle.sctp_rx.specs.Streams.{ordered_bytes, stream_at, opened, written, changed, forgotten};
+
+    /// No streams. Takes no memory.
+    pub fn new(alloc: Global) -> OrderedStreams<K>
+        ensures { result ≡ [] }
+    {
+        OrderedStreams {
+            alloc,
+            streams: BTreeMap::new(alloc),
+            bytes: 0,
+        }
+    }
+
+    /// How many bytes of payload are held.
+    pub fn total_bytes(&self) -> usize
+        ensures { result ≡ ordered_bytes self.now }
+    {
+        self.bytes
+    }
+
+    /// The number of the stream's message that becomes ready next.
+    pub fn next(&self, id: StreamId) -> u128
+        ensures value { result ≡ (stream_at fresh_ordered id.0 self.now).next }
+        ensures range { origin ≤ result }
+    {
+        match self.streams.get(&id.0) {
+            Some(stream) => stream.next(),
+            None => FIRST as u128,
+        }
+    }
+
+    // Makes the stream where there is none. Without memory nothing changes.
+    fn open(&mut self, id: StreamId) -> Result<(), AllocError>
+        ensures ok { OnOk result (self.new ≡ opened fresh_ordered id.0 self.old) }
+        ensures there { OnOk result (IsSome (lookup (is_at (nat_cmp id.0)) self.new)) }
+        ensures stream { OnOk result (stream_at fresh_ordered id.0 self.new ≡ stream_at fresh_ordered id.0 self.old) }
+        ensures bytes { ordered_bytes self.new ≡ ordered_bytes self.old }
+        ensures err { OnErr result (self.new ≡ self.old) }
+    {
+        if self.streams.contains_key(&id.0) {
+            return Ok(());
+        }
+        let stream = OrderedStream::new(self.alloc);
+        self.streams.insert(id.0, stream)?;
+        Ok(())
+    }
+
+    // Adds a fragment to a stream that is there.
+    fn add_to(
+        &mut self,
+        id: StreamId,
+        key: K,
+        fragment: Data,
+        ready: &mut ReadyMessages,
+    ) -> Result<(), AllocError>
+        requires there { IsSome (lookup (is_at (nat_cmp id.0)) self.old) }
+        requires room { ordered_bytes self.old + ready_bytes ready.old + length fragment.payload.items < 2 ^ 64 }
+        ensures ok { OnOk result (self.new ≡ written id.0 (ordered_arrival (held (K.number key) (K.index key) fragment) (stream_at fresh_ordered id.0 self.old)).stream self.old) }
+        ensures ready { OnOk result (ready.new ≡ ready.old ++ (ordered_arrival (held (K.number key) (K.index key) fragment) (stream_at fresh_ordered id.0 self.old)).messages) }
+        ensures bytes { ordered_bytes self.new + ready_bytes ready.new ≤ ordered_bytes self.old + ready_bytes ready.old + length fragment.payload.items }
+    {
+        let Some(stream) = self.streams.get_mut(&id.0) else {
+            return Err(AllocError);
+        };
+        let before = stream.queued_bytes();
+        let added = stream.add(key, fragment, ready);
+        self.bytes = self.bytes - before + stream.queued_bytes();
+        added
+    }
+
+    /// Adds a fragment to its stream.
+    pub fn add(
+        &mut self,
+        id: StreamId,
+        key: K,
+        fragment: Data,
+        ready: &mut ReadyMessages,
+    ) -> Result<(), AllocError>
+        requires { ordered_bytes self.old + ready_bytes ready.old + length fragment.payload.items < 2 ^ 64 }
+        ensures ok { OnOk result (self.new ≡ changed fresh_ordered id.0 (ordered_arrival (held (K.number key) (K.index key) fragment) (stream_at fresh_ordered id.0 self.old)).stream self.old) }
+        ensures ready { OnOk result (ready.new ≡ ready.old ++ (ordered_arrival (held (K.number key) (K.index key) fragment) (stream_at fresh_ordered id.0 self.old)).messages) }
+        ensures bytes { ordered_bytes self.new + ready_bytes ready.new ≤ ordered_bytes self.old + ready_bytes ready.old + length fragment.payload.items }
+    {
+        self.open(id)?;
+        self.add_to(id, key, fragment, ready)
+    }
+
+    // Forwards a stream that is there.
+    fn forward_in(
+        &mut self,
+        id: StreamId,
+        first: K,
+        ready: &mut ReadyMessages,
+    ) -> Result<(), AllocError>
+        requires there { IsSome (lookup (is_at (nat_cmp id.0)) self.old) }
+        requires room { ordered_bytes self.old + ready_bytes ready.old < 2 ^ 64 }
+        ensures ok { (n : ℕ) → K.number first ≡ suc n → K.index first ≡ 0 → OnOk result (self.new ≡ written id.0 (ordered_forward n (stream_at fresh_ordered id.0 self.old)).stream self.old) }
+        ensures ready { (n : ℕ) → K.number first ≡ suc n → K.index first ≡ 0 → OnOk result (ready.new ≡ ready.old ++ (ordered_forward n (stream_at fresh_ordered id.0 self.old)).messages) }
+        ensures bytes { ordered_bytes self.new + ready_bytes ready.new ≤ ordered_bytes self.old + ready_bytes ready.old }
+    {
+        let Some(stream) = self.streams.get_mut(&id.0) else {
+            return Err(AllocError);
+        };
+        let before = stream.queued_bytes();
+        let forwarded = stream.forward(first, ready);
+        self.bytes = self.bytes - before + stream.queued_bytes();
+        forwarded
+    }
+
+    /// A forward point names the message before that of the key: its stream drops it and those before it.
+    pub fn forward(
+        &mut self,
+        id: StreamId,
+        first: K,
+        ready: &mut ReadyMessages,
+    ) -> Result<(), AllocError>
+        requires { ordered_bytes self.old + ready_bytes ready.old < 2 ^ 64 }
+        ensures ok { (n : ℕ) → K.number first ≡ suc n → K.index first ≡ 0 → OnOk result (self.new ≡ changed fresh_ordered id.0 (ordered_forward n (stream_at fresh_ordered id.0 self.old)).stream self.old) }
+        ensures ready { (n : ℕ) → K.number first ≡ suc n → K.index first ≡ 0 → OnOk result (ready.new ≡ ready.old ++ (ordered_forward n (stream_at fresh_ordered id.0 self.old)).messages) }
+        ensures bytes { ordered_bytes self.new + ready_bytes ready.new ≤ ordered_bytes self.old + ready_bytes ready.old }
+    {
+        self.open(id)?;
+        self.forward_in(id, first, ready)
+    }
+
+    /// Forgets the streams that are named, or all where none is.
+    pub fn forget(&mut self, ids: &[StreamId])
+        ensures value { self.new ≡ forgotten ids.now self.old }
+        ensures bytes { ordered_bytes self.new ≤ ordered_bytes self.old }
+    {
+        self.streams.retain(|id, _| !is_named(ids, *id));
+        self.bytes = bytes_in(&self.streams);
+    }
+}
+
+ghost use Rattle.sctp_rx.specs.Streams.{ordered_bytes};
+ghost use Rattle.std.specs.Prelude.{◌==◌};
+ghost use Rattle.std.specs.List.{list_any};
+ghost use Rattle.sctp_rx.specs.Streams.{is_named};
+
+fn names(ids: &[StreamId], id: u16) -> bool
+    ensures { result ≡ list_any (λ i. i.0 == id) ids.now }
+{
+    ids.iter().any(|named| named.0 == id)
+}
+
+// Whether a stream is named; where none is, each is.
+pub(crate) fn is_named(ids: &[StreamId], id: u16) -> bool
+    ensures { result ≡ is_named ids.now id }
+{
+    ids.is_empty() || names(ids, id)
+}
+
+fn bytes_in<K: ReassemblyKey>(streams: &BTreeMap<u16, OrderedStream<K>>) -> usize
+    requires { ordered_bytes streams.now.entries < 2 ^ 64 }
+    ensures { result ≡ ordered_bytes streams.now.entries }
+{
+    streams.values().map(|stream| stream.queued_bytes()).sum()
+}
