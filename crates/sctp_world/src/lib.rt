@@ -9,6 +9,8 @@ mod command;
 mod packet;
 mod probing;
 mod sack;
+mod socket;
+mod world;
 mod script;
 
 pub use answer::{Probe, ProbeError};
