@@ -4,6 +4,7 @@ use Rattle.rand_core.specs.Stream.{Stream}
 use Rattle.sctp_state.specs.declared.api.options.SendOptions.{SendOptions}
 use Rattle.sctp_state.specs.Events.{Event, SendPacket}
 use Rattle.sctp_world.specs.Association.{Message, Outgoing, Endpoint, fresh_endpoint}
+use Rattle.sctp_world.specs.Transfer.{rests}
 use Rattle.sctp_world.specs.Handshake as table
 use Rattle.sctp_world.specs.Input.{Hears, send, refusal_of, first_ready, received}
 use Rattle.sctp_world.specs.Judge.{End, A, B, Association, association_in, same_association, Entry, Connected, Sent, HandedOut, Given, Associated, Emitted, Happened, BecameReady}
@@ -20,6 +21,10 @@ pub record World : Type 0 where
 
 abbrev pub fresh_side : Stream → (List ℕ → ℕ) → Side
 fresh_side words word_of = record { socket = fresh_endpoint words word_of; packets = [] }
+
+abbrev pub fresh_world : (words_a words_b : Stream) (word_of_a word_of_b : List ℕ → ℕ) → World
+fresh_world words_a words_b word_of_a word_of_b =
+    record { a = fresh_side words_a word_of_a; b = fresh_side words_b word_of_b; log = [] }
 
 pub data Call : Type 0 where
   Connect : Call
@@ -82,6 +87,10 @@ abbrev pub side_of : End → World → Side
 side_of A w = w.a
 side_of B w = w.b
 
+-- nothing is queued and no item kept
+abbrev pub is_at_rest : End → World → Bool
+is_at_rest x w = rests (side_of x w).socket.core.kept (side_of x w).socket.core.queue
+
 abbrev pub other : End → End
 other A = B
 other B = A
@@ -99,10 +108,20 @@ recorded x first s w = with_side x (settled (side_of x w) s) (w.log ++ first ∷
 abbrev pub outgoing : Message → SendOptions → Outgoing
 outgoing m options = record { message = m; is_unordered = options.unordered; lifecycle = options.lifecycle_id }
 
+-- an end after a call
+abbrev pub after_call : Call → Endpoint → Endpoint
+after_call Connect s = table.connect s
+after_call (Send m options) s = send (outgoing m options) s
+after_call Receive s = received s
+
+-- the call with its answer, and the end's clock
+abbrev pub call_entry : End → Call → Endpoint → Entry
+call_entry x Connect s = Connected x 0
+call_entry x (Send m options) s = Sent x 0 m options (refusal_of m.payload)
+call_entry x Receive s = HandedOut x 0 (first_ready s)
+
 abbrev pub called : End → Call → World → World
-called x Connect w = recorded x (Connected x 0) (table.connect (side_of x w).socket) w
-called x (Send m options) w = recorded x (Sent x 0 m options (refusal_of m.payload)) (send (outgoing m options) (side_of x w).socket) w
-called x Receive w = recorded x (HandedOut x 0 (first_ready (side_of x w).socket)) (received (side_of x w).socket) w
+called x call w = recorded x (call_entry x call (side_of x w).socket) (after_call call (side_of x w).socket) w
 
 -- an end is told a packet: what becomes of it and of the log
 pub record Told (x : End) (packet : ℕ) (bytes : List ℕ) (old new : Side) (log longer : List Entry) : Type 0 where
@@ -115,9 +134,8 @@ pub record Told (x : End) (packet : ℕ) (bytes : List ℕ) (old new : Side) (lo
 pub record Gives (x : End) (packet : ℕ) (w v : World) : Type 0 where
   pub bytes : List ℕ
   pub there : slice_get (side_of (other x) w).packets packet ≡ Some bytes
-  pub after : Endpoint
-  pub hears : Hears bytes (side_of x w).socket after
-  pub world : v ≡ recorded x (Given x 0 packet) after w
+  pub told : Told x packet bytes (side_of x w) (side_of x v) w.log v.log
+  pub other_side : side_of (other x) v ≡ side_of (other x) w
 
 abbrev pub Happens : Action → World → World → Type 0
 Happens (CallOf x call) w v = v ≡ called x call w

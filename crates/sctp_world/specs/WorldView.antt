@@ -1,5 +1,5 @@
 -- What the program's values of a world say.
-use Rattle.std.specs.Prelude.{ℕ, Bool, Option, List, map}
+use Rattle.std.specs.Prelude.{ℕ, Bool, Option, Some, None, List, [], ◌∷◌, map}
 use Rattle.std.specs.Option.{option_map}
 use Rattle.rand_core.specs.Stream.{Stream}
 use Rattle.sctp_state.specs.Events.{event_of, given_up_of}
@@ -11,6 +11,7 @@ use Rattle.sctp_world.specs.declared.world.log.Event as given_event
 use Rattle.sctp_world.specs.declared.world.log.Event.TheVariants as events
 use Rattle.sctp_world.specs.declared.world.log.Entry as given_entry
 use Rattle.sctp_world.specs.declared.world.log.Entry.TheVariants as entries
+use Rattle.sctp_world.specs.Association.{Message}
 use Rattle.sctp_world.specs.Judge.{End, A, B, Entry, Connected, Sent, HandedOut, Given, Associated, Emitted, Happened, GaveUp, BecameReady}
 use Rattle.sctp_world.specs.World.{Call, Connect, Send, Receive, Action, CallOf, Give, Side, World}
 use Rattle.sctp_world.specs.SocketView.{SocketValue, endpoint_of, message_tree, association_tree}
@@ -38,6 +39,10 @@ entry_tree (entries.Packet end packet) = Emitted (end_tree end) packet
 entry_tree (entries.Event end event) = Happened (end_tree end) (event_of event)
 entry_tree (entries.GivenUp end record_) = GaveUp (end_tree end) (given_up_of record_)
 entry_tree (entries.Ready end message) = BecameReady (end_tree end) (message_tree message)
+
+abbrev pub ready_entry : End → Option Message → List Entry
+ready_entry x None = []
+ready_entry x (Some m) = BecameReady x m ∷ []
 
 -- a side and a world as the program has them
 pub record SideValue (R C : Type 0) : Type 0 where

@@ -1,13 +1,13 @@
 //! One end of a world, with the packets that it ever sent.
 
-ghost use Rattle.std.specs.Prelude.{◌≡◌, ℕ, Some, None, [], ◌∷◌, ◌++◌, length, map, option_map, drop, IfOk, OnOk};
+ghost use Rattle.std.specs.Prelude.{◌≡◌, ℕ, Some, None, [], ◌∷◌, ◌++◌, length, map, option_map, slice_get, IfOk, OnOk};
 ghost use Rattle.sctp_state.specs.Events.{event_of};
 ghost use Rattle.sctp_world.specs.Handshake as handshake;
 ghost use Rattle.sctp_world.specs.Input.{Hears, send, refusal_of, first_ready, received};
 ghost use Rattle.sctp_world.specs.Judge.{Connected, Sent, HandedOut, Given, same_association, association_in};
 ghost use Rattle.sctp_world.specs.World.{fresh_side, associated_if, Told, settled, news, news_of, quiet, packets_in, told_entries, association_entries, ready_entries, ready_before, outgoing};
 ghost use Rattle.sctp_world.specs.SocketView.{message_tree, association_tree, endpoint_of};
-ghost use Rattle.sctp_world.specs.WorldView.{end_tree, entry_tree, side_in};
+ghost use Rattle.sctp_world.specs.WorldView.{end_tree, entry_tree, ready_entry, side_in};
 
 use crate::socket::{Association, Outgoing, Socket};
 use crate::world::log::{End, Entry, copy_of};
@@ -48,6 +48,16 @@ impl<R: Rng, C: Checksum> Side<R, C> {
         Side {
             socket: Socket::new(alloc, rng, checksum),
             packets: Vec::new(alloc),
+        }
+    }
+
+    /// The packet of this number.
+    pub fn packet(&self, number: usize) -> Option<&[u8]>
+        ensures { option_map (λ bytes. bytes.now) result ≡ slice_get self.now.packets number }
+    {
+        match self.packets.get(number) {
+            Some(bytes) => Some(bytes),
+            None => None,
         }
     }
 
@@ -267,9 +277,23 @@ fn log_ready<R: Rng, C: Checksum>(
         ≡ map entry_tree log.old.items ++ ready_entries (end_tree end) first socket.now.core.ready) }
 {
     for place in first..socket.messages_ready_count() {
-        if let Some(message) = socket.ready_message(place) {
-            log.push(Entry::Ready(end, copy_of(alloc, message)?))?;
-        }
+        log_message(alloc, socket, place, end, log)?;
+    }
+    Ok(())
+}
+
+fn log_message<R: Rng, C: Checksum>(
+    alloc: Global,
+    socket: &Socket<R, C>,
+    place: usize,
+    end: End,
+    log: &mut Vec<Entry>,
+) -> Result<(), AllocError>
+    ensures { OnOk result (map entry_tree log.new.items
+        ≡ map entry_tree log.old.items ++ ready_entry (end_tree end) (slice_get socket.now.core.ready place)) }
+{
+    if let Some(message) = socket.ready_message(place) {
+        log.push(Entry::Ready(end, copy_of(alloc, message)?))?;
     }
     Ok(())
 }
