@@ -18,6 +18,8 @@ pub use checksum::ByteSum;
 pub use packet::{one_packet, refused_or_accepted};
 pub use probing::{one_answer, probe};
 pub use script::{ScriptFault, run_script};
+pub use socket::Association;
+pub use world::{Call, End, Entry, Event, World, WorldError};
 
 #[cfg(test)]
 mod tests;
