@@ -2,6 +2,8 @@
 use Rattle.std.proofs.Common.{◌≡◌, ◌≢◌, ℕ, ◌+◌, ◌-◌, ◌%◌, ◌^◌, ◌<◌, ◌≤◌, ◌==◌, ◌&&◌, nat_lt, nat_le, ◌||◌, if◌then◌else◌, Bool, true, false, cond, Option, Some, None, List, [], ◌∷◌, ◌++◌, length, take, drop, map, refl, sym, ap, subst, ◌∙◌, arith}
 use Rattle.std.specs.Prelude.{All}
 use Rattle.std.proofs.lemmas.List.{append-nil, length-append}
+use Rattle.std.proofs.lemmas.Bool.Decides.{nat_tests}
+use Rattle.std.proofs.lemmas.List.Elements.{All-cons, All-nil}
 use Rattle.std.proofs.lemmas.List.Concat.{flat_map-cons}
 use Rattle.sctp_wire.specs.Checksum.{with_zero_field}
 use Rattle.sctp_wire.specs.Fields.{be16, be32}
@@ -69,7 +71,7 @@ is_packet h word c fits small short = record {
   joined = refl;
   header_fits = fits;
   checksum_fits = small;
-  chunks = chunks_tile (c ∷ []) (short.reads_back, tt);
+  chunks = chunks_tile (c ∷ []) (All-cons ChunkReadsBack c [] short.reads_back (All-nil ChunkReadsBack));
 }
 
 length_packet : (h : HeaderTree) (word : ℕ) (c : ChunkTree) → length (packet_bytes h word (c ∷ [])) ≡ 12 + length (chunk_bytes c)
@@ -84,7 +86,7 @@ accepted : (f : List ℕ → ℕ) (tag : ℕ) (c : ChunkTree) → tag < 2 ^ 32 �
 accepted f tag c fits short = record {
   packet = is_packet (header_to tag) (word_in f (header_to tag) (c ∷ [])) c (record { source_port = omega arith; destination_port = omega arith; verification_tag = fits }) (small_word _) short;
   short_enough = omega (arith, length_packet (header_to tag) (word_in f (header_to tag) (c ∷ [])) c, short.short);
-  sum = ap (λ (b : Bool). b || false) (ap (λ (n : ℕ). word_in f (header_to tag) (c ∷ []) == n) (ap (λ (bytes : List ℕ). f bytes % 2 ^ 32) (summed (header_to tag) (word_in f (header_to tag) (c ∷ [])) (c ∷ []))) ∙ same _);
+  sum = ap (λ (b : Bool). b || ((word_in f (header_to tag) (c ∷ []) == 0) && false)) (ap (λ (n : ℕ). word_in f (header_to tag) (c ∷ []) == n) (ap (λ (bytes : List ℕ). f bytes % 2 ^ 32) (summed (header_to tag) (word_in f (header_to tag) (c ∷ [])) (c ∷ []))) ∙ same _);
 }
 
 pub hears_one : (tag : ℕ) (c : ChunkTree) (s t : Endpoint) → tag < 2 ^ 32 → IsShort c

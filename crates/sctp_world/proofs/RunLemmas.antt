@@ -24,5 +24,6 @@ lacking all rest more action w u v done next lacks same = record {
   lacks = subst (λ (x : World). Lacks action x) (sym same) lacks;
 }
 
-pub all_run : (all : List Action) (w u : World) → (front : List Action) × (all ≡ front ++ []) × Runs front w u → Runs all w u
-all_run all w u done = subst (λ (actions : List Action). Runs actions w u) (sym (done.1 ∙ append-nil done.0)) done.2
+pub finished : (all rest : List Action) (w u : World) → (front : List Action) × (all ≡ front ++ rest) × Runs front w u → rest ≡ [] → Runs all w u
+finished all rest w u done none =
+    subst (λ (actions : List Action). Runs actions w u) (sym (done.1 ∙ ap (λ (r : List Action). done.0 ++ r) none ∙ append-nil done.0)) done.2

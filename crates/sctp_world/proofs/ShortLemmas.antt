@@ -2,6 +2,8 @@
 use Rattle.std.proofs.Common.{◌≡◌, ◌≢◌, ℕ, ◌+◌, ◌-◌, ◌%◌, ◌^◌, ◌<◌, ◌≤◌, ◌==◌, nat_lt, Bool, true, false, Option, Some, None, List, [], ◌∷◌, ◌++◌, length, map, refl, sym, ap, ◌∙◌, arith}
 use Rattle.std.specs.Prelude.{All, replicate}
 use Rattle.std.proofs.lemmas.List.{append-nil, length-append}
+use Rattle.std.proofs.lemmas.List.Elements.{All-cons, All-nil}
+use Rattle.sctp_packet.specs.Grammar.{FitsBlock, FitsTsn}
 use Rattle.sctp_wire.specs.Fields.{be16, be32}
 use Rattle.sctp_wire.specs.Item.{Item, padding, item_bytes}
 use Rattle.sctp_wire.specs.Serialize.{padded_item, inner_items}
@@ -67,7 +69,7 @@ init_short tag first t f =
         encodable = omega (arith, size);
         whole = refl;
         fits = record { initiate_tag = t; a_rwnd = omega arith; nbr_outbound_streams = omega arith; nbr_inbound_streams = omega arith; initial_tsn = f };
-        readable = (forward_reads, extensions_read, tt);
+        readable = All-cons ParameterReadsBack forward_tsn_supported (supported_extensions (130 ∷ 192 ∷ []) ∷ []) forward_reads (All-cons ParameterReadsBack (supported_extensions (130 ∷ 192 ∷ [])) [] extensions_read (All-nil ParameterReadsBack));
       };
       short = short_of _ (omega (arith, size));
     }
@@ -83,7 +85,9 @@ init_ack_short tag first k t f =
         encodable = omega (arith, size);
         whole = refl;
         fits = record { initiate_tag = t; a_rwnd = omega arith; nbr_outbound_streams = omega arith; nbr_inbound_streams = omega arith; initial_tsn = f };
-        readable = (forward_reads, extensions_read, cookie_reads k, tt);
+        readable = All-cons ParameterReadsBack forward_tsn_supported (supported_extensions (130 ∷ 192 ∷ []) ∷ state_cookie (cookie_bytes k) ∷ []) forward_reads
+          (All-cons ParameterReadsBack (supported_extensions (130 ∷ 192 ∷ [])) (state_cookie (cookie_bytes k) ∷ []) extensions_read
+          (All-cons ParameterReadsBack (state_cookie (cookie_bytes k)) [] (cookie_reads k) (All-nil ParameterReadsBack)));
       };
       short = short_of _ (omega (arith, size));
     }
@@ -134,7 +138,7 @@ sack_short tsn window t w =
       reads_back = record {
         encodable = omega (arith, size);
         whole = refl;
-        fits = record { cumulative_tsn_ack = t; a_rwnd = w; few_blocks = omega arith; few_duplicates = omega arith; blocks = tt; duplicates = tt };
+        fits = record { cumulative_tsn_ack = t; a_rwnd = w; few_blocks = omega arith; few_duplicates = omega arith; blocks = All-nil FitsBlock; duplicates = All-nil FitsTsn };
         readable = tt;
       };
       short = short_of _ (omega (arith, size));

@@ -1,9 +1,10 @@
 -- The first run: two ends connect, one message crosses, and its sender is at rest.
 use Rattle.std.specs.Prelude.{◌≡◌, ℕ, ◌<◌, ◌≤◌, ◌^◌, true, Some, List, [], ◌∷◌, ◌++◌, length}
+use Rattle.rand_core.specs.Stream.{Stream}
 use Rattle.sctp_state.specs.declared.api.options.SendOptions.{SendOptions}
 use Rattle.sctp_world.specs.Association.{Message}
 use Rattle.sctp_world.specs.Judge.{End, A, B, Association, crossed, times_connected, held, accepted, ready}
-use Rattle.sctp_world.specs.World.{Action, CallOf, Give, Connect, Send, World, is_at_rest}
+use Rattle.sctp_world.specs.World.{Action, CallOf, Give, Connect, Send, World, is_at_rest, fresh_world}
 
 -- INIT, INIT ACK, COOKIE ECHO and COOKIE ACK are given, each once
 abbrev pub opening : List Action
@@ -16,6 +17,13 @@ crossing m options = CallOf A (Send m options) ∷ Give 2 B ∷ []
 -- its acknowledgement is given
 abbrev pub acknowledging : List Action
 acknowledging = Give 2 A ∷ []
+
+-- two ends that did nothing yet, with one checksum function
+pub record IsFresh (w : World) : Type 0 where
+  pub a : Stream
+  pub b : Stream
+  pub word_of : List ℕ → ℕ
+  pub is : w ≡ fresh_world a b word_of word_of
 
 -- a message of 1 to 1,000 bytes, with numbers that fit their types
 pub record IsSmall (m : Message) : Type 0 where

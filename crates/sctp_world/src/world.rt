@@ -4,6 +4,7 @@ ghost use Rattle.std.specs.Prelude.{◌≡◌, List, ℕ, Bool, true, false, Som
 ghost use Rattle.sctp_state.specs.Options.{options_of, defaults};
 ghost use Rattle.sctp_world.specs.declared.world.WorldError.TheVariants.{Memory as no_memory};
 ghost use Rattle.sctp_world.specs.World.{Happens, Runs, Lacks, RunsUpToLack, fresh_world, side_of, is_at_rest, Told, after_call, call_entry, settled, news_of};
+ghost use Rattle.sctp_world.specs.FirstRun.{opening, IsFresh, IsOpen};
 ghost use Rattle.sctp_world.specs.SocketView.{endpoint_of, message_tree};
 ghost use Rattle.sctp_world.specs.WorldView.{action_of, call_tree, end_tree, entry_tree, side_in, world_of};
 
@@ -159,6 +160,8 @@ impl<R: Rng, C: Checksum> World<R, C> {
         ensures lacks { IfErr result (λ e. e ≡ WorldError.NoSuchPacket
             → RunsUpToLack (map action_of events.now) (world_of R.stream C.word_of self.old) (world_of R.stream C.word_of self.new)) }
         ensures memory { IfErr result (λ e. e ≡ WorldError.Memory → self.new.has_failed ≡ true) }
+        ensures opens { OnOk result (IsFresh (world_of R.stream C.word_of self.old) → map action_of events.now ≡ opening
+            → IsOpen (world_of R.stream C.word_of self.new)) }
     {
         for event in events {
             self.step(event)?;
