@@ -9,7 +9,7 @@ use Rattle.sctp_world.specs.Association.{Endpoint, fresh_endpoint}
 use Rattle.sctp_world.specs.Wiring.{summed_packet, say}
 use Rattle.sctp_world.specs.Input.{Hears}
 use Rattle.sctp_world.specs.Judge.{End, A, B, Association, same_association, same_numbers, association_of, Entry, Connected, Given, Associated, Emitted, Happened}
-use Rattle.sctp_world.specs.World.{Side, World, Gives, Runs, recorded, settled, news_of, associated_if, ready_entries, ready_before, fresh_side, fresh_world}
+use Rattle.sctp_world.specs.World.{Action, Side, World, Gives, Runs, recorded, settled, news_of, associated_if, ready_entries, ready_before, fresh_side, fresh_world}
 use Rattle.sctp_world.specs.FirstRun.{opening, IsOpen, IsFresh}
 use Rattle.sctp_world.proofs.EmitLemmas.{same, hears_one}
 use Rattle.sctp_world.proofs.ShortLemmas.{init_short, init_ack_short, cookie_echo_short, cookie_ack_short}
@@ -48,22 +48,22 @@ same_self a =
 -- ---- the opening
 
 module _ (a b : Stream) (f : List ℕ → ℕ) where
-  abbrev init : List ℕ
+  abbrev pub init : List ℕ
   init = summed_packet f 0 (init_from a ∷ [])
 
-  abbrev init_ack : List ℕ
+  abbrev pub init_ack : List ℕ
   init_ack = summed_packet f (tag_of_end a) (ack_from a b ∷ [])
 
-  abbrev echo : List ℕ
+  abbrev pub echo : List ℕ
   echo = summed_packet f (tag_of_end b) (cookie_echo_chunk (cookie_bytes (cookie_from a b)) ∷ [])
 
-  abbrev cookie_ack : List ℕ
+  abbrev pub cookie_ack : List ℕ
   cookie_ack = summed_packet f (tag_of_end a) (cookie_ack_chunk ∷ [])
 
-  abbrev held_by_a : Association
+  abbrev pub held_by_a : Association
   held_by_a = association_of (identity_of a b 0)
 
-  abbrev held_by_b : Association
+  abbrev pub held_by_b : Association
   held_by_b = association_of (identity_of b a 0)
 
   abbrev first_log : List Entry
@@ -113,18 +113,18 @@ module _ (a b : Stream) (f : List ℕ → ℕ) where
         log = fourth_log ++ Given A 0 1 ∷ (associated_if t A (Some held_by_a) ++ (Happened A OnConnected ∷ ready_entries A (ready_before t 0) []));
       }) (same_self held_by_a)
 
-  opened_by : (v : World) → Runs opening (fresh_world a b f f) v → v ≡ opened
-  opened_by v r =
+  pub opened_then : (rest : List Action) (v : World) → Runs (opening ++ rest) (fresh_world a b f f) v → Runs rest opened v
+  opened_then rest v r =
       let one : r.0 ≡ first = r.1 ∙ ap (λ (s : Endpoint). recorded A (Connected A 0) s (fresh_world a b f f)) (connects a f) in
       let two = to_second r.2.0 (subst (λ (w : World). Gives B 0 w r.2.0) one r.2.1) in
       let three = to_third r.2.2.0 (subst (λ (w : World). Gives A 0 w r.2.2.0) two r.2.2.1) in
       let four = to_fourth r.2.2.2.0 (subst (λ (w : World). Gives B 1 w r.2.2.2.0) three r.2.2.2.1) in
       let five = to_opened r.2.2.2.2.0 (subst (λ (w : World). Gives A 1 w r.2.2.2.2.0) four r.2.2.2.2.1) in
-      r.2.2.2.2.2 ∙ five
+      subst (λ (w : World). Runs rest w v) five r.2.2.2.2.2
 
   opened_is_open : IsOpen opened
   opened_is_open = record { association = held_by_a; held_by_a = refl; held_by_b = refl; connected_a = refl; connected_b = refl }
 
 pub opens : (w v : World) → IsFresh w → Runs opening w v → IsOpen v
 opens w v fresh runs =
-    subst IsOpen (sym (opened_by fresh.a fresh.b fresh.word_of v (subst (λ (x : World). Runs opening x v) fresh.is runs))) (opened_is_open fresh.a fresh.b fresh.word_of)
+    subst IsOpen (sym (opened_then fresh.a fresh.b fresh.word_of [] v (subst (λ (x : World). Runs opening x v) fresh.is runs))) (opened_is_open fresh.a fresh.b fresh.word_of)

@@ -114,15 +114,15 @@ cookie_ack_short = record {
   short = short_of _ (omega (arith, length_ack));
 }
 
-pub data_short : (tsn : ℕ) (m : Outgoing) → tsn < 2 ^ 32 → m.message.stream < 2 ^ 16 → m.message.ppid < 2 ^ 32 → length m.message.payload ≤ 1000
-    → IsShort (data_chunk tsn false (fragment_of 0 m))
-data_short tsn m t stream ppid few =
-    let size = length_data tsn false (fragment_of 0 m) in
+pub data_short : (tsn ssn : ℕ) (m : Outgoing) → tsn < 2 ^ 32 → ssn < 2 ^ 16 → m.message.stream < 2 ^ 16 → m.message.ppid < 2 ^ 32 → length m.message.payload ≤ 1000
+    → IsShort (data_chunk tsn false (fragment_of ssn m))
+data_short tsn ssn m t n stream ppid few =
+    let size = length_data tsn false (fragment_of ssn m) in
     record {
       reads_back = record {
         encodable = omega (arith, size, few);
         whole = refl;
-        fits = (t, record { stream_id = stream; ssn = omega arith; mid = omega arith; fsn = omega arith; ppid = ppid });
+        fits = (t, record { stream_id = stream; ssn = n; mid = omega arith; fsn = omega arith; ppid = ppid });
         readable = tt;
       };
       short = short_of _ (omega (arith, size, few));

@@ -4,7 +4,10 @@ ghost use Rattle.std.specs.Prelude.{◌≡◌, List, ℕ, Bool, true, false, Som
 ghost use Rattle.sctp_state.specs.Options.{options_of, defaults};
 ghost use Rattle.sctp_world.specs.declared.world.WorldError.TheVariants.{Memory as no_memory};
 ghost use Rattle.sctp_world.specs.World.{Happens, Runs, Lacks, RunsUpToLack, fresh_world, side_of, is_at_rest, Told, after_call, call_entry, settled, news_of};
-ghost use Rattle.sctp_world.specs.FirstRun.{opening, IsFresh, IsOpen};
+ghost use Rattle.sctp_world.specs.FirstRun.{opening, crossing, acknowledging, IsSmall, IsFresh, IsOpen, HasCrossed};
+ghost use Rattle.sctp_world.specs.Association.{Message};
+ghost use Rattle.sctp_world.specs.Judge.{A};
+ghost use Rattle.sctp_state.specs.declared.api.options.SendOptions.{SendOptions};
 ghost use Rattle.sctp_world.specs.SocketView.{endpoint_of, message_tree};
 ghost use Rattle.sctp_world.specs.WorldView.{action_of, call_tree, end_tree, entry_tree, side_in, world_of};
 
@@ -162,6 +165,10 @@ impl<R: Rng, C: Checksum> World<R, C> {
         ensures memory { IfErr result (λ e. e ≡ WorldError.Memory → self.new.has_failed ≡ true) }
         ensures opens { OnOk result (IsFresh (world_of R.stream C.word_of self.old) → map action_of events.now ≡ opening
             → IsOpen (world_of R.stream C.word_of self.new)) }
+        ensures crosses { OnOk result ((m : Message) (options : SendOptions) → IsSmall m → IsFresh (world_of R.stream C.word_of self.old)
+            → map action_of events.now ≡ opening ++ crossing m options → HasCrossed m (world_of R.stream C.word_of self.new)) }
+        ensures rests { OnOk result ((m : Message) (options : SendOptions) → IsSmall m → IsFresh (world_of R.stream C.word_of self.old)
+            → map action_of events.now ≡ opening ++ (crossing m options ++ acknowledging) → is_at_rest A (world_of R.stream C.word_of self.new) ≡ true) }
     {
         for event in events {
             self.step(event)?;
