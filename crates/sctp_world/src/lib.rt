@@ -1,6 +1,7 @@
 //! Two ends that talk to each other, what a judge sees of them, and the commands that drive them.
 //!
-//! As yet there is one command, `probe`: a packet comes in, and its message and the packet that acknowledges it go out.
+//! [`World`] has two ends to which nothing is lost. The commands have as yet one alone, `probe`: a packet comes in, and its
+//! message and the packet that acknowledges it go out.
 #![tactic(auto)]
 
 mod answer;
@@ -8,11 +9,15 @@ mod checksum;
 mod command;
 mod probing;
 mod script;
+mod socket;
+mod world;
 
 pub use answer::{Probe, ProbeError};
 pub use checksum::ByteSum;
 pub use probing::{one_answer, probe};
 pub use script::{ScriptFault, run_script};
+pub use socket::Association;
+pub use world::{Call, End, Entry, Event, World, WorldError};
 
 #[cfg(test)]
 mod tests;

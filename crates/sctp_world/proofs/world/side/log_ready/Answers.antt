@@ -1,0 +1,11 @@
+use Rattle.std.proofs.Common.{arith, rules, ◌≡◌, ◌∙◌, sym}
+use Rattle.sctp_world.specs.WorldView.{end_tree}
+use Rattle.sctp_world.proofs.ToldLemmas.{message_logged}
+use Rattle.sctp_world.proofs.world.side.log_ready.Goals as goal
+
+pub loop-place-preserved : goal.loop-place-preserved
+loop-place-preserved g c = record {
+  end = c.loop-place.invariant.end;
+  log = message_logged (end_tree c.args.end) c.args.socket.now.core.ready c.loop-place.place _ _ _ (omega (arith, c.loop-place-test.true, c.loop-place.invariant.end))
+      c.in_ok-log_message.ensures c.loop-place.invariant.log;
+}

@@ -1,0 +1,220 @@
+//! Two ends and all packets between them.
+
+ghost use Rattle.std.specs.Prelude.{◌≡◌, List, ℕ, Bool, true, false, Some, None, [], ◌∷◌, ◌++◌, length, map, option_map, slice_get, IfOk, IfErr, OnOk, Ok, Err};
+ghost use Rattle.sctp_state.specs.Options.{options_of, defaults};
+ghost use Rattle.sctp_world.specs.declared.world.WorldError.TheVariants.{Memory as no_memory};
+ghost use Rattle.sctp_world.specs.World.{Happens, Runs, Lacks, RunsUpToLack, fresh_world, side_of, is_at_rest, Told, after_call, call_entry, settled, news_of};
+ghost use Rattle.sctp_world.specs.FirstRun.{opening, crossing, acknowledging, IsSmall, IsFresh, IsOpen, HasCrossed};
+ghost use Rattle.sctp_world.specs.Association.{Message};
+ghost use Rattle.sctp_world.specs.Judge.{A};
+ghost use Rattle.sctp_state.specs.declared.api.options.SendOptions.{SendOptions};
+ghost use Rattle.sctp_world.specs.SocketView.{endpoint_of, message_tree};
+ghost use Rattle.sctp_world.specs.WorldView.{action_of, call_tree, end_tree, entry_tree, side_in, world_of};
+
+mod log;
+mod side;
+
+pub use log::{Call, End, Entry, Event};
+
+use rand_core::Rng;
+use sctp_state::{CallError, Options};
+use sctp_wire::Checksum;
+use side::Side;
+use std::alloc::{AllocError, Global};
+use std::marker::Model;
+use thiserror::Error;
+
+/// Why an event didn't happen.
+#[derive(Clone, Copy, Debug, PartialEq, Eq, Error)]
+pub enum WorldError {
+    /// Memory ran out, now or before: the world has failed.
+    #[error("out of memory")]
+    Memory,
+    /// The event names a packet that the other end didn't send.
+    #[error("no such packet")]
+    NoSuchPacket,
+}
+
+impl From<AllocError> for WorldError {
+    ghost from_gives = { λ _ e. e ≡ no_memory };
+
+    fn from(_e: AllocError) -> WorldError {
+        WorldError::Memory
+    }
+}
+
+impl From<CallError> for WorldError {
+    ghost from_gives = { λ _ e. e ≡ no_memory };
+
+    fn from(_e: CallError) -> WorldError {
+        WorldError::Memory
+    }
+}
+
+/// Two ends, all packets that they sent, and the log.
+#[derive(Drop)]
+pub struct World<R: Rng, C: Checksum> {
+    alloc: Global,
+    a: Side<R, C>,
+    b: Side<R, C>,
+    log: Vec<Entry>,
+    has_failed: bool,
+}
+
+impl<R: Rng, C: Checksum> Model for World<R, C> {
+    ghost use Rattle.std.specs.Prelude.{map};
+    ghost use Rattle.sctp_world.specs.WorldView.{WorldValue, entry_tree};
+
+    ghost Value = { WorldValue R C };
+
+    ghost view = { λ w. record { a = w.a; b = w.b; log = map entry_tree w.log.items; has_failed = w.has_failed } };
+}
+
+impl<R: Rng, C: Checksum> World<R, C> {
+    /// Two closed ends. Both have the default options.
+    pub fn new(
+        alloc: Global,
+        options_a: &Options,
+        options_b: &Options,
+        rng_a: R,
+        rng_b: R,
+        checksum_a: C,
+        checksum_b: C,
+    ) -> Result<World<R, C>, CallError>
+        requires a { options_of options_a.now ≡ defaults }
+        requires b { options_of options_b.now ≡ defaults }
+        ensures world { IfOk result (λ w. world_of R.stream C.word_of w
+            ≡ fresh_world (R.stream rng_a) (R.stream rng_b) (C.word_of checksum_a) (C.word_of checksum_b)) }
+        ensures works { IfOk result (λ w. w.has_failed ≡ false) }
+    {
+        Ok(World {
+            alloc,
+            a: Side::new(alloc, rng_a, checksum_a),
+            b: Side::new(alloc, rng_b, checksum_b),
+            log: Vec::new(alloc),
+            has_failed: false,
+        })
+    }
+
+    /// The packet of this number, from 0 on, that the end sent.
+    pub fn packet(&self, end: End, number: usize) -> Option<&[u8]>
+        ensures { option_map (λ bytes. bytes.now) result
+            ≡ slice_get (side_of (end_tree end) (world_of R.stream C.word_of self.now)).packets number }
+    {
+        match end {
+            End::A => self.a.packet(number),
+            End::B => self.b.packet(number),
+        }
+    }
+
+    /// What happened so far.
+    pub fn log(&self) -> &[Entry]
+        ensures { map entry_tree result.now ≡ self.now.log }
+    {
+        &self.log
+    }
+
+    /// Whether the end has nothing queued and keeps no item.
+    pub fn is_at_rest(&self, end: End) -> bool
+        ensures { result ≡ is_at_rest (end_tree end) (world_of R.stream C.word_of self.now) }
+    {
+        match end {
+            End::A => self.a.socket.is_at_rest(),
+            End::B => self.b.socket.is_at_rest(),
+        }
+    }
+
+    /// Makes one event happen. A world that has failed answers `Memory`.
+    pub fn step(&mut self, event: &Event) -> Result<(), WorldError>
+        ensures ok { OnOk result (Happens (action_of event.now) (world_of R.stream C.word_of self.old) (world_of R.stream C.word_of self.new)) }
+        ensures works { OnOk result ((self.old.has_failed ≡ false) × (self.new.has_failed ≡ false)) }
+        ensures lacks { IfErr result (λ e. e ≡ WorldError.NoSuchPacket → Lacks (action_of event.now) (world_of R.stream C.word_of self.old)) }
+        ensures same { IfErr result (λ e. e ≡ WorldError.NoSuchPacket → self.new ≡ self.old) }
+        ensures memory { IfErr result (λ e. e ≡ WorldError.Memory → self.new.has_failed ≡ true) }
+        ensures failed { self.old.has_failed ≡ true → result ≡ Err WorldError.Memory }
+    {
+        if self.has_failed {
+            return Err(WorldError::Memory);
+        }
+        let answer = self.act(event);
+        if answer == Err(WorldError::Memory) {
+            self.has_failed = true;
+        }
+        answer
+    }
+
+    fn act(&mut self, event: &Event) -> Result<(), WorldError>
+        ensures ok { OnOk result (Happens (action_of event.now) (world_of R.stream C.word_of self.old) (world_of R.stream C.word_of self.new)) }
+        ensures lacks { IfErr result (λ e. e ≡ WorldError.NoSuchPacket → Lacks (action_of event.now) (world_of R.stream C.word_of self.old)) }
+        ensures same { IfErr result (λ e. e ≡ WorldError.NoSuchPacket → self.new ≡ self.old) }
+        ensures failed { self.new.has_failed ≡ self.old.has_failed }
+    {
+        match event {
+            Event::Call(End::A, call) => Ok(call_side(self.alloc, End::A, call, &mut self.a, &mut self.log)?),
+            Event::Call(End::B, call) => Ok(call_side(self.alloc, End::B, call, &mut self.b, &mut self.log)?),
+            Event::Give(number, End::A) => give(self.alloc, End::A, *number, &mut self.a, &self.b, &mut self.log),
+            Event::Give(number, End::B) => give(self.alloc, End::B, *number, &mut self.b, &self.a, &mut self.log),
+        }
+    }
+
+    /// Makes events happen, one after the other, up to the first that doesn't.
+    pub fn run(&mut self, events: &[Event]) -> Result<(), WorldError>
+        ensures ok { OnOk result (Runs (map action_of events.now) (world_of R.stream C.word_of self.old) (world_of R.stream C.word_of self.new)) }
+        ensures lacks { IfErr result (λ e. e ≡ WorldError.NoSuchPacket
+            → RunsUpToLack (map action_of events.now) (world_of R.stream C.word_of self.old) (world_of R.stream C.word_of self.new)) }
+        ensures memory { IfErr result (λ e. e ≡ WorldError.Memory → self.new.has_failed ≡ true) }
+        ensures opens { OnOk result (IsFresh (world_of R.stream C.word_of self.old) → map action_of events.now ≡ opening
+            → IsOpen (world_of R.stream C.word_of self.new)) }
+        ensures crosses { OnOk result ((m : Message) (options : SendOptions) → IsSmall m → IsFresh (world_of R.stream C.word_of self.old)
+            → map action_of events.now ≡ opening ++ crossing m options → HasCrossed m (world_of R.stream C.word_of self.new)) }
+        ensures rests { OnOk result ((m : Message) (options : SendOptions) → IsSmall m → IsFresh (world_of R.stream C.word_of self.old)
+            → map action_of events.now ≡ opening ++ (crossing m options ++ acknowledging) → is_at_rest A (world_of R.stream C.word_of self.new) ≡ true) }
+    {
+        for event in events {
+            self.step(event)?;
+        }
+        Ok(())
+    }
+}
+
+/// Calls an end.
+fn call_side<R: Rng, C: Checksum>(
+    alloc: Global,
+    end: End,
+    call: &Call,
+    side: &mut Side<R, C>,
+    log: &mut Vec<Entry>,
+) -> Result<(), AllocError>
+    ensures side { OnOk result (side_in R.stream C.word_of side.new
+        ≡ settled (side_in R.stream C.word_of side.old) (after_call (call_tree call.now) (endpoint_of R.stream C.word_of side.old.socket))) }
+    ensures log { OnOk result (map entry_tree log.new.items ≡ map entry_tree log.old.items
+        ++ call_entry (end_tree end) (call_tree call.now) (endpoint_of R.stream C.word_of side.old.socket)
+        ∷ news_of (end_tree end) (side_in R.stream C.word_of side.old) (after_call (call_tree call.now) (endpoint_of R.stream C.word_of side.old.socket))) }
+{
+    match call {
+        Call::Connect => side.connect(alloc, end, log),
+        Call::Send(message, options) => side.send(alloc, end, message, *options, log),
+        Call::Receive => side.receive(alloc, end, log),
+    }
+}
+
+/// Gives an end the packet of this number of the other one.
+fn give<R: Rng, C: Checksum>(
+    alloc: Global,
+    end: End,
+    number: usize,
+    to: &mut Side<R, C>,
+    from: &Side<R, C>,
+    log: &mut Vec<Entry>,
+) -> Result<(), WorldError>
+    ensures ok { OnOk result ((bytes : List ℕ) × (slice_get from.now.packets number ≡ Some bytes)
+        × Told (end_tree end) number bytes (side_in R.stream C.word_of to.old) (side_in R.stream C.word_of to.new) (map entry_tree log.old.items) (map entry_tree log.new.items)) }
+    ensures lacks { IfErr result (λ e. e ≡ WorldError.NoSuchPacket → slice_get from.now.packets number ≡ None) }
+    ensures side { IfErr result (λ e. e ≡ WorldError.NoSuchPacket → to.new ≡ to.old) }
+    ensures log { IfErr result (λ e. e ≡ WorldError.NoSuchPacket → log.new ≡ log.old) }
+{
+    let Some(bytes) = from.packet(number) else {
+        return Err(WorldError::NoSuchPacket);
+    };
+    Ok(to.hear(alloc, end, number, bytes, log)?)
+}
