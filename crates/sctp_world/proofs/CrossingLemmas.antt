@@ -102,7 +102,7 @@ module _ (a b : Stream) (f : List ℕ → ℕ) (m : Message) (options : SendOpti
   sends small =
       ap (λ (r : Option SendError). send_unless r going (established_end a b f)) (none_refused m.payload small.some small.few)
       ∙ emit_one data_limit (tag_of_end b) chunk (say_all (OnBufferedAmountLow m.stream ∷ fully_sent l) sending) (omega arith)
-        (data_short (tsn_at (first_of_end a) 0) ssn going (omega arith) (ssn_small m u l) small.stream small.ppid small.few)
+      (data_short (tsn_at (first_of_end a) 0) ssn going (omega arith) (ssn_small m u l) small.stream small.ppid small.few)
 
   to_sent : (v : World) → IsSmall m → v ≡ recorded A (Sent A 0 m options (refusal_of m.payload)) (send going (established_end a b f)) (opened a b f) → v ≡ sent_world None true
   to_sent v small e =
@@ -124,8 +124,8 @@ module _ (a b : Stream) (f : List ℕ → ℕ) (m : Message) (options : SendOpti
   to_taken : (v : World) → IsSmall m → Gives B 2 (sent_world None true) v → v ≡ taken_world true
   to_taken v small g =
       given_to_b 2 (sent_world None true) v packet _ (ap (λ (ps : List (List ℕ)). slice_get ps 0) (packets_sent l packet))
-        (λ t h. hears_one (tag_of_end b) chunk (established_end b a f) t (tag_small _)
-          (data_short (tsn_at (first_of_end a) 0) ssn going (omega arith) (ssn_small m u l) small.stream small.ppid small.few) h ∙ takes small) g
+      (λ t h. hears_one (tag_of_end b) chunk (established_end b a f) t (tag_small _)
+      (data_short (tsn_at (first_of_end a) 0) ssn going (omega arith) (ssn_small m u l) small.stream small.ppid small.few) h ∙ takes small) g
       ∙ ap taken_world (same_self (held_by_b a b f))
 
   abbrev rested : Endpoint
@@ -139,7 +139,7 @@ module _ (a b : Stream) (f : List ℕ → ℕ) (m : Message) (options : SendOpti
   to_rest : (v : World) → Gives A 2 (taken_world true) v → is_at_rest A v ≡ true
   to_rest v g =
       ap (is_at_rest A) (given_to_a 2 (taken_world true) v answer _ refl
-        (λ t h. hears_one (tag_of_end a) sack sending t (tag_small _) (sack_short (before (tsn_at (first_of_end a) 1)) (window taken_core) (omega arith) (omega arith)) h ∙ leaves) g)
+      (λ t h. hears_one (tag_of_end a) sack sending t (tag_small _) (sack_short (before (tsn_at (first_of_end a) 1)) (window taken_core) (omega arith) (omega arith)) h ∙ leaves) g)
 
 -- ---- what the log says of it
 

@@ -51,16 +51,16 @@ some_made word_of tag limit (c ∷ cs) b word made holds some same w m =
     let header : b.header ≡ header_to tag = ap (λ (x : BuilderTree). x.header) same in
     let summed : b.writes_checksum ≡ true = ap (λ (x : BuilderTree). x.writes_checksum) same in
     let field : word ≡ word_in word_of (header_to tag) (c ∷ cs) =
-        w ∙ ap (word_at word_of) (so_far_some b.header b.body some)
-        ∙ ap (λ (x : List ℕ). word_of x % 2 ^ 32) (whole_again b.header b.body)
-        ∙ ap (λ (h : HeaderTree). word_of (unsummed_bytes h b.body) % 2 ^ 32) header
-        ∙ ap (λ (x : List ℕ). word_of (unsummed_bytes (header_to tag) x) % 2 ^ 32) holds in
+    w ∙ ap (word_at word_of) (so_far_some b.header b.body some)
+    ∙ ap (λ (x : List ℕ). word_of x % 2 ^ 32) (whole_again b.header b.body)
+    ∙ ap (λ (h : HeaderTree). word_of (unsummed_bytes h b.body) % 2 ^ 32) header
+    ∙ ap (λ (x : List ℕ). word_of (unsummed_bytes (header_to tag) x) % 2 ^ 32) holds in
     ap (λ (x : List ℕ). Some x) (m
-        ∙ ap (λ (h : HeaderTree). built b.writes_checksum h word b.body) header
-        ∙ ap (λ (s : Bool). built s (header_to tag) word b.body) summed
-        ∙ ap (λ (x : ℕ). built true (header_to tag) x b.body) field
-        ∙ ap (λ (x : List ℕ). built true (header_to tag) (word_in word_of (header_to tag) (c ∷ cs)) x) holds
-        ∙ built_is_packet true (header_to tag) (word_in word_of (header_to tag) (c ∷ cs)) c cs)
+    ∙ ap (λ (h : HeaderTree). built b.writes_checksum h word b.body) header
+    ∙ ap (λ (s : Bool). built s (header_to tag) word b.body) summed
+    ∙ ap (λ (x : ℕ). built true (header_to tag) x b.body) field
+    ∙ ap (λ (x : List ℕ). built true (header_to tag) (word_in word_of (header_to tag) (c ∷ cs)) x) holds
+    ∙ built_is_packet true (header_to tag) (word_in word_of (header_to tag) (c ∷ cs)) c cs)
 
 pub true_not_false : true ≡ false → ⊥
 true_not_false e = cc

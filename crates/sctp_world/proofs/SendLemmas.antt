@@ -18,7 +18,7 @@ sent_behind s core told chunks front back outbound a b c d e =
     ap (λ (k : Core). emit data_limit s.identity.peer_tag chunks (record s { core = k; told = told })) a
     ∙ ap (λ (t : Told (List ℕ)). emit data_limit s.identity.peer_tag chunks (record s { core = (produced s.core).core; told = t })) b
     ∙ ap (λ (cs : List ChunkTree). emit data_limit s.identity.peer_tag cs (record s { core = (produced s.core).core; told = tell_all (produced s.core).events s.told }))
-        (c ∙ ap (λ (f : List ChunkTree). f ++ back) d ∙ ap (λ (f : List ChunkTree). map (wired s.identity) outbound ++ f) e ∙ sym (map-append (wired s.identity) outbound (produced s.core).chunks))
+    (c ∙ ap (λ (f : List ChunkTree). f ++ back) d ∙ ap (λ (f : List ChunkTree). map (wired s.identity) outbound ++ f) e ∙ sym (map-append (wired s.identity) outbound (produced s.core).chunks))
 
 -- the same of the values that the program has
 pub sent_behind_now : {R C : Type 0} (stream : R → Stream) (word_of : C → List ℕ → ℕ) (v now : SocketValue R C) → v ≡ now

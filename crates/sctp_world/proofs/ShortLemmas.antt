@@ -63,7 +63,7 @@ length_with_cookie k =
 pub init_short : (tag first : ℕ) → tag < 2 ^ 32 → first < 2 ^ 32 → IsShort (init_chunk (init_of tag first (announced defaults 0)))
 init_short tag first t f =
     let size : length (chunk_value (init_chunk (init_of tag first (announced defaults 0)))) ≡ 26 =
-        length_init (init_of tag first (announced defaults 0)) ∙ ap (λ (n : ℕ). 16 + n) length_announced in
+    length_init (init_of tag first (announced defaults 0)) ∙ ap (λ (n : ℕ). 16 + n) length_announced in
     record {
       reads_back = record {
         encodable = omega (arith, size);
@@ -79,15 +79,15 @@ pub init_ack_short : (tag first : ℕ) (k : Cookie) → tag < 2 ^ 32 → first <
 init_ack_short tag first k t f =
     let ps : List ParameterTree = announced defaults 0 ++ state_cookie (cookie_bytes k) ∷ [] in
     let size : length (chunk_value (init_ack_chunk (init_of tag first ps))) ≡ 80 =
-        length_init_ack (init_of tag first ps) ∙ ap (λ (n : ℕ). 16 + n) (length_with_cookie k) in
+    length_init_ack (init_of tag first ps) ∙ ap (λ (n : ℕ). 16 + n) (length_with_cookie k) in
     record {
       reads_back = record {
         encodable = omega (arith, size);
         whole = refl;
         fits = record { initiate_tag = t; a_rwnd = omega arith; nbr_outbound_streams = omega arith; nbr_inbound_streams = omega arith; initial_tsn = f };
         readable = All-cons ParameterReadsBack forward_tsn_supported (supported_extensions (130 ∷ 192 ∷ []) ∷ state_cookie (cookie_bytes k) ∷ []) forward_reads
-          (All-cons ParameterReadsBack (supported_extensions (130 ∷ 192 ∷ [])) (state_cookie (cookie_bytes k) ∷ []) extensions_read
-          (All-cons ParameterReadsBack (state_cookie (cookie_bytes k)) [] (cookie_reads k) (All-nil ParameterReadsBack)));
+            (All-cons ParameterReadsBack (supported_extensions (130 ∷ 192 ∷ [])) (state_cookie (cookie_bytes k) ∷ []) extensions_read
+            (All-cons ParameterReadsBack (state_cookie (cookie_bytes k)) [] (cookie_reads k) (All-nil ParameterReadsBack)));
       };
       short = short_of _ (omega (arith, size));
     }

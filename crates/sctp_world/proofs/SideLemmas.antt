@@ -33,4 +33,4 @@ pub told_as : {R C : Type 0} (stream : R → Stream) (word_of : C → List ℕ �
 told_as stream word_of v now new is x packet bytes s log longer ready held hears a r side logged =
     subst (λ (w : SideValue _ _). Told x packet bytes (side_in stream word_of w) (side_in stream word_of new) log longer) is
     (told_there stream word_of v new x packet bytes s log longer ready held hears
-      (a ∙ ap (λ (w : SideValue _ _). association_in w.socket.core.phase w.socket.identity) (sym is)) (r ∙ ap (λ (w : SideValue _ _). length w.socket.core.ready) (sym is)) side logged)
+    (a ∙ ap (λ (w : SideValue _ _). association_in w.socket.core.phase w.socket.identity) (sym is)) (r ∙ ap (λ (w : SideValue _ _). length w.socket.core.ready) (sym is)) side logged)

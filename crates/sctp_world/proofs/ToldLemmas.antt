@@ -54,7 +54,7 @@ told_step x n (OnLifecycleEnd id) es = behind x n (OnLifecycleEnd id) es
 first_and_rest : {X : Type 0} (xs : List X) (x : X) → Some x ≡ first_of xs → xs ≡ x ∷ drop 1 xs
 first_and_rest [] x e = cc
 first_and_rest (y ∷ ys) x e = ap (λ (z : _). z ∷ ys) (sym (some_inj e))
-    where
+  where
     some_inj : Some x ≡ Some y → x ≡ y
     some_inj h = cc
 
@@ -69,15 +69,15 @@ pub told_taken : (x : End) (m n : ℕ) (e : Event (List ℕ)) (events rest : Lis
 told_taken x m n e events rest old new first r c l =
     ap (λ (k : List Entry). k ++ told_entries x n rest) l ∙ append_assoc old (told_entries x m (e ∷ [])) (told_entries x n rest)
     ∙ ap (λ (k : List Entry). old ++ k)
-        (ap (λ (k : ℕ). told_entries x m (e ∷ []) ++ told_entries x k rest) c ∙ sym (told_step x m e rest)
-        ∙ ap (λ (es : List (Event (List ℕ))). told_entries x m (e ∷ es)) r ∙ ap (told_entries x m) (sym (first_and_rest events e first)))
+    (ap (λ (k : ℕ). told_entries x m (e ∷ []) ++ told_entries x k rest) c ∙ sym (told_step x m e rest)
+    ∙ ap (λ (es : List (Event (List ℕ))). told_entries x m (e ∷ es)) r ∙ ap (told_entries x m) (sym (first_and_rest events e first)))
 
 -- ---- messages that are ready
 
 got : {X : Type 0} (xs : List X) (k : ℕ) (x : X) → slice_get xs k ≡ Some x → drop k xs ≡ x ∷ drop (suc k) xs
 got [] k x e = cc
 got (y ∷ ys) zero x e = ap (λ (z : _). z ∷ ys) (some_inj e)
-    where
+  where
     some_inj : Some y ≡ Some x → y ≡ x
     some_inj h = cc
 got (y ∷ ys) (suc k) x e = got ys k x e
@@ -87,7 +87,7 @@ pub one_more : {X : Type 0} (f : X → Entry) (xs : List X) (k : ℕ) (x : X) (o
 one_more f xs k x old new start e n s =
     let next : suc k ≡ k + 1 = omega arith in
     let rest : (f x ∷ []) ++ map f (drop (k + 1) xs) ≡ map f (drop k xs) =
-        ap (λ (m : ℕ). f x ∷ map f (drop m xs)) (sym next) ∙ sym (ap (map f) (got xs k x e)) in
+    ap (λ (m : ℕ). f x ∷ map f (drop m xs)) (sym next) ∙ sym (ap (map f) (got xs k x e)) in
     ap (λ (l : List Entry). l ++ map f (drop (k + 1) xs)) n ∙ append_assoc old (f x ∷ []) (map f (drop (k + 1) xs))
     ∙ ap (λ (l : List Entry). old ++ l) rest ∙ s
 

@@ -18,8 +18,6 @@ mod packets;
 mod transfer;
 
 pub use identity::{Association, Identity};
-pub use transfer::{Item, Outgoing, Phase};
-
 use packets::{DATA_LIMIT, MTU, packet_of};
 use rand_core::Rng;
 use sctp_packet::Chunk;
@@ -29,6 +27,7 @@ use sctp_wire::Checksum;
 use std::alloc::{AllocError, Global};
 use std::marker::Model;
 use transfer::Core;
+pub use transfer::{Item, Outgoing, Phase};
 
 /// The most bytes of a message's payload.
 const MAX_MESSAGE_SIZE: usize = 1000;
@@ -189,7 +188,11 @@ impl<R: Rng, C: Checksum> Socket<R, C> {
 }
 
 /// The chunks that there are.
-fn listed(alloc: Global, front: Option<Chunk>, back: Option<Chunk>) -> Result<Vec<Chunk>, AllocError>
+fn listed(
+    alloc: Global,
+    front: Option<Chunk>,
+    back: Option<Chunk>,
+) -> Result<Vec<Chunk>, AllocError>
     ensures { IfOk result (λ chunks. map chunk_tree chunks.items ≡ chunk_trees front ++ chunk_trees back) }
 {
     let mut chunks = Vec::new(alloc);

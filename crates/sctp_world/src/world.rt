@@ -15,7 +15,6 @@ mod log;
 mod side;
 
 pub use log::{Call, End, Entry, Event};
-
 use rand_core::Rng;
 use sctp_state::{CallError, Options};
 use sctp_wire::Checksum;
@@ -150,10 +149,36 @@ impl<R: Rng, C: Checksum> World<R, C> {
         ensures failed { self.new.has_failed ≡ self.old.has_failed }
     {
         match event {
-            Event::Call(End::A, call) => Ok(call_side(self.alloc, End::A, call, &mut self.a, &mut self.log)?),
-            Event::Call(End::B, call) => Ok(call_side(self.alloc, End::B, call, &mut self.b, &mut self.log)?),
-            Event::Give(number, End::A) => give(self.alloc, End::A, *number, &mut self.a, &self.b, &mut self.log),
-            Event::Give(number, End::B) => give(self.alloc, End::B, *number, &mut self.b, &self.a, &mut self.log),
+            Event::Call(End::A, call) => Ok(call_side(
+                self.alloc,
+                End::A,
+                call,
+                &mut self.a,
+                &mut self.log,
+            )?),
+            Event::Call(End::B, call) => Ok(call_side(
+                self.alloc,
+                End::B,
+                call,
+                &mut self.b,
+                &mut self.log,
+            )?),
+            Event::Give(number, End::A) => give(
+                self.alloc,
+                End::A,
+                *number,
+                &mut self.a,
+                &self.b,
+                &mut self.log,
+            ),
+            Event::Give(number, End::B) => give(
+                self.alloc,
+                End::B,
+                *number,
+                &mut self.b,
+                &self.a,
+                &mut self.log,
+            ),
         }
     }
 

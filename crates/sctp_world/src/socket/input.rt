@@ -118,7 +118,10 @@ impl<R: Rng, C: Checksum> Socket<R, C> {
             ),
             Standing::WrongTag => {
                 let text = wrong_tag_text(self.alloc, tag, own)?;
-                Ok(self.events.add(SocketEvent::OnError(ErrorKind::ParseFailed, text))?)
+                Ok(
+                    self.events
+                        .add(SocketEvent::OnError(ErrorKind::ParseFailed, text))?,
+                )
             }
         }
     }
@@ -215,7 +218,8 @@ impl<R: Rng, C: Checksum> Socket<R, C> {
             return Ok(());
         };
         if let Some(id) = item.lifecycle_id {
-            self.events.add(SocketEvent::OnLifecycleMessageDelivered(id))?;
+            self.events
+                .add(SocketEvent::OnLifecycleMessageDelivered(id))?;
             self.events.add(SocketEvent::OnLifecycleEnd(id))?;
         }
         self.core.acknowledge();

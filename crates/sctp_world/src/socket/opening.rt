@@ -23,8 +23,13 @@ use crate::socket::{Identity, Phase, Socket};
 use rand_core::Rng;
 use sctp_packet::{Chunk, CookieAckChunk, CookieEchoChunk, InitAckChunk, InitChunk};
 use sctp_serial::Tsn;
-use sctp_state::{Capabilities, ErrorKind, Options, SocketEvent, StateCookie, StateCookieError, announced_parameters};
-use sctp_wire::{Checksum, Parameter, StateCookieParameter, ZERO_CHECKSUM_ALTERNATE_ERROR_DETECTION_METHOD_NONE};
+use sctp_state::{
+    Capabilities, ErrorKind, Options, SocketEvent, StateCookie, StateCookieError,
+    announced_parameters,
+};
+use sctp_wire::{
+    Checksum, Parameter, StateCookieParameter, ZERO_CHECKSUM_ALTERNATE_ERROR_DETECTION_METHOD_NONE,
+};
 use std::alloc::{AllocError, Global};
 
 /// The receiver's window of the default options, in bytes.
@@ -286,7 +291,8 @@ impl<R: Rng, C: Checksum> Socket<R, C> {
             ≡ say (OnError ErrorKind.ParseFailed (refusal_text fault)) (endpoint_of R.stream C.word_of self.old)) }
     {
         let text = format!(in self.alloc; "{fault}")?;
-        self.events.add(SocketEvent::OnError(ErrorKind::ParseFailed, text))
+        self.events
+            .add(SocketEvent::OnError(ErrorKind::ParseFailed, text))
     }
 
     fn on_verdict(&mut self, verdict: Verdict, cookie: &StateCookie) -> Result<(), AllocError>

@@ -258,10 +258,7 @@ fn queued_bytes(ready: &VecDeque<Message>) -> usize
 }
 
 /// The message's number in its stream, which is counted.
-fn take_ssn(
-    next_ssns: &mut BTreeMap<u16, u16>,
-    outgoing: &Outgoing,
-) -> Result<u16, AllocError>
+fn take_ssn(next_ssns: &mut BTreeMap<u16, u16>, outgoing: &Outgoing) -> Result<u16, AllocError>
     ensures ssn { IfOk result (λ ssn. ssn ≡ ssn_of (outgoing_tree outgoing.now) next_ssns.old.entries) }
     ensures counted { OnOk result (next_ssns.new.entries ≡ counted (outgoing_tree outgoing.now) next_ssns.old.entries) }
 {
@@ -308,12 +305,7 @@ fn has_of_stream(queue: &VecDeque<Outgoing>, stream_id: StreamId) -> bool
 }
 
 /// The message as a DATA chunk: beginning and end at once.
-fn data_chunk(
-    identity: Identity,
-    number: u32,
-    ssn: u16,
-    outgoing: Outgoing,
-) -> Chunk
+fn data_chunk(identity: Identity, number: u32, ssn: u16, outgoing: Outgoing) -> Chunk
     ensures { chunk_tree result ≡ wired (identity_tree identity) (made_data number ssn (outgoing_tree outgoing)) }
 {
     Chunk::Data(DataChunk {

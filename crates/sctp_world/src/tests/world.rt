@@ -12,15 +12,7 @@ type Pair = World<Pcg32, ByteSum>;
 
 fn fresh<R: Rng>(rt: &HostRuntime, a: R, b: R) -> Result<World<R, ByteSum>, Fail> {
     let options = Options::default();
-    Ok(World::new(
-        rt.alloc(),
-        &options,
-        &options,
-        a,
-        b,
-        ByteSum,
-        ByteSum,
-    )?)
+    Ok(World::new(rt.alloc(), &options, &options, a, b, ByteSum, ByteSum)?)
 }
 
 fn opened(rt: &HostRuntime) -> Result<Pair, Fail> {

@@ -14,6 +14,6 @@ returns-in_ok-handle_packet-in-Ok g c =
 pub returns-in-Err : goal.returns-in-Err
 returns-in-Err g c =
     on_ok_weaker2 c.refuse_packet.result (λ fault told.
-        not_heard c.default.result c.word_of-word.result c.args.bytes.now c.in-Err.fault (endpoint_of g.R.Rng.stream g.C.Checksum.word_of c.args.self.now) _
-        (search rules) (c.word_of-word.ensures ∙ ap (λ (v : SocketValue _ _). word_at (g.C.Checksum.word_of v.checksum) c.args.bytes.now) c.self.view_is)
-        c.in-Err.ensures.refused fault told) c.refuse_packet.ensures.fault c.refuse_packet.ensures.told
+    not_heard c.default.result c.word_of-word.result c.args.bytes.now c.in-Err.fault (endpoint_of g.R.Rng.stream g.C.Checksum.word_of c.args.self.now) _
+    (search rules) (c.word_of-word.ensures ∙ ap (λ (v : SocketValue _ _). word_at (g.C.Checksum.word_of v.checksum) c.args.bytes.now) c.self.view_is)
+    c.in-Err.ensures.refused fault told) c.refuse_packet.ensures.fault c.refuse_packet.ensures.told

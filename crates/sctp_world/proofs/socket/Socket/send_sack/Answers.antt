@@ -11,6 +11,6 @@ returns g c =
     let inside = c.self.inside in
     on_ok_weaker c.send_behind.result (λ done. done
     ∙ sack_sent g.R.Rng.stream g.C.Checksum.word_of
-      (record { core = inside.core; identity = identity_tree inside.identity; told = inside.events; rng = inside.rng; checksum = inside.checksum })
-      c.args.self.now c.self.view_is c.make_sack-sack.new.self c.make_sack-sack.ensures.core)
+    (record { core = inside.core; identity = identity_tree inside.identity; told = inside.events; rng = inside.rng; checksum = inside.checksum })
+    c.args.self.now c.self.view_is c.make_sack-sack.new.self c.make_sack-sack.ensures.core)
     (c.send_behind.ensures (Sack inside.core.seen (window inside.core) ∷ []) (ap (λ (t : ChunkTree). t ∷ []) c.make_sack-sack.ensures.chunk))

@@ -13,8 +13,13 @@ loop-event-preserved g c =
     let e = event_of c.in-Some.event in
     let rest = ap (λ (v : SocketValue _ _). v.told.events) c.poll_event.ensures.rest in
     let count : length c.take_event.new.packets.items ≡ length c.loop-event.packets.items + length (packets_in (e ∷ [])) =
-        omega (arith, length-map c.take_event.new.packets.items (λ bytes. bytes.items), length-map c.loop-event.packets.items (λ bytes. bytes.items),
-        ap length c.in_ok-take_event.ensures.packets, length-append (map (λ bytes. bytes.items) c.loop-event.packets.items) (packets_in (e ∷ []))) in
+    omega (
+      arith,
+      length-map c.take_event.new.packets.items (λ bytes. bytes.items),
+      length-map c.loop-event.packets.items (λ bytes. bytes.items),
+      ap length c.in_ok-take_event.ensures.packets,
+      length-append (map (λ bytes. bytes.items) c.loop-event.packets.items) (packets_in (e ∷ [])),
+    ) in
     record {
       socket = ap (λ (v : SocketValue _ _). record v { told = record v.told { events = [] } }) c.poll_event.ensures.rest ∙ c.loop-event.invariant.socket;
       packets = packets_taken e c.loop-event.socket.told.events c.poll_event.new.self.told.events _ _ c.in-Some.ensures.first rest c.in_ok-take_event.ensures.packets
