@@ -13,7 +13,6 @@ message_of_run [] = record { stream = 0; ppid = 0; payload = [] }
 message_of_run (h ∷ hs) =
     record { stream = h.fragment.stream_id; ppid = h.fragment.ppid; payload = payload_of (h ∷ hs) }
 
--- a stream after a call, and the messages that became ready in it
 pub record OrderedStream : Type 0 where
   pub next : ℕ  -- the number of the message that becomes ready next
   pub held : List Held
@@ -23,6 +22,7 @@ pub record UnorderedStream : Type 0 where
   pub passed : ℕ  -- above the greatest MID that a forward point named since the last reset
   pub held : List Held
 
+-- a stream after a call, and the messages that became ready in it
 pub record OrderedDelivery : Type 0 where
   pub stream : OrderedStream
   pub messages : List Message

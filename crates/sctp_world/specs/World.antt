@@ -1,10 +1,11 @@
 -- Two ends and all packets between them: what each event does, and what it adds to the log.
-use Rattle.std.specs.Prelude.{◌≡◌, ℕ, ◌+◌, Bool, true, false, Option, Some, None, List, [], ◌∷◌, ◌++◌, length, map, drop, slice_get}
+use Rattle.std.specs.Prelude.{◌≡◌, ℕ, ◌+◌, ◌≤◌, All, Bool, true, false, Option, Some, None, List, [], ◌∷◌, ◌++◌, length, map, drop, slice_get}
 use Rattle.rand_core.specs.Stream.{Stream}
 use Rattle.sctp_state.specs.declared.api.options.SendOptions.{SendOptions}
 use Rattle.sctp_state.specs.Events.{Event, SendPacket}
 use Rattle.sctp_world.specs.Association.{Message, Outgoing, Endpoint, fresh_endpoint}
 use Rattle.sctp_world.specs.Transfer.{rests}
+use Rattle.sctp_world.specs.Wiring.{mtu}
 use Rattle.sctp_world.specs.Handshake as table
 use Rattle.sctp_world.specs.Input.{Hears, send, refusal_of, first_ready, received}
 use Rattle.sctp_world.specs.Judge.{End, A, B, Association, association_in, same_association, Entry, Connected, Sent, HandedOut, Given, Associated, Emitted, Happened, BecameReady}
@@ -158,3 +159,19 @@ pub record RunsUpToLack (actions : List Action) (w v : World) : Type 0 where
   pub split : actions ≡ before ++ action ∷ rest
   pub runs : Runs before w v
   pub lacks : Lacks action v
+
+-- ---- no packet is larger than the mtu
+
+abbrev pub IsShort : List ℕ → Type 0
+IsShort bytes = length bytes ≤ mtu
+
+abbrev pub IsShortEvent : Event (List ℕ) → Type 0
+IsShortEvent (SendPacket bytes) = IsShort bytes
+IsShortEvent event = Unit {0}
+
+-- the packets that were sent, and those that are told and not taken yet
+pub record AreShort (w : World) : Type 0 where
+  pub packets_a : All IsShort w.a.packets
+  pub told_a : All IsShortEvent w.a.socket.told.events
+  pub packets_b : All IsShort w.b.packets
+  pub told_b : All IsShortEvent w.b.socket.told.events

@@ -3,7 +3,7 @@
 ghost use Rattle.std.specs.Prelude.{◌≡◌, List, ℕ, Bool, true, false, Some, None, [], ◌∷◌, ◌++◌, length, map, option_map, slice_get, IfOk, IfErr, OnOk, Ok, Err};
 ghost use Rattle.sctp_state.specs.Options.{options_of, defaults};
 ghost use Rattle.sctp_world.specs.declared.world.WorldError.TheVariants.{Memory as no_memory};
-ghost use Rattle.sctp_world.specs.World.{Happens, Runs, Lacks, RunsUpToLack, fresh_world, side_of, is_at_rest, Told, after_call, call_entry, settled, news_of};
+ghost use Rattle.sctp_world.specs.World.{Happens, Runs, Lacks, RunsUpToLack, AreShort, fresh_world, side_of, is_at_rest, Told, after_call, call_entry, settled, news_of};
 ghost use Rattle.sctp_world.specs.FirstRun.{opening, crossing, acknowledging, IsSmall, IsFresh, IsOpen, HasCrossed};
 ghost use Rattle.sctp_world.specs.Association.{Message};
 ghost use Rattle.sctp_world.specs.Judge.{A};
@@ -85,6 +85,7 @@ impl<R: Rng, C: Checksum> World<R, C> {
         ensures world { IfOk result (λ w. world_of R.stream C.word_of w
             ≡ fresh_world (R.stream rng_a) (R.stream rng_b) (C.word_of checksum_a) (C.word_of checksum_b)) }
         ensures works { IfOk result (λ w. w.has_failed ≡ false) }
+        ensures short { IfOk result (λ w. AreShort (world_of R.stream C.word_of w)) }
     {
         Ok(World {
             alloc,
@@ -123,7 +124,7 @@ impl<R: Rng, C: Checksum> World<R, C> {
         }
     }
 
-    /// Makes one event happen. A world that has failed answers `Memory`.
+    /// Makes one event happen. Each packet that it makes an end send has at most 1,191 bytes. A world that has failed answers `Memory`.
     pub fn step(&mut self, event: &Event) -> Result<(), WorldError>
         ensures ok { OnOk result (Happens (action_of event.now) (world_of R.stream C.word_of self.old) (world_of R.stream C.word_of self.new)) }
         ensures works { OnOk result ((self.old.has_failed ≡ false) × (self.new.has_failed ≡ false)) }
@@ -131,6 +132,7 @@ impl<R: Rng, C: Checksum> World<R, C> {
         ensures same { IfErr result (λ e. e ≡ WorldError.NoSuchPacket → self.new ≡ self.old) }
         ensures memory { IfErr result (λ e. e ≡ WorldError.Memory → self.new.has_failed ≡ true) }
         ensures failed { self.old.has_failed ≡ true → result ≡ Err WorldError.Memory }
+        ensures short { OnOk result (AreShort (world_of R.stream C.word_of self.old) → AreShort (world_of R.stream C.word_of self.new)) }
     {
         if self.has_failed {
             return Err(WorldError::Memory);
@@ -188,6 +190,7 @@ impl<R: Rng, C: Checksum> World<R, C> {
         ensures lacks { IfErr result (λ e. e ≡ WorldError.NoSuchPacket
             → RunsUpToLack (map action_of events.now) (world_of R.stream C.word_of self.old) (world_of R.stream C.word_of self.new)) }
         ensures memory { IfErr result (λ e. e ≡ WorldError.Memory → self.new.has_failed ≡ true) }
+        ensures short { OnOk result (AreShort (world_of R.stream C.word_of self.old) → AreShort (world_of R.stream C.word_of self.new)) }
         ensures opens { OnOk result (IsFresh (world_of R.stream C.word_of self.old) → map action_of events.now ≡ opening
             → IsOpen (world_of R.stream C.word_of self.new)) }
         ensures crosses { OnOk result ((m : Message) (options : SendOptions) → IsSmall m → IsFresh (world_of R.stream C.word_of self.old)

@@ -4,6 +4,7 @@ use Rattle.sctp_world.specs.declared.world.log.Event.{Event}
 use Rattle.sctp_world.specs.WorldView.{action_of, world_of}
 use Rattle.sctp_world.proofs.RunLemmas.{stepped, finished}
 use Rattle.sctp_world.proofs.FirstRunLemmas.{opens}
+use Rattle.sctp_world.proofs.MtuLemmas.{runs_short}
 use Rattle.sctp_world.proofs.CrossingLemmas.{crosses, comes_to_rest}
 use Rattle.sctp_world.specs.World.{Action, Runs}
 use Rattle.sctp_world.proofs.world.World.run.Goals as goal
@@ -30,3 +31,8 @@ pub returns-clause-rests : goal.returns-clause-rests
 returns-clause-rests g c = λ m options small fresh is.
     comes_to_rest m options _ _ small fresh (subst (λ (actions : List Action). Runs actions (world_of g.R.Rng.stream g.C.Checksum.word_of c.args.self.now) (world_of g.R.Rng.stream g.C.Checksum.word_of c.loop-event.self)) is
     (finished _ _ _ _ c.loop-event.invariant (ap (map action_of) (drop_all c.loop-event.event-index c.args.events.now c.loop-event-test.false))))
+
+pub returns-clause-short : goal.returns-clause-short
+returns-clause-short g c =
+    runs_short (map action_of c.args.events.now) _ _
+    (finished _ _ _ _ c.loop-event.invariant (ap (map action_of) (drop_all c.loop-event.event-index c.args.events.now c.loop-event-test.false)))

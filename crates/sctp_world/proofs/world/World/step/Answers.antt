@@ -1,0 +1,7 @@
+use Rattle.std.proofs.lemmas.Result.{on_ok_weaker}
+use Rattle.sctp_world.specs.WorldView.{action_of}
+use Rattle.sctp_world.proofs.MtuLemmas.{happens_short}
+use Rattle.sctp_world.proofs.world.World.step.Goals as goal
+
+pub returns-else-eq-clause-short : goal.returns-else-eq-clause-short
+returns-else-eq-clause-short g c = on_ok_weaker c.act-answer.result (λ happens short. happens_short (action_of c.args.event.now) _ _ happens short) c.act-answer.ensures.ok
