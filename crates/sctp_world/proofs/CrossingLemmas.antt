@@ -39,7 +39,7 @@ ssn_small m true l = omega arith
 ssn_small m false l = omega arith
 
 -- what is told as a message is sent holds one packet
-packets_sent : (l : Option ℕ) (p : List ℕ) → packets_in (fully_sent l ++ SendPacket p ∷ []) ≡ p ∷ []
+pub packets_sent : (l : Option ℕ) (p : List ℕ) → packets_in (fully_sent l ++ SendPacket p ∷ []) ≡ p ∷ []
 packets_sent None p = refl
 packets_sent (Some id) p = refl
 
@@ -53,7 +53,7 @@ module _ (a b : Stream) (f : List ℕ → ℕ) (m : Message) (options : SendOpti
   abbrev chunk : ChunkTree
   chunk = data_chunk (tsn_at (first_of_end a) 0) false (fragment_of ssn going)
 
-  abbrev packet : List ℕ
+  abbrev pub packet : List ℕ
   packet = summed_packet f (tag_of_end b) (chunk ∷ [])
 
   abbrev sent_core : Core
@@ -70,7 +70,7 @@ module _ (a b : Stream) (f : List ℕ → ℕ) (m : Message) (options : SendOpti
       opened_log a b f ++ Sent A 0 m options refused ∷ (associated_if t A (Some (held_by_a a b f))
       ++ (told_entries A 2 (OnBufferedAmountLow m.stream ∷ (fully_sent l ++ SendPacket packet ∷ [])) ++ ready_entries A (ready_before t 0) []))
 
-  abbrev sent_world : Option SendError → Bool → World
+  abbrev pub sent_world : Option SendError → Bool → World
   sent_world refused t = record (opened a b f) {
     a = record { socket = sending; packets = init a b f ∷ echo a b f ∷ packets_in (fully_sent l ++ SendPacket packet ∷ []) };
     log = sent_log refused t;
@@ -92,7 +92,7 @@ module _ (a b : Stream) (f : List ℕ → ℕ) (m : Message) (options : SendOpti
   taken_log t =
       sent_log None true ++ Given B 0 2 ∷ (associated_if t B (Some (held_by_b a b f)) ++ (Emitted B 2 ∷ ready_entries B (ready_before t 0) (m ∷ [])))
 
-  abbrev taken_world : Bool → World
+  abbrev pub taken_world : Bool → World
   taken_world t = record (sent_world None true) {
     b = record { socket = taking; packets = init_ack a b f ∷ cookie_ack a b f ∷ answer ∷ [] };
     log = taken_log t;
@@ -104,7 +104,7 @@ module _ (a b : Stream) (f : List ℕ → ℕ) (m : Message) (options : SendOpti
       ∙ emit_one data_limit (tag_of_end b) chunk (say_all (OnBufferedAmountLow m.stream ∷ fully_sent l) sending) (omega arith)
       (data_short (tsn_at (first_of_end a) 0) ssn going (omega arith) (ssn_small m u l) small.stream small.ppid small.few)
 
-  to_sent : (v : World) → IsSmall m → v ≡ recorded A (Sent A 0 m options (refusal_of m.payload)) (send going (established_end a b f)) (opened a b f) → v ≡ sent_world None true
+  pub to_sent : (v : World) → IsSmall m → v ≡ recorded A (Sent A 0 m options (refusal_of m.payload)) (send going (established_end a b f)) (opened a b f) → v ≡ sent_world None true
   to_sent v small e =
       e ∙ ap (λ (s : Endpoint). recorded A (Sent A 0 m options (refusal_of m.payload)) s (opened a b f)) (sends small)
       ∙ ap (λ (t : Bool). sent_world (refusal_of m.payload) t) (same_self (held_by_a a b f))
@@ -121,7 +121,7 @@ module _ (a b : Stream) (f : List ℕ → ℕ) (m : Message) (options : SendOpti
       ∙ ap (λ (t : Bool). at_packet_end (take_if t (fragment_of ssn going) (established_end b a f))) (wanted small)
       ∙ emit_one data_limit (tag_of_end a) sack taking (omega arith) (sack_short (before (tsn_at (first_of_end a) 1)) (window taken_core) (omega arith) (omega arith))
 
-  to_taken : (v : World) → IsSmall m → Gives B 2 (sent_world None true) v → v ≡ taken_world true
+  pub to_taken : (v : World) → IsSmall m → Gives B 2 (sent_world None true) v → v ≡ taken_world true
   to_taken v small g =
       given_to_b 2 (sent_world None true) v packet _ (ap (λ (ps : List (List ℕ)). slice_get ps 0) (packets_sent l packet))
       (λ t h. hears_one (tag_of_end b) chunk (established_end b a f) t (tag_small _)

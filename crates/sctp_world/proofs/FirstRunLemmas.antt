@@ -81,31 +81,31 @@ module _ (a b : Stream) (f : List ℕ → ℕ) where
   abbrev pub opened_log : List Entry
   opened_log = fourth_log ++ Given A 0 1 ∷ Happened A OnConnected ∷ []
 
-  abbrev first : World
+  abbrev pub first : World
   first = record { a = record { socket = waiting a f; packets = init ∷ [] }; b = fresh_side b f; log = first_log }
 
-  abbrev second : World
+  abbrev pub second : World
   second = record first { b = record { socket = fresh_endpoint (drawn b) f; packets = init_ack ∷ [] }; log = second_log }
 
-  abbrev third : World
+  abbrev pub third : World
   third = record second { a = record { socket = echoing a b f; packets = init ∷ echo ∷ [] }; log = third_log }
 
-  abbrev fourth : World
+  abbrev pub fourth : World
   fourth = record third { b = record { socket = established_end b a f; packets = init_ack ∷ cookie_ack ∷ [] }; log = fourth_log }
 
   abbrev pub opened : World
   opened = record fourth { a = record { socket = established_end a b f; packets = init ∷ echo ∷ [] }; log = opened_log }
 
-  to_second : (v : World) → Gives B 0 first v → v ≡ second
+  pub to_second : (v : World) → Gives B 0 first v → v ≡ second
   to_second v g = given_to_b 0 first v init _ refl (λ t h. hears_one 0 (init_from a) (fresh_endpoint b f) t (omega arith) (init_short (tag_of_end a) (first_of_end a) (tag_small _) (tsn_small _)) h ∙ answers a b f) g
 
-  to_third : (v : World) → Gives A 0 second v → v ≡ third
+  pub to_third : (v : World) → Gives A 0 second v → v ≡ third
   to_third v g = given_to_a 0 second v init_ack _ refl (λ t h. hears_one (tag_of_end a) (ack_from a b) (waiting a f) t (tag_small _) (init_ack_short (tag_of_end b) (first_of_end b) (cookie_from a b) (tag_small _) (tsn_small _)) h ∙ echoes a b f) g
 
-  to_fourth : (v : World) → Gives B 1 third v → v ≡ fourth
+  pub to_fourth : (v : World) → Gives B 1 third v → v ≡ fourth
   to_fourth v g = given_to_b 1 third v echo _ refl (λ t h. hears_one (tag_of_end b) (cookie_echo_chunk (cookie_bytes (cookie_from a b))) (fresh_endpoint (drawn b) f) t (tag_small _) (cookie_echo_short (cookie_from a b)) h ∙ establishes a b f) g
 
-  to_opened : (v : World) → Gives A 1 fourth v → v ≡ opened
+  pub to_opened : (v : World) → Gives A 1 fourth v → v ≡ opened
   to_opened v g =
       given_to_a 1 fourth v cookie_ack _ refl (λ t h. hears_one (tag_of_end a) cookie_ack_chunk (echoing a b f) t (tag_small _) cookie_ack_short h ∙ connected a b f) g
       ∙ ap (λ (t : Bool). record fourth {

@@ -191,12 +191,24 @@ impl<R: Rng, C: Checksum> World<R, C> {
             → RunsUpToLack (map action_of events.now) (world_of R.stream C.word_of self.old) (world_of R.stream C.word_of self.new)) }
         ensures memory { IfErr result (λ e. e ≡ WorldError.Memory → self.new.has_failed ≡ true) }
         ensures short { OnOk result (AreShort (world_of R.stream C.word_of self.old) → AreShort (world_of R.stream C.word_of self.new)) }
+
         ensures opens { OnOk result (IsFresh (world_of R.stream C.word_of self.old) → map action_of events.now ≡ opening
             → IsOpen (world_of R.stream C.word_of self.new)) }
         ensures crosses { OnOk result ((m : Message) (options : SendOptions) → IsSmall m → IsFresh (world_of R.stream C.word_of self.old)
             → map action_of events.now ≡ opening ++ crossing m options → HasCrossed m (world_of R.stream C.word_of self.new)) }
         ensures rests { OnOk result ((m : Message) (options : SendOptions) → IsSmall m → IsFresh (world_of R.stream C.word_of self.old)
             → map action_of events.now ≡ opening ++ (crossing m options ++ acknowledging) → is_at_rest A (world_of R.stream C.word_of self.new) ≡ true) }
+        ensures nothing_lacks { IfErr result (λ e. (m : Message) (options : SendOptions) → IsSmall m → IsFresh (world_of R.stream C.word_of self.old)
+            → map action_of events.now ≡ opening ++ (crossing m options ++ acknowledging) → e ≡ WorldError.Memory) }
+    {
+        self.run_each(events)
+    }
+
+    fn run_each(&mut self, events: &[Event]) -> Result<(), WorldError>
+        ensures ok { OnOk result (Runs (map action_of events.now) (world_of R.stream C.word_of self.old) (world_of R.stream C.word_of self.new)) }
+        ensures lacks { IfErr result (λ e. e ≡ WorldError.NoSuchPacket
+            → RunsUpToLack (map action_of events.now) (world_of R.stream C.word_of self.old) (world_of R.stream C.word_of self.new)) }
+        ensures memory { IfErr result (λ e. e ≡ WorldError.Memory → self.new.has_failed ≡ true) }
     {
         for event in events {
             self.step(event)?;

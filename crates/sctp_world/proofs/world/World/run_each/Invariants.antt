@@ -1,7 +1,7 @@
 use Rattle.std.proofs.Common.{◌≡◌, List, ◌++◌, map, drop}
 use Rattle.sctp_world.specs.World.{Action, Runs}
 use Rattle.sctp_world.specs.WorldView.{action_of, world_of}
-use Rattle.sctp_world.proofs.world.World.run.Given as goal
+use Rattle.sctp_world.proofs.world.World.run_each.Given as goal
 
 abbrev pub invariant-loop-event : goal.invariant-loop-event
 invariant-loop-event g l =
