@@ -1,5 +1,5 @@
 -- A message that crosses an open association, and its acknowledgement.
-use Rattle.std.proofs.Common.{◌≡◌, ℕ, ◌+◌, ◌-◌, ◌%◌, ◌^◌, ◌<◌, ◌≤◌, ◌==◌, ◌&&◌, nat_lt, if◌then◌else◌, Bool, true, false, Option, Some, None, List, [], ◌∷◌, ◌++◌, length, refl, sym, ap, subst, ◌∙◌, arith}
+use Rattle.std.proofs.Common.{◌≡◌, ℕ, ◌^◌, ◌<◌, ◌≤◌, ◌==◌, ◌&&◌, nat_lt, if◌then◌else◌, Bool, true, false, Option, Some, None, List, [], ◌∷◌, ◌++◌, length, refl, sym, ap, subst, ◌∙◌, arith}
 use Rattle.std.proofs.lemmas.Bool.Decides.{nat_tests}
 use Rattle.std.specs.Prelude.{slice_get}
 use Rattle.rand_core.specs.Stream.{Stream, next_u64}
@@ -7,17 +7,17 @@ use Rattle.sctp_packet.specs.Chunk.{ChunkTree, data_chunk, sack_chunk}
 use Rattle.sctp_state.specs.declared.api.errors.SendError.{SendError}
 use Rattle.sctp_state.specs.declared.api.errors.SendError.TheVariants.{EmptyPayload, MessageTooLarge}
 use Rattle.sctp_state.specs.declared.api.options.SendOptions.{SendOptions}
-use Rattle.sctp_state.specs.Events.{Event, SendPacket, OnBufferedAmountLow}
+use Rattle.sctp_state.specs.Events.{SendPacket, OnBufferedAmountLow}
 use Rattle.sctp_world.specs.Association.{Message, Outgoing, Core, Endpoint, Established, closed_core}
-use Rattle.sctp_world.specs.Transfer.{watermark, size_of, window, ssn_of, counted, fully_sent, delivered}
-use Rattle.sctp_world.specs.Wiring.{tsn_at, before, data_limit, fragment_of, summed_packet, say, say_all, emit}
-use Rattle.sctp_world.specs.Input.{Validity, Hears, validity, most_bytes, refusal_of, send, send_unless, on_packet, on_chunks, at_packet_end, taken_if, is_wanted, take_if, leave_if, is_for_the_last, leave}
-use Rattle.sctp_world.specs.Judge.{End, A, B, Association, association_of, Entry, Sent, Given, BecameReady, Emitted, accepted, ready}
-use Rattle.sctp_world.specs.World.{Action, Side, World, Gives, Runs, CallOf, Send, recorded, called, packets_in, told_entries, associated_if, ready_entries, ready_before, outgoing, is_at_rest, fresh_world}
+use Rattle.sctp_world.specs.Transfer.{window, ssn_of, counted, fully_sent}
+use Rattle.sctp_world.specs.Wiring.{tsn_at, before, data_limit, fragment_of, summed_packet, say, say_all}
+use Rattle.sctp_world.specs.Input.{Validity, most_bytes, refusal_of, send, send_unless, on_packet, at_packet_end, taken_if, is_wanted, take_if, leave_if, leave}
+use Rattle.sctp_world.specs.Judge.{A, B, Entry, Sent, Given, Emitted, accepted, ready}
+use Rattle.sctp_world.specs.World.{Action, World, Gives, Runs, recorded, packets_in, told_entries, associated_if, ready_entries, ready_before, is_at_rest, fresh_world}
 use Rattle.sctp_world.specs.FirstRun.{opening, crossing, acknowledging, IsSmall, IsFresh, HasCrossed}
 use Rattle.sctp_world.proofs.EmitLemmas.{emit_one, same, hears_one, one_chunk_packet}
 use Rattle.sctp_world.proofs.ShortLemmas.{data_short, sack_short, sack_of}
-use Rattle.sctp_world.proofs.OpeningLemmas.{tag_of_end, first_of_end, drawn, tag_small, tsn_small, tag_some, own_valid, identity_of, end_with, established_end}
+use Rattle.sctp_world.proofs.OpeningLemmas.{tag_of_end, first_of_end, drawn, tag_small, tag_some, own_valid, identity_of, end_with, established_end}
 use Rattle.sctp_world.proofs.FirstRunLemmas.{given_to_a, given_to_b, same_self, opened, opened_then, opened_log, init, init_ack, echo, cookie_ack, held_by_a, held_by_b}
 
 not_zero : (n : ℕ) → 0 < n → (n == 0) ≡ false

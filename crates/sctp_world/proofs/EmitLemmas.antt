@@ -1,18 +1,15 @@
 -- A packet of one chunk: it is sent where it is short, and the other end reads it.
-use Rattle.std.proofs.Common.{◌≡◌, ◌≢◌, ℕ, ◌+◌, ◌-◌, ◌%◌, ◌^◌, ◌<◌, ◌≤◌, ◌==◌, ◌&&◌, nat_lt, nat_le, ◌||◌, if◌then◌else◌, Bool, true, false, cond, Option, Some, None, List, [], ◌∷◌, ◌++◌, length, take, drop, map, refl, sym, ap, subst, ◌∙◌, arith}
-use Rattle.std.specs.Prelude.{All}
-use Rattle.std.proofs.lemmas.List.{append-nil, length-append}
+use Rattle.std.proofs.Common.{◌≡◌, ℕ, ◌+◌, ◌-◌, ◌%◌, ◌^◌, ◌<◌, ◌≤◌, ◌==◌, ◌&&◌, nat_lt, nat_le, ◌||◌, if◌then◌else◌, Bool, true, false, List, [], ◌∷◌, length, take, drop, refl, ap, ◌∙◌, arith}
+use Rattle.std.proofs.lemmas.List.{append-nil}
 use Rattle.std.proofs.lemmas.Bool.Decides.{nat_tests}
 use Rattle.std.proofs.lemmas.List.Elements.{All-cons, All-nil}
 use Rattle.std.proofs.lemmas.List.Concat.{flat_map-cons}
 use Rattle.sctp_wire.specs.Checksum.{with_zero_field}
 use Rattle.sctp_wire.specs.Fields.{be16, be32}
-use Rattle.sctp_wire.specs.Serialize.{IsEncodable, is_encodable}
-use Rattle.sctp_wire.proofs.SerializeLemmas.{length_padded_item}
 use Rattle.sctp_packet.specs.Chunk.{ChunkTree}
-use Rattle.sctp_packet.specs.Written.{chunk_item, chunk_is_whole, chunk_bytes, chunks_bytes}
-use Rattle.sctp_packet.specs.Packet.{HeaderTree, PacketTree, FitsHeader, IsPacket, Accepts, header_bytes, unsummed_bytes, joined_bytes, packet_bytes}
-use Rattle.sctp_packet.specs.Grammar.{IsChunk, carried}
+use Rattle.sctp_packet.specs.Written.{chunk_is_whole, chunk_bytes, chunks_bytes}
+use Rattle.sctp_packet.specs.Packet.{HeaderTree, PacketTree, FitsHeader, IsPacket, Accepts, header_bytes, unsummed_bytes, packet_bytes}
+use Rattle.sctp_packet.specs.Grammar.{carried}
 use Rattle.sctp_packet.specs.ReadBack.{ChunkReadsBack}
 use Rattle.sctp_packet.proofs.ReadBackLemmas.{chunks_tile}
 use Rattle.sctp_packet.proofs.PacketLemmas.{length_joined}
@@ -20,7 +17,7 @@ use Rattle.sctp_packet.proofs.LawLemmas.{one_packet_lem, never_both_lem}
 use Rattle.sctp_state.specs.Events.{SendPacket}
 use Rattle.sctp_world.specs.Association.{Endpoint}
 use Rattle.sctp_world.specs.Probe.{default_policy}
-use Rattle.sctp_world.specs.Wiring.{header_to, word_in, fits_behind, packed, packet_of, summed_packet, say, say_packet, emit}
+use Rattle.sctp_world.specs.Wiring.{header_to, word_in, fits_behind, packet_of, summed_packet, say, say_packet, emit}
 use Rattle.sctp_world.specs.Input.{Hears, heard, not_read, on_packet, word_at}
 
 -- a chunk that can be written and read, and fits a packet alone

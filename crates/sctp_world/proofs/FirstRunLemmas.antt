@@ -1,14 +1,14 @@
 -- The first run, event by event.
-use Rattle.std.proofs.Common.{◌≡◌, ℕ, Bool, true, false, ◌&&◌, ◌==◌, Option, Some, None, List, [], ◌∷◌, ◌++◌, length, ◌<◌, ◌^◌, refl, sym, ap, subst, ◌∙◌, arith}
+use Rattle.std.proofs.Common.{◌≡◌, ℕ, Bool, true, ◌&&◌, ◌==◌, Some, List, [], ◌∷◌, ◌++◌, refl, sym, ap, subst, ◌∙◌, arith}
 use Rattle.std.specs.Prelude.{slice_get}
 use Rattle.rand_core.specs.Stream.{Stream}
 use Rattle.sctp_packet.specs.Chunk.{cookie_echo_chunk, cookie_ack_chunk}
 use Rattle.sctp_state.specs.Cookie.{cookie_bytes}
 use Rattle.sctp_state.specs.Events.{OnConnected}
 use Rattle.sctp_world.specs.Association.{Endpoint, fresh_endpoint}
-use Rattle.sctp_world.specs.Wiring.{summed_packet, say}
+use Rattle.sctp_world.specs.Wiring.{summed_packet}
 use Rattle.sctp_world.specs.Input.{Hears}
-use Rattle.sctp_world.specs.Judge.{End, A, B, Association, same_association, same_numbers, association_of, Entry, Connected, Given, Associated, Emitted, Happened}
+use Rattle.sctp_world.specs.Judge.{A, B, Association, same_association, association_of, Entry, Connected, Given, Associated, Emitted, Happened}
 use Rattle.sctp_world.specs.World.{Action, Side, World, Gives, Runs, recorded, settled, news_of, associated_if, ready_entries, ready_before, fresh_side, fresh_world}
 use Rattle.sctp_world.specs.FirstRun.{opening, IsOpen, IsFresh}
 use Rattle.sctp_world.proofs.EmitLemmas.{same, hears_one}

@@ -1,12 +1,12 @@
 -- No packet that goes out has more bytes than the mtu.
-use Rattle.std.proofs.Common.{◌≡◌, ℕ, ◌+◌, ◌-◌, ◌≤◌, ◌&&◌, nat_le, Bool, true, false, if◌then◌else◌, Option, Some, None, List, [], ◌∷◌, ◌++◌, length, map, refl, sym, ap, subst, ◌∙◌, arith}
+use Rattle.std.proofs.Common.{◌≡◌, ℕ, ◌+◌, ◌-◌, ◌≤◌, ◌&&◌, nat_le, Bool, true, false, if◌then◌else◌, Option, Some, None, List, [], ◌∷◌, ◌++◌, length, map, refl, sym, ap, subst, arith}
 use Rattle.std.specs.Prelude.{All, Result, Ok, Err, codes}
 use Rattle.std.proofs.lemmas.List.{length-append}
 use Rattle.std.proofs.lemmas.List.Elements.{All-cons, All-nil, All-append, All-head, All-tail}
 use Rattle.sctp_wire.specs.Serialize.{is_encodable}
 use Rattle.sctp_packet.specs.Chunk.{ChunkTree, FragmentTree, InitTree, data_chunk, init_chunk, init_ack_chunk, sack_chunk, heartbeat_request_chunk, heartbeat_ack_chunk, abort_chunk, shutdown_chunk, shutdown_ack_chunk, error_chunk, cookie_echo_chunk, cookie_ack_chunk, shutdown_complete_chunk, idata_chunk, re_config_chunk, forward_tsn_chunk, i_forward_tsn_chunk, unknown_chunk}
 use Rattle.sctp_packet.specs.Written.{chunk_item, chunk_is_whole, chunk_bytes, chunks_bytes}
-use Rattle.sctp_packet.specs.Packet.{HeaderTree, PacketTree, packet_bytes}
+use Rattle.sctp_packet.specs.Packet.{HeaderTree, packet_bytes}
 use Rattle.sctp_packet.proofs.BuilderLemmas.{holds_more}
 use Rattle.sctp_packet.proofs.PacketLemmas.{length_joined}
 use Rattle.sctp_state.specs.declared.state_cookie.StateCookieError.{StateCookieError}
@@ -21,11 +21,11 @@ use Rattle.sctp_wire.specs.Parameter.{state_cookie}
 use Rattle.sctp_state.specs.Events.{Event, SendPacket, OnConnected, OnClosed, OnConnectionRestarted, OnAborted, OnError, OnBufferedAmountLow, OnTotalBufferedAmountLow, OnStreamsResetFailed, OnStreamsResetPerformed, OnIncomingStreamReset, OnLifecycleMessageFullySent, OnLifecycleMessageMaybeExpired, OnLifecycleMessageExpired, OnLifecycleMessageDelivered, OnLifecycleEnd}
 use Rattle.sctp_world.specs.Association.{Outgoing, Item, Core, Endpoint, nobody, Phase, Closed, CookieWait, CookieEchoed, Established}
 use Rattle.sctp_world.specs.Transfer.{Outbound, Step, CookieAck, Sack, window, acknowledged, with_block, produced, produced_in, sent_next, amount_low, fully_sent, delivered, queue_reset}
-use Rattle.sctp_world.specs.Wiring.{mtu, data_limit, header_to, word_in, wired, fits_behind, packed, packet_of, say, say_all, say_packet, emit, step_behind, send_behind}
-use Rattle.sctp_world.specs.Handshake.{tsn_from, tag_from, word, drew_word, long_word, drew_long_word, init_of, opened, answer, cookie_for, next_first, Verdict, Fresh, Restarted, Replaced, Kept, Discarded, Refused, connect, connected_in, on_init_in, echoed, cookie_in, on_init_ack_in, established, kept_in, on_verdict, judged, on_read_cookie, on_cookie_echo, on_cookie_ack_in}
-use Rattle.sctp_world.specs.Input.{Validity, Valid, Invalid, validity, Hears, heard, not_read, take_if, is_wanted, on_data_in, leave, leave_if, is_for_the_last, on_sack_in, on_chunk, on_chunks, sack_if, at_packet_end, taken_if, on_packet, on_no_packet, ended, refused, send, send_unless, refusal_of}
+use Rattle.sctp_world.specs.Wiring.{mtu, data_limit, header_to, word_in, wired, fits_behind, packed, packet_of, say, say_all, say_packet, emit, send_behind}
+use Rattle.sctp_world.specs.Handshake.{tsn_from, tag_from, word, drew_word, long_word, drew_long_word, init_of, opened, answer, cookie_for, next_first, Verdict, Fresh, Restarted, Replaced, Kept, Discarded, Refused, connected_in, on_init_in, echoed, cookie_in, on_init_ack_in, established, kept_in, on_verdict, judged, on_read_cookie, on_cookie_ack_in}
+use Rattle.sctp_world.specs.Input.{Validity, Valid, Invalid, validity, Hears, heard, not_read, take_if, is_wanted, on_data_in, leave_if, is_for_the_last, on_sack_in, on_chunk, on_chunks, sack_if, taken_if, ended, refused, send_unless, refusal_of}
 use Rattle.sctp_world.specs.Judge.{End, A, B}
-use Rattle.sctp_world.specs.World.{IsShort, IsShortEvent, AreShort, Side, World, Call, Connect, Send, Receive, Action, CallOf, Give, Happens, Runs, Gives, after_call, called, packets_in, outgoing, settled, side_of, other}
+use Rattle.sctp_world.specs.World.{IsShort, IsShortEvent, AreShort, Side, World, Call, Connect, Send, Receive, Action, CallOf, Give, Happens, Runs, Gives, after_call, called, packets_in, outgoing, settled, side_of}
 use Rattle.sctp_world.proofs.PackedLemmas.{no_chunks}
 
 -- ---- one packet

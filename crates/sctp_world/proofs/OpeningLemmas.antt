@@ -1,22 +1,21 @@
 -- The opening of an association, packet by packet.
-use Rattle.std.proofs.Common.{◌≡◌, ℕ, ◌+◌, ◌-◌, ◌%◌, ◌^◌, ◌<◌, ◌≤◌, ◌==◌, ◌&&◌, Bool, true, false, Option, Some, None, List, [], ◌∷◌, ◌++◌, length, refl, sym, ap, subst, ◌∙◌, arith}
-use Rattle.std.specs.Prelude.{Ok, Result, slice_get}
+use Rattle.std.proofs.Common.{◌≡◌, ℕ, ◌^◌, ◌<◌, ◌==◌, Bool, false, List, [], ◌∷◌, ◌++◌, refl, ap, ◌∙◌, arith}
+use Rattle.std.specs.Prelude.{Ok, Result}
 use Rattle.std.proofs.lemmas.Bool.Decides.{nat_tests}
 use Rattle.rand_core.specs.Stream.{Stream, next_u32, next_u64}
 use Rattle.sctp_wire.specs.Parameter.{ParameterTree, state_cookie}
-use Rattle.sctp_packet.specs.Chunk.{ChunkTree, InitTree, init_chunk, init_ack_chunk, cookie_echo_chunk, cookie_ack_chunk}
+use Rattle.sctp_packet.specs.Chunk.{ChunkTree, init_chunk, init_ack_chunk, cookie_echo_chunk, cookie_ack_chunk}
 use Rattle.sctp_state.specs.Options.{defaults}
 use Rattle.sctp_state.specs.Capabilities.{announced}
-use Rattle.sctp_state.specs.Cookie.{Cookie, CookieFits, cookie_bytes, read_cookie, has_tags}
+use Rattle.sctp_state.specs.Cookie.{Cookie, CookieFits, cookie_bytes, read_cookie}
 use Rattle.sctp_state.specs.declared.state_cookie.StateCookieError.{StateCookieError}
 use Rattle.sctp_state.proofs.CookieLemmas.{read_cookie-bytes}
-use Rattle.sctp_state.specs.Events.{Told, silent, SendPacket, OnConnected}
-use Rattle.sctp_world.specs.Association.{Core, Identity, Endpoint, Closed, CookieWait, CookieEchoed, Established, closed_core, nobody, fresh_endpoint}
-use Rattle.sctp_world.specs.Transfer.{with_block, queue_reset}
-use Rattle.sctp_world.specs.Wiring.{mtu, data_limit, summed_packet, say, emit}
-use Rattle.sctp_world.specs.Handshake.{tsn_from, tag_from, init_of, cookie_for, connect, fresh_or_refused, on_verdict, judged, on_read_cookie}
-use Rattle.sctp_world.specs.Input.{Validity, Valid, validity, validity_by, begins_with_cookie, is_single_init, on_packet, on_chunks, at_packet_end, taken_if}
-use Rattle.sctp_world.proofs.EmitLemmas.{IsShort, emit_one, same, one_chunk_packet}
+use Rattle.sctp_state.specs.Events.{silent, SendPacket, OnConnected}
+use Rattle.sctp_world.specs.Association.{Core, Identity, Endpoint, CookieWait, CookieEchoed, Established, closed_core, nobody, fresh_endpoint}
+use Rattle.sctp_world.specs.Wiring.{mtu, data_limit, summed_packet, say}
+use Rattle.sctp_world.specs.Handshake.{tsn_from, tag_from, init_of, cookie_for, connect, fresh_or_refused, on_verdict, on_read_cookie}
+use Rattle.sctp_world.specs.Input.{Validity, Valid, validity, validity_by, begins_with_cookie, is_single_init, on_packet, at_packet_end, taken_if}
+use Rattle.sctp_world.proofs.EmitLemmas.{emit_one, same, one_chunk_packet}
 use Rattle.sctp_world.proofs.ShortLemmas.{init_short, init_ack_short, cookie_echo_short, cookie_ack_short}
 
 -- ---- draws

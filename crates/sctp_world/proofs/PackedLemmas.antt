@@ -1,5 +1,5 @@
 -- Packets of the chunks that fit.
-use Rattle.std.proofs.Common.{◌≡◌, ℕ, ◌+◌, ◌%◌, ◌^◌, ◌<◌, ◌≤◌, Bool, true, false, cond, Option, Some, None, List, [], ◌∷◌, ◌++◌, length, take, drop, map, refl, sym, ap, subst, ◌∙◌, arith}
+use Rattle.std.proofs.Common.{◌≡◌, ℕ, ◌%◌, ◌^◌, ◌<◌, Bool, true, false, Some, None, List, [], ◌∷◌, length, take, drop, refl, sym, ap, ◌∙◌, arith}
 use Rattle.std.proofs.lemmas.List.{length-append}
 use Rattle.std.proofs.lemmas.List.Concat.{flat_map-cons}
 use Rattle.sctp_wire.specs.Checksum.{with_zero_field}
@@ -7,10 +7,10 @@ use Rattle.sctp_wire.specs.Fields.{be16, be32}
 use Rattle.sctp_wire.proofs.SerializeLemmas.{length_padded_item}
 use Rattle.sctp_packet.specs.Chunk.{ChunkTree}
 use Rattle.sctp_packet.specs.Written.{chunk_item, chunk_bytes, chunks_bytes}
-use Rattle.sctp_packet.specs.Packet.{HeaderTree, header_bytes, unsummed_bytes, joined_bytes, packet_bytes}
+use Rattle.sctp_packet.specs.Packet.{HeaderTree, header_bytes, unsummed_bytes}
 use Rattle.sctp_packet.specs.Builder.{BuilderTree, Holds, so_far, built}
 use Rattle.sctp_packet.proofs.BuilderLemmas.{built_is_packet}
-use Rattle.sctp_world.specs.Wiring.{header_to, packed, packet_of, word_in, summed_packet}
+use Rattle.sctp_world.specs.Wiring.{header_to, packet_of, word_in}
 use Rattle.sctp_world.specs.Input.{word_at}
 
 pub no_chunks : chunks_bytes [] ≡ []

@@ -1,9 +1,9 @@
 -- What is sent to the peer.
-use Rattle.std.proofs.Common.{◌≡◌, ℕ, true, false, List, [], ◌∷◌, ◌++◌, map, refl, sym, ap, ◌∙◌}
+use Rattle.std.proofs.Common.{◌≡◌, ℕ, true, false, List, [], ◌∷◌, ◌++◌, map, sym, ap, ◌∙◌}
 use Rattle.std.proofs.lemmas.List.{map-append}
 use Rattle.sctp_packet.specs.Chunk.{ChunkTree}
 use Rattle.sctp_state.specs.Events.{Told, tell_all}
-use Rattle.sctp_world.specs.Association.{Core, Identity, Endpoint}
+use Rattle.sctp_world.specs.Association.{Core, Endpoint}
 use Rattle.rand_core.specs.Stream.{Stream}
 use Rattle.sctp_world.specs.Transfer.{Outbound, Sack, window, produced}
 use Rattle.sctp_world.specs.Input.{sack_if}

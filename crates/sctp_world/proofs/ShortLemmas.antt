@@ -1,18 +1,15 @@
 -- The chunks of the first run can be written and read, and each fits a packet.
-use Rattle.std.proofs.Common.{◌≡◌, ◌≢◌, ℕ, ◌+◌, ◌-◌, ◌%◌, ◌^◌, ◌<◌, ◌≤◌, ◌==◌, nat_lt, Bool, true, false, Option, Some, None, List, [], ◌∷◌, ◌++◌, length, map, refl, sym, ap, ◌∙◌, arith}
-use Rattle.std.specs.Prelude.{All, replicate}
-use Rattle.std.proofs.lemmas.List.{append-nil, length-append}
+use Rattle.std.proofs.Common.{◌≡◌, ℕ, ◌+◌, ◌^◌, ◌<◌, ◌≤◌, false, List, [], ◌∷◌, ◌++◌, length, map, refl, ap, ◌∙◌, arith}
 use Rattle.std.proofs.lemmas.List.Elements.{All-cons, All-nil}
 use Rattle.sctp_packet.specs.Grammar.{FitsBlock, FitsTsn}
 use Rattle.sctp_wire.specs.Fields.{be16, be32}
-use Rattle.sctp_wire.specs.Item.{Item, padding, item_bytes}
+use Rattle.sctp_wire.specs.Item.{padding}
 use Rattle.sctp_wire.specs.Serialize.{padded_item, inner_items}
 use Rattle.sctp_wire.specs.Parameter.{ParameterTree, parameter_item, parameter_value, state_cookie, supported_extensions, forward_tsn_supported}
 use Rattle.sctp_wire.specs.ReadBack.{ParameterReadsBack}
 use Rattle.sctp_wire.proofs.SerializeLemmas.{length_padded_item, length_inner_items-more}
-use Rattle.sctp_packet.specs.Chunk.{ChunkTree, FragmentTree, InitTree, SackTree, data_chunk, init_chunk, init_ack_chunk, sack_chunk, cookie_echo_chunk, cookie_ack_chunk}
+use Rattle.sctp_packet.specs.Chunk.{ChunkTree, SackTree, data_chunk, init_chunk, init_ack_chunk, sack_chunk, cookie_echo_chunk, cookie_ack_chunk}
 use Rattle.sctp_packet.specs.Written.{chunk_item, chunk_value, chunk_bytes}
-use Rattle.sctp_packet.specs.ReadBack.{ChunkReadsBack}
 use Rattle.sctp_packet.proofs.ValueLemmas.{length_data, length_init, length_init_ack, length_sack}
 use Rattle.sctp_state.specs.Options.{defaults}
 use Rattle.sctp_state.specs.Capabilities.{announced}

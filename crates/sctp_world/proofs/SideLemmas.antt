@@ -1,5 +1,5 @@
 -- What an end makes of a packet, and what the log has of it.
-use Rattle.std.proofs.Common.{◌≡◌, ℕ, Option, List, ◌∷◌, ◌++◌, length, refl, sym, ap, subst, ◌∙◌}
+use Rattle.std.proofs.Common.{◌≡◌, ℕ, Option, List, ◌∷◌, ◌++◌, length, sym, ap, subst, ◌∙◌}
 use Rattle.rand_core.specs.Stream.{Stream}
 use Rattle.sctp_world.specs.Input.{Hears}
 use Rattle.sctp_world.specs.Judge.{End, Entry, Given, Association, association_in}

@@ -1,11 +1,11 @@
 -- Events taken one after the other.
 use Rattle.std.specs.Prelude.{slice_get}
 use Rattle.std.proofs.Common.{◌≡◌, ℕ, zero, suc, ◌+◌, ◌≤◌, ◌<◌, Option, Some, None, List, [], ◌∷◌, ◌++◌, length, map, drop, refl, sym, ap, ◌∙◌, append_assoc, arith}
-use Rattle.std.proofs.lemmas.List.{append-nil, length-append, length-map, drop_all}
+use Rattle.std.proofs.lemmas.List.{append-nil, drop_all}
 use Rattle.sctp_state.specs.Events.{Event, SendPacket, OnConnected, OnClosed, OnConnectionRestarted, OnAborted, OnError, OnBufferedAmountLow, OnTotalBufferedAmountLow, OnStreamsResetFailed, OnStreamsResetPerformed, OnIncomingStreamReset, OnLifecycleMessageFullySent, OnLifecycleMessageMaybeExpired, OnLifecycleMessageExpired, OnLifecycleMessageDelivered, OnLifecycleEnd, first_of}
 use Rattle.sctp_world.specs.Association.{Message}
 use Rattle.sctp_world.specs.WorldView.{ready_entry}
-use Rattle.sctp_world.specs.Judge.{End, Entry, Happened, Emitted, BecameReady}
+use Rattle.sctp_world.specs.Judge.{End, Entry, Happened, BecameReady}
 use Rattle.sctp_world.specs.World.{packets_in, told_entries}
 
 packets_step : (e : Event (List ℕ)) (es : List (Event (List ℕ))) → packets_in (e ∷ es) ≡ packets_in (e ∷ []) ++ packets_in es

@@ -1,10 +1,10 @@
 -- The first run: two ends connect, one message crosses, and its sender is at rest.
-use Rattle.std.specs.Prelude.{◌≡◌, ℕ, ◌<◌, ◌≤◌, ◌^◌, true, Some, List, [], ◌∷◌, ◌++◌, length}
+use Rattle.std.specs.Prelude.{◌≡◌, ℕ, ◌<◌, ◌≤◌, ◌^◌, Some, List, [], ◌∷◌, length}
 use Rattle.rand_core.specs.Stream.{Stream}
 use Rattle.sctp_state.specs.declared.api.options.SendOptions.{SendOptions}
 use Rattle.sctp_world.specs.Association.{Message}
-use Rattle.sctp_world.specs.Judge.{End, A, B, Association, crossed, times_connected, held, accepted, ready}
-use Rattle.sctp_world.specs.World.{Action, CallOf, Give, Connect, Send, World, is_at_rest, fresh_world}
+use Rattle.sctp_world.specs.Judge.{A, B, Association, crossed, times_connected, held, accepted, ready}
+use Rattle.sctp_world.specs.World.{Action, CallOf, Give, Connect, Send, World, fresh_world}
 
 -- INIT, INIT ACK, COOKIE ECHO and COOKIE ACK are given, each once
 abbrev pub opening : List Action

@@ -1,12 +1,12 @@
 -- The rows of the table that open an association (RFC 9260 section 5). They alone see an identity and draw words.
 use Rattle.std.specs.Prelude.{ℕ, ◌+◌, ◌-◌, ◌%◌, ◌^◌, ◌==◌, Bool, true, false, not, Option, Some, None, Result, Ok, Err, List, [], ◌∷◌, ◌++◌, codes}
-use Rattle.rand_core.specs.Stream.{Stream, next_u32, next_u64}
+use Rattle.rand_core.specs.Stream.{next_u32, next_u64}
 use Rattle.sctp_wire.specs.Parameter.{ParameterTree, state_cookie}
 use Rattle.sctp_packet.specs.Chunk.{InitTree, init_chunk, init_ack_chunk, cookie_echo_chunk}
 use Rattle.sctp_state.specs.declared.api.ErrorKind.TheVariants.{ParseFailed}
 use Rattle.sctp_state.specs.declared.state_cookie.StateCookieError.{StateCookieError}
 use Rattle.sctp_state.specs.Options.{defaults}
-use Rattle.sctp_state.specs.Events.{Event, OnConnected, OnConnectionRestarted, OnError}
+use Rattle.sctp_state.specs.Events.{OnConnected, OnConnectionRestarted, OnError}
 use Rattle.sctp_state.specs.Capabilities.{announced, told_by}
 use Rattle.sctp_state.specs.Cookie.{Cookie, cookie_bytes, read_cookie, refusal_text}
 use Rattle.sctp_world.specs.Association.{Phase, Closed, CookieWait, CookieEchoed, Established, Core, Identity, nobody, Endpoint}

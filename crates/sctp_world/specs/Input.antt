@@ -1,15 +1,15 @@
 -- How an end takes a packet: whether it is for this association, then chunk by chunk, then what is due. And calls.
-use Rattle.std.specs.Prelude.{◌≡◌, ◌⊎◌, ℕ, ◌+◌, ◌*◌, ◌==◌, ◌&&◌, ◌||◌, nat_lt, nat_le, Bool, true, false, if◌then◌else◌, not, Option, Some, None, Result, Ok, Err, List, [], ◌∷◌, ◌++◌, length, sum_by, codes, take, drop, replicate, slice_get, ◌-◌, ◌%◌, ◌^◌}
+use Rattle.std.specs.Prelude.{◌≡◌, ℕ, ◌==◌, ◌&&◌, nat_lt, Bool, true, false, if◌then◌else◌, Option, Some, None, List, [], ◌∷◌, ◌++◌, length, sum_by, codes, take, drop, slice_get, ◌%◌, ◌^◌}
 use Rattle.hex.specs.Hex.{encode_lower}
 use Rattle.std.specs.Int.{w32, to_be_bytes}
 use Rattle.sctp_wire.specs.Checksum.{with_zero_field}
 use Rattle.sctp_packet.specs.declared.packet.PacketParseError.{PacketParseError}
-use Rattle.sctp_packet.specs.Chunk.{ChunkTree, FragmentTree, SackTree, data_chunk, init_chunk, init_ack_chunk, sack_chunk, heartbeat_request_chunk, heartbeat_ack_chunk, abort_chunk, shutdown_chunk, shutdown_ack_chunk, error_chunk, cookie_echo_chunk, cookie_ack_chunk, shutdown_complete_chunk, idata_chunk, re_config_chunk, forward_tsn_chunk, i_forward_tsn_chunk, unknown_chunk}
+use Rattle.sctp_packet.specs.Chunk.{ChunkTree, FragmentTree, data_chunk, init_chunk, init_ack_chunk, sack_chunk, heartbeat_request_chunk, heartbeat_ack_chunk, abort_chunk, shutdown_chunk, shutdown_ack_chunk, error_chunk, cookie_echo_chunk, cookie_ack_chunk, shutdown_complete_chunk, idata_chunk, re_config_chunk, forward_tsn_chunk, i_forward_tsn_chunk, unknown_chunk}
 use Rattle.sctp_packet.specs.Packet.{PacketTree, Accepts, Refuses, IsFault}
 use Rattle.sctp_state.specs.declared.api.ErrorKind.TheVariants.{ParseFailed, NotConnected, ProtocolViolation}
 use Rattle.sctp_state.specs.declared.api.errors.SendError.{SendError}
 use Rattle.sctp_state.specs.declared.api.errors.SendError.TheVariants.{EmptyPayload, MessageTooLarge}
-use Rattle.sctp_state.specs.Events.{Event, OnError, OnLifecycleEnd, tell_all}
+use Rattle.sctp_state.specs.Events.{Event, OnError, OnLifecycleEnd}
 use Rattle.sctp_world.specs.Association.{Message, Outgoing, Phase, Closed, CookieWait, CookieEchoed, Established, Core, Item, Identity, Endpoint}
 use Rattle.sctp_world.specs.Transfer.{Sack, watermark, size_of, taken, window, acknowledged, delivered}
 use Rattle.sctp_world.specs.Wiring.{tsn_at, before, say, say_all, send_behind}

@@ -1,6 +1,6 @@
 -- What a judge sees of two ends: the log, and what is read off it alone.
-use Rattle.std.specs.Prelude.{◌≡◌, ℕ, ◌+◌, ◌==◌, ◌&&◌, Bool, true, false, not, Option, Some, None, List, [], ◌∷◌, ◌++◌, length, map}
-use Rattle.std.specs.List.{flat_map, filter}
+use Rattle.std.specs.Prelude.{ℕ, ◌==◌, ◌&&◌, Bool, true, false, Option, Some, None, List, [], ◌∷◌, length}
+use Rattle.std.specs.List.{flat_map}
 use Rattle.sctp_state.specs.declared.api.errors.SendError.{SendError}
 use Rattle.sctp_state.specs.declared.api.options.SendOptions.{SendOptions}
 use Rattle.sctp_state.specs.Events.{Event, OnConnected, GivenUp}

@@ -2,11 +2,11 @@
 use Rattle.std.specs.Prelude.{ℕ, ◌+◌, ◌-◌, ◌%◌, ◌^◌, ◌&&◌, nat_le, Bool, true, false, if◌then◌else◌, Option, Some, None, List, [], ◌∷◌, ◌++◌, length, map}
 use Rattle.sctp_serial.specs.Unwrapped.{words, wire}
 use Rattle.sctp_wire.specs.Serialize.{is_encodable}
-use Rattle.sctp_packet.specs.Chunk.{ChunkTree, FragmentTree, SackTree, cookie_ack_chunk, data_chunk, sack_chunk}
+use Rattle.sctp_packet.specs.Chunk.{ChunkTree, FragmentTree, cookie_ack_chunk, data_chunk, sack_chunk}
 use Rattle.sctp_packet.specs.Written.{chunk_item, chunk_is_whole, chunk_bytes, chunks_bytes}
 use Rattle.sctp_packet.specs.Packet.{HeaderTree, unsummed_bytes, packet_bytes}
 use Rattle.sctp_state.specs.Events.{Event, SendPacket, tell, tell_all}
-use Rattle.sctp_world.specs.Association.{Message, Outgoing, Core, Identity, Endpoint}
+use Rattle.sctp_world.specs.Association.{Outgoing, Identity, Endpoint}
 use Rattle.sctp_world.specs.Transfer.{Outbound, CookieAck, Data, Sack, Step, produced}
 
 -- ---- numbers

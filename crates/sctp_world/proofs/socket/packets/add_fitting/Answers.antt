@@ -1,5 +1,4 @@
 use Rattle.std.proofs.Common.{ℕ, List, [], refl, sym, ◌∙◌, ap}
-use Rattle.sctp_packet.specs.Builder.{BuilderTree}
 use Rattle.sctp_world.proofs.PackedLemmas.{no_chunks}
 use Rattle.sctp_world.proofs.socket.packets.add_fitting.Goals as goal
 

@@ -1,4 +1,4 @@
-use Rattle.std.proofs.Common.{ℕ, [], map, refl, sym, ◌∙◌, ap, true, false}
+use Rattle.std.proofs.Common.{[], map, sym, ◌∙◌, ap}
 use Rattle.sctp_packet.specs.Builder.{BuilderTree}
 use Rattle.sctp_packet.specs.ChunkView.{chunk_tree}
 use Rattle.sctp_world.specs.Wiring.{packed, packet_of}

@@ -1,8 +1,6 @@
 use Rattle.std.proofs.Common.{map}
 use Rattle.std.proofs.lemmas.Result.{on_ok_weaker, IfErr-weaker}
 use Rattle.sctp_world.specs.WorldView.{action_of}
-use Rattle.sctp_world.proofs.FirstRunLemmas.{opens}
-use Rattle.sctp_world.proofs.CrossingLemmas.{crosses, comes_to_rest}
 use Rattle.sctp_world.proofs.GoesLemmas.{opens_by, crosses_by, rests_by, only_memory}
 use Rattle.sctp_world.proofs.MtuLemmas.{runs_short}
 use Rattle.sctp_world.proofs.world.World.run.Goals as goal

@@ -1,4 +1,4 @@
-use Rattle.std.proofs.Common.{arith, rules, ◌≡◌, ◌∙◌, sym}
+use Rattle.std.proofs.Common.{arith}
 use Rattle.sctp_world.specs.WorldView.{end_tree}
 use Rattle.sctp_world.proofs.ToldLemmas.{message_logged}
 use Rattle.sctp_world.proofs.world.side.log_ready.Goals as goal

@@ -1,9 +1,8 @@
-use Rattle.std.proofs.Common.{◌≡◌, ◌+◌, ℕ, List, [], ◌∷◌, length, map, ap, sym, ◌∙◌, arith}
+use Rattle.std.proofs.Common.{◌≡◌, ◌+◌, [], ◌∷◌, length, map, ap, ◌∙◌, arith}
 use Rattle.std.proofs.lemmas.List.{length-append, length-map}
-use Rattle.sctp_state.specs.Events.{Event, event_of}
-use Rattle.sctp_world.specs.Judge.{Entry}
+use Rattle.sctp_state.specs.Events.{event_of}
 use Rattle.sctp_world.specs.World.{packets_in}
-use Rattle.sctp_world.specs.WorldView.{end_tree, entry_tree}
+use Rattle.sctp_world.specs.WorldView.{end_tree}
 use Rattle.sctp_world.specs.SocketView.{SocketValue}
 use Rattle.sctp_world.proofs.ToldLemmas.{packets_taken, told_taken}
 use Rattle.sctp_world.proofs.world.side.take_told.Goals as goal
