@@ -29,7 +29,7 @@ impl Words {
 }
 
 impl NextWord<u32> for Words {
-    ghost step = { λ s. (s.0, (s.0 + s.1) % 2 ^ 32, s.1) };
+    ghost step = { λ s. (s.0, ((s.0 + s.1) % 2 ^ 32, s.1)) };
 
     fn next_word(&mut self) -> u32 {
         let word = self.next;
@@ -39,7 +39,7 @@ impl NextWord<u32> for Words {
 }
 
 impl Rng for Words {
-    ghost stream = { stream_of (steps_u32 (λ s. (s.0, (s.0 + s.1) % 2 ^ 32, s.1))) };
+    ghost stream = { stream_of (steps_u32 (λ (s : ℕ × ℕ). (s.0, ((s.0 + s.1) % 2 ^ 32, s.1)))) };
 
     fn next_u32(&mut self) -> u32 {
         self.next_word()
