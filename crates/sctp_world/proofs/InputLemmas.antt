@@ -5,61 +5,65 @@ use Rattle.std.specs.Io.KnownBytes.{Appends, Consumes, IsAtEnd}
 use Rattle.std.proofs.KnownBytes.{Appends-nil, Appends-trans, Consumes-nil, Consumes-trans}
 use Rattle.std.proofs.lemmas.List.{append-nil, length-append}
 use Rattle.std.proofs.lemmas.List.Splits.{slice_split_none}
-use Rattle.sctp_world.specs.Script.{lines_of, RunsLine, RunsLines, RunsFront, StopsAt, IsNoCommand, refusal_text}
+use Rattle.sctp_world.specs.Commands.{lines_of, IsNoCommand}
+use Rattle.sctp_world.specs.Script.{RunsLine, RunsLines, RunsFront, StopsAt, refusal_text}
 use Rattle.sctp_world.specs.Lines.{IsOneLine, HasRun, HasRunSome, HasStopped}
+use Rattle.sctp_world.specs.World.{World}
 use Rattle.sctp_world.proofs.TurnLemmas.{RunsLines-push}
 
 -- how far the reader was read: `seen` came from it, `line` is left of that, and `turns` turns were made
-pub record IsReadTo (reader_old reader : Option (List ℕ)) (line : List ℕ) (count turns : ℕ) (old new : Option (List ℕ)) : Type 0 where
+pub record IsReadTo (reader_old reader : Option (List ℕ)) (line : List ℕ) (count turns : ℕ) (w v : World) (old new : Option (List ℕ)) : Type 0 where
   pub seen : List ℕ
   pub consumed : Consumes reader_old reader seen
   pub lines : List (List ℕ)
   pub number : count ≡ length lines
-  pub ran : HasRun seen lines line old new
+  pub ran : HasRun seen lines line w v old new
   pub plain : IsOneLine line
   pub few : count ≤ 4096 * turns
 
-RunsLines-append : (xs ys : List (List ℕ)) (a b : List ℕ) → RunsLines xs a → RunsLines ys b → RunsLines (xs ++ ys) (a ++ b)
-RunsLines-append [] ys a b e more = subst (λ (t : List ℕ). RunsLines ys (t ++ b)) (sym e) more
-RunsLines-append (x ∷ xs) ys a b runs more =
-    (runs.0, runs.1 ++ b, runs.2, RunsLines-append xs ys runs.1 b runs.3 more, ap (λ (t : List ℕ). t ++ b) runs.4 ∙ append_assoc runs.0 runs.1 b)
+RunsLines-append : (xs ys : List (List ℕ)) (a b : List ℕ) (w v u : World) → RunsLines xs w v a → RunsLines ys v u b → RunsLines (xs ++ ys) w u (a ++ b)
+RunsLines-append [] ys a b w v u none more =
+    subst (λ (t : List ℕ). RunsLines ys w u (t ++ b)) (sym none.1) (subst (λ (x : World). RunsLines ys x u b) none.0 more)
+RunsLines-append (x ∷ xs) ys a b w v u runs more =
+    (runs.0, runs.1, runs.2 ++ b, runs.3, RunsLines-append xs ys runs.2 b runs.0 v u runs.4 more, ap (λ (t : List ℕ). t ++ b) runs.5 ∙ append_assoc runs.1 runs.2 b)
 
 -- nothing was read
-pub read_nothing : (reader old : Option (List ℕ)) (line : List ℕ) → line ≡ [] → IsReadTo reader reader line 0 0 old old
-read_nothing reader old line none = rw none (record {
+pub read_nothing : (reader old : Option (List ℕ)) (line : List ℕ) (w v : World) → line ≡ [] → v ≡ w → IsReadTo reader reader line 0 0 w v old old
+read_nothing reader old line w v none same = rw (none, same) (record {
   seen = [];
   consumed = Consumes-nil reader;
   lines = [];
   number = refl;
-  ran = record { text = []; front = λ more. refl; runs = refl; written = Appends-nil old };
+  ran = record { text = []; front = λ more. refl; runs = (refl, refl); written = Appends-nil old };
   plain = λ k d lt. absurd (omega arith);
   few = omega arith;
 })
 
 -- ---- what the bytes that were read say of the whole input
 
-front_text : (reader_old reader : Option (List ℕ)) (seen : List ℕ) (lines : List (List ℕ)) (rest : List ℕ) (old new : Option (List ℕ))
-    → Consumes reader_old reader seen → HasRun seen lines rest old new
-    → IfSome reader_old (λ input. (text : List ℕ) × RunsFront (lines_of input) text × Appends old new text)
-front_text None reader seen lines rest old new consumed run = tt
-front_text (Some xs) None seen lines rest old new consumed run = absurd consumed
-front_text (Some xs) (Some ys) seen lines rest old new consumed run = (
+front_text : (reader_old reader : Option (List ℕ)) (seen : List ℕ) (lines : List (List ℕ)) (rest : List ℕ) (w v : World) (old new : Option (List ℕ))
+    → Consumes reader_old reader seen → HasRun seen lines rest w v old new
+    → IfSome reader_old (λ input. (text : List ℕ) × RunsFront (lines_of input) w text × Appends old new text)
+front_text None reader seen lines rest w v old new consumed run = tt
+front_text (Some xs) None seen lines rest w v old new consumed run = absurd consumed
+front_text (Some xs) (Some ys) seen lines rest w v old new consumed run = (
   run.text,
-  record { before = lines; after = lines_of (rest ++ ys); split = ap lines_of consumed ∙ run.front ys; runs = run.runs },
+  record { before = lines; after = lines_of (rest ++ ys); left = v; split = ap lines_of consumed ∙ run.front ys; runs = run.runs },
   run.written,
 )
 
-stopped_text : (reader_old reader : Option (List ℕ)) (seen : List ℕ) (n : ℕ) (old new : Option (List ℕ))
-    → Consumes reader_old reader seen → HasStopped seen 0 n old new
-    → IfSome reader_old (λ input. (text : List ℕ) × StopsAt (lines_of input) n text × Appends old new (text ++ refusal_text n))
-stopped_text None reader seen n old new consumed stop = tt
-stopped_text (Some xs) None seen n old new consumed stop = absurd consumed
-stopped_text (Some xs) (Some ys) seen n old new consumed stop = (
+stopped_text : (reader_old reader : Option (List ℕ)) (seen : List ℕ) (n : ℕ) (w : World) (old new : Option (List ℕ))
+    → Consumes reader_old reader seen → HasStopped seen 0 n w old new
+    → IfSome reader_old (λ input. (text : List ℕ) × StopsAt (lines_of input) n w text × Appends old new (text ++ refusal_text n))
+stopped_text None reader seen n w old new consumed stop = tt
+stopped_text (Some xs) None seen n w old new consumed stop = absurd consumed
+stopped_text (Some xs) (Some ys) seen n w old new consumed stop = (
   stop.text,
   record {
     before = stop.lines;
     line = stop.line;
     after = lines_of (stop.rest ++ ys);
+    left = stop.left;
     split = ap lines_of consumed ∙ stop.front ys;
     number = omega (arith, stop.number);
     no_command = stop.no_command;
@@ -78,10 +82,10 @@ all_read xs (Some ys) (Some zs) (Some ws) seen e consumed none done =
     let same : xs ≡ ys = cc in
     same ∙ consumed ∙ ap (λ (t : List ℕ). seen ++ t) (none ∙ done) ∙ append-nil seen
 
-module _ (reader_old reader : Option (List ℕ)) (line : List ℕ) (count turns : ℕ) (old mid : Option (List ℕ)) (read : IsReadTo reader_old reader line count turns old mid) where
+module _ (reader_old reader : Option (List ℕ)) (line : List ℕ) (count turns : ℕ) (w v : World) (old mid : Option (List ℕ)) (read : IsReadTo reader_old reader line count turns w v old mid) where
   -- what was written so far
-  pub silent_so_far : IfSome reader_old (λ input. (text : List ℕ) × RunsFront (lines_of input) text × Appends old mid text)
-  silent_so_far = front_text reader_old reader read.seen read.lines line old mid read.consumed read.ran
+  pub silent_so_far : IfSome reader_old (λ input. (text : List ℕ) × RunsFront (lines_of input) w text × Appends old mid text)
+  silent_so_far = front_text reader_old reader read.seen read.lines line w v old mid read.consumed read.ran
 
   -- a piece more, whatever follows
   more_front : (piece : List ℕ) (rest : List ℕ → List (List ℕ)) → ((more : List ℕ) → lines_of ((line ++ piece) ++ more) ≡ rest more)
@@ -90,57 +94,58 @@ module _ (reader_old reader : Option (List ℕ)) (line : List ℕ) (count turns 
       ap lines_of (append_assoc read.seen piece more) ∙ read.ran.front (piece ++ more)
       ∙ ap (λ (x : List (List ℕ)). read.lines ++ x) (ap lines_of (sym (append_assoc line piece more)) ∙ begins more)
 
-  HasRun-more : (piece : List ℕ) (lines : List (List ℕ)) (rest : List ℕ) (new : Option (List ℕ)) → HasRun (line ++ piece) lines rest mid new
-      → HasRun (read.seen ++ piece) (read.lines ++ lines) rest old new
-  HasRun-more piece lines rest new run = record {
+  HasRun-more : (piece : List ℕ) (lines : List (List ℕ)) (rest : List ℕ) (u : World) (new : Option (List ℕ)) → HasRun (line ++ piece) lines rest v u mid new
+      → HasRun (read.seen ++ piece) (read.lines ++ lines) rest w u old new
+  HasRun-more piece lines rest u new run = record {
     text = read.ran.text ++ run.text;
     front = λ more. more_front piece (λ (m : List ℕ). lines ++ lines_of (rest ++ m)) run.front more ∙ sym (append_assoc read.lines lines (lines_of (rest ++ more)));
-    runs = RunsLines-append read.lines lines read.ran.text run.text read.ran.runs run.runs;
+    runs = RunsLines-append read.lines lines read.ran.text run.text w v u read.ran.runs run.runs;
     written = Appends-trans old mid new read.ran.text run.text read.ran.written run.written;
   }
 
-  HasStopped-more : (piece : List ℕ) (n : ℕ) (new : Option (List ℕ)) → HasStopped (line ++ piece) count n mid new → HasStopped (read.seen ++ piece) 0 n old new
+  HasStopped-more : (piece : List ℕ) (n : ℕ) (new : Option (List ℕ)) → HasStopped (line ++ piece) count n v mid new → HasStopped (read.seen ++ piece) 0 n w old new
   HasStopped-more piece n new stop = record {
     lines = read.lines ++ stop.lines;
     line = stop.line;
     rest = stop.rest;
+    left = stop.left;
     text = read.ran.text ++ stop.text;
     front = λ more. more_front piece (λ (m : List ℕ). stop.lines ++ (stop.line ∷ lines_of (stop.rest ++ m))) stop.front more
         ∙ sym (append_assoc read.lines stop.lines (stop.line ∷ lines_of (stop.rest ++ more)));
     number = omega (arith, stop.number, read.number, length-append read.lines stop.lines);
     no_command = stop.no_command;
-    runs = RunsLines-append read.lines stop.lines read.ran.text stop.text read.ran.runs stop.runs;
+    runs = RunsLines-append read.lines stop.lines read.ran.text stop.text w v stop.left read.ran.runs stop.runs;
     written = subst (λ (t : List ℕ). Appends old new t) (sym (append_assoc read.ran.text stop.text (refusal_text n)))
         (Appends-trans old mid new read.ran.text (stop.text ++ refusal_text n) read.ran.written stop.written);
   }
 
   -- a turn more
-  pub read_more : (piece rest : List ℕ) (reader_new new : Option (List ℕ)) (sum : ℕ) → Consumes reader reader_new piece → length piece ≤ 4096
-      → (lines : List (List ℕ)) × (sum ≡ count + length lines) × HasRun (line ++ piece) lines rest mid new
+  pub read_more : (piece rest : List ℕ) (u : World) (reader_new new : Option (List ℕ)) (sum : ℕ) → Consumes reader reader_new piece → length piece ≤ 4096
+      → (lines : List (List ℕ)) × (sum ≡ count + length lines) × HasRun (line ++ piece) lines rest v u mid new
       → IsOneLine rest → sum ≤ count + length piece
-      → IsReadTo reader_old reader_new rest sum (turns + 1) old new
-  read_more piece rest reader_new new sum consumed short ran plain few = record {
+      → IsReadTo reader_old reader_new rest sum (turns + 1) w u old new
+  read_more piece rest u reader_new new sum consumed short ran plain few = record {
     seen = read.seen ++ piece;
     consumed = Consumes-trans reader_old reader reader_new read.seen piece read.consumed consumed;
     lines = read.lines ++ ran.0;
     number = omega (arith, ran.1, read.number, length-append read.lines ran.0);
-    ran = HasRun-more piece ran.0 rest new ran.2;
+    ran = HasRun-more piece ran.0 rest u new ran.2;
     plain = plain;
     few = omega (arith, few, short, read.few);
   }
 
   -- a turn failed in silence
-  pub silent_in_turn : (piece : List ℕ) (reader_new new : Option (List ℕ)) → Consumes reader reader_new piece → HasRunSome (line ++ piece) mid new
-      → IfSome reader_old (λ input. (text : List ℕ) × RunsFront (lines_of input) text × Appends old new text)
-  silent_in_turn piece reader_new new consumed ran =
-      front_text reader_old reader_new (read.seen ++ piece) (read.lines ++ ran.0) ran.1 old new
-      (Consumes-trans reader_old reader reader_new read.seen piece read.consumed consumed) (HasRun-more piece ran.0 ran.1 new ran.2)
+  pub silent_in_turn : (piece : List ℕ) (reader_new new : Option (List ℕ)) → Consumes reader reader_new piece → HasRunSome (line ++ piece) v mid new
+      → IfSome reader_old (λ input. (text : List ℕ) × RunsFront (lines_of input) w text × Appends old new text)
+  silent_in_turn piece reader_new new consumed some =
+      front_text reader_old reader_new (read.seen ++ piece) (read.lines ++ some.lines) some.rest w some.left old new
+      (Consumes-trans reader_old reader reader_new read.seen piece read.consumed consumed) (HasRun-more piece some.lines some.rest some.left new some.ran)
 
   -- a turn met a line that is no command
-  pub stopped_in_turn : (piece : List ℕ) (reader_new new : Option (List ℕ)) (n : ℕ) → Consumes reader reader_new piece → HasStopped (line ++ piece) count n mid new
-      → IfSome reader_old (λ input. (text : List ℕ) × StopsAt (lines_of input) n text × Appends old new (text ++ refusal_text n))
+  pub stopped_in_turn : (piece : List ℕ) (reader_new new : Option (List ℕ)) (n : ℕ) → Consumes reader reader_new piece → HasStopped (line ++ piece) count n v mid new
+      → IfSome reader_old (λ input. (text : List ℕ) × StopsAt (lines_of input) n w text × Appends old new (text ++ refusal_text n))
   stopped_in_turn piece reader_new new n consumed stop =
-      stopped_text reader_old reader_new (read.seen ++ piece) n old new
+      stopped_text reader_old reader_new (read.seen ++ piece) n w old new
       (Consumes-trans reader_old reader reader_new read.seen piece read.consumed consumed) (HasStopped-more piece n new stop)
 
   -- ---- the last line, which the end of the input ends
@@ -154,22 +159,23 @@ module _ (reader_old reader : Option (List ℕ)) (line : List ℕ) (count turns 
     whole xs is = ap lines_of (all_read xs reader_old reader reader_new read.seen is read.consumed none done) ∙ last_line
 
     -- it was run
-    ended_at : (new source : Option (List ℕ)) → reader_old ≡ source → (text : List ℕ) × RunsLine line text × Appends mid new text
-        → IfSome source (λ input. (text : List ℕ) × RunsLines (lines_of input) text × Appends old new text)
-    ended_at new None is printed = tt
-    ended_at new (Some xs) is printed = rw (whole xs is) (
+    ended_at : (u : World) (new source : Option (List ℕ)) → reader_old ≡ source → (text : List ℕ) × RunsLine line v u text × Appends mid new text
+        → IfSome source (λ input. (left : World) × (text : List ℕ) × RunsLines (lines_of input) w left text × Appends old new text)
+    ended_at u new None is printed = tt
+    ended_at u new (Some xs) is printed = rw (whole xs is) (
+      u,
       read.ran.text ++ printed.0,
-      RunsLines-push read.lines line read.ran.text printed.0 read.ran.runs printed.1,
+      RunsLines-push read.lines line read.ran.text printed.0 w v u read.ran.runs printed.1,
       Appends-trans old mid new read.ran.text printed.0 read.ran.written printed.2,
     )
 
-    pub ended : (new : Option (List ℕ)) → (text : List ℕ) × RunsLine line text × Appends mid new text
-        → IfSome reader_old (λ input. (text : List ℕ) × RunsLines (lines_of input) text × Appends old new text)
-    ended new printed = ended_at new reader_old refl printed
+    pub ended : (u : World) (new : Option (List ℕ)) → (text : List ℕ) × RunsLine line v u text × Appends mid new text
+        → IfSome reader_old (λ input. (left : World) × (text : List ℕ) × RunsLines (lines_of input) w left text × Appends old new text)
+    ended u new printed = ended_at u new reader_old refl printed
 
     -- it is no command
     stopped_end_at : (new source : Option (List ℕ)) (n : ℕ) → reader_old ≡ source → n ≡ count + 1 → IsNoCommand line → Appends mid new (refusal_text (count + 1))
-        → IfSome source (λ input. (text : List ℕ) × StopsAt (lines_of input) n text × Appends old new (text ++ refusal_text n))
+        → IfSome source (λ input. (text : List ℕ) × StopsAt (lines_of input) n w text × Appends old new (text ++ refusal_text n))
     stopped_end_at new None n is number none told = tt
     stopped_end_at new (Some xs) n is number no_command told = (
       read.ran.text,
@@ -177,6 +183,7 @@ module _ (reader_old reader : Option (List ℕ)) (line : List ℕ) (count turns 
         before = read.lines;
         line = line;
         after = [];
+        left = v;
         split = whole xs is;
         number = omega (arith, number, read.number);
         no_command = no_command;
@@ -186,5 +193,5 @@ module _ (reader_old reader : Option (List ℕ)) (line : List ℕ) (count turns 
     )
 
     pub stopped_at_end : (new : Option (List ℕ)) (n : ℕ) → n ≡ count + 1 → IsNoCommand line → Appends mid new (refusal_text (count + 1))
-        → IfSome reader_old (λ input. (text : List ℕ) × StopsAt (lines_of input) n text × Appends old new (text ++ refusal_text n))
+        → IfSome reader_old (λ input. (text : List ℕ) × StopsAt (lines_of input) n w text × Appends old new (text ++ refusal_text n))
     stopped_at_end new n number no_command told = stopped_end_at new reader_old n refl number no_command told

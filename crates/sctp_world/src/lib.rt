@@ -7,6 +7,7 @@
 mod answer;
 mod checksum;
 mod command;
+mod printing;
 mod probing;
 mod script;
 mod socket;

@@ -1,18 +1,32 @@
 //! What happens in a world, and what a judge sees of it.
 
-ghost use Rattle.std.specs.Prelude.{◌≡◌, ℕ, [], ◌∷◌, IfOk};
+ghost use Rattle.std.specs.Prelude.{◌≡◌, ℕ, [], ◌∷◌, IfOk, Some};
+ghost use Rattle.sctp_world.specs.Commands.{end_name};
 ghost use Rattle.sctp_world.specs.SocketView.{message_tree};
+ghost use Rattle.sctp_world.specs.WorldView.{end_tree};
 
 use crate::socket::Association;
 use sctp_serial::{Message, SocketTime};
 use sctp_state::{GivenUp, SendError, SendOptions, SocketEvent};
 use std::alloc::{AllocError, Global};
+use std::fmt;
 
 /// One of the two ends.
 #[derive(Clone, Copy, Debug, PartialEq, Eq)]
 pub enum End {
     A,
     B,
+}
+
+impl fmt::Display for End {
+    ghost output = { λ end. Some (end_name (end_tree end)) };
+
+    fn fmt<W: fmt::Write>(&self, f: &mut fmt::Formatter<W>) -> fmt::Result {
+        match self {
+            End::A => write!(f, "a"),
+            End::B => write!(f, "b"),
+        }
+    }
 }
 
 /// A call of an end.
