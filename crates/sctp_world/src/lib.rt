@@ -1,7 +1,7 @@
 //! Two ends that talk to each other, what a judge sees of them, and the commands that drive them.
 //!
-//! [`World`] has two ends to which nothing is lost. The commands have as yet one alone, `probe`: a packet comes in, and its
-//! message and the packet that acknowledges it go out.
+//! [`World`] has two ends to which nothing is lost. The commands drive one, a line each; one more, `probe`, reads a packet
+//! and answers with its message and the packet that acknowledges it.
 #![tactic(auto)]
 
 mod answer;
