@@ -8,3 +8,4 @@ pub mod Resets
 pub mod Restarted
 pub mod Settings
 pub mod Views
+pub mod Windows

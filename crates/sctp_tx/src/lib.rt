@@ -3,6 +3,7 @@
 
 pub mod data_to_send;
 pub mod laws;
+mod retransmission_queue;
 pub mod send_queue;
 
 pub use data_to_send::DataToSend;

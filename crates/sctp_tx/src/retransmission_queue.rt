@@ -1,0 +1,3 @@
+//! What is sent, and sent again.
+
+mod windows;

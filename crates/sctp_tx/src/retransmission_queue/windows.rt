@@ -1,0 +1,146 @@
+//! The windows of a sender: how much it may have in flight (RFC 9260 sections 6.1, 7.2).
+
+ghost use Rattle.std.specs.Prelude.{◌≡◌, ◌+◌, nat_le, is_some};
+ghost use Rattle.sctp_state.specs.Options.{options_of, IsValid};
+ghost use Rattle.sctp_tx.specs.Windows.{at_first, grown, slow_start, avoidance, halved, recovering, timed_out, acknowledged, told, taken, room, may_send, capped};
+
+use sctp_state::Options;
+
+/// Sizes are in bytes. They stop at the greatest number of their type.
+#[derive(Clone, Copy, Debug, PartialEq, Eq)]
+pub struct Windows {
+    /// The largest packet.
+    pub mtu: usize,
+    /// A loss leaves at least so large a congestion window.
+    pub least_cwnd: usize,
+    /// Below this congestion window new fragments may be smaller than a packet.
+    pub unfragmented_cwnd: usize,
+    /// The congestion window.
+    pub cwnd: usize,
+    /// Up to this congestion window, slow start.
+    pub ssthresh: usize,
+    /// What the peer's window has left.
+    pub rwnd: usize,
+    /// What was acknowledged towards the next growth in congestion avoidance.
+    pub partial_bytes_acked: usize,
+    /// Fast recovery, until this TSN, unwrapped, is acknowledged.
+    pub fast_recovery_exit: Option<u64>,
+}
+
+impl Windows {
+    /// `a_rwnd` is the peer's first window.
+    pub fn new(options: &Options, a_rwnd: u32) -> Windows
+        requires { IsValid (options_of options.now) }
+        ensures { result ≡ at_first (options_of options.now) a_rwnd }
+    {
+        Windows {
+            mtu: options.mtu,
+            least_cwnd: options.cwnd_mtus_min * options.mtu,
+            unfragmented_cwnd: options.avoid_fragmentation_cwnd_mtus * options.mtu,
+            cwnd: options.cwnd_mtus_initial * options.mtu,
+            ssthresh: a_rwnd as usize,
+            rwnd: a_rwnd as usize,
+            partial_bytes_acked: 0,
+            fast_recovery_exit: None,
+        }
+    }
+
+    /// The cumulative TSN moved outside fast recovery: `before` bytes were unacknowledged, of which `acked` newly aren't.
+    pub fn grow(&mut self, before: usize, acked: usize)
+        ensures { self.new ≡ grown before acked self.old }
+    {
+        if self.cwnd <= self.ssthresh {
+            self.start_slowly(before, acked);
+        } else {
+            self.avoid_congestion(self.partial_bytes_acked.saturating_add(acked));
+        }
+    }
+
+    fn start_slowly(&mut self, before: usize, acked: usize)
+        ensures { self.new ≡ record self.old { cwnd = slow_start (nat_le self.old.cwnd (before + self.old.mtu)) acked self.old } }
+    {
+        if self.cwnd <= before.saturating_add(self.mtu) {
+            self.cwnd = self.cwnd.saturating_add(acked.min(self.mtu));
+        }
+    }
+
+    fn avoid_congestion(&mut self, sum: usize)
+        ensures { self.new ≡ avoidance (nat_le self.old.cwnd sum) sum self.old }
+    {
+        if self.cwnd <= sum {
+            self.partial_bytes_acked = sum - self.cwnd;
+            self.cwnd = self.cwnd.saturating_add(self.mtu);
+        } else {
+            self.partial_bytes_acked = sum;
+        }
+    }
+
+    fn halved(&self) -> usize
+        ensures { result ≡ halved self.now }
+    {
+        (self.cwnd / 2).max(self.least_cwnd)
+    }
+
+    /// An item was reported missing for the third time outside fast recovery, which lasts until `exit` is acknowledged.
+    pub fn recover(&mut self, exit: u64)
+        ensures { self.new ≡ recovering exit self.old }
+    {
+        self.ssthresh = self.halved();
+        self.cwnd = self.ssthresh;
+        self.fast_recovery_exit = Some(exit);
+    }
+
+    /// The timer of retransmissions expired.
+    pub fn time_out(&mut self)
+        ensures { self.new ≡ timed_out self.old }
+    {
+        self.ssthresh = self.halved();
+        self.cwnd = self.mtu;
+    }
+
+    /// All TSNs up to this one, unwrapped, are acknowledged.
+    pub fn acknowledge(&mut self, cumulative: u64)
+        ensures { self.new ≡ acknowledged cumulative self.old }
+    {
+        if let Some(exit) = self.fast_recovery_exit {
+            if exit <= cumulative {
+                self.fast_recovery_exit = None;
+            }
+        }
+    }
+
+    pub fn is_in_fast_recovery(&self) -> bool
+        ensures { result ≡ is_some self.now.fast_recovery_exit }
+    {
+        self.fast_recovery_exit.is_some()
+    }
+
+    /// The peer told its window, while so much payload was unacknowledged.
+    pub fn hear_window(&mut self, a_rwnd: u32, payload: usize)
+        ensures { self.new ≡ told a_rwnd payload self.old }
+    {
+        self.rwnd = (a_rwnd as usize).saturating_sub(payload);
+    }
+
+    /// A chunk of this padded size goes out.
+    pub fn take(&mut self, size: usize)
+        ensures { self.new ≡ taken size self.old }
+    {
+        self.rwnd = self.rwnd.saturating_sub(size);
+    }
+
+    /// What may go yet, with so much in flight. With nothing in flight the peer's window doesn't count.
+    pub fn room(&self, is_quiet: bool, flight: usize) -> usize
+        ensures { result ≡ room is_quiet flight self.now }
+    {
+        let left = self.cwnd.saturating_sub(flight);
+        if is_quiet { left } else { left.min(self.rwnd) }
+    }
+
+    /// Whether new fragments may go: with a small congestion window, or with room for a whole packet.
+    pub fn may_send(&self, is_quiet: bool, flight: usize) -> bool
+        ensures { result ≡ may_send is_quiet flight self.now }
+    {
+        self.cwnd < self.unfragmented_cwnd || self.mtu <= self.room(is_quiet, flight)
+    }
+}
