@@ -4,7 +4,7 @@ use crate::tests::words::Words;
 use crate::*;
 use rand_core::Rng;
 use sctp_serial::{LifecycleId, Message, PpId, StreamId};
-use sctp_state::{Options, SendOptions};
+use sctp_state::{ErrorKind, Options, SendError, SendOptions, SocketEvent};
 use std::alloc::AllocError;
 use std::test::Fail;
 
@@ -62,6 +62,37 @@ fn a_message_crosses(rt: HostRuntime) -> Result<(), Fail> {
         assert_eq!(rt; size(&world, End::B, number), b);
     }
     Ok(())
+}
+
+/// Whether the last entries of the log tell of an empty message that was refused, and of nothing more.
+fn refuses_nothing<R: Rng>(rt: &HostRuntime, world: &mut World<R, ByteSum>) -> bool {
+    let empty = Message::new(StreamId(1), PpId(53), Vec::new(rt.alloc()));
+    let before = world.log().len();
+    let event = Event::Call(End::A, Call::Send(empty, SendOptions::default()));
+    if world.step(&event).is_err() {
+        return false;
+    }
+    match world.log().get(before..) {
+        Some(
+            [
+                Entry::Send(End::A, _, _, _, Some(error)),
+                Entry::Event(End::A, told),
+            ],
+        ) => {
+            *error == SendError::EmptyPayload
+                && matches!(told, SocketEvent::OnError(ErrorKind::ProtocolViolation, _))
+        }
+        _ => false,
+    }
+}
+
+#[test]
+fn an_empty_message(rt: HostRuntime) {
+    let world = fresh(&rt, Words::new(0, 0), Words::new(0, 0));
+    assert!(rt; world.is_some());
+    if let Some(mut world) = world {
+        assert!(rt; refuses_nothing(&rt, &mut world));
+    }
 }
 
 #[test]
