@@ -61,37 +61,53 @@ fn has_valid_tsns(tracker: &DataTracker) -> bool {
         && !tracker.is_tsn_valid(Tsn(4_294_867_304))
 }
 
+// A gap and a duplicate.
+fn observes(tracker: &mut DataTracker) -> Option<bool> {
+    let is_new = observe_each(tracker, &[10, 12])?;
+    let is_new_again = observe(tracker, 0, 12)?;
+    let is_far_new = observe(tracker, 0, 2_000_000)?;
+    let is_told = tells(tracker, 10, &[block(2, 2)], &[Tsn(12)])?;
+    let is_told_once = tells(tracker, 10, &[block(2, 2)], &[])?;
+    Some(is_new && !is_new_again && !is_far_new && is_told && is_told_once)
+}
+
+// The point before the gap's end.
+fn forwards(tracker: &mut DataTracker) -> Option<bool> {
+    let is_next = tracker.will_increase_cum_ack_tsn(Tsn(11));
+    let is_next_but_one = tracker.will_increase_cum_ack_tsn(Tsn(12));
+    let is_new = forward(tracker, 11)?;
+    let is_front = tracker.last_cumulative_acked_tsn() == Tsn(12);
+    let is_new_again = forward(tracker, 11)?;
+    let is_front_still = tracker.last_cumulative_acked_tsn() == Tsn(12);
+    Some(is_next && !is_next_but_one && is_new && is_front && !is_new_again && is_front_still)
+}
+
 #[test]
 fn observes_and_forwards(rt: HostRuntime) {
     let mut tracker = fresh(rt.alloc(), 10);
     assert!(rt; has_valid_tsns(&tracker));
-    assert!(rt; observe_each(&mut tracker, &[10, 12]) == Some(true));
-    assert!(rt; observe(&mut tracker, 0, 12) == Some(false));
-    assert!(rt; observe(&mut tracker, 0, 2_000_000) == Some(false));
-    assert!(rt; tells(&mut tracker, 10, &[block(2, 2)], &[Tsn(12)]) == Some(true));
-    assert!(rt; tells(&mut tracker, 10, &[block(2, 2)], &[]) == Some(true));
-    assert!(rt; tracker.will_increase_cum_ack_tsn(Tsn(11)));
-    assert!(rt; !tracker.will_increase_cum_ack_tsn(Tsn(12)));
-    assert!(rt; forward(&mut tracker, 11) == Some(true));
-    assert_eq!(rt; tracker.last_cumulative_acked_tsn(), Tsn(12));
-    assert!(rt; forward(&mut tracker, 11) == Some(false));
-    assert_eq!(rt; tracker.last_cumulative_acked_tsn(), Tsn(12));
+    assert!(rt; observes(&mut tracker) == Some(true));
+    assert!(rt; forwards(&mut tracker) == Some(true));
 }
 
 const LATE: u32 = 4_294_967_290;
 
+fn counts_on(tracker: &mut DataTracker) -> Option<bool> {
+    let is_new = observe_each(tracker, &[LATE, LATE + 2, 0, 2])?;
+    let three = [block(2, 2), block(6, 6), block(8, 8)];
+    let is_told = tells(tracker, LATE, &three, &[])?;
+    let is_next_new = observe_each(tracker, &[LATE + 1])?;
+    let is_joined = tells(tracker, LATE + 2, &[block(4, 4), block(6, 6)], &[])?;
+    let is_moved = forward(tracker, 1)?;
+    let is_filled = tells(tracker, 2, &[], &[])?;
+    let is_moved_again = forward(tracker, 1)?;
+    Some(is_new && is_told && is_next_new && is_joined && is_moved && is_filled && !is_moved_again)
+}
+
 #[test]
 fn counts_on_where_tsns_wrap(rt: HostRuntime) {
     let mut tracker = fresh(rt.alloc(), LATE);
-    assert!(rt; observe_each(&mut tracker, &[LATE, LATE + 2, 0, 2]) == Some(true));
-    let blocks = [block(2, 2), block(6, 6), block(8, 8)];
-    assert!(rt; tells(&mut tracker, LATE, &blocks, &[]) == Some(true));
-    assert!(rt; observe_each(&mut tracker, &[LATE + 1]) == Some(true));
-    let blocks = [block(4, 4), block(6, 6)];
-    assert!(rt; tells(&mut tracker, LATE + 2, &blocks, &[]) == Some(true));
-    assert!(rt; forward(&mut tracker, 1) == Some(true));
-    assert!(rt; tells(&mut tracker, 2, &[], &[]) == Some(true));
-    assert!(rt; forward(&mut tracker, 1) == Some(false));
+    assert!(rt; counts_on(&mut tracker) == Some(true));
 }
 
 // The first DATA is acknowledged at once.

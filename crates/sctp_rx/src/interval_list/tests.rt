@@ -76,19 +76,21 @@ fn fills_the_gap(rt: HostRuntime) {
 }
 
 // A key that is held is not taken twice, two whole messages are two intervals, and an incomplete one is not taken.
-fn keeps_apart<K: ReassemblyKey>(alloc: Global, first: K, second: K, third: K) -> Option<bool> {
-    let mut list = IntervalList::new(alloc);
-    let places = [
-        put(alloc, &mut list, first, b"a", (true, true))?,
-        put(alloc, &mut list, first, b"c", (true, true))?,
-        put(alloc, &mut list, second, b"b", (true, true))?,
-        put(alloc, &mut list, third, b"x", (true, false))?,
-    ];
-    let is_kept = places == [Some(0), None, Some(1), Some(2)] && list.len() == 3;
-    Some(is_kept && is_taken_apart(&mut list, third))
+fn keeps_apart<K: ReassemblyKey>(
+    alloc: Global,
+    list: &mut IntervalList<K>,
+    first: K,
+    second: K,
+    third: K,
+) -> Option<bool> {
+    let place = put(alloc, list, first, b"a", (true, true))?;
+    let again = put(alloc, list, first, b"c", (true, true))?;
+    let next = put(alloc, list, second, b"b", (true, true))?;
+    let last = put(alloc, list, third, b"x", (true, false))?;
+    Some(place == Some(0) && again.is_none() && next == Some(1) && last == Some(2))
 }
 
-fn is_taken_apart<K: ReassemblyKey>(list: &mut IntervalList<K>, third: K) -> bool {
+fn takes_apart<K: ReassemblyKey>(list: &mut IntervalList<K>, third: K) -> bool {
     if list.len() != 3 || list.pop_if_complete(2).is_some() {
         return false;
     }
@@ -98,17 +100,29 @@ fn is_taken_apart<K: ReassemblyKey>(list: &mut IntervalList<K>, third: K) -> boo
     is_next && is_gone && list.len() == 1 && list.total_bytes() == 1
 }
 
+fn is_apart<K: ReassemblyKey>(alloc: Global, first: K, second: K, third: K) -> bool {
+    let mut list = IntervalList::new(alloc);
+    keeps_apart(alloc, &mut list, first, second, third) == Some(true)
+        && takes_apart(&mut list, third)
+}
+
+fn by_tsn(number: u64, index: u64) -> TraditionalKey {
+    TraditionalKey { number, index }
+}
+
+fn by_fsn(number: u64) -> InterleavedKey {
+    InterleavedKey { number, index: 0 }
+}
+
+fn unordered(number: u64) -> UnorderedInterleavedKey {
+    UnorderedInterleavedKey { number, index: 0 }
+}
+
 #[test]
 fn keeps_messages_apart(rt: HostRuntime) {
-    let by_tsn = |number, index| TraditionalKey { number, index };
-    let by_fsn = |number, index| InterleavedKey { number, index };
-    let unordered = |number, index| UnorderedInterleavedKey { number, index };
-    let alloc = rt.alloc();
-    assert!(rt; keeps_apart(alloc, by_tsn(0, 0), by_tsn(1, 1), by_tsn(2, 2)) == Some(true));
-    assert!(rt; keeps_apart(alloc, by_fsn(0, 0), by_fsn(1, 0), by_fsn(2, 0)) == Some(true));
-    assert!(rt;
-        keeps_apart(alloc, unordered(0, 0), unordered(1, 0), unordered(2, 0)) == Some(true)
-    );
+    assert!(rt; is_apart(rt.alloc(), by_tsn(0, 0), by_tsn(1, 1), by_tsn(2, 2)));
+    assert!(rt; is_apart(rt.alloc(), by_fsn(0), by_fsn(1), by_fsn(2)));
+    assert!(rt; is_apart(rt.alloc(), unordered(0), unordered(1), unordered(2)));
 }
 
 // An incomplete interval in front stops no message that is in turn.

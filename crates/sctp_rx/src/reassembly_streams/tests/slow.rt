@@ -167,7 +167,24 @@ fn comes<S: ReassemblyStreams>(
     give(streams, ready, tsn as u64, fragment)
 }
 
-// Whether the streams and the list make the same messages ready at each arrival, and hold as much.
+// Whether the streams and the list make the same messages ready at an arrival, and hold as much.
+fn step<S: ReassemblyStreams>(
+    alloc: Global,
+    streams: &mut S,
+    ready: &mut ReadyMessages,
+    rows: &[Row],
+    held: &mut Vec<u32>,
+    next: &mut [u16],
+    tsn: u32,
+) -> Option<bool> {
+    let row = row_of(rows, tsn)?;
+    comes(alloc, streams, ready, &row, tsn)?;
+    held.push(tsn).ok()?;
+    let is_good = takes_after(ready, held, rows, next, &row);
+    Some(is_good && ready.len() == 0 && streams.queued_bytes() == held.len())
+}
+
+// Whether they do at each arrival.
 fn is_same<S: ReassemblyStreams>(
     alloc: Global,
     streams: &mut S,
@@ -179,34 +196,44 @@ fn is_same<S: ReassemblyStreams>(
     let mut next = [0, 0, 0];
     for i in 0..COUNT {
         let tsn = tsn_in(order, i);
-        let row = row_of(rows, tsn)?;
-        comes(alloc, streams, &mut ready, &row, tsn)?;
-        held.push(tsn).ok()?;
-        let is_good = takes_after(&mut ready, held, rows, &mut next, &row);
-        if !is_good || ready.len() != 0 || streams.queued_bytes() != held.len() {
-            return Some(false);
+        if step(alloc, streams, &mut ready, rows, held, &mut next, tsn) != Some(true) {
+            return None;
         }
     }
     Some(held.is_empty())
 }
 
-fn is_same_in_each_order(alloc: Global) -> Option<bool> {
-    let rows = table(alloc).ok()?;
-    let mut held = Vec::new(alloc);
+fn is_same_by_tsn(alloc: Global, rows: &[Row], held: &mut Vec<u32>) -> Option<bool> {
     for order in 0..3 {
-        let mut by_tsn = TraditionalReassemblyStreams::new(alloc);
-        let mut by_fsn = InterleavedReassemblyStreams::new(alloc);
-        let is_good = is_same(alloc, &mut by_tsn, &rows, &mut held, order)?;
-        let is_other_good = is_same(alloc, &mut by_fsn, &rows, &mut held, order)?;
-        if !is_good || !is_other_good {
-            return Some(false);
+        let mut streams = TraditionalReassemblyStreams::new(alloc);
+        if is_same(alloc, &mut streams, rows, held, order) != Some(true) {
+            return None;
         }
     }
     Some(true)
 }
 
+fn is_same_by_fsn(alloc: Global, rows: &[Row], held: &mut Vec<u32>) -> Option<bool> {
+    for order in 0..3 {
+        let mut streams = InterleavedReassemblyStreams::new(alloc);
+        if is_same(alloc, &mut streams, rows, held, order) != Some(true) {
+            return None;
+        }
+    }
+    Some(true)
+}
+
+fn are_same(alloc: Global, held: &mut Vec<u32>) -> Option<bool> {
+    let rows = table(alloc).ok()?;
+    Some(
+        is_same_by_tsn(alloc, &rows, held) == Some(true)
+            && is_same_by_fsn(alloc, &rows, held) == Some(true),
+    )
+}
+
 // Some fourteen thousand arrivals.
 #[test]
 fn is_the_slow_list(rt: HostRuntime) {
-    assert!(rt; is_same_in_each_order(rt.alloc()) == Some(true));
+    let mut held = Vec::new(rt.alloc());
+    assert!(rt; are_same(rt.alloc(), &mut held) == Some(true));
 }
