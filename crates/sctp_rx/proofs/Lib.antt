@@ -16,3 +16,5 @@ pub mod DeliverLemmas
 pub mod EntriesLemmas
 pub mod SkipLemmas
 pub mod WaitingLemmas
+pub mod ExtendsLemmas
+pub mod RestoredLemmas

@@ -13,3 +13,4 @@ pub mod Streams
 pub mod ReassemblyQueue
 pub mod Forms
 pub mod WaitingViews
+pub mod ReassemblyHandover

@@ -79,7 +79,10 @@ fn tsn_in(order: u32, i: u32) -> u32 {
     let place = match order {
         0 => i,
         1 => i.wrapping_mul(1_103) % COUNT,
-        _ => (i / 5).saturating_mul(5).saturating_add(4).saturating_sub(i % 5),
+        _ => (i / 5)
+            .saturating_mul(5)
+            .saturating_add(4)
+            .saturating_sub(i % 5),
     };
     place.saturating_add(1_000)
 }
