@@ -18,3 +18,4 @@ pub mod SkipLemmas
 pub mod WaitingLemmas
 pub mod ExtendsLemmas
 pub mod RestoredLemmas
+pub mod ReceptionLemmas

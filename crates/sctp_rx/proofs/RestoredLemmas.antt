@@ -24,11 +24,11 @@ module _ {S : Type 0} where
       ap (λ (r : Ordering). match_ordering r ((k, v) ∷ e ∷ es) ((e.0, v) ∷ es) (e ∷ insert_entry nat_cmp es k v)) (sym (nat_cmp_is k e.0 Greater h.0))
       ∙ ap (λ (t : List (ℕ × S)). e ∷ t) (insert_last es k v h.1)
 
-first_so : (a b : Bool) → (a && b) ≡ true → a ≡ true
+pub first_so : (a b : Bool) → (a && b) ≡ true → a ≡ true
 first_so true b h = refl
 first_so false b h = absurd (cc)
 
-second_so : (a b : Bool) → (a && b) ≡ true → b ≡ true
+pub second_so : (a b : Bool) → (a && b) ≡ true → b ≡ true
 second_so true b h = h
 second_so false b h = absurd (cc)
 

@@ -1,7 +1,10 @@
-ghost use Rattle.std.specs.Prelude.{◌≡◌, ◌∷◌, [], IfOk};
+ghost use Rattle.std.specs.Prelude.{◌≡◌, ◌∷◌, [], true, IfOk, IsTrue};
+ghost use Rattle.sctp_state.specs.Handover.{receive_of};
+ghost use Rattle.sctp_state.specs.Validity.{is_valid_reception};
 
 use super::*;
 use sctp_serial::{Fsn, Mid, PpId, Ssn, StreamKey};
+use sctp_state::api::handover::HandoverSocketState;
 
 // A message of one fragment and one byte.
 fn whole(alloc: Global, stream_key: StreamKey, number: u16, byte: u8) -> Result<Data, AllocError>
@@ -102,4 +105,103 @@ fn tells_its_sizes(rt: HostRuntime) {
     assert!(rt; tells_sizes(rt.alloc(), &mut queue) == Some(true));
     assert!(rt; queue.ready(1).is_some());
     assert!(rt; queue.ready(2).is_none());
+}
+
+// What stands in the way of a handover: a fragment that is held, then a reset that is deferred.
+fn tells_readiness(alloc: Global, queue: &mut ReassemblyQueue) -> Option<bool> {
+    let key = StreamKey::Ordered(StreamId(3));
+    give(alloc, queue, 2, key, 1, 98)?;
+    let held = queue.get_handover_readiness();
+    give(alloc, queue, 1, key, 0, 97)?;
+    let ready = queue.get_handover_readiness();
+    queue.enter_deferred_reset(Tsn(9), &[]).ok()?;
+    let deferred = queue.get_handover_readiness();
+    queue
+        .reset_streams_and_leave_deferred_reset(&[StreamId(7)])
+        .ok()?;
+    Some(
+        held == HandoverReadiness::STREAM_HAS_UNASSEMBLED_CHUNKS
+            && ready == HandoverReadiness::READY
+            && deferred == HandoverReadiness::STREAM_RESET_DEFERRED,
+    )
+}
+
+// Whether the record has stream 3 alone, with this next number.
+fn is_written(queue: &ReassemblyQueue, state: &mut SocketHandoverState, next: u32) -> Option<bool> {
+    queue.add_to_handover_state(state).ok()?;
+    let written = *state.rx.ordered_streams.first()?;
+    Some(
+        state.rx.ordered_streams.len() == 1
+            && state.rx.unordered_streams.is_empty()
+            && written.id == 3
+            && written.next_ssn == next,
+    )
+}
+
+// Two messages are ready, and the record is that of a stream where two came.
+fn hands_over(
+    alloc: Global,
+    queue: &mut ReassemblyQueue,
+    state: &mut SocketHandoverState,
+) -> Option<bool> {
+    let is_told = tells_readiness(alloc, queue)?;
+    let is_written = is_written(queue, state, 2)?;
+    Some(is_told && is_written && is_next(queue, 97) && is_next(queue, 98))
+}
+
+// Two messages came on the stream before: a second one is late, the third becomes ready.
+fn goes_on(alloc: Global, queue: &mut ReassemblyQueue) -> Option<bool> {
+    let key = StreamKey::Ordered(StreamId(3));
+    give(alloc, queue, 4, key, 1, 98)?;
+    let is_late = queue.queued_bytes() == 0;
+    give(alloc, queue, 3, key, 2, 99)?;
+    Some(is_late && is_next(queue, 99))
+}
+
+// The record of a socket that has sent nothing.
+fn record(alloc: Global, message_interleaving: bool) -> SocketHandoverState {
+    let mut state = SocketHandoverState::empty(alloc);
+    state.socket_state = HandoverSocketState::Connected;
+    state.my_verification_tag = 1;
+    state.peer_verification_tag = 1;
+    state.capabilities.message_interleaving = message_interleaving;
+    state.tx.cwnd = 1;
+    state.tx.next_tsn = 1;
+    state
+}
+
+#[tactic(auto, using(crate::proofs::ReceptionLemmas::valid_reception))]
+fn is_valid(state: &SocketHandoverState) -> bool
+    ensures { IsTrue result → is_valid_reception state.now.capabilities.message_interleaving (receive_of state.now.rx) ≡ true }
+{
+    match state.socket_state {
+        HandoverSocketState::Closed => false,
+        HandoverSocketState::Connected => state.is_valid(),
+    }
+}
+
+fn is_handed_over(alloc: Global, state: &mut SocketHandoverState) -> bool {
+    let interleaved = state.capabilities.message_interleaving;
+    let mut queue = ReassemblyQueue::new(alloc, 1000, interleaved);
+    hands_over(alloc, &mut queue, state) == Some(true)
+}
+
+fn is_restored(alloc: Global, state: &SocketHandoverState) -> bool {
+    if !is_valid(state) {
+        return false;
+    }
+    let mut queue = ReassemblyQueue::new(alloc, 1000, state.capabilities.message_interleaving);
+    if queue.restore_from_state(state).is_err() {
+        return false;
+    }
+    goes_on(alloc, &mut queue) == Some(true)
+}
+
+#[test]
+fn goes_on_elsewhere(rt: HostRuntime) {
+    for interleaved in [false, true] {
+        let mut state = record(rt.alloc(), interleaved);
+        assert!(rt; is_handed_over(rt.alloc(), &mut state));
+        assert!(rt; is_restored(rt.alloc(), &state));
+    }
 }
