@@ -19,3 +19,7 @@ pub mod WaitingLemmas
 pub mod ExtendsLemmas
 pub mod RestoredLemmas
 pub mod ReceptionLemmas
+pub mod SettledRunsLemmas
+pub mod SettledInsertLemmas
+pub mod SettledStreamsLemmas
+pub mod SettledQueueLemmas

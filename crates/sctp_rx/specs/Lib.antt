@@ -14,3 +14,4 @@ pub mod ReassemblyQueue
 pub mod Forms
 pub mod WaitingViews
 pub mod ReassemblyHandover
+pub mod Settled
