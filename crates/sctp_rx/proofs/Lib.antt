@@ -23,3 +23,4 @@ pub mod SettledRunsLemmas
 pub mod SettledInsertLemmas
 pub mod SettledStreamsLemmas
 pub mod SettledQueueLemmas
+pub mod FrontLemmas
