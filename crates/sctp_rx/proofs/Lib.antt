@@ -24,3 +24,4 @@ pub mod SettledInsertLemmas
 pub mod SettledStreamsLemmas
 pub mod SettledQueueLemmas
 pub mod FrontLemmas
+pub mod WrittenLemmas

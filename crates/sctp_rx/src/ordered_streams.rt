@@ -75,7 +75,8 @@ impl<K: ReassemblyKey> OrderedStreams<K> {
         alloc: Global,
         is_interleaved: bool,
     ) -> Result<Vec<HandoverOrderedStream>, AllocError>
-        ensures { IfOk result (λ records. records.items ≡ ordered_records is_interleaved self.now) }
+        ensures value { IfOk result (λ records. records.items ≡ ordered_records is_interleaved self.now) }
+        ensures rises { IfOk result (λ records. rises_from 0 (ordered_ids records.items) ≡ true) }
     {
         records(alloc, &self.streams, is_interleaved)
     }
@@ -259,8 +260,10 @@ fn records<K: ReassemblyKey>(
     streams: &BTreeMap<u16, OrderedStream<K>>,
     is_interleaved: bool,
 ) -> Result<Vec<HandoverOrderedStream>, AllocError>
-    ensures { IfOk result (λ records. records.items ≡ ordered_records is_interleaved streams.now.entries) }
+    ensures value { IfOk result (λ records. records.items ≡ ordered_records is_interleaved streams.now.entries) }
+    ensures rises { IfOk result (λ records. rises_from 0 (ordered_ids records.items) ≡ true) }
 {
+    let _count = streams.len();
     let mut records = Vec::new(alloc);
     for (id, stream) in streams {
         records.push(HandoverOrderedStream {

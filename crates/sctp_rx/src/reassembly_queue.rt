@@ -337,6 +337,7 @@ impl ReassemblyQueue {
     /// nothing is written.
     pub fn add_to_handover_state(&self, state: &mut SocketHandoverState) -> Result<(), AllocError>
         ensures ok { OnOk result (let old = handover_state_of state.old in handover_state_of state.new ≡ record old { rx = written self.now old.rx }) }
+        ensures valid { OnOk result (is_valid_reception self.now.streams.is_interleaved (receive_of state.new.rx) ≡ true) }
         ensures err { OnErr result (handover_state_of state.new ≡ handover_state_of state.old) }
     {
         self.streams.add_to_handover_state(self.alloc, state)?;

@@ -83,6 +83,7 @@ pub trait ReassemblyStreams {
         state: &mut SocketHandoverState,
     ) -> Result<(), AllocError>
         ensures ok { OnOk result (let old = handover_state_of state.old in handover_state_of state.new ≡ record old { rx = streams_written (streams self.now) old.rx }) }
+        ensures valid { OnOk result (is_valid_reception (streams self.now).is_interleaved (receive_of state.new.rx) ≡ true) }
         ensures err { OnErr result (handover_state_of state.new ≡ handover_state_of state.old) };
 
     /// Has the record's streams in place of its own, and holds nothing then. Without memory nothing changes.

@@ -74,7 +74,8 @@ impl<K: ReassemblyKey> UnorderedStreams<K> {
 
     /// The streams in a handover record.
     pub fn handed_over(&self, alloc: Global) -> Result<Vec<HandoverUnorderedStream>, AllocError>
-        ensures { IfOk result (λ records. records.items ≡ unordered_records self.now) }
+        ensures value { IfOk result (λ records. records.items ≡ unordered_records self.now) }
+        ensures rises { IfOk result (λ records. rises_from 0 (unordered_ids records.items) ≡ true) }
     {
         records(alloc, &self.streams)
     }
@@ -231,8 +232,10 @@ fn records<K: ReassemblyKey>(
     alloc: Global,
     streams: &BTreeMap<u16, UnorderedStream<K>>,
 ) -> Result<Vec<HandoverUnorderedStream>, AllocError>
-    ensures { IfOk result (λ records. records.items ≡ unordered_records streams.now.entries) }
+    ensures value { IfOk result (λ records. records.items ≡ unordered_records streams.now.entries) }
+    ensures rises { IfOk result (λ records. rises_from 0 (unordered_ids records.items) ≡ true) }
 {
+    let _count = streams.len();
     let mut records = Vec::new(alloc);
     for (id, _) in streams {
         records.push(HandoverUnorderedStream { id: *id })?;
