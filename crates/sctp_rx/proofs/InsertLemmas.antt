@@ -34,7 +34,7 @@ held_in : (xs ys : List Held) (x : Held) → is_held rank_of (rank_of x) (xs ++ 
 held_in [] ys x = grind (arith, nat_tests)
 held_in (e ∷ es) ys x = grind (arith, nat_tests, held_in es ys x)
 
-inserts_alone : (ps qs : List (List Held)) (x : Held) → AreRuns rank_of goes_on None (ps ++ qs) → IsBelow rank_of (rank_of x) (end_of None ps) → LeadsTo rank_of (rank_of x) qs
+pub inserts_alone : (ps qs : List (List Held)) (x : Held) → AreRuns rank_of goes_on None (ps ++ qs) → IsBelow rank_of (rank_of x) (end_of None ps) → LeadsTo rank_of (rank_of x) qs
     → joins_left rank_of goes_on (end_of None ps) x ≡ false → joins_right rank_of goes_on x qs ≡ false → IsInserted ps qs (ps ++ (x ∷ []) ∷ qs) x (length ps)
 inserts_alone ps qs x h below leads left right = record {
   kept = alone rank_of goes_on None x ps qs h below leads left right;
@@ -48,7 +48,7 @@ inserts_alone ps qs x h below leads left right = record {
   others = λ n. n;
 }
 
-inserts_left : (ps qs : List (List Held)) (d x : Held) (ds : List Held) → AreRuns rank_of goes_on None (ps ++ (d ∷ ds) ∷ qs) → LeadsTo rank_of (rank_of x) qs
+pub inserts_left : (ps qs : List (List Held)) (d x : Held) (ds : List Held) → AreRuns rank_of goes_on None (ps ++ (d ∷ ds) ∷ qs) → LeadsTo rank_of (rank_of x) qs
     → is_next rank_of goes_on (last_of d ds) x ≡ true → joins_right rank_of goes_on x qs ≡ false → IsInserted (ps ++ (d ∷ ds) ∷ []) qs (ps ++ ((d ∷ ds) ++ x ∷ []) ∷ qs) x (length ps)
 inserts_left ps qs d x ds h leads left right = record {
   kept = at_left rank_of goes_on None x d ds ps qs h leads left right;
@@ -64,7 +64,7 @@ inserts_left ps qs d x ds h leads left right = record {
   others = λ n. NoneComplete-without ps qs (d ∷ ds) (subst NoneComplete (append_assoc ps ((d ∷ ds) ∷ []) qs) n);
 }
 
-inserts_right : (ps qs : List (List Held)) (f x : Held) (fs : List Held) → AreRuns rank_of goes_on None (ps ++ (f ∷ fs) ∷ qs) → IsBelow rank_of (rank_of x) (end_of None ps)
+pub inserts_right : (ps qs : List (List Held)) (f x : Held) (fs : List Held) → AreRuns rank_of goes_on None (ps ++ (f ∷ fs) ∷ qs) → IsBelow rank_of (rank_of x) (end_of None ps)
     → joins_left rank_of goes_on (end_of None ps) x ≡ false → is_next rank_of goes_on x f ≡ true → IsInserted ps ((f ∷ fs) ∷ qs) (ps ++ (x ∷ (f ∷ fs)) ∷ qs) x (length ps)
 inserts_right ps qs f x fs h below left right = record {
   kept = at_right rank_of goes_on None x f fs ps qs h below left right;
@@ -78,7 +78,7 @@ inserts_right ps qs f x fs h below left right = record {
   others = NoneComplete-without ps qs (f ∷ fs);
 }
 
-inserts_both : (ps qs : List (List Held)) (d f x : Held) (ds fs : List Held) → AreRuns rank_of goes_on None (ps ++ (d ∷ ds) ∷ ((f ∷ fs) ∷ qs))
+pub inserts_both : (ps qs : List (List Held)) (d f x : Held) (ds fs : List Held) → AreRuns rank_of goes_on None (ps ++ (d ∷ ds) ∷ ((f ∷ fs) ∷ qs))
     → is_next rank_of goes_on (last_of d ds) x ≡ true → is_next rank_of goes_on x f ≡ true → IsInserted (ps ++ (d ∷ ds) ∷ []) ((f ∷ fs) ∷ qs) (ps ++ ((d ∷ ds) ++ x ∷ (f ∷ fs)) ∷ qs) x (length ps)
 inserts_both ps qs d f x ds fs h left right = record {
   kept = joining rank_of goes_on None x d f ds fs ps qs h left right;

@@ -16,3 +16,12 @@ pub mod DeliverLemmas
 pub mod EntriesLemmas
 pub mod SkipLemmas
 pub mod WaitingLemmas
+pub mod ExtendsLemmas
+pub mod RestoredLemmas
+pub mod ReceptionLemmas
+pub mod SettledRunsLemmas
+pub mod SettledInsertLemmas
+pub mod SettledStreamsLemmas
+pub mod SettledQueueLemmas
+pub mod FrontLemmas
+pub mod WrittenLemmas

@@ -100,6 +100,13 @@ pub record IsUnordered (s : UnorderedStream) : Type 0 where
   pub behind : s.passed < 2 ^ 63
   pub settled : NoneComplete (intervals_of s.held)
 
+-- ---- messages that are ready
+
+-- what was ready stays ready, in front and in order
+pub record Extends (old new : List Message) : Type 0 where
+  pub more : List Message
+  pub made : new ≡ old ++ more
+
 -- ---- bytes
 
 abbrev pub ready_bytes : List Message → ℕ

@@ -13,3 +13,5 @@ pub mod Streams
 pub mod ReassemblyQueue
 pub mod Forms
 pub mod WaitingViews
+pub mod ReassemblyHandover
+pub mod Settled

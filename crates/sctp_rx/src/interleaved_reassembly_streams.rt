@@ -12,6 +12,7 @@ use crate::unordered_stream::UnorderedStream as StreamInAnyOrder;
 use crate::unordered_streams::UnorderedStreams;
 use sctp_packet::{Data, SkippedStream};
 use sctp_serial::{Mid, StreamId, StreamKey};
+use sctp_state::{HandoverReadiness, SocketHandoverState};
 use std::alloc::{AllocError, Global};
 use std::marker::Model;
 
@@ -24,6 +25,7 @@ pub type UnorderedStream = StreamInAnyOrder<UnorderedInterleavedKey>;
 /// The streams of an association with interleaving.
 #[derive(Drop)]
 pub struct InterleavedReassemblyStreams {
+    alloc: Global,
     ordered: OrderedStreams<InterleavedKey>,
     unordered: UnorderedStreams<UnorderedInterleavedKey>,
 }
@@ -41,7 +43,7 @@ impl Model for InterleavedReassemblyStreams {
 
 impl InterleavedReassemblyStreams {
     ghost use Rattle.std.specs.Prelude.{true, ◌+◌, ◌<◌, ◌≤◌, ◌^◌, ◌++◌, OnOk};
-    ghost use Rattle.sctp_rx.specs.Delivery.{ready_bytes};
+    ghost use Rattle.sctp_rx.specs.Delivery.{ready_bytes, Extends};
     ghost use Rattle.sctp_rx.specs.Streams.{no_streams, held_bytes, skip};
 
     /// No streams. Takes no memory.
@@ -49,12 +51,14 @@ impl InterleavedReassemblyStreams {
         ensures { result ≡ no_streams true }
     {
         InterleavedReassemblyStreams {
+            alloc,
             ordered: OrderedStreams::new(alloc),
             unordered: UnorderedStreams::new(alloc),
         }
     }
 
     // A forward point names the message.
+    #[tactic(auto, using(crate::proofs::ExtendsLemmas::extends_none))]
     fn skip_message(
         &mut self,
         key: StreamKey,
@@ -64,6 +68,7 @@ impl InterleavedReassemblyStreams {
         requires { held_bytes self.old + ready_bytes ready.old < 2 ^ 64 }
         ensures ok { OnOk result (self.new ≡ (skip (SkippedStream.IForwardTsn key mid) self.old).streams) }
         ensures ready { OnOk result (ready.new ≡ ready.old ++ (skip (SkippedStream.IForwardTsn key mid) self.old).messages) }
+        ensures kept { Extends ready.old ready.new }
         ensures bytes { held_bytes self.new + ready_bytes ready.new ≤ held_bytes self.old + ready_bytes ready.old }
     {
         let _fields = &self.ordered;
@@ -95,6 +100,7 @@ impl InterleavedReassemblyStreams {
 impl ReassemblyStreams for InterleavedReassemblyStreams {
     ghost streams = { λ s. s };
 
+    #[tactic(auto, using(crate::proofs::ExtendsLemmas::extends_none))]
     fn add(
         &mut self,
         tsn: u64,
@@ -120,6 +126,7 @@ impl ReassemblyStreams for InterleavedReassemblyStreams {
         }
     }
 
+    #[tactic(auto, using(crate::proofs::ExtendsLemmas::extends_none))]
     fn skip(&mut self, entry: SkippedStream, ready: &mut ReadyMessages) -> Result<(), AllocError> {
         let _fields = &self.ordered;
         match entry {
@@ -139,6 +146,31 @@ impl ReassemblyStreams for InterleavedReassemblyStreams {
 
     fn queued_bytes(&self) -> usize {
         self.ordered.total_bytes() + self.unordered.total_bytes()
+    }
+
+    fn get_handover_readiness(&self) -> HandoverReadiness {
+        let is_held = self.ordered.is_held() || self.unordered.is_held();
+        HandoverReadiness::STREAM_HAS_UNASSEMBLED_CHUNKS & is_held
+    }
+
+    fn add_to_handover_state(
+        &self,
+        alloc: Global,
+        state: &mut SocketHandoverState,
+    ) -> Result<(), AllocError> {
+        let ordered = self.ordered.handed_over(alloc, true)?;
+        let unordered = self.unordered.handed_over(alloc)?;
+        state.rx.ordered_streams = ordered;
+        state.rx.unordered_streams = unordered;
+        Ok(())
+    }
+
+    fn restore_from_state(&mut self, state: &SocketHandoverState) -> Result<(), AllocError> {
+        let ordered = OrderedStreams::restored(self.alloc, &state.rx.ordered_streams)?;
+        let unordered = UnorderedStreams::restored(self.alloc, &state.rx.unordered_streams)?;
+        self.ordered = ordered;
+        self.unordered = unordered;
+        Ok(())
     }
 }
 

@@ -131,6 +131,9 @@ impl<K: ReassemblyKey> IntervalList<K> {
         ensures others { NoneComplete (intervals_of self.old) → NoneComplete (intervals_of self.new) }
         ensures bytes { bytes_of self.new ≤ bytes_of self.old }
     {
+        let place = place_for(&self.intervals, key);
+        let passed = drop_front(&mut self.intervals, place);
+        self.bytes -= passed;
         while begins_below(&self.intervals, key) {
             let bytes = drop_first(&mut self.intervals);
             self.bytes -= bytes;
@@ -140,11 +143,36 @@ impl<K: ReassemblyKey> IntervalList<K> {
 
 ghost use Rattle.std.specs.VecDeque.{deque_len, deque_capacity};
 ghost use Rattle.sctp_rx.specs.Runs.{end_of, IsBelow, LeadsTo, joins_left, joins_right};
-ghost use Rattle.sctp_rx.specs.Held.{Held, rank_of, goes_on, NoneInTurn};
+ghost use Rattle.sctp_rx.specs.Held.{Held, rank_of, goes_on, bytes_of, NoneInTurn};
 ghost use Rattle.sctp_rx.specs.Key.{rank_at};
-ghost use Rattle.sctp_rx.specs.Intervals.{held_of, run_of, lists_of, EndsFrom, IsInRuns, IsInserted, starts_upto, StartsInTurn, without_first, first_below};
+ghost use Rattle.sctp_rx.specs.Intervals.{held_of, run_of, lists_of, entries_of, EndsFrom, IsInRuns, IsInserted, starts_upto, StartsInTurn, without_first, first_below};
 ghost use Rattle.sctp_rx.specs.declared.interval.Entry.{Entry};
 ghost use Rattle.sctp_rx.specs.declared.interval.Interval.{Interval};
+
+// How many bytes the intervals before the place hold.
+fn bytes_before<K: ReassemblyKey>(intervals: &[Interval<K>], place: usize) -> usize
+    requires place { place ≤ length intervals.now }
+    requires fits { bytes_of (entries_of (held_of K.number K.index) intervals.now) < 2 ^ 64 }
+    ensures { result ≡ bytes_of (entries_of (held_of K.number K.index) (take place intervals.now)) }
+{
+    let mut bytes = 0;
+    for index in 0..place {
+        bytes += intervals[index].total_bytes();
+    }
+    bytes
+}
+
+// Drops the intervals before the place, and says how many bytes they had.
+fn drop_front<K: ReassemblyKey>(intervals: &mut Vec<Interval<K>>, place: usize) -> usize
+    requires place { place ≤ length intervals.old.items }
+    requires fits { bytes_of (entries_of (held_of K.number K.index) intervals.old.items) < 2 ^ 64 }
+    ensures bytes { result ≡ bytes_of (entries_of (held_of K.number K.index) (take place intervals.old.items)) }
+    ensures left { intervals.new.items ≡ drop place intervals.old.items }
+{
+    let bytes = bytes_before(intervals, place);
+    drop(intervals.drain(..place));
+    bytes
+}
 
 // Whether the first fragment is before the key.
 fn begins_below<K: ReassemblyKey>(intervals: &[Interval<K>], key: K) -> bool

@@ -15,6 +15,7 @@ pub mod ready_messages;
 pub mod reassembly_key;
 pub mod reassembly_queue;
 pub mod reassembly_streams;
+pub mod settled_laws;
 mod sorted_skips;
 pub mod traditional_reassembly_streams;
 mod unordered_stream;
@@ -32,4 +33,8 @@ pub use reassembly_key::{
 };
 pub use reassembly_queue::ReassemblyQueue;
 pub use reassembly_streams::ReassemblyStreams;
+pub use settled_laws::{
+    forward_points_leave_queues_settled, fragments_leave_queues_settled, new_queues_are_settled,
+    resets_leave_queues_settled, restored_queues_are_settled,
+};
 pub use traditional_reassembly_streams::TraditionalReassemblyStreams;

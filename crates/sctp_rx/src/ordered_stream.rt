@@ -6,7 +6,7 @@ ghost use Rattle.sctp_rx.specs.Held.{bytes_of, rank_of};
 ghost use Rattle.sctp_rx.specs.Key.{rank_at};
 ghost use Rattle.sctp_rx.specs.Intervals.{held};
 ghost use Rattle.sctp_rx.specs.Runs.{from_rank};
-ghost use Rattle.sctp_rx.specs.Delivery.{deliver, ordered_arrival, ready_bytes};
+ghost use Rattle.sctp_rx.specs.Delivery.{deliver, ordered_arrival, ready_bytes, Extends};
 
 use crate::interval_list::IntervalList;
 use crate::message::message_of;
@@ -41,6 +41,7 @@ impl<K: ReassemblyKey> Model for OrderedStream<K> {
 }
 
 // Makes the complete messages ready that are in turn, one after the other.
+#[tactic(auto, using(crate::proofs::ExtendsLemmas::extends_none, crate::proofs::ExtendsLemmas::extends_both))]
 fn deliver<K: ReassemblyKey>(
     alloc: Global,
     next: &mut u128,
@@ -52,6 +53,7 @@ fn deliver<K: ReassemblyKey>(
     ensures held { OnOk result (list.new ≡ (deliver next.old list.old).stream.held) }
     ensures ready { OnOk result (ready.new ≡ ready.old ++ (deliver next.old list.old).messages) }
     ensures onward { next.old ≤ next.new }
+    ensures kept { Extends ready.old ready.new }
     ensures bytes { bytes_of list.new + ready_bytes ready.new ≤ bytes_of list.old + ready_bytes ready.old }
 {
     while let Some(interval) = list.pop_front_if_complete_and(*next) {
@@ -77,6 +79,25 @@ impl<K: ReassemblyKey> OrderedStream<K> {
         }
     }
 
+    /// A stream of which nothing is held, and whose next message has this number.
+    pub fn restored(alloc: Global, next: u128) -> OrderedStream<K>
+        requires { origin ≤ next }
+        ensures { result ≡ record { next = next; held = [] } }
+    {
+        OrderedStream {
+            alloc,
+            next,
+            list: IntervalList::new(alloc),
+        }
+    }
+
+    /// Whether fragments are held.
+    pub fn is_held(&self) -> bool
+        ensures { result ≡ nat_lt 0 (length self.now.held) }
+    {
+        !self.list.is_empty()
+    }
+
     /// The number of the message that becomes ready next.
     pub fn next(&self) -> u128
         ensures value { result ≡ self.now.next }
@@ -93,6 +114,7 @@ impl<K: ReassemblyKey> OrderedStream<K> {
     }
 
     /// Adds a fragment, unless its message is below the next one; what is in turn then becomes ready.
+    #[tactic(auto, using(crate::proofs::ExtendsLemmas::extends_none))]
     pub fn add(
         &mut self,
         key: K,
@@ -102,6 +124,7 @@ impl<K: ReassemblyKey> OrderedStream<K> {
         requires { bytes_of self.old.held + ready_bytes ready.old + length fragment.payload.items < 2 ^ 64 }
         ensures ok { OnOk result (self.new ≡ (ordered_arrival (held (K.number key) (K.index key) fragment) self.old).stream) }
         ensures ready { OnOk result (ready.new ≡ ready.old ++ (ordered_arrival (held (K.number key) (K.index key) fragment) self.old).messages) }
+        ensures kept { Extends ready.old ready.new }
         ensures bytes { bytes_of self.new.held + ready_bytes ready.new ≤ bytes_of self.old.held + ready_bytes ready.old + length fragment.payload.items }
     {
         if (key.number() as u128) < self.next {
@@ -116,6 +139,7 @@ impl<K: ReassemblyKey> OrderedStream<K> {
         requires { bytes_of self.old.held + ready_bytes ready.old < 2 ^ 64 }
         ensures ok { (n : ℕ) → K.number first ≡ suc n → K.index first ≡ 0 → OnOk result (self.new ≡ (ordered_forward n self.old).stream) }
         ensures ready { (n : ℕ) → K.number first ≡ suc n → K.index first ≡ 0 → OnOk result (ready.new ≡ ready.old ++ (ordered_forward n self.old).messages) }
+        ensures kept { Extends ready.old ready.new }
         ensures bytes { bytes_of self.new.held + ready_bytes ready.new ≤ bytes_of self.old.held + ready_bytes ready.old }
     {
         self.list.retain(first);

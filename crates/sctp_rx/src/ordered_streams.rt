@@ -1,16 +1,19 @@
 //! Streams with ordered messages, by their ids.
 
-ghost use Rattle.std.specs.Prelude.{◌≡◌, ℕ, suc, ◌+◌, ◌<◌, ◌≤◌, ◌^◌, ◌++◌, [], length, IsSome, OnOk, OnErr};
+ghost use Rattle.std.specs.Prelude.{◌≡◌, ℕ, suc, ◌+◌, ◌<◌, ◌≤◌, ◌^◌, ◌++◌, [], true, length, IsSome, OnOk, OnErr, IfOk};
 ghost use Rattle.std.specs.Map.{lookup};
 ghost use Rattle.std.specs.Ordering.{nat_cmp};
 ghost use Rattle.std.specs.BTreeMap.{is_at};
-ghost use Rattle.sctp_serial.specs.Unwrapped.{origin};
+ghost use Rattle.sctp_serial.specs.Unwrapped.{origin, wire};
+ghost use Rattle.sctp_state.specs.Validity.{rises_from, ordered_ids};
+ghost use Rattle.sctp_rx.specs.ReassemblyHandover.{ordered_is_held, ordered_records, ordered_entries, space_of};
 
 use crate::ordered_stream::{FIRST, OrderedStream};
 use crate::ready_messages::ReadyMessages;
 use crate::reassembly_key::ReassemblyKey;
 use sctp_packet::Data;
 use sctp_serial::StreamId;
+use sctp_state::api::handover::HandoverOrderedStream;
 use std::alloc::{AllocError, Global};
 use std::collections::BTreeMap;
 use std::marker::Model;
@@ -37,7 +40,7 @@ impl<K: ReassemblyKey> Model for OrderedStreams<K> {
 
 impl<K: ReassemblyKey> OrderedStreams<K> {
     ghost use Rattle.sctp_rx.specs.Intervals.{held};
-    ghost use Rattle.sctp_rx.specs.Delivery.{fresh_ordered, ordered_arrival, ordered_forward, ready_bytes};
+    ghost use Rattle.sctp_rx.specs.Delivery.{fresh_ordered, ordered_arrival, ordered_forward, ready_bytes, Extends};
     ghost use Rattle.sctp_rx.specs.Streams.{ordered_bytes, stream_at, opened, written, changed, forgotten};
 
     /// No streams. Takes no memory.
@@ -49,6 +52,40 @@ impl<K: ReassemblyKey> OrderedStreams<K> {
             streams: BTreeMap::new(alloc),
             bytes: 0,
         }
+    }
+
+    /// The streams of a handover record, whose ids rise.
+    pub fn restored(
+        alloc: Global,
+        records: &[HandoverOrderedStream],
+    ) -> Result<OrderedStreams<K>, AllocError>
+        requires { rises_from 0 (ordered_ids records.now) ≡ true }
+        ensures { IfOk result (λ streams. streams ≡ ordered_entries records.now) }
+    {
+        Ok(OrderedStreams {
+            alloc,
+            streams: read(alloc, records)?,
+            bytes: 0,
+        })
+    }
+
+    /// The streams in a handover record.
+    pub fn handed_over(
+        &self,
+        alloc: Global,
+        is_interleaved: bool,
+    ) -> Result<Vec<HandoverOrderedStream>, AllocError>
+        ensures value { IfOk result (λ records. records.items ≡ ordered_records is_interleaved self.now) }
+        ensures rises { IfOk result (λ records. rises_from 0 (ordered_ids records.items) ≡ true) }
+    {
+        records(alloc, &self.streams, is_interleaved)
+    }
+
+    /// Whether fragments are held.
+    pub fn is_held(&self) -> bool
+        ensures { result ≡ ordered_is_held self.now }
+    {
+        self.streams.values().any(|stream| stream.is_held())
     }
 
     /// How many bytes of payload are held.
@@ -86,6 +123,7 @@ impl<K: ReassemblyKey> OrderedStreams<K> {
     }
 
     // Adds a fragment to a stream that is there.
+    #[tactic(auto, using(crate::proofs::ExtendsLemmas::extends_none))]
     fn add_to(
         &mut self,
         id: StreamId,
@@ -97,6 +135,7 @@ impl<K: ReassemblyKey> OrderedStreams<K> {
         requires room { ordered_bytes self.old + ready_bytes ready.old + length fragment.payload.items < 2 ^ 64 }
         ensures ok { OnOk result (self.new ≡ written id.0 (ordered_arrival (held (K.number key) (K.index key) fragment) (stream_at fresh_ordered id.0 self.old)).stream self.old) }
         ensures ready { OnOk result (ready.new ≡ ready.old ++ (ordered_arrival (held (K.number key) (K.index key) fragment) (stream_at fresh_ordered id.0 self.old)).messages) }
+        ensures kept { Extends ready.old ready.new }
         ensures bytes { ordered_bytes self.new + ready_bytes ready.new ≤ ordered_bytes self.old + ready_bytes ready.old + length fragment.payload.items }
     {
         let Some(stream) = self.streams.get_mut(&id.0) else {
@@ -109,6 +148,7 @@ impl<K: ReassemblyKey> OrderedStreams<K> {
     }
 
     /// Adds a fragment to its stream.
+    #[tactic(auto, using(crate::proofs::ExtendsLemmas::extends_none))]
     pub fn add(
         &mut self,
         id: StreamId,
@@ -119,6 +159,7 @@ impl<K: ReassemblyKey> OrderedStreams<K> {
         requires { ordered_bytes self.old + ready_bytes ready.old + length fragment.payload.items < 2 ^ 64 }
         ensures ok { OnOk result (self.new ≡ changed fresh_ordered id.0 (ordered_arrival (held (K.number key) (K.index key) fragment) (stream_at fresh_ordered id.0 self.old)).stream self.old) }
         ensures ready { OnOk result (ready.new ≡ ready.old ++ (ordered_arrival (held (K.number key) (K.index key) fragment) (stream_at fresh_ordered id.0 self.old)).messages) }
+        ensures kept { Extends ready.old ready.new }
         ensures bytes { ordered_bytes self.new + ready_bytes ready.new ≤ ordered_bytes self.old + ready_bytes ready.old + length fragment.payload.items }
     {
         self.open(id)?;
@@ -126,6 +167,7 @@ impl<K: ReassemblyKey> OrderedStreams<K> {
     }
 
     // Forwards a stream that is there.
+    #[tactic(auto, using(crate::proofs::ExtendsLemmas::extends_none))]
     fn forward_in(
         &mut self,
         id: StreamId,
@@ -136,6 +178,7 @@ impl<K: ReassemblyKey> OrderedStreams<K> {
         requires room { ordered_bytes self.old + ready_bytes ready.old < 2 ^ 64 }
         ensures ok { (n : ℕ) → K.number first ≡ suc n → K.index first ≡ 0 → OnOk result (self.new ≡ written id.0 (ordered_forward n (stream_at fresh_ordered id.0 self.old)).stream self.old) }
         ensures ready { (n : ℕ) → K.number first ≡ suc n → K.index first ≡ 0 → OnOk result (ready.new ≡ ready.old ++ (ordered_forward n (stream_at fresh_ordered id.0 self.old)).messages) }
+        ensures kept { Extends ready.old ready.new }
         ensures bytes { ordered_bytes self.new + ready_bytes ready.new ≤ ordered_bytes self.old + ready_bytes ready.old }
     {
         let Some(stream) = self.streams.get_mut(&id.0) else {
@@ -148,6 +191,7 @@ impl<K: ReassemblyKey> OrderedStreams<K> {
     }
 
     /// A forward point names the message before that of the key: its stream drops it and those before it.
+    #[tactic(auto, using(crate::proofs::ExtendsLemmas::extends_none))]
     pub fn forward(
         &mut self,
         id: StreamId,
@@ -157,6 +201,7 @@ impl<K: ReassemblyKey> OrderedStreams<K> {
         requires { ordered_bytes self.old + ready_bytes ready.old < 2 ^ 64 }
         ensures ok { (n : ℕ) → K.number first ≡ suc n → K.index first ≡ 0 → OnOk result (self.new ≡ changed fresh_ordered id.0 (ordered_forward n (stream_at fresh_ordered id.0 self.old)).stream self.old) }
         ensures ready { (n : ℕ) → K.number first ≡ suc n → K.index first ≡ 0 → OnOk result (ready.new ≡ ready.old ++ (ordered_forward n (stream_at fresh_ordered id.0 self.old)).messages) }
+        ensures kept { Extends ready.old ready.new }
         ensures bytes { ordered_bytes self.new + ready_bytes ready.new ≤ ordered_bytes self.old + ready_bytes ready.old }
     {
         self.open(id)?;
@@ -196,4 +241,51 @@ fn bytes_in<K: ReassemblyKey>(streams: &BTreeMap<u16, OrderedStream<K>>) -> usiz
     ensures { result ≡ ordered_bytes streams.now.entries }
 {
     streams.values().map(|stream| stream.queued_bytes()).sum()
+}
+
+// How the number is written: as an SSN, or with interleaving as a MID.
+fn wire_number(number: u128, is_interleaved: bool) -> u32
+    ensures { result ≡ wire (space_of is_interleaved) 0 number }
+{
+    if is_interleaved {
+        (number % (1 << 32)) as u32
+    } else {
+        (number % (1 << 16)) as u32
+    }
+}
+
+// The streams in a handover record.
+fn records<K: ReassemblyKey>(
+    alloc: Global,
+    streams: &BTreeMap<u16, OrderedStream<K>>,
+    is_interleaved: bool,
+) -> Result<Vec<HandoverOrderedStream>, AllocError>
+    ensures value { IfOk result (λ records. records.items ≡ ordered_records is_interleaved streams.now.entries) }
+    ensures rises { IfOk result (λ records. rises_from 0 (ordered_ids records.items) ≡ true) }
+{
+    let _count = streams.len();
+    let mut records = Vec::new(alloc);
+    for (id, stream) in streams {
+        records.push(HandoverOrderedStream {
+            id: *id,
+            next_ssn: wire_number(stream.next(), is_interleaved),
+        })?;
+    }
+    Ok(records)
+}
+
+// The streams of a handover record.
+fn read<K: ReassemblyKey>(
+    alloc: Global,
+    records: &[HandoverOrderedStream],
+) -> Result<BTreeMap<u16, OrderedStream<K>>, AllocError>
+    requires { rises_from 0 (ordered_ids records.now) ≡ true }
+    ensures { IfOk result (λ streams. streams.entries ≡ ordered_entries records.now) }
+{
+    let mut streams = BTreeMap::new(alloc);
+    for record in records {
+        let next = FIRST as u128 + record.next_ssn as u128;
+        streams.insert(record.id, OrderedStream::restored(alloc, next))?;
+    }
+    Ok(streams)
 }

@@ -29,7 +29,7 @@ impl Model for ReadyMessages {
 }
 
 impl ReadyMessages {
-    ghost use Rattle.sctp_rx.specs.Delivery.{ready_bytes};
+    ghost use Rattle.sctp_rx.specs.Delivery.{ready_bytes, Extends};
 
     /// None. Takes no memory.
     pub fn new(alloc: Global) -> ReadyMessages
@@ -56,10 +56,12 @@ impl ReadyMessages {
     }
 
     /// Adds a message behind the others. Without memory nothing changes.
+    #[tactic(auto, using(crate::proofs::ExtendsLemmas::extends_none, crate::proofs::ExtendsLemmas::extends_by))]
     pub fn push(&mut self, message: Message) -> Result<(), AllocError>
         requires { ready_bytes self.old + length message.payload.items < 2 ^ 64 }
         ensures ok { OnOk result (self.new ≡ self.old ++ message_of message ∷ []) }
         ensures err { OnErr result (self.new ≡ self.old) }
+        ensures kept { Extends self.old self.new }
     {
         let bytes = message.payload.len();
         self.messages.push_back(message)?;

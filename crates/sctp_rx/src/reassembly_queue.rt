@@ -1,10 +1,14 @@
 //! Messages put together of their fragments, and taken one after the other.
 
-ghost use Rattle.std.specs.Prelude.{◌≡◌, [], ℕ, ◌+◌, ◌-◌, ◌<◌, ◌≤◌, ◌^◌, ◌++◌, nat_le, max, length, option_map, OnOk, OnErr, IsSome, IfSome, IfNone, ◌↔◌, slice_index_or, Some, unwrap_or};
+ghost use Rattle.std.specs.Prelude.{◌≡◌, [], ℕ, ◌+◌, ◌-◌, ◌<◌, ◌≤◌, ◌^◌, ◌++◌, nat_le, max, true, length, option_map, OnOk, OnErr, IsSome, IfSome, IfNone, ◌↔◌, slice_index_or, Some, unwrap_or};
 ghost use Rattle.std.specs.List.{sum_by};
 ghost use Rattle.std.specs.Option.{option_to_list};
 ghost use Rattle.sctp_serial.specs.Messages.{message_of};
 ghost use Rattle.sctp_packet.specs.Views.{fragment_tree};
+ghost use Rattle.sctp_state.specs.Handover.{handover_state_of, receive_of};
+ghost use Rattle.sctp_state.specs.Validity.{is_valid_reception};
+ghost use Rattle.sctp_rx.specs.Delivery.{Extends};
+ghost use Rattle.sctp_rx.specs.ReassemblyHandover.{readiness, written, restored};
 
 mod deferred;
 mod form;
@@ -17,6 +21,7 @@ use deferred::Deferred;
 use form::Form;
 use sctp_packet::{Data, SkippedStream};
 use sctp_serial::{Message, SerialNumber, StreamId, Tsn};
+use sctp_state::{HandoverReadiness, SocketHandoverState};
 use std::alloc::{AllocError, Global};
 use std::marker::Model;
 use waiting::Waiting;
@@ -153,6 +158,7 @@ impl ReassemblyQueue {
         requires room { queued_bytes self.old + length fragment.payload.items < 2 ^ 64 }
         requires small { number < 2 ^ 63 }
         ensures ok { OnOk result (self.new ≡ add_now number (fragment_tree fragment) self.old) }
+        ensures kept { Extends self.old.ready self.new.ready }
         ensures bytes { queued_bytes self.new ≤ queued_bytes self.old + length fragment.payload.items }
     {
         let before = self.ready.len();
@@ -165,6 +171,7 @@ impl ReassemblyQueue {
     fn forward_now(&mut self, number: u64, skipped: &[SkippedStream]) -> Result<(), AllocError>
         requires { number < 2 ^ 63 }
         ensures ok { OnOk result (self.new ≡ forward_now number skipped.now self.old) }
+        ensures kept { Extends self.old.ready self.new.ready }
         ensures bytes { queued_bytes self.new ≤ queued_bytes self.old }
     {
         let before = self.ready.len();
@@ -195,10 +202,12 @@ impl ReassemblyQueue {
     }
 
     // Has something wait for the reset.
+    #[tactic(auto, using(crate::proofs::ExtendsLemmas::extends_none))]
     fn wait(&mut self, waiting: Waiting) -> Result<(), AllocError>
         requires room { queued_bytes self.old + waiting_bytes (waiting_of waiting) < 2 ^ 64 }
         requires small { waiting_number (waiting_of waiting) < 2 ^ 63 }
-        ensures { OnOk result (self.new ≡ waits (waiting_of waiting) self.old) }
+        ensures ok { OnOk result (self.new ≡ waits (waiting_of waiting) self.old) }
+        ensures kept { Extends self.old.ready self.new.ready }
     {
         match &mut self.deferred {
             Some(deferred) => deferred.push(waiting),
@@ -209,10 +218,12 @@ impl ReassemblyQueue {
     /// Takes a fragment. What is complete and in turn by it becomes ready. While a reset is deferred, a fragment above its
     /// last TSN waits where it is on one of its streams. A TSN that lies 2^62 or more above the first one is ignored.
     ///
-    /// Without memory the queue may hold a part of what it should.
+    /// Without memory the queue may hold a part of what it should. What was ready stays ready, in any case.
+    #[tactic(auto, using(crate::proofs::ExtendsLemmas::extends_none))]
     pub fn add(&mut self, tsn: Tsn, fragment: Data) -> Result<(), AllocError>
         requires { queued_bytes self.old + length fragment.payload.items < 2 ^ 64 }
-        ensures { OnOk result (self.new ≡ add tsn.0 (fragment_tree fragment) self.old) }
+        ensures ok { OnOk result (self.new ≡ add tsn.0 (fragment_tree fragment) self.old) }
+        ensures kept { Extends self.old.ready self.new.ready }
     {
         let number = self.number_of(tsn);
         if number >= LIMIT {
@@ -227,12 +238,14 @@ impl ReassemblyQueue {
 
     /// Takes a forward point: drops what it passes, moves next numbers behind what it names, never back, and makes ready
     /// what is then in turn, by ascending stream. While a reset is deferred, a forward point above its last TSN waits.
+    #[tactic(auto, using(crate::proofs::ExtendsLemmas::extends_none))]
     pub fn handle_forward_tsn(
         &mut self,
         tsn: Tsn,
         skipped: &[SkippedStream],
     ) -> Result<(), AllocError>
-        ensures { OnOk result (self.new ≡ forward tsn.0 skipped.now self.old) }
+        ensures ok { OnOk result (self.new ≡ forward tsn.0 skipped.now self.old) }
+        ensures kept { Extends self.old.ready self.new.ready }
     {
         let number = self.number_of(tsn);
         if number >= LIMIT {
@@ -271,6 +284,7 @@ impl ReassemblyQueue {
         requires room { queued_bytes self.old + waiting_bytes (waiting_of waiting) < 2 ^ 64 }
         requires small { waiting_number (waiting_of waiting) < 2 ^ 63 }
         ensures ok { OnOk result (self.new ≡ apply (waiting_of waiting) self.old) }
+        ensures kept { Extends self.old.ready self.new.ready }
         ensures bytes { queued_bytes self.new ≤ queued_bytes self.old + waiting_bytes (waiting_of waiting) }
     {
         match waiting {
@@ -280,9 +294,11 @@ impl ReassemblyQueue {
     }
 
     // Takes all that waited, in order.
+    #[tactic(auto, using(crate::proofs::ExtendsLemmas::extends_none, crate::proofs::ExtendsLemmas::extends_both))]
     fn apply_each(&mut self, mut deferred: Deferred) -> Result<(), AllocError>
         requires { queued_bytes self.old + sum_by waiting_bytes deferred.waiting < 2 ^ 64 }
-        ensures { OnOk result (self.new ≡ apply_each deferred.waiting self.old) }
+        ensures ok { OnOk result (self.new ≡ apply_each deferred.waiting self.old) }
+        ensures kept { Extends self.old.ready self.new.ready }
     {
         while let Some(waiting) = deferred.pop() {
             self.apply(waiting)?;
@@ -293,18 +309,50 @@ impl ReassemblyQueue {
     /// Resets the streams, or all where none is named: nothing is held of them, and their numbers begin anew. Then comes
     /// what waited for a reset, in order, whatever streams that reset named.
     ///
-    /// Without memory the queue may hold a part of what it should.
+    /// Without memory the queue may hold a part of what it should. What was ready stays ready, in any case.
+    #[tactic(auto, using(crate::proofs::ExtendsLemmas::extends_none))]
     pub fn reset_streams_and_leave_deferred_reset(
         &mut self,
         streams: &[StreamId],
     ) -> Result<(), AllocError>
-        ensures { OnOk result (self.new ≡ reset streams.now self.old) }
+        ensures ok { OnOk result (self.new ≡ reset streams.now self.old) }
+        ensures kept { Extends self.old.ready self.new.ready }
     {
         self.streams.reset_streams(streams);
         match self.deferred.take() {
             Some(deferred) => self.apply_each(deferred),
             None => Ok(()),
         }
+    }
+
+    /// Whether the queue can be handed over: no fragment must be held, and no reset deferred.
+    pub fn get_handover_readiness(&self) -> HandoverReadiness
+        ensures { result.0 ≡ readiness self.now }
+    {
+        let deferred = HandoverReadiness::STREAM_RESET_DEFERRED & self.deferred.is_some();
+        self.streams.get_handover_readiness() | deferred
+    }
+
+    /// Writes the streams, and the numbers of the next ordered messages. Messages that are ready stay here. Without memory
+    /// nothing is written.
+    pub fn add_to_handover_state(&self, state: &mut SocketHandoverState) -> Result<(), AllocError>
+        ensures ok { OnOk result (let old = handover_state_of state.old in handover_state_of state.new ≡ record old { rx = written self.now old.rx }) }
+        ensures valid { OnOk result (is_valid_reception self.now.streams.is_interleaved (receive_of state.new.rx) ≡ true) }
+        ensures err { OnErr result (handover_state_of state.new ≡ handover_state_of state.old) }
+    {
+        self.streams.add_to_handover_state(self.alloc, state)?;
+        state.rx.last_completed_deferred_reset_req_sn = 0;
+        Ok(())
+    }
+
+    /// Has the record's streams in place of its own. For a new queue, in the mode of the record. Without memory nothing
+    /// changes.
+    pub fn restore_from_state(&mut self, state: &SocketHandoverState) -> Result<(), AllocError>
+        requires { is_valid_reception self.old.streams.is_interleaved (receive_of state.now.rx) ≡ true }
+        ensures ok { OnOk result (self.new ≡ restored (receive_of state.now.rx) self.old) }
+        ensures err { OnErr result (self.new ≡ self.old) }
+    {
+        self.streams.restore_from_state(state)
     }
 
     /// The ready message at the place, where there are so many.

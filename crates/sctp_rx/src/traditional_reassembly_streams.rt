@@ -12,6 +12,7 @@ use crate::unordered_stream::UnorderedStream as StreamInAnyOrder;
 use crate::unordered_streams::UnorderedStreams;
 use sctp_packet::{Data, SkippedStream};
 use sctp_serial::{StreamId, StreamKey};
+use sctp_state::{HandoverReadiness, SocketHandoverState};
 use std::alloc::{AllocError, Global};
 use std::marker::Model;
 
@@ -24,6 +25,7 @@ pub type UnorderedStream = StreamInAnyOrder<TraditionalKey>;
 /// The streams of an association without interleaving.
 #[derive(Drop)]
 pub struct TraditionalReassemblyStreams {
+    alloc: Global,
     ordered: OrderedStreams<TraditionalKey>,
     unordered: UnorderedStreams<TraditionalKey>,
 }
@@ -48,6 +50,7 @@ impl TraditionalReassemblyStreams {
         ensures { result ≡ no_streams false }
     {
         TraditionalReassemblyStreams {
+            alloc,
             ordered: OrderedStreams::new(alloc),
             unordered: UnorderedStreams::new(alloc),
         }
@@ -57,6 +60,7 @@ impl TraditionalReassemblyStreams {
 impl ReassemblyStreams for TraditionalReassemblyStreams {
     ghost streams = { λ s. s };
 
+    #[tactic(auto, using(crate::proofs::ExtendsLemmas::extends_none))]
     fn add(
         &mut self,
         tsn: u64,
@@ -81,6 +85,7 @@ impl ReassemblyStreams for TraditionalReassemblyStreams {
         }
     }
 
+    #[tactic(auto, using(crate::proofs::ExtendsLemmas::extends_none))]
     fn skip(&mut self, entry: SkippedStream, ready: &mut ReadyMessages) -> Result<(), AllocError> {
         let _fields = &self.ordered;
         let SkippedStream::ForwardTsn(id, ssn) = entry else {
@@ -111,5 +116,30 @@ impl ReassemblyStreams for TraditionalReassemblyStreams {
 
     fn queued_bytes(&self) -> usize {
         self.ordered.total_bytes() + self.unordered.total_bytes()
+    }
+
+    fn get_handover_readiness(&self) -> HandoverReadiness {
+        let is_held = self.ordered.is_held() || self.unordered.is_held();
+        HandoverReadiness::STREAM_HAS_UNASSEMBLED_CHUNKS & is_held
+    }
+
+    fn add_to_handover_state(
+        &self,
+        alloc: Global,
+        state: &mut SocketHandoverState,
+    ) -> Result<(), AllocError> {
+        let ordered = self.ordered.handed_over(alloc, false)?;
+        let unordered = self.unordered.handed_over(alloc)?;
+        state.rx.ordered_streams = ordered;
+        state.rx.unordered_streams = unordered;
+        Ok(())
+    }
+
+    fn restore_from_state(&mut self, state: &SocketHandoverState) -> Result<(), AllocError> {
+        let ordered = OrderedStreams::restored(self.alloc, &state.rx.ordered_streams)?;
+        let unordered = UnorderedStreams::restored(self.alloc, &state.rx.unordered_streams)?;
+        self.ordered = ordered;
+        self.unordered = unordered;
+        Ok(())
     }
 }

@@ -1,6 +1,6 @@
 //! A stream whose messages become ready when they are complete.
 
-ghost use Rattle.std.specs.Prelude.{◌≡◌, ℕ, suc, ◌+◌, ◌<◌, ◌≤◌, ◌^◌, ◌++◌, max, length, OnOk, []};
+ghost use Rattle.std.specs.Prelude.{◌≡◌, ℕ, suc, ◌+◌, ◌<◌, ◌≤◌, ◌^◌, ◌++◌, max, length, nat_lt, OnOk, []};
 ghost use Rattle.sctp_serial.specs.Unwrapped.{origin};
 
 use crate::interval_list::IntervalList;
@@ -34,9 +34,10 @@ impl<K: ReassemblyKey> Model for UnorderedStream<K> {
 ghost use Rattle.sctp_rx.specs.Runs.{with_item};
 ghost use Rattle.sctp_rx.specs.Held.{rank_of, bytes_of, intervals_of, is_complete, left_by, NoneComplete};
 ghost use Rattle.sctp_rx.specs.Intervals.{held};
-ghost use Rattle.sctp_rx.specs.Delivery.{completed, ready_bytes};
+ghost use Rattle.sctp_rx.specs.Delivery.{completed, ready_bytes, Extends};
 
 // Adds a fragment, and makes the message ready that it completes.
+#[tactic(auto, using(crate::proofs::ExtendsLemmas::extends_none))]
 fn take_in<K: ReassemblyKey>(
     alloc: Global,
     list: &mut IntervalList<K>,
@@ -49,6 +50,7 @@ fn take_in<K: ReassemblyKey>(
     ensures held { OnOk result (list.new ≡ left_by is_complete (with_item rank_of (held (K.number key) (K.index key) fragment) list.old)) }
     ensures ready { OnOk result (ready.new ≡ ready.old ++ completed (with_item rank_of (held (K.number key) (K.index key) fragment) list.old)) }
     ensures settled { NoneComplete (intervals_of list.new) }
+    ensures kept { Extends ready.old ready.new }
     ensures bytes { bytes_of list.new + ready_bytes ready.new ≤ bytes_of list.old + ready_bytes ready.old + length fragment.payload.items }
 {
     let added = list.add(key, fragment)?;
@@ -78,6 +80,13 @@ impl<K: ReassemblyKey> UnorderedStream<K> {
         }
     }
 
+    /// Whether fragments are held.
+    pub fn is_held(&self) -> bool
+        ensures { result ≡ nat_lt 0 (length self.now.held) }
+    {
+        !self.list.is_empty()
+    }
+
     /// The last number that came.
     pub fn near(&self) -> u64
         ensures value { result ≡ self.now.near }
@@ -95,6 +104,7 @@ impl<K: ReassemblyKey> UnorderedStream<K> {
     }
 
     /// Adds a fragment, unless a forward point passed its message; a message that it completes becomes ready.
+    #[tactic(auto, using(crate::proofs::ExtendsLemmas::extends_none))]
     pub fn add(
         &mut self,
         key: K,
@@ -105,6 +115,7 @@ impl<K: ReassemblyKey> UnorderedStream<K> {
         requires small { K.number key < 2 ^ 63 }
         ensures ok { OnOk result (self.new ≡ (unordered_arrival (held (K.number key) (K.index key) fragment) self.old).stream) }
         ensures ready { OnOk result (ready.new ≡ ready.old ++ (unordered_arrival (held (K.number key) (K.index key) fragment) self.old).messages) }
+        ensures kept { Extends ready.old ready.new }
         ensures bytes { bytes_of self.new.held + ready_bytes ready.new ≤ bytes_of self.old.held + ready_bytes ready.old + length fragment.payload.items }
     {
         let number = key.number();

@@ -1,10 +1,12 @@
 //! Streams with unordered messages, by their ids.
 
-ghost use Rattle.std.specs.Prelude.{◌≡◌, ℕ, suc, ◌+◌, ◌<◌, ◌≤◌, ◌^◌, ◌++◌, [], length, map, IsSome, OnOk, OnErr};
+ghost use Rattle.std.specs.Prelude.{◌≡◌, ℕ, suc, ◌+◌, ◌<◌, ◌≤◌, ◌^◌, ◌++◌, [], true, length, map, IsSome, OnOk, OnErr, IfOk};
 ghost use Rattle.std.specs.Map.{lookup};
 ghost use Rattle.std.specs.Ordering.{nat_cmp};
 ghost use Rattle.std.specs.BTreeMap.{is_at};
 ghost use Rattle.sctp_serial.specs.Unwrapped.{origin};
+ghost use Rattle.sctp_state.specs.Validity.{rises_from, unordered_ids};
+ghost use Rattle.sctp_rx.specs.ReassemblyHandover.{unordered_is_held, unordered_records, unordered_entries};
 
 use crate::ordered_stream::FIRST;
 use crate::ordered_streams::is_named;
@@ -13,6 +15,7 @@ use crate::reassembly_key::ReassemblyKey;
 use crate::unordered_stream::UnorderedStream;
 use sctp_packet::Data;
 use sctp_serial::StreamId;
+use sctp_state::api::handover::HandoverUnorderedStream;
 use std::alloc::{AllocError, Global};
 use std::collections::BTreeMap;
 use std::marker::Model;
@@ -39,7 +42,7 @@ impl<K: ReassemblyKey> Model for UnorderedStreams<K> {
 
 impl<K: ReassemblyKey> UnorderedStreams<K> {
     ghost use Rattle.sctp_rx.specs.Intervals.{held};
-    ghost use Rattle.sctp_rx.specs.Delivery.{fresh_unordered, unordered_arrival, unordered_forward, held_from, ready_bytes};
+    ghost use Rattle.sctp_rx.specs.Delivery.{fresh_unordered, unordered_arrival, unordered_forward, held_from, ready_bytes, Extends};
     ghost use Rattle.sctp_rx.specs.Key.{rank_at};
     ghost use Rattle.sctp_rx.specs.Streams.{unordered_bytes, stream_at, opened, written, changed, forgotten};
 
@@ -52,6 +55,36 @@ impl<K: ReassemblyKey> UnorderedStreams<K> {
             streams: BTreeMap::new(alloc),
             bytes: 0,
         }
+    }
+
+    /// The streams of a handover record, whose ids rise.
+    pub fn restored(
+        alloc: Global,
+        records: &[HandoverUnorderedStream],
+    ) -> Result<UnorderedStreams<K>, AllocError>
+        requires { rises_from 0 (unordered_ids records.now) ≡ true }
+        ensures { IfOk result (λ streams. streams ≡ unordered_entries records.now) }
+    {
+        Ok(UnorderedStreams {
+            alloc,
+            streams: read(alloc, records)?,
+            bytes: 0,
+        })
+    }
+
+    /// The streams in a handover record.
+    pub fn handed_over(&self, alloc: Global) -> Result<Vec<HandoverUnorderedStream>, AllocError>
+        ensures value { IfOk result (λ records. records.items ≡ unordered_records self.now) }
+        ensures rises { IfOk result (λ records. rises_from 0 (unordered_ids records.items) ≡ true) }
+    {
+        records(alloc, &self.streams)
+    }
+
+    /// Whether fragments are held.
+    pub fn is_held(&self) -> bool
+        ensures { result ≡ unordered_is_held self.now }
+    {
+        self.streams.values().any(|stream| stream.is_held())
     }
 
     /// How many bytes of payload are held.
@@ -90,6 +123,7 @@ impl<K: ReassemblyKey> UnorderedStreams<K> {
     }
 
     // Adds a fragment to a stream that is there.
+    #[tactic(auto, using(crate::proofs::ExtendsLemmas::extends_none))]
     fn add_to(
         &mut self,
         id: StreamId,
@@ -102,6 +136,7 @@ impl<K: ReassemblyKey> UnorderedStreams<K> {
         requires small { K.number key < 2 ^ 63 }
         ensures ok { OnOk result (self.new ≡ written id.0 (unordered_arrival (held (K.number key) (K.index key) fragment) (stream_at fresh_unordered id.0 self.old)).stream self.old) }
         ensures ready { OnOk result (ready.new ≡ ready.old ++ (unordered_arrival (held (K.number key) (K.index key) fragment) (stream_at fresh_unordered id.0 self.old)).messages) }
+        ensures kept { Extends ready.old ready.new }
         ensures bytes { unordered_bytes self.new + ready_bytes ready.new ≤ unordered_bytes self.old + ready_bytes ready.old + length fragment.payload.items }
     {
         let Some(stream) = self.streams.get_mut(&id.0) else {
@@ -114,6 +149,7 @@ impl<K: ReassemblyKey> UnorderedStreams<K> {
     }
 
     /// Adds a fragment to its stream.
+    #[tactic(auto, using(crate::proofs::ExtendsLemmas::extends_none))]
     pub fn add(
         &mut self,
         id: StreamId,
@@ -125,6 +161,7 @@ impl<K: ReassemblyKey> UnorderedStreams<K> {
         requires small { K.number key < 2 ^ 63 }
         ensures ok { OnOk result (self.new ≡ changed fresh_unordered id.0 (unordered_arrival (held (K.number key) (K.index key) fragment) (stream_at fresh_unordered id.0 self.old)).stream self.old) }
         ensures ready { OnOk result (ready.new ≡ ready.old ++ (unordered_arrival (held (K.number key) (K.index key) fragment) (stream_at fresh_unordered id.0 self.old)).messages) }
+        ensures kept { Extends ready.old ready.new }
         ensures bytes { unordered_bytes self.new + ready_bytes ready.new ≤ unordered_bytes self.old + ready_bytes ready.old + length fragment.payload.items }
     {
         self.open(id)?;
@@ -188,4 +225,35 @@ fn bytes_in<K: ReassemblyKey>(streams: &BTreeMap<u16, UnorderedStream<K>>) -> us
     ensures { result ≡ unordered_bytes streams.now.entries }
 {
     streams.values().map(|stream| stream.queued_bytes()).sum()
+}
+
+// The streams in a handover record.
+fn records<K: ReassemblyKey>(
+    alloc: Global,
+    streams: &BTreeMap<u16, UnorderedStream<K>>,
+) -> Result<Vec<HandoverUnorderedStream>, AllocError>
+    ensures value { IfOk result (λ records. records.items ≡ unordered_records streams.now.entries) }
+    ensures rises { IfOk result (λ records. rises_from 0 (unordered_ids records.items) ≡ true) }
+{
+    let _count = streams.len();
+    let mut records = Vec::new(alloc);
+    for (id, _) in streams {
+        records.push(HandoverUnorderedStream { id: *id })?;
+    }
+    Ok(records)
+}
+
+// The streams of a handover record.
+fn read<K: ReassemblyKey>(
+    alloc: Global,
+    records: &[HandoverUnorderedStream],
+) -> Result<BTreeMap<u16, UnorderedStream<K>>, AllocError>
+    requires { rises_from 0 (unordered_ids records.now) ≡ true }
+    ensures { IfOk result (λ streams. streams.entries ≡ unordered_entries records.now) }
+{
+    let mut streams = BTreeMap::new(alloc);
+    for record in records {
+        streams.insert(record.id, UnorderedStream::new(alloc))?;
+    }
+    Ok(streams)
 }

@@ -3,8 +3,6 @@ ghost use Rattle.std.specs.Prelude.{◌≡◌, IfOk};
 use super::*;
 use crate::reassembly_key::{InterleavedKey, TraditionalKey, UnorderedInterleavedKey};
 use sctp_serial::{Fsn, Mid, PpId, Ssn, StreamId, StreamKey};
-use std::process::Abort;
-use std::test::Fail;
 
 fn piece(alloc: Global, bytes: &[u8], is_beginning: bool, is_end: bool) -> Result<Data, AllocError>
     ensures { IfOk result (λ d. d.payload.items ≡ bytes.now) }
@@ -25,107 +23,126 @@ fn at(index: u64) -> TraditionalKey {
     TraditionalKey { number: 0, index }
 }
 
+// What `add` answers; none where memory lacks.
 fn put<K: ReassemblyKey>(
-    rt: &impl Abort,
     alloc: Global,
     list: &mut IntervalList<K>,
     key: K,
     bytes: &[u8],
     ends: (bool, bool),
-) -> Result<Option<usize>, Fail> {
-    let fragment = piece(alloc, bytes, ends.0, ends.1)?;
-    assert!(rt; list.total_bytes() < 1 << 40);
-    assert!(rt; fragment.payload.len() < 1 << 40);
-    let place = list.add(key, fragment)?;
-    Ok(place)
+) -> Option<Option<usize>> {
+    let fragment = piece(alloc, bytes, ends.0, ends.1).ok()?;
+    if list.total_bytes() < 1 << 40 && fragment.payload.len() < 1 << 40 {
+        list.add(key, fragment).ok()
+    } else {
+        None
+    }
+}
+
+// Whether the interval goes from one key to the other, with this payload.
+fn is_message(
+    alloc: Global,
+    interval: &Interval<TraditionalKey>,
+    first: TraditionalKey,
+    last: TraditionalKey,
+    payload: &[u8],
+) -> Option<bool> {
+    let collected = interval.collect_payload(alloc).ok()?;
+    Some(
+        interval.first().key == first
+            && interval.last().key == last
+            && collected.as_slice() == payload,
+    )
+}
+
+// Whether the one interval is taken as the message of three fragments.
+fn is_joined(alloc: Global, list: &mut IntervalList<TraditionalKey>) -> Option<bool> {
+    if list.len() != 1 || list.total_bytes() != 6 {
+        return Some(false);
+    }
+    let interval = list.pop_if_complete(0)?;
+    is_message(alloc, &interval, at(10), at(12), b"p0p1p2")
 }
 
 // The gap between a beginning and an end is filled: one interval takes the place of two.
 #[test]
-fn fills_the_gap(rt: HostRuntime) -> Result<(), Fail> {
-    let alloc = rt.alloc();
-    let mut list = IntervalList::new(alloc);
-    assert_eq!(rt;
-        put(&rt, alloc, &mut list, at(10), b"p0", (true, false))?,
-        Some(0)
-    );
-    assert_eq!(rt;
-        put(&rt, alloc, &mut list, at(12), b"p2", (false, true))?,
-        Some(1)
-    );
-    assert_eq!(rt;
-        put(&rt, alloc, &mut list, at(11), b"p1", (false, false))?,
-        Some(0)
-    );
-    assert_eq!(rt; list.len(), 1);
-    assert_eq!(rt; list.total_bytes(), 6);
-    is_joined(&rt, alloc, &mut list)
-}
-
-fn is_joined(
-    rt: &impl Abort,
-    alloc: Global,
-    list: &mut IntervalList<TraditionalKey>,
-) -> Result<(), Fail> {
-    assert!(rt; list.len() == 1);
-    let Some(interval) = list.pop_if_complete(0) else {
-        return Err(Fail::new("nothing is complete"));
-    };
-    assert!(rt; interval.first().key == at(10));
-    assert!(rt; interval.last().key == at(12));
-    let payload = interval.collect_payload(alloc)?;
-    assert!(rt; payload.as_slice() == b"p0p1p2".as_slice());
+fn fills_the_gap(rt: HostRuntime) {
+    let mut list = IntervalList::new(rt.alloc());
+    assert!(rt; put(rt.alloc(), &mut list, at(10), b"p0", (true, false)) == Some(Some(0)));
+    assert!(rt; put(rt.alloc(), &mut list, at(12), b"p2", (false, true)) == Some(Some(1)));
+    assert!(rt; put(rt.alloc(), &mut list, at(11), b"p1", (false, false)) == Some(Some(0)));
+    assert!(rt; is_joined(rt.alloc(), &mut list) == Some(true));
     assert!(rt; list.is_empty());
-    Ok(())
 }
 
-// A key that is held is not taken twice, and two whole messages are two intervals.
-#[test]
-fn keeps_messages_apart(rt: HostRuntime) -> Result<(), Fail> {
-    let alloc = rt.alloc();
-    let first = InterleavedKey {
-        number: 0,
-        index: 0,
-    };
-    let second = InterleavedKey {
-        number: 0,
-        index: 1,
-    };
+// A key that is held is not taken twice, two whole messages are two intervals, and an incomplete one is not taken.
+fn keeps_apart<K: ReassemblyKey>(
+    alloc: Global,
+    list: &mut IntervalList<K>,
+    first: K,
+    second: K,
+    third: K,
+) -> Option<bool> {
+    let place = put(alloc, list, first, b"a", (true, true))?;
+    let again = put(alloc, list, first, b"c", (true, true))?;
+    let next = put(alloc, list, second, b"b", (true, true))?;
+    let last = put(alloc, list, third, b"x", (true, false))?;
+    Some(place == Some(0) && again.is_none() && next == Some(1) && last == Some(2))
+}
+
+fn takes_apart<K: ReassemblyKey>(list: &mut IntervalList<K>, third: K) -> bool {
+    if list.len() != 3 || list.pop_if_complete(2).is_some() {
+        return false;
+    }
+    let is_next = list.pop_front_if_complete_and(1).is_some();
+    let is_gone = list.pop_front_if_complete_and(1).is_none();
+    list.retain(third);
+    is_next && is_gone && list.len() == 1 && list.total_bytes() == 1
+}
+
+fn is_apart<K: ReassemblyKey>(alloc: Global, first: K, second: K, third: K) -> bool {
     let mut list = IntervalList::new(alloc);
-    assert_eq!(rt;
-        put(&rt, alloc, &mut list, first, b"a", (true, true))?,
-        Some(0)
-    );
-    assert_eq!(rt;
-        put(&rt, alloc, &mut list, first, b"c", (true, true))?,
-        None
-    );
-    assert_eq!(rt;
-        put(&rt, alloc, &mut list, second, b"b", (true, true))?,
-        Some(1)
-    );
-    assert_eq!(rt; list.len(), 2);
-    Ok(())
+    keeps_apart(alloc, &mut list, first, second, third) == Some(true)
+        && takes_apart(&mut list, third)
+}
+
+fn by_tsn(number: u64, index: u64) -> TraditionalKey {
+    TraditionalKey { number, index }
+}
+
+fn by_fsn(number: u64) -> InterleavedKey {
+    InterleavedKey { number, index: 0 }
+}
+
+fn unordered(number: u64) -> UnorderedInterleavedKey {
+    UnorderedInterleavedKey { number, index: 0 }
+}
+
+#[test]
+fn keeps_messages_apart(rt: HostRuntime) {
+    assert!(rt; is_apart(rt.alloc(), by_tsn(0, 0), by_tsn(1, 1), by_tsn(2, 2)));
+    assert!(rt; is_apart(rt.alloc(), by_fsn(0), by_fsn(1), by_fsn(2)));
+    assert!(rt; is_apart(rt.alloc(), unordered(0), unordered(1), unordered(2)));
 }
 
 // An incomplete interval in front stops no message that is in turn.
-#[test]
-fn finds_what_is_in_turn(rt: HostRuntime) -> Result<(), Fail> {
-    let alloc = rt.alloc();
-    let stale = UnorderedInterleavedKey {
+fn finds_behind(alloc: Global, list: &mut IntervalList<InterleavedKey>) -> Option<bool> {
+    let stale = InterleavedKey {
         number: 1,
         index: 0,
     };
-    let whole = UnorderedInterleavedKey {
+    let whole = InterleavedKey {
         number: 2,
         index: 0,
     };
-    let mut list = IntervalList::new(alloc);
-    put(&rt, alloc, &mut list, stale, b"x", (true, false))?;
-    put(&rt, alloc, &mut list, whole, b"y", (true, true))?;
-    assert!(rt; list.pop_front_if_complete_and(1).is_none());
-    assert!(rt; list.pop_front_if_complete_and(2).is_some());
-    list.retain(whole);
-    assert!(rt; list.is_empty());
-    Ok(())
+    put(alloc, list, stale, b"x", (true, false))?;
+    put(alloc, list, whole, b"y", (true, true))?;
+    let is_early = list.pop_front_if_complete_and(1).is_some();
+    Some(!is_early && list.pop_front_if_complete_and(2).is_some())
+}
+
+#[test]
+fn finds_what_is_in_turn(rt: HostRuntime) {
+    let mut list = IntervalList::new(rt.alloc());
+    assert!(rt; finds_behind(rt.alloc(), &mut list) == Some(true));
 }

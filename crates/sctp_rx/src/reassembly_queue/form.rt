@@ -10,6 +10,7 @@ use crate::reassembly_streams::ReassemblyStreams;
 use crate::traditional_reassembly_streams::TraditionalReassemblyStreams;
 use sctp_packet::{Data, SkippedStream};
 use sctp_serial::StreamId;
+use sctp_state::{HandoverReadiness, SocketHandoverState};
 use std::alloc::{AllocError, Global};
 
 #[derive(Drop)]
@@ -70,6 +71,31 @@ impl ReassemblyStreams for Form {
         match self {
             Form::Traditional(streams) => streams.queued_bytes(),
             Form::Interleaved(streams) => streams.queued_bytes(),
+        }
+    }
+
+    fn get_handover_readiness(&self) -> HandoverReadiness {
+        match self {
+            Form::Traditional(streams) => streams.get_handover_readiness(),
+            Form::Interleaved(streams) => streams.get_handover_readiness(),
+        }
+    }
+
+    fn add_to_handover_state(
+        &self,
+        alloc: Global,
+        state: &mut SocketHandoverState,
+    ) -> Result<(), AllocError> {
+        match self {
+            Form::Traditional(streams) => streams.add_to_handover_state(alloc, state),
+            Form::Interleaved(streams) => streams.add_to_handover_state(alloc, state),
+        }
+    }
+
+    fn restore_from_state(&mut self, state: &SocketHandoverState) -> Result<(), AllocError> {
+        match self {
+            Form::Traditional(streams) => streams.restore_from_state(state),
+            Form::Interleaved(streams) => streams.restore_from_state(state),
         }
     }
 }

@@ -1,9 +1,10 @@
-ghost use Rattle.std.specs.Prelude.{◌≡◌, ◌∷◌, [], IfOk};
+ghost use Rattle.std.specs.Prelude.{◌≡◌, ◌∷◌, [], true, IfOk, IsTrue};
+ghost use Rattle.sctp_state.specs.Handover.{receive_of};
+ghost use Rattle.sctp_state.specs.Validity.{is_valid_reception};
 
 use super::*;
 use sctp_serial::{Fsn, Mid, PpId, Ssn, StreamKey};
-use std::process::Abort;
-use std::test::Fail;
+use sctp_state::api::handover::HandoverSocketState;
 
 // A message of one fragment and one byte.
 fn whole(alloc: Global, stream_key: StreamKey, number: u16, byte: u8) -> Result<Data, AllocError>
@@ -21,87 +22,186 @@ fn whole(alloc: Global, stream_key: StreamKey, number: u16, byte: u8) -> Result<
     })
 }
 
+// Adds a message; none where memory lacks.
 fn give(
-    rt: &impl Abort,
     alloc: Global,
     queue: &mut ReassemblyQueue,
     tsn: u32,
     stream_key: StreamKey,
     number: u16,
     byte: u8,
-) -> Result<(), Fail> {
-    let fragment = whole(alloc, stream_key, number, byte)?;
-    assert!(rt; queue.queued_bytes() < 1 << 40);
-    assert!(rt; fragment.payload.len() < 1 << 40);
-    queue.add(Tsn(tsn), fragment)?;
-    Ok(())
+) -> Option<()> {
+    let fragment = whole(alloc, stream_key, number, byte).ok()?;
+    if queue.queued_bytes() < 1 << 40 && fragment.payload.len() < 1 << 40 {
+        queue.add(Tsn(tsn), fragment).ok()
+    } else {
+        None
+    }
 }
 
-fn expect(rt: &impl Abort, queue: &mut ReassemblyQueue, byte: u8) -> Result<(), Fail> {
-    let Some(message) = queue.get_next_message() else {
-        return Err(Fail::new("no message is ready"));
-    };
-    assert!(rt; message.payload.as_slice() == [byte].as_slice());
-    Ok(())
-}
-
-fn is_deferred(rt: &impl Abort, alloc: Global, queue: &mut ReassemblyQueue) -> Result<(), Fail> {
-    queue.enter_deferred_reset(Tsn(10), &[StreamId(1)])?;
-    give(rt, alloc, queue, 12, StreamKey::Ordered(StreamId(2)), 1, 98)?;
-    give(rt, alloc, queue, 10, StreamKey::Ordered(StreamId(1)), 0, 97)?;
-    assert!(rt; queue.messages_ready_count() == 1);
-    let entries = [SkippedStream::ForwardTsn(StreamId(2), Ssn(0))];
-    queue.handle_forward_tsn(Tsn(11), &entries)?;
-    assert!(rt; queue.messages_ready_count() == 1);
-    Ok(())
+// Whether the next message that is ready is this byte.
+fn is_next(queue: &mut ReassemblyQueue, byte: u8) -> bool {
+    match queue.get_next_message() {
+        Some(message) => message.payload.as_slice() == [byte].as_slice(),
+        None => false,
+    }
 }
 
 // A forward point above the last TSN of a deferred reset waits until the reset is performed.
-#[test]
-fn defers_a_reset(rt: HostRuntime) -> Result<(), Fail> {
-    let mut queue = ReassemblyQueue::new(rt.alloc(), 1000, false);
-    is_deferred(&rt, rt.alloc(), &mut queue)?;
-    queue.reset_streams_and_leave_deferred_reset(&[StreamId(1)])?;
-    assert_eq!(rt; queue.messages_ready_count(), 2);
-    expect(&rt, &mut queue, 97)?;
-    expect(&rt, &mut queue, 98)?;
-    Ok(())
+fn defers(alloc: Global, queue: &mut ReassemblyQueue) -> Option<bool> {
+    queue.enter_deferred_reset(Tsn(10), &[StreamId(1)]).ok()?;
+    give(alloc, queue, 12, StreamKey::Ordered(StreamId(2)), 1, 98)?;
+    give(alloc, queue, 10, StreamKey::Ordered(StreamId(1)), 0, 97)?;
+    let before = queue.messages_ready_count();
+    let entries = [SkippedStream::ForwardTsn(StreamId(2), Ssn(0))];
+    queue.handle_forward_tsn(Tsn(11), &entries).ok()?;
+    let waiting = queue.messages_ready_count();
+    queue
+        .reset_streams_and_leave_deferred_reset(&[StreamId(1)])
+        .ok()?;
+    let after = queue.messages_ready_count();
+    Some(before == 1 && waiting == 1 && after == 2 && is_next(queue, 97) && is_next(queue, 98))
 }
 
-fn waits(rt: &impl Abort, alloc: Global, queue: &mut ReassemblyQueue) -> Result<(), Fail> {
-    let key = StreamKey::Ordered(StreamId(1));
-    give(rt, alloc, queue, 4294967295, key, 0, 97)?;
-    queue.enter_deferred_reset(Tsn(0), &[])?;
-    give(rt, alloc, queue, 1, key, 0, 98)?;
-    assert!(rt; queue.messages_ready_count() == 1);
-    assert!(rt; queue.queued_bytes() == 2);
-    Ok(())
+#[test]
+fn defers_a_reset(rt: HostRuntime) {
+    let mut queue = ReassemblyQueue::new(rt.alloc(), 1000, false);
+    assert!(rt; defers(rt.alloc(), &mut queue) == Some(true));
 }
 
 // A fragment of the stream's next life waits, and has the first number after the reset.
-#[test]
-fn has_fragments_wait(rt: HostRuntime) -> Result<(), Fail> {
-    let mut queue = ReassemblyQueue::new(rt.alloc(), 1000, true);
-    waits(&rt, rt.alloc(), &mut queue)?;
-    queue.reset_streams_and_leave_deferred_reset(&[])?;
-    assert_eq!(rt; queue.rx_messages_count(), 2);
-    expect(&rt, &mut queue, 97)?;
-    expect(&rt, &mut queue, 98)?;
-    assert_eq!(rt; queue.queued_bytes(), 0);
-    Ok(())
+fn has_the_next_life_wait(alloc: Global, queue: &mut ReassemblyQueue) -> Option<bool> {
+    let key = StreamKey::Ordered(StreamId(1));
+    give(alloc, queue, 4294967295, key, 0, 97)?;
+    queue.enter_deferred_reset(Tsn(0), &[]).ok()?;
+    give(alloc, queue, 1, key, 0, 98)?;
+    let is_waiting = queue.messages_ready_count() == 1 && queue.queued_bytes() == 2;
+    queue.reset_streams_and_leave_deferred_reset(&[]).ok()?;
+    let is_counted = queue.rx_messages_count() == 2;
+    let is_ready = is_next(queue, 97) && is_next(queue, 98);
+    Some(is_waiting && is_counted && is_ready && queue.queued_bytes() == 0)
 }
 
 #[test]
-fn tells_its_sizes(rt: HostRuntime) -> Result<(), Fail> {
+fn has_fragments_wait(rt: HostRuntime) {
+    let mut queue = ReassemblyQueue::new(rt.alloc(), 1000, true);
+    assert!(rt; has_the_next_life_wait(rt.alloc(), &mut queue) == Some(true));
+}
+
+fn tells_sizes(alloc: Global, queue: &mut ReassemblyQueue) -> Option<bool> {
     let key = StreamKey::Unordered(StreamId(1));
+    let left = queue.remaining_bytes();
+    give(alloc, queue, 1, key, 0, 97)?;
+    let is_early = queue.is_above_watermark();
+    give(alloc, queue, 2, key, 0, 98)?;
+    let is_high = queue.is_above_watermark() && !queue.is_full();
+    let is_none_left = queue.remaining_bytes() == 0;
+    Some(left == 2 && !is_early && is_high && is_none_left)
+}
+
+#[test]
+fn tells_its_sizes(rt: HostRuntime) {
     let mut queue = ReassemblyQueue::new(rt.alloc(), 3, false);
-    assert_eq!(rt; queue.remaining_bytes(), 2);
-    give(&rt, rt.alloc(), &mut queue, 1, key, 0, 97)?;
-    assert!(rt; !queue.is_above_watermark());
-    give(&rt, rt.alloc(), &mut queue, 2, key, 0, 98)?;
-    assert!(rt; queue.is_above_watermark() && !queue.is_full());
-    assert_eq!(rt; queue.remaining_bytes(), 0);
+    assert!(rt; tells_sizes(rt.alloc(), &mut queue) == Some(true));
     assert!(rt; queue.ready(1).is_some());
     assert!(rt; queue.ready(2).is_none());
-    Ok(())
+}
+
+// What stands in the way of a handover: a fragment that is held, then a reset that is deferred.
+fn tells_readiness(alloc: Global, queue: &mut ReassemblyQueue) -> Option<bool> {
+    let key = StreamKey::Ordered(StreamId(3));
+    give(alloc, queue, 2, key, 1, 98)?;
+    let held = queue.get_handover_readiness();
+    give(alloc, queue, 1, key, 0, 97)?;
+    let ready = queue.get_handover_readiness();
+    queue.enter_deferred_reset(Tsn(9), &[]).ok()?;
+    let deferred = queue.get_handover_readiness();
+    queue
+        .reset_streams_and_leave_deferred_reset(&[StreamId(7)])
+        .ok()?;
+    Some(
+        held == HandoverReadiness::STREAM_HAS_UNASSEMBLED_CHUNKS
+            && ready == HandoverReadiness::READY
+            && deferred == HandoverReadiness::STREAM_RESET_DEFERRED,
+    )
+}
+
+// Whether the record has stream 3 alone, with this next number.
+fn is_written(queue: &ReassemblyQueue, state: &mut SocketHandoverState, next: u32) -> Option<bool> {
+    queue.add_to_handover_state(state).ok()?;
+    let written = *state.rx.ordered_streams.first()?;
+    Some(
+        state.rx.ordered_streams.len() == 1
+            && state.rx.unordered_streams.is_empty()
+            && written.id == 3
+            && written.next_ssn == next,
+    )
+}
+
+// Two messages are ready, and the record is that of a stream where two came.
+fn hands_over(
+    alloc: Global,
+    queue: &mut ReassemblyQueue,
+    state: &mut SocketHandoverState,
+) -> Option<bool> {
+    let is_told = tells_readiness(alloc, queue)?;
+    let is_written = is_written(queue, state, 2)?;
+    Some(is_told && is_written && is_next(queue, 97) && is_next(queue, 98))
+}
+
+// Two messages came on the stream before: a second one is late, the third becomes ready.
+fn goes_on(alloc: Global, queue: &mut ReassemblyQueue) -> Option<bool> {
+    let key = StreamKey::Ordered(StreamId(3));
+    give(alloc, queue, 4, key, 1, 98)?;
+    let is_late = queue.queued_bytes() == 0;
+    give(alloc, queue, 3, key, 2, 99)?;
+    Some(is_late && is_next(queue, 99))
+}
+
+// The record of a socket that has sent nothing.
+fn record(alloc: Global, message_interleaving: bool) -> SocketHandoverState {
+    let mut state = SocketHandoverState::empty(alloc);
+    state.socket_state = HandoverSocketState::Connected;
+    state.my_verification_tag = 1;
+    state.peer_verification_tag = 1;
+    state.capabilities.message_interleaving = message_interleaving;
+    state.tx.cwnd = 1;
+    state.tx.next_tsn = 1;
+    state
+}
+
+#[tactic(auto, using(crate::proofs::ReceptionLemmas::valid_reception))]
+fn is_valid(state: &SocketHandoverState) -> bool
+    ensures { IsTrue result → is_valid_reception state.now.capabilities.message_interleaving (receive_of state.now.rx) ≡ true }
+{
+    match state.socket_state {
+        HandoverSocketState::Closed => false,
+        HandoverSocketState::Connected => state.is_valid(),
+    }
+}
+
+fn is_handed_over(alloc: Global, state: &mut SocketHandoverState) -> bool {
+    let interleaved = state.capabilities.message_interleaving;
+    let mut queue = ReassemblyQueue::new(alloc, 1000, interleaved);
+    hands_over(alloc, &mut queue, state) == Some(true)
+}
+
+fn is_restored(alloc: Global, state: &SocketHandoverState) -> bool {
+    if !is_valid(state) {
+        return false;
+    }
+    let mut queue = ReassemblyQueue::new(alloc, 1000, state.capabilities.message_interleaving);
+    if queue.restore_from_state(state).is_err() {
+        return false;
+    }
+    goes_on(alloc, &mut queue) == Some(true)
+}
+
+#[test]
+fn goes_on_elsewhere(rt: HostRuntime) {
+    for interleaved in [false, true] {
+        let mut state = record(rt.alloc(), interleaved);
+        assert!(rt; is_handed_over(rt.alloc(), &mut state));
+        assert!(rt; is_restored(rt.alloc(), &state));
+    }
 }

@@ -3,9 +3,9 @@ ghost use Rattle.std.specs.Prelude.{◌≡◌, ◌<◌, ◌∷◌, [], length, I
 use super::*;
 use crate::interleaved_reassembly_streams::InterleavedReassemblyStreams;
 use crate::traditional_reassembly_streams::TraditionalReassemblyStreams;
-use sctp_serial::{Fsn, Mid, PpId, Ssn, StreamKey};
-use std::process::Abort;
-use std::test::Fail;
+use sctp_serial::{Fsn, Message, Mid, PpId, Ssn, StreamKey};
+
+mod slow;
 
 // A fragment of one byte.
 fn piece(
@@ -30,24 +30,26 @@ fn piece(
     })
 }
 
+// Adds a fragment; none where memory lacks.
 fn give<S: ReassemblyStreams>(
-    rt: &impl Abort,
     streams: &mut S,
     ready: &mut ReadyMessages,
     tsn: u64,
     fragment: Data,
-) -> Result<(), Fail> {
-    assert!(rt; tsn < 1 << 40);
-    assert!(rt; streams.queued_bytes() < 1 << 40);
-    assert!(rt; ready.total_bytes() < 1 << 40);
-    assert!(rt; fragment.payload.len() < 1 << 40);
-    streams.add(tsn, fragment, ready)?;
-    Ok(())
+) -> Option<()> {
+    if tsn < 1 << 40
+        && streams.queued_bytes() < 1 << 40
+        && ready.total_bytes() < 1 << 40
+        && fragment.payload.len() < 1 << 40
+    {
+        streams.add(tsn, fragment, ready).ok()
+    } else {
+        None
+    }
 }
 
-// A whole message of one byte.
+// A whole ordered message of one byte.
 fn give_whole<S: ReassemblyStreams>(
-    rt: &impl Abort,
     alloc: Global,
     streams: &mut S,
     ready: &mut ReadyMessages,
@@ -55,117 +57,146 @@ fn give_whole<S: ReassemblyStreams>(
     stream: u16,
     number: u16,
     byte: u8,
-) -> Result<(), Fail> {
+) -> Option<()> {
     let key = StreamKey::Ordered(StreamId(stream));
-    let fragment = piece(alloc, key, number, 0, byte, (true, true))?;
-    give(rt, streams, ready, tsn, fragment)
+    let fragment = piece(alloc, key, number, 0, byte, (true, true)).ok()?;
+    give(streams, ready, tsn, fragment)
 }
 
-// The end of a message.
-fn give_end<S: ReassemblyStreams>(
-    rt: &impl Abort,
+// The first of two fragments, or the second.
+fn give_part<S: ReassemblyStreams>(
     alloc: Global,
     streams: &mut S,
     ready: &mut ReadyMessages,
     tsn: u64,
     stream_key: StreamKey,
     number: u16,
-) -> Result<(), Fail> {
-    let fragment = piece(alloc, stream_key, number, 1, 98, (false, true))?;
-    give(rt, streams, ready, tsn, fragment)
+    is_beginning: bool,
+) -> Option<()> {
+    let fsn = if is_beginning { 0 } else { 1 };
+    let byte = if is_beginning { 97 } else { 98 };
+    let ends = (is_beginning, !is_beginning);
+    let fragment = piece(alloc, stream_key, number, fsn, byte, ends).ok()?;
+    give(streams, ready, tsn, fragment)
 }
 
 fn forward<S: ReassemblyStreams>(
-    rt: &impl Abort,
     alloc: Global,
     streams: &mut S,
     ready: &mut ReadyMessages,
     tsn: u64,
     entries: &[SkippedStream],
-) -> Result<(), Fail> {
-    assert!(rt; tsn < 1 << 40);
-    assert!(rt; streams.queued_bytes() < 1 << 40);
-    assert!(rt; ready.total_bytes() < 1 << 40);
-    streams.handle_forward_tsn(alloc, tsn, entries, ready)?;
-    Ok(())
+) -> Option<()> {
+    if tsn < 1 << 40 && streams.queued_bytes() < 1 << 40 && ready.total_bytes() < 1 << 40 {
+        streams.handle_forward_tsn(alloc, tsn, entries, ready).ok()
+    } else {
+        None
+    }
 }
 
-fn expect(
-    rt: &impl Abort,
-    ready: &mut ReadyMessages,
-    stream: u16,
-    payload: &[u8],
-) -> Result<(), Fail> {
-    let Some(message) = ready.pop() else {
-        return Err(Fail::new("no message is ready"));
-    };
-    assert!(rt; message.stream_id == StreamId(stream));
-    assert!(rt; message.ppid == PpId(53));
-    assert!(rt; message.payload.as_slice() == payload);
-    Ok(())
+fn is_message(message: &Message, stream: u16, payload: &[u8]) -> bool {
+    message.stream_id == StreamId(stream)
+        && message.ppid == PpId(53)
+        && message.payload.as_slice() == payload
+}
+
+// Whether this is the next message that is ready.
+fn is_next(ready: &mut ReadyMessages, stream: u16, payload: &[u8]) -> bool {
+    match ready.pop() {
+        Some(message) => is_message(&message, stream, payload),
+        None => false,
+    }
 }
 
 // The end comes before the beginning: one message, with the beginning's protocol id.
-#[test]
-fn takes_the_protocol_of_the_beginning(rt: HostRuntime) -> Result<(), Fail> {
+fn takes_the_end_first<S: ReassemblyStreams>(
+    alloc: Global,
+    streams: &mut S,
+    ready: &mut ReadyMessages,
+) -> Option<bool> {
     let key = StreamKey::Ordered(StreamId(1));
+    give_part(alloc, streams, ready, 11, key, 0, false)?;
+    let is_early = ready.len() != 0;
+    give_part(alloc, streams, ready, 10, key, 0, true)?;
+    Some(
+        !is_early
+            && is_next(ready, 1, b"ab".as_slice())
+            && ready.len() == 0
+            && streams.queued_bytes() == 0,
+    )
+}
+
+#[test]
+fn takes_the_protocol_of_the_beginning(rt: HostRuntime) {
     let mut streams = InterleavedReassemblyStreams::new(rt.alloc());
     let mut ready = ReadyMessages::new(rt.alloc());
-    give_end(&rt, rt.alloc(), &mut streams, &mut ready, 11, key, 0)?;
-    assert_eq!(rt; ready.len(), 0);
-    let first = piece(rt.alloc(), key, 0, 0, 97, (true, false))?;
-    give(&rt, &mut streams, &mut ready, 10, first)?;
-    expect(&rt, &mut ready, 1, b"ab".as_slice())?;
-    assert_eq!(rt; ready.len(), 0);
-    assert_eq!(rt; streams.queued_bytes(), 0);
-    Ok(())
+    assert!(rt; takes_the_end_first(rt.alloc(), &mut streams, &mut ready) == Some(true));
 }
 
 // Messages of a stream become ready by number, not as they come.
+fn keeps_order<S: ReassemblyStreams>(
+    alloc: Global,
+    streams: &mut S,
+    ready: &mut ReadyMessages,
+) -> Option<bool> {
+    give_whole(alloc, streams, ready, 11, 7, 1, 98)?;
+    let is_early = ready.len() != 0;
+    give_whole(alloc, streams, ready, 10, 7, 0, 97)?;
+    Some(!is_early && is_next(ready, 7, b"a".as_slice()) && is_next(ready, 7, b"b".as_slice()))
+}
+
 #[test]
-fn keeps_the_order_of_numbers(rt: HostRuntime) -> Result<(), Fail> {
+fn keeps_the_order_of_numbers(rt: HostRuntime) {
     let mut streams = TraditionalReassemblyStreams::new(rt.alloc());
     let mut ready = ReadyMessages::new(rt.alloc());
-    give_whole(&rt, rt.alloc(), &mut streams, &mut ready, 11, 7, 1, 98)?;
-    assert_eq!(rt; ready.len(), 0);
-    give_whole(&rt, rt.alloc(), &mut streams, &mut ready, 10, 7, 0, 97)?;
-    expect(&rt, &mut ready, 7, b"a".as_slice())?;
-    expect(&rt, &mut ready, 7, b"b".as_slice())?;
-    Ok(())
+    assert!(rt; keeps_order(rt.alloc(), &mut streams, &mut ready) == Some(true));
 }
 
 // A forward point over the first message of two streams frees the second ones, by ascending stream.
-#[test]
-fn goes_on_behind_a_forward_point(rt: HostRuntime) -> Result<(), Fail> {
-    let mut streams = TraditionalReassemblyStreams::new(rt.alloc());
-    let mut ready = ReadyMessages::new(rt.alloc());
-    give_whole(&rt, rt.alloc(), &mut streams, &mut ready, 13, 9, 1, 98)?;
-    give_whole(&rt, rt.alloc(), &mut streams, &mut ready, 12, 2, 1, 97)?;
+fn frees_two(
+    alloc: Global,
+    streams: &mut TraditionalReassemblyStreams,
+    ready: &mut ReadyMessages,
+) -> Option<bool> {
+    give_whole(alloc, streams, ready, 13, 9, 1, 98)?;
+    give_whole(alloc, streams, ready, 12, 2, 1, 97)?;
     let entries = [
         SkippedStream::ForwardTsn(StreamId(9), Ssn(0)),
         SkippedStream::ForwardTsn(StreamId(2), Ssn(0)),
     ];
-    forward(&rt, rt.alloc(), &mut streams, &mut ready, 11, &entries)?;
-    expect(&rt, &mut ready, 2, b"a".as_slice())?;
-    expect(&rt, &mut ready, 9, b"b".as_slice())?;
-    Ok(())
+    forward(alloc, streams, ready, 11, &entries)?;
+    Some(is_next(ready, 2, b"a".as_slice()) && is_next(ready, 9, b"b".as_slice()))
+}
+
+#[test]
+fn goes_on_behind_a_forward_point(rt: HostRuntime) {
+    let mut streams = TraditionalReassemblyStreams::new(rt.alloc());
+    let mut ready = ReadyMessages::new(rt.alloc());
+    assert!(rt; frees_two(rt.alloc(), &mut streams, &mut ready) == Some(true));
 }
 
 // A late fragment of a message that was given up is not held, and a reset forgets what is held.
-#[test]
-fn holds_nothing_of_the_past(rt: HostRuntime) -> Result<(), Fail> {
+fn forgets(
+    alloc: Global,
+    streams: &mut InterleavedReassemblyStreams,
+    ready: &mut ReadyMessages,
+) -> Option<bool> {
     let key = StreamKey::Unordered(StreamId(3));
+    let entries = [SkippedStream::IForwardTsn(key, Mid(0))];
+    forward(alloc, streams, ready, 10, &entries)?;
+    give_part(alloc, streams, ready, 12, key, 0, false)?;
+    let late = streams.queued_bytes();
+    give_part(alloc, streams, ready, 13, key, 1, false)?;
+    let held = streams.queued_bytes();
+    streams.reset_streams(&[StreamId(3)]);
+    Some(late == 0 && held == 1 && streams.queued_bytes() == 0)
+}
+
+#[test]
+fn holds_nothing_of_the_past(rt: HostRuntime) {
     let mut streams = InterleavedReassemblyStreams::new(rt.alloc());
     let mut ready = ReadyMessages::new(rt.alloc());
-    let entries = [SkippedStream::IForwardTsn(key, Mid(0))];
-    forward(&rt, rt.alloc(), &mut streams, &mut ready, 10, &entries)?;
-    give_end(&rt, rt.alloc(), &mut streams, &mut ready, 12, key, 0)?;
-    assert_eq!(rt; streams.queued_bytes(), 0);
-    give_end(&rt, rt.alloc(), &mut streams, &mut ready, 13, key, 1)?;
-    assert_eq!(rt; streams.queued_bytes(), 1);
-    streams.reset_streams(&[StreamId(3)]);
-    assert_eq!(rt; streams.queued_bytes(), 0);
-    Ok(())
+    assert!(rt; forgets(rt.alloc(), &mut streams, &mut ready) == Some(true));
 }
 
 const COUNT: u32 = 300;
@@ -180,72 +211,66 @@ fn place_in(order: u32, i: u32) -> u32 {
     }
 }
 
-// One message of many fragments, in an order.
-fn gives_all<S: ReassemblyStreams>(
-    rt: &impl Abort,
+// A fragment of a long message comes.
+fn gives_one<S: ReassemblyStreams>(
     alloc: Global,
     streams: &mut S,
+    ready: &mut ReadyMessages,
+    key: StreamKey,
+    place: u32,
+) -> Option<()> {
+    let byte = (place % 256) as u8;
+    let ends = (place == 0, place == 299);
+    let fragment = piece(alloc, key, 0, place, byte, ends).ok()?;
+    give(streams, ready, (1 << 33) + place as u64, fragment)
+}
+
+fn is_long_message(message: &Message) -> bool {
+    message.payload.len() == 300
+        && message.payload.get(299).copied() == Some(43)
+        && message.ppid == PpId(53)
+}
+
+// One message of many fragments, in an order: it is ready at the last one.
+fn gives_all<S: ReassemblyStreams>(
+    alloc: Global,
+    streams: &mut S,
+    ready: &mut ReadyMessages,
     key: StreamKey,
     order: u32,
-) -> Result<(), Fail> {
-    let mut ready = ReadyMessages::new(alloc);
+) -> Option<bool> {
     for i in 0..COUNT {
-        assert!(rt; ready.len() == 0);
-        let place = place_in(order, i);
-        let byte = (place % 256) as u8;
-        let fragment = piece(alloc, key, 0, place, byte, (place == 0, place == 299))?;
-        give(rt, streams, &mut ready, (1 << 33) + place as u64, fragment)?;
+        if ready.len() != 0 {
+            return Some(false);
+        }
+        gives_one(alloc, streams, ready, key, place_in(order, i))?;
     }
-    let Some(message) = ready.pop() else {
-        return Err(Fail::new("no message is ready"));
-    };
-    assert!(rt; message.payload.len() == 300);
-    assert!(rt; message.payload.get(299).copied() == Some(43));
-    assert!(rt; message.ppid == PpId(53));
-    assert!(rt; streams.queued_bytes() == 0);
-    Ok(())
+    let message = ready.pop()?;
+    Some(is_long_message(&message) && streams.queued_bytes() == 0)
+}
+
+// The same in three orders, one message ordered and one not.
+fn gives_in_each_order<S: ReassemblyStreams>(
+    alloc: Global,
+    streams: &mut S,
+    ready: &mut ReadyMessages,
+) -> Option<bool> {
+    for order in 0..3 {
+        let id = StreamId(order as u16);
+        let is_ordered_good = gives_all(alloc, streams, ready, StreamKey::Ordered(id), order)?;
+        let is_other_good = gives_all(alloc, streams, ready, StreamKey::Unordered(id), order)?;
+        if !is_ordered_good || !is_other_good {
+            return Some(false);
+        }
+    }
+    Some(true)
 }
 
 #[test]
-fn takes_many_fragments_by_tsn(rt: HostRuntime) -> Result<(), Fail> {
-    for order in 0..3 {
-        let mut streams = TraditionalReassemblyStreams::new(rt.alloc());
-        gives_all(
-            &rt,
-            rt.alloc(),
-            &mut streams,
-            StreamKey::Ordered(StreamId(1)),
-            order,
-        )?;
-        gives_all(
-            &rt,
-            rt.alloc(),
-            &mut streams,
-            StreamKey::Unordered(StreamId(1)),
-            order,
-        )?;
-    }
-    Ok(())
-}
-
-#[test]
-fn takes_many_fragments_by_fsn(rt: HostRuntime) -> Result<(), Fail> {
-    for order in 0..3 {
-        let mut streams = InterleavedReassemblyStreams::new(rt.alloc());
-        gives_all(
-            &rt,
-            rt.alloc(),
-            &mut streams,
-            StreamKey::Ordered(StreamId(1)),
-            order,
-        )?;
-        gives_all(
-            &rt,
-            rt.alloc(),
-            &mut streams,
-            StreamKey::Unordered(StreamId(1)),
-            order,
-        )?;
-    }
-    Ok(())
+fn takes_many_fragments(rt: HostRuntime) {
+    let mut by_tsn = TraditionalReassemblyStreams::new(rt.alloc());
+    let mut by_fsn = InterleavedReassemblyStreams::new(rt.alloc());
+    let mut ready = ReadyMessages::new(rt.alloc());
+    assert!(rt; gives_in_each_order(rt.alloc(), &mut by_tsn, &mut ready) == Some(true));
+    assert!(rt; gives_in_each_order(rt.alloc(), &mut by_fsn, &mut ready) == Some(true));
 }

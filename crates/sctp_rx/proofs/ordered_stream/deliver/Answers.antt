@@ -3,6 +3,7 @@ use Rattle.sctp_serial.specs.Messages.{message_of}
 use Rattle.sctp_rx.specs.Held.{bytes_of, intervals_of, is_in_turn}
 use Rattle.sctp_rx.specs.Intervals.{held_of, run_of}
 use Rattle.sctp_rx.specs.Delivery.{deliver, preceded_by, message_of_run}
+use Rattle.sctp_rx.proofs.ExtendsLemmas.{extends_both}
 use Rattle.sctp_rx.proofs.FindLemmas.{left_unfound}
 use Rattle.sctp_rx.proofs.DeliverLemmas.{length_found, found_passes, turn_number, deliver_step, deliver_ends, one_earlier, ready_pushed}
 use Rattle.sctp_rx.proofs.ordered_stream.deliver.Goals as goal
@@ -25,6 +26,7 @@ loop-interval-preserved g c =
           ∙ one_earlier c.loop-interval.ready c.push.new.self (message_of c.in_ok-message.message) (message_of_run run) (deliver (suc c.loop-interval.next) c.pop_front_if_complete_and.new.self) _ c.in_ok-push.ensures.ok c.in_ok-message.ensures.value
           (ap (λ d. c.loop-interval.ready ++ d.messages) (sym step) ∙ c.loop-interval.invariant.messages);
       onward = omega (arith, up, c.loop-interval.invariant.onward);
+      kept = extends_both _ _ _ c.loop-interval.invariant.kept c.push.ensures.kept;
       bytes = omega (arith, c.in-Some.ensures.bytes, c.in_ok-message.ensures.bytes, ready_pushed c.loop-interval.ready c.push.new.self (message_of c.in_ok-message.message) c.in_ok-push.ensures.ok, c.loop-interval.invariant.bytes);
     }
 

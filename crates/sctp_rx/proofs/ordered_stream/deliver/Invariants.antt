@@ -1,6 +1,6 @@
 use Rattle.std.proofs.Common.{◌≡◌, ◌+◌, ◌≤◌, ◌++◌, length}
 use Rattle.sctp_rx.specs.Held.{bytes_of, intervals_of}
-use Rattle.sctp_rx.specs.Delivery.{deliver, ready_bytes}
+use Rattle.sctp_rx.specs.Delivery.{deliver, ready_bytes, Extends}
 use Rattle.sctp_rx.proofs.ordered_stream.deliver.Given as goal
 
 abbrev pub invariant-loop-interval : goal.invariant-loop-interval
@@ -8,6 +8,7 @@ invariant-loop-interval g l = record {
   stream : (deliver l.next l.list).stream ≡ (deliver l.fn.next l.fn.list).stream;
   messages : l.ready ++ (deliver l.next l.list).messages ≡ l.fn.ready ++ (deliver l.fn.next l.fn.list).messages;
   onward : l.fn.next ≤ l.next;
+  kept : Extends l.fn.ready l.ready;
   bytes : bytes_of l.list + ready_bytes l.ready ≤ bytes_of l.fn.list + ready_bytes l.fn.ready;
 }
 

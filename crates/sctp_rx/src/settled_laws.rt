@@ -1,0 +1,35 @@
+//! Nothing that is complete and in turn stays behind: of the value of a queue, after each call that changes its streams.
+
+ghost use Rattle.std.specs.Prelude.{ℕ, Bool, List};
+ghost use Rattle.sctp_serial.specs.declared.api.StreamId.{StreamId};
+ghost use Rattle.sctp_packet.specs.declared.forward_tsn.SkippedStream.{SkippedStream};
+ghost use Rattle.sctp_packet.specs.Chunk.{FragmentTree};
+ghost use Rattle.sctp_state.specs.Handover.{Receive};
+ghost use Rattle.sctp_rx.specs.ReassemblyHandover.{restored};
+ghost use Rattle.sctp_rx.specs.ReassemblyQueue.{Reassembly, reassembly, add, forward, reset};
+ghost use Rattle.sctp_rx.specs.Settled.{AreSettled};
+
+/// A new queue holds nothing.
+pub fn new_queues_are_settled()
+    ensures { (max_size : ℕ) (is_interleaved : Bool) → AreSettled (reassembly max_size is_interleaved).streams }
+{}
+
+/// Once a fragment came, nothing that is complete and in turn is held, if nothing was before.
+pub fn fragments_leave_queues_settled()
+    ensures { (tsn : ℕ) (f : FragmentTree) (r : Reassembly) → AreSettled r.streams → AreSettled (add tsn f r).streams }
+{}
+
+/// Nor once a forward point came.
+pub fn forward_points_leave_queues_settled()
+    ensures { (tsn : ℕ) (entries : List SkippedStream) (r : Reassembly) → AreSettled r.streams → AreSettled (forward tsn entries r).streams }
+{}
+
+/// Nor once streams were reset, and what waited came.
+pub fn resets_leave_queues_settled()
+    ensures { (ids : List StreamId) (r : Reassembly) → AreSettled r.streams → AreSettled (reset ids r).streams }
+{}
+
+/// Nor in a queue with the streams of a handover record.
+pub fn restored_queues_are_settled()
+    ensures { (rx : Receive) (r : Reassembly) → AreSettled (restored rx r).streams }
+{}
