@@ -2,6 +2,8 @@ pub mod BegunLemmas
 pub mod ProduceLemmas
 pub mod ResetLemmas
 pub mod RestartLemmas
+pub mod RestoreLemmas
+pub mod StaysBegunLemmas
 pub mod StreamLemmas
 pub mod StreamsLemmas
 pub mod TellingLemmas

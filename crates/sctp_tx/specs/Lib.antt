@@ -6,5 +6,6 @@ pub mod Queue
 pub mod Readiness
 pub mod Resets
 pub mod Restarted
+pub mod Restored
 pub mod Settings
 pub mod Views

@@ -1,7 +1,7 @@
-//! What the fragments of a message are together.
+//! What the fragments of a message are together, and that a message is ended before another begins.
 
 ghost use Rattle.std.specs.Prelude.{◌≡◌, true, drop};
-ghost use Rattle.sctp_tx.specs.Begun.{joined, is_ended};
+ghost use Rattle.sctp_tx.specs.Begun.{joined, is_ended, AddedStays, ThresholdStays, PriorityStays, ModeStays, PreparedStays, StepsStay, DiscardStays, ResetEnds};
 
 use crate::send_queue::message::{MessageNumbers, QueuedMessage};
 
@@ -9,4 +9,17 @@ use crate::send_queue::message::{MessageNumbers, QueuedMessage};
 /// was left of its payload: of a message of which nothing was sent, the payload.
 pub fn fragments_are_what_is_left(message: &QueuedMessage, numbers: MessageNumbers, sizes: &[usize])
     ensures { is_ended sizes.now numbers message.now ≡ true → joined sizes.now numbers message.now ≡ drop message.now.offset message.now.payload }
+{}
+
+/// Without interleaving a message that is begun is ended before another begins (RFC 9260 section 6.9): `produce` goes on
+/// with it, and the other calls leave it begun. A discard may drop its rest, and a new association begins with none.
+pub fn a_begun_message_stays_begun()
+    ensures added { AddedStays }
+    ensures threshold { ThresholdStays }
+    ensures priority { PriorityStays }
+    ensures mode { ModeStays }
+    ensures prepared { PreparedStays }
+    ensures steps { StepsStay }
+    ensures discarded { DiscardStays }
+    ensures reset { ResetEnds }
 {}
