@@ -1,3 +1,4 @@
+pub mod AgainLemmas
 pub mod BegunLemmas
 pub mod ProduceLemmas
 pub mod ResetLemmas

@@ -13,7 +13,9 @@ use Rattle.std.proofs.Math.Seq.{take-suc}
 use Rattle.sctp_state.specs.declared.api.handover.HandoverOutgoingStream.{HandoverOutgoingStream}
 use Rattle.sctp_state.specs.declared.api.handover.HandoverStreamMessage.{HandoverStreamMessage}
 use Rattle.sctp_state.specs.Handover.{HandoverState, StreamMessage, stream_message_of}
-use Rattle.sctp_state.specs.Validity.{rises_from, outgoing_ids, has_stream, is_valid_message, are_valid_messages, queued_bytes, is_valid_reception, has_valid_queue, is_valid_connection}
+use Rattle.sctp_state.specs.Validity.{rises_from, outgoing_ids, has_stream, is_valid_message, are_valid_messages, queued_bytes, is_valid_reception, has_valid_queue, has_valid_items, payload_fits, outstanding_bytes, is_valid_connection, is_valid_as, is_valid_state}
+use Rattle.sctp_state.specs.Numbers.{most_u32}
+use Rattle.sctp_state.specs.declared.api.handover.HandoverSocketState.TheVariants.{Connected}
 use Rattle.sctp_state.specs.Scheduler.{Scheduler, set_bytes_remaining}
 use Rattle.sctp_tx.specs.Queue.{Queued, Stream, Streams, Entries, amount_of, total_of, left, blank, stream, put, opened, pushed, sendable}
 use Rattle.sctp_tx.specs.Restored.{message_from, is_on, messages_from, stream_from, entries_from, each_heard}
@@ -289,8 +291,18 @@ wider_messages recs next (m ∷ ms) l h =
 at_most : (n : ℕ) → nat_le n (2 ^ 32) ≡ true → n ≤ 2 ^ 32
 at_most n e = grind (arith, nat_tests)
 
-pub valid_messages : (s : HandoverState) → is_valid_connection s ≡ true → are_valid_messages s.tx.streams (2 ^ 32) s.tx.queued_messages ≡ true
-valid_messages s h =
+-- what a valid record is known to have
+pub record IsConnection (s : HandoverState) : Type 0 where
+  pub rises : rises_from 0 (outgoing_ids s.tx.streams) ≡ true
+  pub messages : are_valid_messages s.tx.streams (2 ^ 32) s.tx.queued_messages ≡ true
+  pub bytes : queued_bytes s.tx.queued_messages < 2 ^ 32
+
+few_bytes : (n m : ℕ) → nat_le (n + m) most_u32 ≡ true → n < 2 ^ 32
+few_bytes n m e = grind (arith, nat_tests)
+
+pub connection : (s : HandoverState) → s.socket_state ≡ Connected → is_valid_state s ≡ true → IsConnection s
+connection s connected valid =
+    let h : is_valid_connection s ≡ true = ap (λ x. is_valid_as x s) (sym connected) ∙ valid in
     let a = both (nat_lt 0 s.my_verification_tag) _ h in
     let b = both (nat_lt 0 s.peer_verification_tag) _ a.1 in
     let c = both (is_valid_reception s.capabilities.message_interleaving s.rx) _ b.1 in
@@ -299,4 +311,9 @@ valid_messages s h =
     let f = both (has_valid_queue s.capabilities.message_interleaving s.tx) _ e.1 in
     let g = both (nat_le s.tx.next_outgoing_message_id (2 ^ 32)) _ f.0 in
     let k = both (are_valid_messages s.tx.streams s.tx.next_outgoing_message_id s.tx.queued_messages) _ g.1 in
-    wider_messages s.tx.streams s.tx.next_outgoing_message_id s.tx.queued_messages (at_most s.tx.next_outgoing_message_id g.0) k.0
+    let n = both (has_valid_items s.tx) (payload_fits s.tx) f.1 in
+    record {
+      rises = e.0;
+      messages = wider_messages s.tx.streams s.tx.next_outgoing_message_id s.tx.queued_messages (at_most s.tx.next_outgoing_message_id g.0) k.0;
+      bytes = few_bytes (queued_bytes s.tx.queued_messages) (outstanding_bytes s.tx.outstanding_data) n.1;
+    }

@@ -1,7 +1,9 @@
-//! What the fragments of a message are together, and that a message is ended before another begins.
+//! What the fragments of a message are together, that a message is ended before another begins, and that a record of the
+//! queue tells what is needed to go on.
 
 ghost use Rattle.std.specs.Prelude.{◌≡◌, true, drop};
 ghost use Rattle.sctp_tx.specs.Begun.{joined, is_ended, AddedStays, ThresholdStays, PriorityStays, ModeStays, PreparedStays, StepsStay, DiscardStays, ResetEnds};
+ghost use Rattle.sctp_tx.specs.Again.{EachComesBack};
 
 use crate::send_queue::message::{MessageNumbers, QueuedMessage};
 
@@ -22,4 +24,10 @@ pub fn a_begun_message_stays_begun()
     ensures steps { StepsStay }
     ensures discarded { DiscardStays }
     ensures reset { ResetEnds }
+{}
+
+/// A queue that is written into a record, which is taken up at the same moment, has its streams and messages again, in
+/// whatever queue: with all but the thresholds, the pauses and what the wire's numbers and whole milliseconds don't tell.
+pub fn a_record_brings_the_queue_back()
+    ensures { EachComesBack }
 {}

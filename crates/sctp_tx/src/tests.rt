@@ -1,13 +1,30 @@
 use super::*;
 use sctp_serial::{SocketTime, StreamId};
+use sctp_state::api::handover::HandoverSocketState;
 use sctp_state::{Options, SocketHandoverState};
 use std::alloc::{AllocError, Global};
+use std::process::Abort;
 use std::test::Fail;
 use std::time::Duration;
 use steps::Step::*;
-use steps::{Heard, Step, all_hold, at, walk, walk_with};
+use steps::{Heard, Step, at, walk};
 
 mod steps;
+
+fn all_hold_with(
+    rt: &impl Abort,
+    alloc: Global,
+    options: &Options,
+    steps: &[Step],
+) -> Result<(), Fail> {
+    let mut queue = SendQueue::new(alloc, options);
+    assert_eq!(rt; walk(alloc, &mut queue, steps)?, steps.len());
+    Ok(())
+}
+
+fn all_hold(rt: &impl Abort, alloc: Global, steps: &[Step]) -> Result<(), Fail> {
+    all_hold_with(rt, alloc, &Options::default(), steps)
+}
 
 // Each stream's turn costs 1: those that wait are served by ascending id, and then the first again.
 #[test]
@@ -26,8 +43,7 @@ fn streams_take_turns_by_message(rt: HostRuntime) -> Result<(), Fail> {
         IsEmpty(true),
         HasData(false),
     ];
-    assert!(rt; all_hold(rt.alloc(), &steps)?);
-    Ok(())
+    all_hold(&rt, rt.alloc(), &steps)
 }
 
 // 100 bytes cost 6553600 on stream 1 with priority 1, half of it on stream 2 with priority 2, and a third on stream 3 with
@@ -59,8 +75,7 @@ fn interleaved_streams_take_turns_by_priority(rt: HostRuntime) -> Result<(), Fai
         GivesWhole(1, 1, 1, 100),
         GivesWhole(1, 2, 2, 100),
     ];
-    assert!(rt; all_hold(rt.alloc(), &steps)?);
-    Ok(())
+    all_hold(&rt, rt.alloc(), &steps)
 }
 
 // Two streams of equal priority, one with a message of two fragments: they are interleaved.
@@ -74,8 +89,7 @@ fn fragments_of_messages_are_interleaved(rt: HostRuntime) -> Result<(), Fail> {
         Gives(0, 4, (1, 0, 0, 0, 0, 4)),
         Gives(0, 4, (1, 0, 0, 1, 4, 2)),
     ];
-    assert!(rt; all_hold(rt.alloc(), &steps)?);
-    Ok(())
+    all_hold(&rt, rt.alloc(), &steps)
 }
 
 // A stream's amount of 6 falls to 4, and then to 2: its threshold is 3, and that of the total 2.
@@ -95,8 +109,7 @@ fn amounts_fall_to_their_thresholds(rt: HostRuntime) -> Result<(), Fail> {
         Hears(Heard::Nothing),
         Total(2),
     ];
-    assert_eq!(rt; walk_with(rt.alloc(), &options, &steps)?, 9);
-    Ok(())
+    all_hold_with(&rt, rt.alloc(), &options, &steps)
 }
 
 // A threshold is raised below an amount, and then to it.
@@ -110,8 +123,7 @@ fn a_threshold_is_raised_to_the_amount(rt: HostRuntime) -> Result<(), Fail> {
         Hears(Heard::Low(2)),
         HasThreshold(2, 6),
     ];
-    assert!(rt; all_hold(rt.alloc(), &steps)?);
-    Ok(())
+    all_hold(&rt, rt.alloc(), &steps)
 }
 
 #[test]
@@ -125,8 +137,7 @@ fn a_message_is_fully_sent(rt: HostRuntime) -> Result<(), Fail> {
         Hears(Heard::FullySent(9)),
         Hears(Heard::Nothing),
     ];
-    assert!(rt; all_hold(rt.alloc(), &steps)?);
-    Ok(())
+    all_hold(&rt, rt.alloc(), &steps)
 }
 
 // A lifetime of a second ends a millisecond after it.
@@ -140,8 +151,7 @@ fn an_expired_message_is_given_up(rt: HostRuntime) -> Result<(), Fail> {
         GivenUp(0),
         IsEmpty(true),
     ];
-    assert!(rt; all_hold(rt.alloc(), &steps)?);
-    Ok(())
+    all_hold(&rt, rt.alloc(), &steps)
 }
 
 // A message that was begun in time is ended.
@@ -155,8 +165,7 @@ fn a_begun_message_does_not_expire(rt: HostRuntime) -> Result<(), Fail> {
         Hears(Heard::Low(1)),
         Hears(Heard::FullySent(4)),
     ];
-    assert!(rt; all_hold(rt.alloc(), &steps)?);
-    Ok(())
+    all_hold(&rt, rt.alloc(), &steps)
 }
 
 // What is left of a message that was given up goes, and another stream's message begins.
@@ -172,16 +181,14 @@ fn the_rest_of_a_message_is_discarded(rt: HostRuntime) -> Result<(), Fail> {
         IsEmpty(true),
         HasPriority(5, 256),
     ];
-    assert!(rt; all_hold(rt.alloc(), &steps)?);
-    Ok(())
+    all_hold(&rt, rt.alloc(), &steps)
 }
 
 // Another message than the first one stays.
 #[test]
 fn no_other_message_is_discarded(rt: HostRuntime) -> Result<(), Fail> {
     let steps = [Accept(1, 1), Discard(1, 7), Amount(1, 1)];
-    assert!(rt; all_hold(rt.alloc(), &steps)?);
-    Ok(())
+    all_hold(&rt, rt.alloc(), &steps)
 }
 
 // Whether these steps hold on a queue with a stream that is to be reset: of the two messages on it one is partly sent, and
@@ -204,6 +211,11 @@ fn hold_in_a_reset(alloc: Global, steps: &[Step]) -> Result<bool, AllocError> {
     Ok(walk(alloc, &mut queue, &first)? == 11 && walk(alloc, &mut queue, steps)? == steps.len())
 }
 
+fn all_hold_in_a_reset(rt: &impl Abort, alloc: Global, steps: &[Step]) -> Result<(), Fail> {
+    assert!(rt; hold_in_a_reset(alloc, steps)?);
+    Ok(())
+}
+
 // What is accepted on a paused stream waits for the answer, and its numbers begin again.
 #[test]
 fn a_stream_is_reset(rt: HostRuntime) -> Result<(), Fail> {
@@ -217,8 +229,7 @@ fn a_stream_is_reset(rt: HostRuntime) -> Result<(), Fail> {
         Commit(1),
         GivesWhole(1, 2, 0, 5),
     ];
-    assert!(rt; hold_in_a_reset(rt.alloc(), &steps)?);
-    Ok(())
+    all_hold_in_a_reset(&rt, rt.alloc(), &steps)
 }
 
 // Where the peer refuses, the numbers go on.
@@ -231,8 +242,7 @@ fn a_reset_is_refused(rt: HostRuntime) -> Result<(), Fail> {
         RollBack(1),
         GivesWhole(1, 2, 1, 5),
     ];
-    assert!(rt; hold_in_a_reset(rt.alloc(), &steps)?);
-    Ok(())
+    all_hold_in_a_reset(&rt, rt.alloc(), &steps)
 }
 
 // Messages stand in the way where none may be handed over, and a stream that is to be reset does always.
@@ -246,8 +256,7 @@ fn messages_and_resets_stand_in_the_way_of_a_handover(rt: HostRuntime) -> Result
         Prepare(2),
         Readiness(false, 16),
     ];
-    assert!(rt; all_hold(rt.alloc(), &steps)?);
-    Ok(())
+    all_hold(&rt, rt.alloc(), &steps)
 }
 
 // A partly sent message is whole again, a paused stream sends, SSNs begin again and numbers of messages go on.
@@ -267,8 +276,7 @@ fn a_queue_is_reset(rt: HostRuntime) -> Result<(), Fail> {
         Accept(1, 1),
         GivesWhole(1, 2, 1, 1),
     ];
-    assert!(rt; all_hold(rt.alloc(), &steps)?);
-    Ok(())
+    all_hold(&rt, rt.alloc(), &steps)
 }
 
 // Whether a record has stream 7 with one message, of which 4 bytes are sent, and so many milliseconds to its expiry.
@@ -313,5 +321,61 @@ fn is_handed_over(alloc: Global) -> Result<bool, AllocError> {
 #[test]
 fn a_queue_is_written_to_be_handed_over(rt: HostRuntime) -> Result<(), Fail> {
     assert!(rt; is_handed_over(rt.alloc())?);
+    Ok(())
+}
+
+// The queue of another socket, which takes up this one's record at once; none where the record isn't valid.
+fn taken_up(alloc: Global, queue: &SendQueue) -> Result<Option<SendQueue>, AllocError> {
+    let mut state = SocketHandoverState::empty(alloc);
+    state.socket_state = HandoverSocketState::Connected;
+    state.my_verification_tag = 1;
+    state.peer_verification_tag = 1;
+    state.tx.cwnd = 1;
+    state.tx.next_tsn = 1;
+    queue.add_to_handover_state(at(0), &mut state)?;
+    if !state.is_valid() {
+        return Ok(None);
+    }
+    if let HandoverSocketState::Closed = state.socket_state {
+        return Ok(None);
+    }
+    let mut other = SendQueue::new(alloc, &Options::default());
+    other.restore_from_state(at(0), &state)?;
+    Ok(Some(other))
+}
+
+// A message is partly sent, one on a smaller stream expires in a second and a millisecond, and a third one waits. The
+// virtual time is 1 after the first fragment, and still 1 after the second: then both streams have the time 2.
+fn goes_on(alloc: Global) -> Result<bool, AllocError> {
+    let mut queue = SendQueue::new(alloc, &Options::default());
+    let before = [
+        Accept(7, 6),
+        Gives(0, 4, (7, 0, 0, 0, 0, 4)),
+        AcceptShort(3, 2, 5),
+        Accept(7, 4),
+    ];
+    if walk(alloc, &mut queue, &before)? < before.len() {
+        return Ok(false);
+    }
+    let Some(mut other) = taken_up(alloc, &queue)? else {
+        return Ok(false);
+    };
+    let after = [
+        Total(8),
+        Gives(0, 9, (7, 0, 0, 1, 4, 2)),
+        Hears(Heard::Nothing),
+        Gives(1000, 9, (3, 1, 0, 0, 0, 2)),
+        Hears(Heard::Low(3)),
+        Hears(Heard::FullySent(5)),
+        Accept(3, 1),
+        GivesWhole(3, 3, 1, 1),
+        GivesWhole(7, 2, 1, 4),
+    ];
+    Ok(walk(alloc, &mut other, &after)? == after.len())
+}
+
+#[test]
+fn another_queue_goes_on(rt: HostRuntime) -> Result<(), Fail> {
+    assert!(rt; goes_on(rt.alloc())?);
     Ok(())
 }

@@ -2,7 +2,8 @@
 
 ghost use Rattle.std.specs.Prelude.{◌≡◌, ℕ, Bool, ◌%◌, ◌^◌, ◌≤◌, IsTrue, OnOk, OnErr, IfOk, map, option_map};
 ghost use Rattle.sctp_state.specs.Handover.{transmission_of, handover_state_of, stream_message_of};
-ghost use Rattle.sctp_state.specs.Validity.{is_valid_connection, outgoing_ids};
+ghost use Rattle.sctp_state.specs.Validity.{is_valid_state, outgoing_ids};
+ghost use Rattle.sctp_state.specs.declared.api.handover.HandoverSocketState.TheVariants.{Connected};
 ghost use Rattle.sctp_tx.specs.Restored.{restore, each_heard, scheduler_from, partly_sent, begun_from};
 
 use crate::send_queue::SendQueue;
@@ -76,7 +77,8 @@ impl SendQueue {
         now: SocketTime,
         state: &SocketHandoverState,
     ) -> Result<(), AllocError>
-        requires { IsTrue (is_valid_connection (handover_state_of state.now)) }
+        requires connected { state.now.socket_state ≡ Connected }
+        requires valid { IsTrue (is_valid_state (handover_state_of state.now)) }
         ensures ok { OnOk result (self.new ≡ restore now state.now.capabilities.message_interleaving (transmission_of state.now.tx) self.old) }
         ensures err { OnErr result (self.new ≡ self.old) }
     {

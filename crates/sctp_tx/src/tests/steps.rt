@@ -3,7 +3,7 @@
 use crate::data_to_send::DataToSend;
 use crate::send_queue::SendQueue;
 use sctp_serial::{LifecycleId, Message, OutgoingMessageId, PpId, SocketTime, StreamId};
-use sctp_state::{Events, GivenUpCause, Options, SendOptions, SocketEvent};
+use sctp_state::{Events, GivenUpCause, SendOptions, SocketEvent};
 use std::alloc::{AllocError, Global};
 use std::time::Duration;
 
@@ -267,14 +267,4 @@ pub fn walk(alloc: Global, queue: &mut SendQueue, steps: &[Step]) -> Result<usiz
         }
     }
     Ok(steps.len())
-}
-
-/// The same on a fresh queue with these options.
-pub fn walk_with(alloc: Global, options: &Options, steps: &[Step]) -> Result<usize, AllocError> {
-    walk(alloc, &mut SendQueue::new(alloc, options), steps)
-}
-
-/// Whether all steps hold on a fresh queue.
-pub fn all_hold(alloc: Global, steps: &[Step]) -> Result<bool, AllocError> {
-    Ok(walk_with(alloc, &Options::default(), steps)? == steps.len())
 }
