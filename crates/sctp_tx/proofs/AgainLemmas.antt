@@ -1,20 +1,19 @@
 -- What was written is found again: the messages of each stream in the record.
-use Rattle.std.proofs.Common.{◌≡◌, ℕ, ◌+◌, ◌<◌, ◌≤◌, Bool, true, false, cond, Less, List, [], ◌∷◌, ◌++◌, Option, Some, None, refl, ap, sym, subst, ◌∙◌, arith}
+use Rattle.std.proofs.Common.{◌≡◌, ℕ, ◌<◌, ◌≤◌, Bool, true, false, cond, Less, List, [], ◌∷◌, ◌++◌, Option, Some, None, refl, ap, ◌∙◌, arith}
 use Rattle.std.specs.Prelude.{unwrap_or, option_map, map, filter, ◌==◌}
-use Rattle.std.specs.List.{flat_map}
 use Rattle.std.specs.List.Sorted.{IsStrictlySortedBy}
 use Rattle.std.specs.Map.{keys_of}
 use Rattle.std.specs.Ordering.{nat_cmp}
 use Rattle.std.proofs.lemmas.Bool.Decides.{nat_tests}
-use Rattle.std.proofs.lemmas.List.{append-nil, map-append}
+use Rattle.std.proofs.lemmas.List.{append-nil}
 use Rattle.std.proofs.lemmas.List.Elements.{filter-append}
-use Rattle.sctp_serial.specs.Unwrapped.{origin, words, halves, wire}
+use Rattle.sctp_serial.specs.Unwrapped.{words, halves, wire}
 use Rattle.sctp_state.specs.Handover.{StreamMessage, Transmission}
 use Rattle.sctp_tx.specs.declared.send_queue.message.MessageNumbers.{MessageNumbers}
 use Rattle.sctp_tx.specs.Queue.{Queued, Stream, Entries, Queue}
-use Rattle.sctp_tx.specs.Handover.{ms_from, queued_message, messages_of, outgoing_stream, outgoing_streams, queued_messages, written}
-use Rattle.sctp_tx.specs.Restored.{moment_from, lifecycle_from, numbers_from, message_from, is_on, messages_from, stream_from, entries_from, restore}
-use Rattle.sctp_tx.specs.Again.{again, moment_again, numbers_again, lifecycle_again, message_again, stream_again, entries_again, ComesBack}
+use Rattle.sctp_tx.specs.Handover.{ms_from, queued_message, messages_of, outgoing_stream, outgoing_streams, queued_messages}
+use Rattle.sctp_tx.specs.Restored.{moment_from, lifecycle_from, numbers_from, message_from, is_on, stream_from, entries_from}
+use Rattle.sctp_tx.specs.Again.{moment_again, numbers_again, lifecycle_again, message_again, stream_again, entries_again, ComesBack}
 
 -- ---- a message
 

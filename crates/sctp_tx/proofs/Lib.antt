@@ -1,5 +1,6 @@
 pub mod AgainLemmas
 pub mod BegunLemmas
+pub mod InOrderLemmas
 pub mod ProduceLemmas
 pub mod ResetLemmas
 pub mod RestartLemmas

@@ -34,10 +34,10 @@ not_at k id d = grind (arith, nat_tests)
 not_here : (k id x : ℕ) → (k == id) ≡ false → nat_cmp id x ≡ Equal → is_at (nat_cmp k) x ≡ false
 not_here k id x d h = grind (arith, nat_tests)
 
-same_id : (k id : ℕ) → (k == id) ≡ true → k ≡ id
+pub same_id : (k id : ℕ) → (k == id) ≡ true → k ≡ id
 same_id k id h = grind (arith, nat_tests)
 
-written_elsewhere : (k id : ℕ) (s : Stream) (es : Entries) → (k == id) ≡ false → lookup (is_at (nat_cmp k)) (set_value (is_at (nat_cmp id)) es s) ≡ lookup (is_at (nat_cmp k)) es
+pub written_elsewhere : (k id : ℕ) (s : Stream) (es : Entries) → (k == id) ≡ false → lookup (is_at (nat_cmp k)) (set_value (is_at (nat_cmp id)) es s) ≡ lookup (is_at (nat_cmp k)) es
 written_elsewhere k id s [] d = refl
 written_elsewhere k id s (e ∷ es) d = go (is_at (nat_cmp id) e.0) refl (written_elsewhere k id s es d)
   where
@@ -49,7 +49,7 @@ written_elsewhere k id s (e ∷ es) d = go (is_at (nat_cmp id) e.0) refl (writte
     go true h ih = ap (λ t. cond t (Some s) rest) (elsewhere k id e.0 d h) ∙ sym (ap (λ t. cond t (Some e.1) rest) (elsewhere k id e.0 d h))
     go false h ih = ap (λ o. cond (is_at (nat_cmp k) e.0) (Some e.1) o) ih
 
-inserted_elsewhere : (k id : ℕ) (s : Stream) (es : Entries) → (k == id) ≡ false → lookup (is_at (nat_cmp k)) (insert_entry nat_cmp es id s) ≡ lookup (is_at (nat_cmp k)) es
+pub inserted_elsewhere : (k id : ℕ) (s : Stream) (es : Entries) → (k == id) ≡ false → lookup (is_at (nat_cmp k)) (insert_entry nat_cmp es id s) ≡ lookup (is_at (nat_cmp k)) es
 inserted_elsewhere k id s [] d = ap (λ t. cond t (Some s) None) (not_at k id d)
 inserted_elsewhere k id s (e ∷ es) d = go (nat_cmp id e.0) refl (inserted_elsewhere k id s es d)
   where

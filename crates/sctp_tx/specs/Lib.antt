@@ -1,6 +1,7 @@
 pub mod Again
 pub mod Begun
 pub mod Handover
+pub mod InOrder
 pub mod Interrupted
 pub mod Produced
 pub mod Queue

@@ -4,6 +4,7 @@
 ghost use Rattle.std.specs.Prelude.{◌≡◌, true, drop};
 ghost use Rattle.sctp_tx.specs.Begun.{joined, is_ended, AddedStays, ThresholdStays, PriorityStays, ModeStays, PreparedStays, StepsStay, DiscardStays, ResetEnds};
 ghost use Rattle.sctp_tx.specs.Again.{EachComesBack};
+ghost use Rattle.sctp_tx.specs.InOrder.{NewIsInOrder, AddedInOrder, ProducedInOrder, SettingsInOrder, DiscardedInOrder, ResetsInOrder, RestartedInOrder};
 
 use crate::send_queue::message::{MessageNumbers, QueuedMessage};
 
@@ -30,4 +31,16 @@ pub fn a_begun_message_stays_begun()
 /// whatever queue: with all but the thresholds, the pauses and what the wire's numbers and whole milliseconds don't tell.
 pub fn a_record_brings_the_queue_back()
     ensures { EachComesBack }
+{}
+
+/// A new queue is in order, and each call leaves it so: of a stream only the first message is partly sent, and without
+/// interleaving no more than one message of all is, the first one of the stream that is begun.
+pub fn queues_stay_in_order()
+    ensures new { NewIsInOrder }
+    ensures added { AddedInOrder }
+    ensures produced { ProducedInOrder }
+    ensures settings { SettingsInOrder }
+    ensures discarded { DiscardedInOrder }
+    ensures resets { ResetsInOrder }
+    ensures restarted { RestartedInOrder }
 {}

@@ -69,9 +69,11 @@ pub fn at(millis: u64) -> SocketTime {
 
 // Each byte is its place, modulo 256.
 fn bytes(alloc: Global, length: usize) -> Result<Vec<u8>, AllocError> {
-    let mut bytes = Vec::new(alloc);
-    for place in 0..length {
-        bytes.push((place % 256) as u8)?;
+    let mut bytes = vec![in alloc; 0; length]?;
+    let mut next = 0u8;
+    for byte in bytes.iter_mut() {
+        *byte = next;
+        next = next.wrapping_add(1);
     }
     Ok(bytes)
 }
