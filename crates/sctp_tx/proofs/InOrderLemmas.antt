@@ -23,7 +23,7 @@ use Rattle.sctp_tx.proofs.StreamsLemmas.{stream-put, stream-nowhere, put-nowhere
 use Rattle.sctp_tx.proofs.ProduceLemmas.{idles, gives, turned}
 use Rattle.sctp_tx.proofs.StaysBegunLemmas.{same_id, written_elsewhere, inserted_elsewhere}
 
-both : (a b : Bool) → a && b ≡ true → (a ≡ true) × (b ≡ true)
+pub both : (a b : Bool) → a && b ≡ true → (a ≡ true) × (b ≡ true)
 both true b h = (refl, h)
 both false b h = absurd (cc)
 
@@ -269,7 +269,7 @@ prepared_in_order id q told h =
     let p = partly_both (stream id q.streams).messages (h.order id) in
     kept id (prepared (stream id q.streams)) (opened id q.streams) q (prepare_reset id q told).queue (λ k. opened_same k id q.streams) refl refl (hears_mode id _ _ q.scheduler) p.0 p.1 h
 
-step_messages : (step : ResetStep) (s : Stream) → (after_step step s).messages ≡ s.messages
+pub step_messages : (step : ResetStep) (s : Stream) → (after_step step s).messages ≡ s.messages
 step_messages Requested s = refl
 step_messages Performed s = refl
 step_messages Refused s = refl
@@ -465,7 +465,7 @@ produced_in_order now size q told some h = within_in_order (length q.scheduler.t
 
 -- ---- a message is discarded
 
-discard_streams : {P : Type 0} (id : ℕ) (ss : Streams) (o : Option (Option ℕ)) (q : Queue) (told : Told P) → (discard_from id ss o q told).queue.streams ≡ ss
+pub discard_streams : {P : Type 0} (id : ℕ) (ss : Streams) (o : Option (Option ℕ)) (q : Queue) (told : Told P) → (discard_from id ss o q told).queue.streams ≡ ss
 discard_streams id ss None q told = refl
 discard_streams id ss (Some lifecycle) q told = refl
 

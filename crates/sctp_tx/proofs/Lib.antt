@@ -1,6 +1,7 @@
 pub mod AgainLemmas
 pub mod BegunLemmas
 pub mod InOrderLemmas
+pub mod NumberLemmas
 pub mod ProduceLemmas
 pub mod ResetLemmas
 pub mod RestartLemmas

@@ -1,6 +1,6 @@
 -- What holds of a queue from the first call on. Of a stream, only the first message is partly sent. Without interleaving
 -- no more than one message of all is: the first one of the stream that is named as begun.
-use Rattle.std.specs.Prelude.{◌≡◌, ◌⊎◌, ℕ, ◌<◌, ◌==◌, ◌&&◌, nat_lt, not, Bool, true, false, if◌then◌else◌, Option, Some, None, is_some, List, [], ◌∷◌}
+use Rattle.std.specs.Prelude.{◌≡◌, ◌⊎◌, ℕ, ◌+◌, ◌^◌, ◌<◌, ◌==◌, ◌&&◌, nat_lt, nat_le, not, Bool, true, false, if◌then◌else◌, Option, Some, None, is_some, List, [], ◌∷◌}
 use Rattle.std.specs.List.{list_all}
 use Rattle.sctp_state.specs.Events.{Told}
 use Rattle.sctp_state.specs.Options.{Options}
@@ -40,6 +40,15 @@ pub record IsUnsent (q : Queue) : Type 0 where
   pub first : (k : ℕ) → is_first_begun (stream k q.streams).messages ≡ false
   pub begun : q.begun ≡ None
 
+-- each number is at least `least`, above the one before it, and below `most`
+abbrev pub are_rising : ℕ → ℕ → List Queued → Bool
+are_rising least most [] = true
+are_rising least most (m ∷ rest) = (nat_le least m.number && nat_lt m.number most) && are_rising (m.number + 1) most rest
+
+-- a stream's messages stand in the order of acceptance
+pub record IsNumbered (q : Queue) : Type 0 where
+  pub rising : (k : ℕ) → are_rising 0 q.next_number (stream k q.streams).messages ≡ true
+
 -- ---- the calls
 
 pub record NewIsInOrder : Type 0 where
@@ -68,3 +77,16 @@ DiscardedInOrder = (id message : ℕ) (q : Queue) (told : Told (List ℕ)) → I
 pub record RestartedInOrder : Type 0 where
   pub order : (q : Queue) → IsInOrder q → IsInOrder (reset q)
   pub unsent : (q : Queue) → IsUnsent (reset q)
+
+-- as long as the numbers of messages don't wrap
+pub record CallsNumber : Type 0 where
+  pub new : (o : Options) → IsNumbered (queue o)
+  pub added : (id : ℕ) (m : Queued) (q : Queue) → m.number ≡ q.next_number → q.next_number + 1 < 2 ^ 32 → IsNumbered q → IsNumbered (added id m q)
+  pub produced : (now size : ℕ) (q : Queue) (told : Told (List ℕ)) → IsNumbered q → IsNumbered (produce now size q told).queue
+  pub threshold : (id bytes : ℕ) (q : Queue) (told : Told (List ℕ)) → IsNumbered q → IsNumbered (set_low_threshold id bytes q told).queue
+  pub priority : (id priority : ℕ) (q : Queue) → IsNumbered q → IsNumbered (set_priority id priority q)
+  pub mode : (is_interleaved : Bool) (q : Queue) → IsNumbered q → IsNumbered (set_mode is_interleaved q)
+  pub discarded : (id message : ℕ) (q : Queue) (told : Told (List ℕ)) → IsNumbered q → IsNumbered (discard id message q told).queue
+  pub prepared : (id : ℕ) (q : Queue) (told : Told (List ℕ)) → IsNumbered q → IsNumbered (prepare_reset id q told).queue
+  pub steps : (step : ResetStep) (ids : List ℕ) (q : Queue) → IsNumbered q → IsNumbered (each_stepped step ids q)
+  pub restarted : (q : Queue) → IsNumbered q → IsNumbered (reset q)

@@ -4,7 +4,7 @@
 ghost use Rattle.std.specs.Prelude.{◌≡◌, true, drop};
 ghost use Rattle.sctp_tx.specs.Begun.{joined, is_ended, AddedStays, ThresholdStays, PriorityStays, ModeStays, PreparedStays, StepsStay, DiscardStays, ResetEnds};
 ghost use Rattle.sctp_tx.specs.Again.{EachComesBack};
-ghost use Rattle.sctp_tx.specs.InOrder.{NewIsInOrder, AddedInOrder, ProducedInOrder, SettingsInOrder, DiscardedInOrder, ResetsInOrder, RestartedInOrder};
+ghost use Rattle.sctp_tx.specs.InOrder.{NewIsInOrder, AddedInOrder, ProducedInOrder, SettingsInOrder, DiscardedInOrder, ResetsInOrder, RestartedInOrder, CallsNumber};
 
 use crate::send_queue::message::{MessageNumbers, QueuedMessage};
 
@@ -43,4 +43,9 @@ pub fn queues_stay_in_order()
     ensures discarded { DiscardedInOrder }
     ensures resets { ResetsInOrder }
     ensures restarted { RestartedInOrder }
+{}
+
+/// The messages of each stream stand in the order of acceptance: their numbers rise, and are below the next one.
+pub fn numbers_rise_along_a_stream()
+    ensures { CallsNumber }
 {}
