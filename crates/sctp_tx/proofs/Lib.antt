@@ -4,6 +4,7 @@ pub mod InOrderLemmas
 pub mod NumberLemmas
 pub mod ProduceLemmas
 pub mod ResetLemmas
+pub mod RestLemmas
 pub mod RestartLemmas
 pub mod RestoreLemmas
 pub mod StaysBegunLemmas

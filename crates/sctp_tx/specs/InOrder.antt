@@ -1,12 +1,12 @@
 -- What holds of a queue from the first call on. Of a stream, only the first message is partly sent. Without interleaving
 -- no more than one message of all is: the first one of the stream that is named as begun.
-use Rattle.std.specs.Prelude.{◌≡◌, ◌⊎◌, ℕ, ◌+◌, ◌^◌, ◌<◌, ◌==◌, ◌&&◌, nat_lt, nat_le, not, Bool, true, false, if◌then◌else◌, Option, Some, None, is_some, List, [], ◌∷◌}
+use Rattle.std.specs.Prelude.{◌≡◌, ◌⊎◌, ℕ, ◌+◌, ◌^◌, ◌<◌, ◌≤◌, ◌==◌, ◌&&◌, nat_lt, nat_le, not, length, Bool, true, false, if◌then◌else◌, Option, Some, None, is_some, List, [], ◌∷◌}
 use Rattle.std.specs.List.{list_all}
 use Rattle.sctp_state.specs.Events.{Told}
 use Rattle.sctp_state.specs.Options.{Options}
 use Rattle.sctp_tx.specs.declared.send_queue.stream.ResetStep.{ResetStep}
 use Rattle.sctp_tx.specs.Queue.{Queued, Queue, stream, queue, added}
-use Rattle.sctp_tx.specs.Produced.{produce}
+use Rattle.sctp_tx.specs.Produced.{Produced, produce}
 use Rattle.sctp_tx.specs.Settings.{set_low_threshold, set_priority, set_mode, discard}
 use Rattle.sctp_tx.specs.Resets.{prepare_reset, each_stepped}
 use Rattle.sctp_tx.specs.Restarted.{reset}
@@ -49,6 +49,17 @@ are_rising least most (m ∷ rest) = (nat_le least m.number && nat_lt m.number m
 pub record IsNumbered (q : Queue) : Type 0 where
   pub rising : (k : ℕ) → are_rising 0 q.next_number (stream k q.streams).messages ≡ true
 
+-- something of the message is left to be sent
+abbrev pub has_rest : Queued → Bool
+has_rest m = nat_lt m.offset (length m.payload)
+
+pub record HasRests (q : Queue) : Type 0 where
+  pub rests : (k : ℕ) → list_all has_rest (stream k q.streams).messages ≡ true
+
+-- a fragment has bytes, and no more than these
+abbrev pub IsFilled : ℕ → Option Produced → Type 0
+IsFilled size made = (p : Produced) → made ≡ Some p → (0 < length p.fragment.payload) × (length p.fragment.payload ≤ size)
+
 -- ---- the calls
 
 pub record NewIsInOrder : Type 0 where
@@ -90,3 +101,16 @@ pub record CallsNumber : Type 0 where
   pub prepared : (id : ℕ) (q : Queue) (told : Told (List ℕ)) → IsNumbered q → IsNumbered (prepare_reset id q told).queue
   pub steps : (step : ResetStep) (ids : List ℕ) (q : Queue) → IsNumbered q → IsNumbered (each_stepped step ids q)
   pub restarted : (q : Queue) → IsNumbered q → IsNumbered (reset q)
+
+pub record CallsLeaveRests : Type 0 where
+  pub new : (o : Options) → HasRests (queue o)
+  pub added : (id : ℕ) (m : Queued) (q : Queue) → has_rest m ≡ true → HasRests q → HasRests (added id m q)
+  pub produced : (now size : ℕ) (q : Queue) (told : Told (List ℕ)) → HasRests q → HasRests (produce now size q told).queue
+  pub filled : (now size : ℕ) (q : Queue) (told : Told (List ℕ)) → 0 < size → HasRests q → IsFilled size (produce now size q told).made
+  pub threshold : (id bytes : ℕ) (q : Queue) (told : Told (List ℕ)) → HasRests q → HasRests (set_low_threshold id bytes q told).queue
+  pub priority : (id priority : ℕ) (q : Queue) → HasRests q → HasRests (set_priority id priority q)
+  pub mode : (is_interleaved : Bool) (q : Queue) → HasRests q → HasRests (set_mode is_interleaved q)
+  pub discarded : (id message : ℕ) (q : Queue) (told : Told (List ℕ)) → HasRests q → HasRests (discard id message q told).queue
+  pub prepared : (id : ℕ) (q : Queue) (told : Told (List ℕ)) → HasRests q → HasRests (prepare_reset id q told).queue
+  pub steps : (step : ResetStep) (ids : List ℕ) (q : Queue) → HasRests q → HasRests (each_stepped step ids q)
+  pub restarted : (q : Queue) → HasRests q → HasRests (reset q)

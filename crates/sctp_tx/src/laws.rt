@@ -4,7 +4,7 @@
 ghost use Rattle.std.specs.Prelude.{◌≡◌, true, drop};
 ghost use Rattle.sctp_tx.specs.Begun.{joined, is_ended, AddedStays, ThresholdStays, PriorityStays, ModeStays, PreparedStays, StepsStay, DiscardStays, ResetEnds};
 ghost use Rattle.sctp_tx.specs.Again.{EachComesBack};
-ghost use Rattle.sctp_tx.specs.InOrder.{NewIsInOrder, AddedInOrder, ProducedInOrder, SettingsInOrder, DiscardedInOrder, ResetsInOrder, RestartedInOrder, CallsNumber};
+ghost use Rattle.sctp_tx.specs.InOrder.{NewIsInOrder, AddedInOrder, ProducedInOrder, SettingsInOrder, DiscardedInOrder, ResetsInOrder, RestartedInOrder, CallsNumber, CallsLeaveRests};
 
 use crate::send_queue::message::{MessageNumbers, QueuedMessage};
 
@@ -48,4 +48,10 @@ pub fn queues_stay_in_order()
 /// The messages of each stream stand in the order of acceptance: their numbers rise, and are below the next one.
 pub fn numbers_rise_along_a_stream()
     ensures { CallsNumber }
+{}
+
+/// Something of each queued message is left to be sent, so that no fragment is empty; none has more bytes than were asked
+/// for.
+pub fn no_fragment_is_empty()
+    ensures { CallsLeaveRests }
 {}
