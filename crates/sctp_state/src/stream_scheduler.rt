@@ -143,6 +143,13 @@ impl StreamScheduler {
         self.is_interleaved
     }
 
+    /// The largest payload of a fragment, in bytes.
+    pub fn max_payload(&self) -> usize
+        ensures { result ≡ self.now.most_payload }
+    {
+        self.max_payload
+    }
+
     /// How many streams have something to send.
     pub fn active_count(&self) -> usize
         ensures value { result ≡ length self.now.times }

@@ -23,6 +23,7 @@ ghost use Rattle.sctp_tx.specs.Restarted.{reset, restarted_one, each_restarted, 
 ghost use Rattle.sctp_tx.specs.Views.{produced_of, queued_of};
 
 pub mod message;
+mod restoring;
 pub mod stream;
 pub mod streams;
 mod telling;

@@ -1,6 +1,6 @@
 use super::*;
 use sctp_serial::{LifecycleId, OutgoingMessageId, StreamId};
-use std::alloc::AllocError;
+use std::alloc::{AllocError, Global};
 use std::test::Fail;
 
 // Through the trait alone.
@@ -62,5 +62,28 @@ fn events_print(rt: HostRuntime) -> Result<(), Fail> {
     let event = SocketEvent::OnIncomingStreamReset(vec![in rt.alloc(); StreamId(1), StreamId(2)]?);
     let text = format!(in rt.alloc(); "{event:?}")?;
     assert_eq!(rt; text.as_str(), "OnIncomingStreamReset([1, 2])");
+    Ok(())
+}
+
+// Two events and a record wait, and as many more come.
+fn are_taken_back(alloc: Global) -> Result<bool, AllocError> {
+    let mut events = Events::new(alloc);
+    let record = GivenUp {
+        number: OutgoingMessageId(3),
+        cause: GivenUpCause::Lifetime,
+    };
+    add_two(&mut events)?;
+    events.add_given_up(record)?;
+    let mark = events.mark();
+    add_two(&mut events)?;
+    events.add_given_up(record)?;
+    events.roll_back(mark);
+    let again = events.mark();
+    Ok(again.events == 2 && again.given_up == 1)
+}
+
+#[test]
+fn what_was_told_since_a_mark_is_taken_back(rt: HostRuntime) -> Result<(), Fail> {
+    assert!(rt; are_taken_back(rt.alloc())?);
     Ok(())
 }

@@ -10,6 +10,7 @@ ghost use Rattle.sctp_tx.specs.Resets.{is_partly};
 ghost use Rattle.sctp_serial.specs.Unwrapped.{words, halves, wire};
 ghost use Rattle.sctp_state.specs.Handover.{stream_message_of};
 ghost use Rattle.sctp_tx.specs.Handover.{ms_from, queued_message};
+ghost use Rattle.sctp_tx.specs.Restored.{moment_from, lifecycle_from, numbers_from, message_from};
 ghost use Rattle.sctp_tx.specs.Restarted.{whole};
 ghost use Rattle.sctp_tx.specs.Views.{produced_of, queued_of};
 
@@ -143,7 +144,67 @@ fn ssn_of(is_unordered: bool, numbers: Option<MessageNumbers>) -> Option<u16>
     }
 }
 
+// So many milliseconds from now.
+fn moment_from(now: SocketTime, millis: i32) -> SocketTime
+    ensures { result ≡ moment_from now millis }
+{
+    let span = Duration::from_millis(millis.unsigned_abs() as u64);
+    if millis < 0 { now - span } else { now + span }
+}
+
+fn expiry_from(now: SocketTime, millis: Option<i32>) -> Option<SocketTime>
+    ensures { result ≡ option_map (moment_from now) millis }
+{
+    match millis {
+        Some(millis) => Some(moment_from(now, millis)),
+        None => None,
+    }
+}
+
+fn lifecycle_from(number: u64) -> Option<LifecycleId>
+    ensures { result ≡ lifecycle_from number }
+{
+    LifecycleId::new(number)
+}
+
+fn numbers_from(mid: Option<u32>, ssn: Option<u16>) -> Option<MessageNumbers>
+    ensures { result ≡ numbers_from mid ssn }
+{
+    match mid {
+        Some(mid) => Some(MessageNumbers {
+            ssn: (1 << 32) + ssn.unwrap_or(0) as u64,
+            mid: (1 << 32) + mid as u64,
+        }),
+        None => None,
+    }
+}
+
 impl QueuedMessage {
+    /// The message of a record, in the socket that takes it up now.
+    pub fn restored(
+        alloc: Global,
+        now: SocketTime,
+        message: &HandoverStreamMessage,
+    ) -> Result<QueuedMessage, AllocError>
+        requires left { message.now.remaining_offset < length message.now.payload.items }
+        requires small { length message.now.payload.items < 2 ^ 32 }
+        requires number { message.now.message_id < 2 ^ 32 }
+        ensures { IfOk result (λ m. m ≡ message_from now (stream_message_of message.now)) }
+    {
+        Ok(QueuedMessage {
+            message_id: OutgoingMessageId(message.message_id as u32),
+            ppid: PpId(message.ppid),
+            payload: Vec::from_slice(alloc, &message.payload)?,
+            is_unordered: message.unordered,
+            expires_at: expiry_from(now, message.expires_in_ms),
+            max_retransmissions: message.max_retransmissions,
+            lifecycle_id: lifecycle_from(message.lifecycle_id),
+            offset: message.remaining_offset,
+            numbers: numbers_from(message.mid, message.ssn),
+            next_fsn: Fsn(message.fsn),
+        })
+    }
+
     /// It, on a stream, in the record of a socket that is handed over now.
     pub fn handed_over(
         &self,

@@ -11,6 +11,7 @@ ghost use Rattle.sctp_state.specs.Handover.{stream_message_of};
 ghost use Rattle.sctp_tx.specs.Handover.{queued_message, messages_of, outgoing_stream};
 ghost use Rattle.sctp_tx.specs.Readiness.{is_waiting};
 ghost use Rattle.sctp_tx.specs.Restarted.{whole_front, restarted};
+ghost use Rattle.sctp_tx.specs.Restored.{stream_from};
 ghost use Rattle.sctp_tx.specs.Views.{produced_of};
 
 use crate::data_to_send::DataToSend;
@@ -358,6 +359,21 @@ impl Stream {
             next_ordered_mid: 1 << 32,
             next_unordered_mid: 1 << 32,
             priority,
+            buffered: ThresholdWatcher::new(low_threshold),
+        }
+    }
+
+    /// The stream of a record, with this threshold and without messages.
+    pub fn restored(alloc: Global, low_threshold: usize, stream: &HandoverOutgoingStream) -> Stream
+        ensures { result ≡ stream_from 0 low_threshold [] stream.now }
+    {
+        Stream {
+            messages: VecDeque::new(alloc),
+            pause_state: PauseState::NotPaused,
+            next_ssn: (1 << 32) + stream.next_ssn as u64,
+            next_ordered_mid: (1 << 32) + stream.next_ordered_mid as u64,
+            next_unordered_mid: (1 << 32) + stream.next_unordered_mid as u64,
+            priority: stream.priority,
             buffered: ThresholdWatcher::new(low_threshold),
         }
     }

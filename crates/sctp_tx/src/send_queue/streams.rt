@@ -1,6 +1,6 @@
 //! The streams that were named, and what is left on all of them.
 
-ghost use Rattle.std.specs.Prelude.{◌≡◌, ℕ, Bool, ◌+◌, ◌-◌, ◌<◌, ◌≤◌, ◌^◌, ◌==◌, [], length, is_some, None, Some, IsSome, IfOk, IfSome, OnOk, OnErr, option_map, map};
+ghost use Rattle.std.specs.Prelude.{◌≡◌, ℕ, Bool, ◌+◌, ◌-◌, ◌<◌, ◌≤◌, ◌^◌, ◌==◌, [], length, is_some, None, Some, IsTrue, IsSome, IfOk, IfSome, OnOk, OnErr, option_map, map};
 ghost use Rattle.std.specs.Map.{lookup, keys_of, values_of};
 ghost use Rattle.std.specs.List.{list_all, list_any};
 ghost use Rattle.std.specs.Ordering.{nat_cmp};
@@ -16,13 +16,18 @@ ghost use Rattle.sctp_state.specs.Handover.{stream_message_of};
 ghost use Rattle.sctp_tx.specs.Handover.{outgoing_streams, queued_messages};
 ghost use Rattle.sctp_tx.specs.Readiness.{is_waiting};
 ghost use Rattle.sctp_tx.specs.Restarted.{restarted};
+ghost use Rattle.sctp_state.specs.Validity.{is_valid_message, are_valid_messages, queued_bytes, outgoing_ids, rises_from};
+ghost use Rattle.sctp_state.specs.Handover.{transmission_of};
+ghost use Rattle.sctp_tx.specs.Restored.{entries_from, streams_from};
 ghost use Rattle.sctp_tx.specs.Views.{produced_of};
 
 use crate::data_to_send::DataToSend;
 use crate::send_queue::message::QueuedMessage;
 use crate::send_queue::stream::{Discarded, ResetStep, Stream};
 use sctp_serial::{OutgoingMessageId, SocketTime, StreamId};
-use sctp_state::api::handover::{HandoverOutgoingStream, HandoverStreamMessage};
+use sctp_state::api::handover::{
+    HandoverOutgoingStream, HandoverStreamMessage, HandoverTransmission,
+};
 use sctp_state::{Events, Options, ThresholdWatcher};
 use std::alloc::{AllocError, Global};
 use std::collections::BTreeMap;
@@ -66,6 +71,41 @@ impl Streams {
             default_threshold: options.default_stream_buffered_amount_low_threshold,
             default_priority: options.default_stream_priority,
         }
+    }
+
+    /// The streams and messages of a record in the socket that takes it up now, with the defaults of these.
+    pub fn restored(
+        &self,
+        alloc: Global,
+        now: SocketTime,
+        tx: &HandoverTransmission,
+    ) -> Result<Streams, AllocError>
+        requires rises { IsTrue (rises_from 0 (outgoing_ids tx.now.streams.items)) }
+        requires valid { IsTrue (are_valid_messages tx.now.streams.items (2 ^ 32) (map stream_message_of tx.now.queued_messages.items)) }
+        requires small { queued_bytes (map stream_message_of tx.now.queued_messages.items) < 2 ^ 32 }
+        ensures { IfOk result (λ ss. ss ≡ streams_from now (transmission_of tx.now) self.now) }
+    {
+        let mut streams = self.without_messages(alloc, &tx.streams)?;
+        restore_messages(&mut streams, alloc, now, &tx.streams, &tx.queued_messages)?;
+        Ok(streams)
+    }
+
+    // The streams of a record without messages.
+    fn without_messages(
+        &self,
+        alloc: Global,
+        records: &[HandoverOutgoingStream],
+    ) -> Result<Streams, AllocError>
+        requires { IsTrue (rises_from 0 (outgoing_ids records.now)) }
+        ensures { IfOk result (λ ss. ss ≡ record self.now { entries = entries_from 0 self.now.default_threshold [] records.now }) }
+    {
+        let streams = restored_streams(alloc, self.default_threshold, records)?;
+        Ok(Streams {
+            streams,
+            total: ThresholdWatcher::new(self.total.low_threshold()),
+            default_threshold: self.default_threshold,
+            default_priority: self.default_priority,
+        })
     }
 
     pub fn total(&self) -> usize
@@ -546,4 +586,42 @@ fn queued_messages(
         stream.hand_messages_over(alloc, now, StreamId(*id), &mut records)?;
     }
     Ok(records)
+}
+
+// The streams of a record without messages.
+fn restored_streams(
+    alloc: Global,
+    low_threshold: usize,
+    records: &[HandoverOutgoingStream],
+) -> Result<BTreeMap<u16, Stream>, AllocError>
+    requires { IsTrue (rises_from 0 (outgoing_ids records.now)) }
+    ensures { IfOk result (λ streams. streams.entries ≡ entries_from 0 low_threshold [] records.now) }
+{
+    let mut streams = BTreeMap::new(alloc);
+    for stream in records {
+        let restored = Stream::restored(alloc, low_threshold, stream);
+        streams.insert(stream.id, restored)?;
+    }
+    Ok(streams)
+}
+
+// Adds the messages of a record to its streams, which are there without messages.
+fn restore_messages(
+    streams: &mut Streams,
+    alloc: Global,
+    now: SocketTime,
+    records: &[HandoverOutgoingStream],
+    messages: &[HandoverStreamMessage],
+) -> Result<(), AllocError>
+    requires empty { streams.old.entries ≡ entries_from 0 streams.old.default_threshold [] records.now }
+    requires rises { IsTrue (rises_from 0 (outgoing_ids records.now)) }
+    requires valid { IsTrue (are_valid_messages records.now (2 ^ 32) (map stream_message_of messages.now)) }
+    requires small { queued_bytes (map stream_message_of messages.now) < 2 ^ 32 }
+    ensures { OnOk result (streams.new ≡ record streams.old { entries = entries_from now streams.old.default_threshold (map stream_message_of messages.now) records.now }) }
+{
+    for message in messages {
+        let restored = QueuedMessage::restored(alloc, now, message)?;
+        streams.push(alloc, StreamId(message.stream_id), restored)?;
+    }
+    Ok(())
 }

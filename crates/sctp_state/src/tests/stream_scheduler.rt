@@ -1,0 +1,48 @@
+use super::*;
+use sctp_serial::StreamId;
+use std::alloc::{AllocError, Global};
+use std::test::Fail;
+
+// Streams 1 and 2 wait, each with so many bytes, and a priority of its number.
+fn two_waiting(alloc: Global, bytes: usize) -> Result<StreamScheduler, AllocError> {
+    let mut scheduler = StreamScheduler::new(alloc, 1000);
+    scheduler.enable_message_interleaving(true);
+    scheduler.set_bytes_remaining(StreamId(1), bytes, 1)?;
+    scheduler.set_bytes_remaining(StreamId(2), bytes, 2)?;
+    Ok(scheduler)
+}
+
+fn is_next(scheduler: &StreamScheduler, id: u16) -> bool {
+    match scheduler.peek() {
+        Some(next) => next.0 == id,
+        None => false,
+    }
+}
+
+// 100 bytes cost 6553600 on stream 1 and 3276800 on stream 2: stream 2 is next, after its turn both have the same time,
+// and after one of stream 1 stream 2 has the lesser one.
+fn turns_alternate(alloc: Global) -> Result<bool, AllocError> {
+    let mut scheduler = two_waiting(alloc, 100)?;
+    let first = is_next(&scheduler, 2);
+    scheduler.take_turn(StreamId(2), 100, 2)?;
+    let second = is_next(&scheduler, 1);
+    scheduler.take_turn(StreamId(1), 100, 1)?;
+    Ok(first && second && is_next(&scheduler, 2) && scheduler.active_count() == 2)
+}
+
+// A stream that has nothing left after its turn, and one that leaves without one.
+fn streams_leave(alloc: Global) -> Result<bool, AllocError> {
+    let mut scheduler = two_waiting(alloc, 100)?;
+    scheduler.take_turn(StreamId(2), 0, 2)?;
+    let is_gone = !scheduler.is_active(StreamId(2)) && is_next(&scheduler, 1);
+    scheduler.leave(StreamId(1));
+    scheduler.leave(StreamId(9));
+    Ok(is_gone && scheduler.peek().is_none())
+}
+
+#[test]
+fn turns_are_taken_by_finish_time(rt: HostRuntime) -> Result<(), Fail> {
+    assert!(rt; turns_alternate(rt.alloc())?);
+    assert!(rt; streams_leave(rt.alloc())?);
+    Ok(())
+}
