@@ -1,0 +1,2 @@
+pub mod LaidLemmas
+pub mod TotalsLemmas
