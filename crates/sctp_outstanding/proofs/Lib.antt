@@ -1,2 +1,3 @@
 pub mod LaidLemmas
+pub mod LossesLemmas
 pub mod TotalsLemmas

@@ -4,6 +4,7 @@ use Rattle.std.specs.Prelude.{ℕ, zero, suc, ◌+◌, ◌-◌, ◌==◌, Bool, 
 use Rattle.std.specs.List.{sum_by}
 use Rattle.sctp_serial.specs.Unwrapped.{origin, words, wire, nearest}
 use Rattle.sctp_packet.specs.Chunk.{FragmentTree}
+use Rattle.sctp_outstanding.specs.declared.item.ItemState.TheVariants.{InFlight}
 use Rattle.sctp_outstanding.specs.Item.{Item, is_of, abandon, is_outstanding, should_be_retransmitted, is_fast, is_acked, chunk_size}
 
 -- a message of which the send queue is to drop what is left
@@ -104,12 +105,15 @@ pub record Kept : Type 0 where
 abbrev pub lay_down : ℕ → Item → Item
 lay_down number i = if is_of number i then abandon i else i
 
--- what a later fragment of the same message has in common with this one
+abbrev pub without_payload : FragmentTree → FragmentTree
+without_payload f = record f { payload = [] }
+
+-- the last fragment of a message, or the one found before
 abbrev pub later_of : ℕ → Option FragmentTree → List Item → Option FragmentTree
 later_of number found [] = found
-later_of number found (i ∷ is) = later_of number (if is_of number i then Some i.fragment else found) is
+later_of number found (i ∷ is) = later_of number (if is_of number i then Some (without_payload i.fragment) else found) is
 
--- the last kept fragment of a message
+-- the last kept fragment of a message, without its payload
 abbrev pub last_of : ℕ → List Item → Option FragmentTree
 last_of number is = later_of number None is
 
@@ -118,3 +122,27 @@ abbrev pub is_of_at : ℕ → ℕ → List Item → Bool
 is_of_at number k [] = false
 is_of_at number zero (i ∷ is) = is_of number i
 is_of_at number (suc k) (i ∷ is) = is_of_at number k is
+
+-- ---- new items
+
+-- a fragment that is sent for the first time
+abbrev pub first_sent : (number : ℕ) → FragmentTree → (now limit : ℕ) → (expires lifecycle : Option ℕ) → Item
+first_sent number fragment now limit expires lifecycle = record {
+  number = number;
+  fragment = fragment;
+  expires = expires;
+  limit = limit;
+  lifecycle = lifecycle;
+  state = InFlight;
+  sent = 1;
+  reports = 0;
+  sent_at = now;
+}
+
+-- it takes the next TSN
+abbrev pub inserted : Item → Items → Items
+inserted i s = record s { kept = s.kept ++ i ∷ [] }
+
+-- streams are reset: no forward point crosses the number that is next
+abbrev pub begin_reset : Items → Items
+begin_reset s = record s { breaks = s.breaks ++ next_number s ∷ [] }

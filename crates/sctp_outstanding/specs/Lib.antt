@@ -1,4 +1,9 @@
 pub mod Change
+pub mod Forward
+pub mod Interrupted
 pub mod Item
 pub mod Items
+pub mod Losses
+pub mod Sack
 pub mod Totals
+pub mod Views

@@ -1,6 +1,6 @@
 //! A fragment that has its TSN.
 
-ghost use Rattle.std.specs.Prelude.{◌≡◌, ℕ, ◌-◌, ◌<◌, ◌≤◌, ◌^◌, ◌&&◌, Bool, length, min, max, false, true, IfOk};
+ghost use Rattle.std.specs.Prelude.{◌≡◌, ℕ, ◌-◌, ◌<◌, ◌≤◌, ◌^◌, ◌&&◌, Bool, length, min, max, false, true, None, IfOk};
 ghost use Rattle.std.specs.Duration.{as_nanos};
 ghost use Rattle.sctp_packet.specs.Views.{fragment_tree};
 ghost use Rattle.sctp_outstanding.specs.Item.{flies, waits, waits_fast, lacks, has_ack, is_gone, is_due, chunk_size, acked, uncovered, nacked, resent, slowed};
@@ -212,6 +212,34 @@ impl Item {
             sendings: 1,
             reports: 0,
             sent_at: now,
+        }
+    }
+
+    /// An end of a message that is given up. It is never sent.
+    pub fn placeholder(message_id: OutgoingMessageId, fragment: Data) -> Item
+        requires small { length fragment.payload.items < 2 ^ 32 }
+        ensures { result ≡ record {
+          number = message_id.0;
+          fragment = fragment_tree fragment;
+          expires = None;
+          limit = 0;
+          lifecycle = None;
+          state = ItemState.GivenUp;
+          sent = 0;
+          reports = 0;
+          sent_at = 0;
+        } }
+    {
+        Item {
+            message_id,
+            data: fragment,
+            expires_at: None,
+            max_retransmissions: 0,
+            lifecycle_id: None,
+            state: ItemState::GivenUp,
+            sendings: 0,
+            reports: 0,
+            sent_at: SocketTime::zero(),
         }
     }
 

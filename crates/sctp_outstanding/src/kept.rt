@@ -2,12 +2,13 @@
 
 ghost use Rattle.std.specs.Prelude.{◌≡◌, ◌==◌, ℕ, Some, map, min, option_map, slice_get, not, nat_lt, sum_by, ◌<◌, ◌≤◌, ◌^◌, ◌∷◌, ◌++◌, [], length, drop, OnOk, OnErr, IfSome};
 ghost use Rattle.sctp_outstanding.specs.Change.{changed};
-ghost use Rattle.sctp_outstanding.specs.Items.{change_at, lay_down, is_of_at, packet_part, payload_part, flight_part, queued_part, fast_part, acked_part};
+ghost use Rattle.sctp_outstanding.specs.Items.{change_at, lay_down, is_of_at, last_of, later_of, without_payload, packet_part, payload_part, flight_part, queued_part, fast_part, acked_part};
 ghost use Rattle.sctp_outstanding.specs.Totals.{AreTotals, Exchanges};
+ghost use Rattle.sctp_outstanding.specs.Views.{last_tree};
 
 use crate::item::Item;
 use crate::totals::Totals;
-use sctp_serial::OutgoingMessageId;
+use sctp_serial::{Fsn, Mid, OutgoingMessageId, PpId, Ssn, StreamKey};
 use std::alloc::{AllocError, Global};
 use std::collections::VecDeque;
 use std::marker::Model;
@@ -21,6 +22,48 @@ pub enum Change {
     Retransmit,
     MissFast,
     Abandon,
+}
+
+/// What a fragment says, without its payload.
+#[derive(Clone, Copy)]
+pub struct LastFragment {
+    pub stream_key: StreamKey,
+    pub ssn: Ssn,
+    pub mid: Mid,
+    pub fsn: Fsn,
+    pub ppid: PpId,
+    pub is_beginning: bool,
+    pub is_end: bool,
+}
+
+impl LastFragment {
+    fn of(item: &Item) -> LastFragment
+        ensures { last_tree result ≡ without_payload item.now.fragment }
+    {
+        let fragment = item.data();
+        LastFragment {
+            stream_key: fragment.stream_key,
+            ssn: fragment.ssn,
+            mid: fragment.mid,
+            fsn: fragment.fsn,
+            ppid: fragment.ppid,
+            is_beginning: fragment.is_beginning,
+            is_end: fragment.is_end,
+        }
+    }
+}
+
+// The last fragment of a message.
+fn find_last(items: &VecDeque<Item>, message_id: OutgoingMessageId) -> Option<LastFragment>
+    ensures { option_map last_tree result ≡ last_of message_id.0 items.now.items }
+{
+    let mut last = None;
+    for item in items.iter() {
+        if item.message_id().0 == message_id.0 {
+            last = Some(LastFragment::of(item));
+        }
+    }
+    last
 }
 
 fn apply(item: &mut Item, change: Change)
@@ -255,6 +298,13 @@ impl Kept {
         ensures rest { self.new ≡ record self.old { items = drop 1 self.old.items } }
     {
         pop_item(&mut self.items, &mut self.totals, self.is_interleaved)
+    }
+
+    /// The last kept fragment of a message.
+    pub fn last_of(&self, message_id: OutgoingMessageId) -> Option<LastFragment>
+        ensures { option_map last_tree result ≡ last_of message_id.0 self.now.items }
+    {
+        find_last(&self.items, message_id)
     }
 
     /// Gives up all items of a message.

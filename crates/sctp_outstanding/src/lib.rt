@@ -3,6 +3,8 @@
 
 pub mod item;
 pub mod kept;
+pub mod outstanding_data;
 pub mod totals;
 
 pub use item::{Item, ItemState};
+pub use outstanding_data::{AckInfo, Discarded, OutstandingData};

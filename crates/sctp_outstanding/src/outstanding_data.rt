@@ -1,0 +1,442 @@
+//! The fragments that have their TSN and are not acknowledged for good.
+
+ghost use Rattle.std.specs.Prelude.{◌≡◌, ◌⊎◌, ℕ, ◌+◌, ◌-◌, ◌*◌, ◌<◌, ◌≤◌, ◌^◌, ◌∷◌, ◌++◌, ◌&&◌, [], not, nat_lt, min, length, map, slice_get, option_map, true, ◌||◌, drop, ◌==◌, Option, Some, None, false, IsTrue, IfOk, OnOk, OnErr};
+ghost use Rattle.std.specs.Duration.{as_nanos};
+ghost use Rattle.sctp_packet.specs.Views.{fragment_tree};
+ghost use Rattle.sctp_packet.specs.Covered.{AreRuns};
+ghost use Rattle.sctp_serial.specs.Unwrapped.{origin};
+ghost use Rattle.sctp_state.specs.Events.{give_up};
+ghost use Rattle.sctp_outstanding.specs.Views.{discard_of, last_tree};
+ghost use Rattle.sctp_outstanding.specs.Losses.{placeholder, loss_of};
+ghost use Rattle.sctp_outstanding.specs.Items.{first_sent, inserted, begin_reset};
+ghost use Rattle.sctp_outstanding.specs.Interrupted.{SomeNacked, SomeExpired};
+ghost use Rattle.sctp_outstanding.specs.Forward.{is_forward_due};
+ghost use Rattle.sctp_outstanding.specs.Sack.{sample_at};
+ghost use Rattle.sctp_state.specs.Events.{first_of};
+
+use crate::item::Item;
+use crate::kept::{Change, Kept, LastFragment};
+use sctp_packet::{Data, GapAckBlock};
+use sctp_serial::{Fsn, LifecycleId, OutgoingMessageId, SerialNumber, SocketTime, StreamId, Tsn};
+use sctp_state::{Events, GivenUp, GivenUpCause, SocketEvent};
+use std::alloc::{AllocError, Global};
+use std::collections::VecDeque;
+use std::marker::Model;
+use std::time::Duration;
+
+/// A message of which the send queue is to drop what is left.
+#[derive(Clone, Copy, Debug, PartialEq, Eq)]
+pub struct Discarded {
+    pub stream_id: StreamId,
+    pub message_id: OutgoingMessageId,
+}
+
+/// What a SACK acknowledged.
+#[derive(Clone, Copy, Debug, PartialEq, Eq)]
+pub struct AckInfo {
+    /// The bytes of the chunks newly acknowledged, with headers and padding; at most `usize::MAX`.
+    pub bytes_acked: usize,
+    /// Whether an item was found to be lost.
+    pub has_packet_loss: bool,
+}
+
+/// The fragments that have their TSN, until the peer's cumulative TSN passes them (RFC 9260 section 6.3.2). Their numbers
+/// never wrap: a TSN stands for the number nearest to the peer's cumulative TSN.
+#[derive(Drop)]
+pub struct OutstandingData {
+    alloc: Global,
+    // how `origin` is written
+    first: Tsn,
+    acked: u64,
+    kept: Kept,
+    breakpoints: VecDeque<u128>,
+    discards: VecDeque<Discarded>,
+    is_partial: bool,
+}
+
+impl Model for OutstandingData {
+    ghost use Rattle.std.specs.Prelude.{◌+◌, ◌<◌, ◌≤◌, ◌^◌, map};
+    ghost use Rattle.sctp_serial.specs.Unwrapped.{origin};
+    ghost use Rattle.sctp_outstanding.specs.Items.{Outstanding};
+    ghost use Rattle.sctp_outstanding.specs.Views.{discard_of};
+
+    ghost Value = { Outstanding };
+
+    ghost view = { λ d. record { first = d.first.0; items = record { acked = d.acked; kept = d.kept.items; breaks = d.breakpoints.items; discards = map discard_of d.discards.items; is_partial = d.is_partial; is_interleaved = d.kept.is_interleaved } } };
+
+    ghost invariant = { λ d. (origin ≤ d.acked + 1) × (d.acked < 2 ^ 63) };
+}
+
+// What a missing report or a timeout finds of an item.
+#[derive(Clone, Copy)]
+struct Loss {
+    is_lost: bool,
+    gives_up: bool,
+    message_id: OutgoingMessageId,
+    resendings: u32,
+}
+
+// The end of a message whose own end was not sent.
+fn placeholder(alloc: Global, message_id: OutgoingMessageId, last: LastFragment) -> Item
+    ensures { result ≡ placeholder message_id.0 (last_tree last) }
+{
+    let fragment = Data {
+        stream_key: last.stream_key,
+        ssn: last.ssn,
+        mid: last.mid,
+        fsn: last.fsn + 1,
+        ppid: last.ppid,
+        payload: Vec::new(alloc),
+        is_beginning: false,
+        is_end: true,
+    };
+    Item::placeholder(message_id, fragment)
+}
+
+fn either(first: bool, second: bool) -> bool
+    ensures { result ≡ (first || second) }
+{
+    first || second
+}
+
+impl OutstandingData {
+    ghost use Rattle.sctp_outstanding.specs.Items.{no_items, next_number, written, number_of, flight_bytes, flight_payload, flight_items, waiting_items, fast_items};
+    ghost use Rattle.sctp_outstanding.specs.Losses.{closed, abandon_message, first_step, nack_at, nack_below, nack_all, expired_at, expire_at, expire_outstanding};
+
+    /// Nothing is outstanding, and the next TSN is `initial_tsn`. Takes no memory. Without partial reliability no message
+    /// is given up.
+    pub fn new(
+        alloc: Global,
+        initial_tsn: Tsn,
+        partial_reliability: bool,
+        message_interleaving: bool,
+    ) -> OutstandingData
+        ensures { result ≡ record { first = initial_tsn.0; items = no_items partial_reliability message_interleaving } }
+    {
+        OutstandingData {
+            alloc,
+            first: initial_tsn,
+            acked: (1 << 32) - 1,
+            kept: Kept::new(alloc, message_interleaving),
+            breakpoints: VecDeque::new(alloc),
+            discards: VecDeque::new(alloc),
+            is_partial: partial_reliability,
+        }
+    }
+
+    /// Whether no item is kept.
+    pub fn is_empty(&self) -> bool
+        ensures { result ≡ (length self.now.items.kept == 0) }
+    {
+        self.kept.len() == 0
+    }
+
+    /// How many items are in flight or missing.
+    pub fn unacked_items(&self) -> usize
+        ensures { result ≡ flight_items self.now.items }
+    {
+        self.kept.flights()
+    }
+
+    /// The bytes of the payloads in flight or missing, at most `usize::MAX`.
+    pub fn unacked_payload_bytes(&self) -> usize
+        ensures { result ≡ min (flight_payload self.now.items) (2 ^ 64 - 1) }
+    {
+        self.kept.flight_payload().min(usize::MAX as u128) as usize
+    }
+
+    /// The bytes of the chunks in flight or missing, with headers and padding, at most `usize::MAX`.
+    pub fn unacked_packet_bytes(&self) -> usize
+        ensures { result ≡ min (flight_bytes self.now.items) (2 ^ 64 - 1) }
+    {
+        self.kept.flight_bytes().min(usize::MAX as u128) as usize
+    }
+
+    /// Whether an item is to be sent again.
+    pub fn has_data_to_be_retransmitted(&self) -> bool
+        ensures { result ≡ nat_lt 0 (waiting_items self.now.items) }
+    {
+        self.kept.has_queued()
+    }
+
+    /// Whether an item is to be sent again by the packet that ignores the congestion window.
+    pub fn has_data_to_be_fast_retransmitted(&self) -> bool
+        ensures { result ≡ nat_lt 0 (fast_items self.now.items) }
+    {
+        self.kept.has_fast()
+    }
+
+    /// The peer's cumulative TSN: all up to it left.
+    pub fn last_cumulative_acked_tsn(&self) -> Tsn
+        ensures { result.0 ≡ written self.now self.now.items.acked }
+    {
+        Tsn::wrapped(self.first, self.acked)
+    }
+
+    /// The TSN that the next fragment takes.
+    pub fn next_tsn(&self) -> Tsn
+        ensures { result.0 ≡ written self.now (next_number self.now.items) }
+    {
+        self.tsn_at(self.kept.len())
+    }
+
+    /// The last TSN that was given.
+    pub fn highest_outstanding_tsn(&self) -> Tsn
+        ensures { result.0 ≡ written self.now (next_number self.now.items - 1) }
+    {
+        if self.kept.len() == 0 {
+            return self.last_cumulative_acked_tsn();
+        }
+        self.tsn_at(self.kept.len() - 1)
+    }
+
+    // The TSN of the item at a place.
+    fn tsn_at(&self, place: usize) -> Tsn
+        ensures { result.0 ≡ written self.now (self.now.items.acked + 1 + place) }
+    {
+        let past = (place as u64 % (1 << 32)) as u32;
+        Tsn::wrapped(self.first, self.acked + 1) + past
+    }
+
+    /// Takes a fragment that is sent now for the first time, and gives its TSN. Without memory nothing changes.
+    pub fn insert(
+        &mut self,
+        message_id: OutgoingMessageId,
+        fragment: Data,
+        now: SocketTime,
+        max_retransmissions: u16,
+        expires_at: Option<SocketTime>,
+        lifecycle_id: Option<LifecycleId>,
+    ) -> Result<Tsn, AllocError>
+        requires small { length fragment.payload.items < 2 ^ 32 }
+        ensures ok { OnOk result (self.new ≡ record self.old { items = inserted (first_sent message_id.0 (fragment_tree fragment) now max_retransmissions expires_at lifecycle_id) self.old.items }) }
+        ensures tsn { IfOk result (λ tsn. tsn.0 ≡ written self.old (next_number self.old.items)) }
+        ensures err { OnErr result (self.new ≡ self.old) }
+    {
+        let tsn = self.next_tsn();
+        let item = Item::new(
+            message_id,
+            fragment,
+            now,
+            max_retransmissions,
+            expires_at,
+            lifecycle_id,
+        );
+        self.kept.push(item)?;
+        Ok(tsn)
+    }
+
+    /// Whether there are messages of which the send queue is to drop what is left.
+    pub fn has_unsent_messages_to_discard(&self) -> bool
+        ensures { result ≡ not (length self.now.items.discards == 0) }
+    {
+        !self.discards.is_empty()
+    }
+
+    /// Takes out the next message of which the send queue is to drop what is left.
+    pub fn get_unsent_message_to_discard(&mut self) -> Option<Discarded>
+        ensures first { option_map discard_of result ≡ first_of self.old.items.discards }
+        ensures rest { self.new ≡ record self.old { items = record self.old.items { discards = drop 1 self.old.items.discards } } }
+    {
+        self.discards.pop_front()
+    }
+
+    /// A reset of streams begins: no forward point crosses the next TSN.
+    pub fn begin_reset_streams(&mut self) -> Result<(), AllocError>
+        ensures ok { OnOk result (self.new ≡ record self.old { items = begin_reset self.old.items }) }
+        ensures err { OnErr result (self.new ≡ self.old) }
+    {
+        let number = self.acked as u128 + 1 + self.kept.len() as u128;
+        self.breakpoints.push_back(number)?;
+        Ok(())
+    }
+
+    // A message whose end was not sent gets one. Without memory nothing changes.
+    fn close(&mut self, message_id: OutgoingMessageId) -> Result<(), AllocError>
+        ensures ok { OnOk result (self.new ≡ record self.old { items = closed message_id.0 self.old.items }) }
+        ensures err { OnErr result (self.new ≡ self.old) }
+    {
+        let Some(last) = self.kept.last_of(message_id) else {
+            return Ok(());
+        };
+        if last.is_end {
+            return Ok(());
+        }
+        let stream_id = last.stream_key.id();
+        self.discards.push_back(Discarded {
+            stream_id,
+            message_id,
+        })?;
+        let end = placeholder(self.alloc, message_id, last);
+        if self.kept.push(end).is_err() {
+            self.discards.pop_back();
+            return Err(AllocError);
+        }
+        Ok(())
+    }
+
+    // Gives up all that is kept of a message, with a record. Without memory nothing changes.
+    fn give_up(
+        &mut self,
+        message_id: OutgoingMessageId,
+        cause: GivenUpCause,
+        events: &mut Events,
+    ) -> Result<(), AllocError>
+        ensures ok { OnOk result (self.new ≡ record self.old { items = abandon_message message_id.0 self.old.items }) }
+        ensures told { OnOk result (events.new ≡ give_up message_id.0 cause events.old) }
+        ensures err { OnErr result (self.new ≡ self.old) }
+        ensures silent { OnErr result (events.new ≡ events.old) }
+    {
+        let mark = events.mark();
+        let number = message_id;
+        events.add_given_up(GivenUp { number, cause })?;
+        if self.close(message_id).is_err() {
+            events.roll_back(mark);
+            return Err(AllocError);
+        }
+        self.kept.abandon(message_id);
+        Ok(())
+    }
+
+    // What a missing report, or a timeout, finds of the item at the place.
+    fn loss_at(&self, place: usize, at_once: bool) -> Option<Loss>
+        ensures { result ≡ option_map (loss_of self.now.items.is_partial at_once) (slice_get self.now.items.kept place) }
+    {
+        let item = self.kept.get(place)?;
+        let is_lost = item.is_outstanding() && item.is_lost(at_once);
+        let may_give_up = self.is_partial && item.is_used_up();
+        Some(Loss {
+            is_lost,
+            gives_up: is_lost && may_give_up,
+            message_id: item.message_id(),
+            resendings: item.sendings().saturating_sub(1),
+        })
+    }
+
+    // The item at the place is missing. Says whether it is lost. Without memory nothing changes.
+    fn nack_item(
+        &mut self,
+        place: usize,
+        at_once: bool,
+        fast: bool,
+        events: &mut Events,
+    ) -> Result<bool, AllocError>
+        ensures items { OnOk result (self.new ≡ record self.old { items = (nack_at at_once fast place (first_step self.old.items events.old)).items }) }
+        ensures told { OnOk result (events.new ≡ (nack_at at_once fast place (first_step self.old.items events.old)).told) }
+        ensures lossy { IfOk result (λ is_lossy. is_lossy ≡ (nack_at at_once fast place (first_step self.old.items events.old)).is_lossy) }
+        ensures err { OnErr result (self.new ≡ self.old) }
+        ensures silent { OnErr result (events.new ≡ events.old) }
+    {
+        let Some(loss) = self.loss_at(place, at_once) else {
+            return Ok(false);
+        };
+        if loss.gives_up {
+            let cause = GivenUpCause::Retransmissions(loss.resendings);
+            self.give_up(loss.message_id, cause, events)?;
+            return Ok(true);
+        }
+        self.kept.change(place, Change::Nack(at_once, fast));
+        Ok(loss.is_lost)
+    }
+
+    // The items at the places below `count` are missing, in ascending order. Says whether one is lost.
+    fn nack_below(
+        &mut self,
+        count: usize,
+        at_once: bool,
+        fast: bool,
+        events: &mut Events,
+    ) -> Result<bool, AllocError>
+        ensures items { OnOk result (self.new ≡ record self.old { items = (nack_below at_once fast count (first_step self.old.items events.old)).items }) }
+        ensures told { OnOk result (events.new ≡ (nack_below at_once fast count (first_step self.old.items events.old)).told) }
+        ensures lossy { IfOk result (λ is_lossy. is_lossy ≡ (nack_below at_once fast count (first_step self.old.items events.old)).is_lossy) }
+        ensures err { OnErr result (SomeNacked at_once fast self.old events.old self.new events.new) }
+    {
+        let mut is_lossy = false;
+        for place in 0..count {
+            let is_lost = self.nack_item(place, at_once, fast, events)?;
+            is_lossy = either(is_lossy, is_lost);
+        }
+        Ok(is_lossy)
+    }
+
+    /// A timeout: each item in flight or missing is lost, in ascending order. It is to be sent again, or, with partial
+    /// reliability and where it was sent again as often as it may be, its message is given up, with a record. Without
+    /// memory this is done for some of the first items alone.
+    pub fn nack_all(&mut self, events: &mut Events) -> Result<(), AllocError>
+        ensures items { OnOk result (self.new ≡ record self.old { items = (nack_all self.old.items events.old).items }) }
+        ensures told { OnOk result (events.new ≡ (nack_all self.old.items events.old).told) }
+        ensures err { OnErr result (SomeNacked true false self.old events.old self.new events.new) }
+    {
+        let count = self.kept.len();
+        self.nack_below(count, true, false, events)?;
+        Ok(())
+    }
+
+    // Whether the item at the place is missing or lost, and its message expired and may be given up.
+    fn expired_at(&self, place: usize, now: SocketTime) -> Option<OutgoingMessageId>
+        ensures { option_map (λ id. id.0) result ≡ expired_at now place self.now.items }
+    {
+        let item = self.kept.get(place)?;
+        if self.is_partial && item.is_nacked() && item.has_expired(now) {
+            return Some(item.message_id());
+        }
+        None
+    }
+
+    // Gives the message of the item at the place up if it expired. Without memory nothing changes.
+    fn expire_item(
+        &mut self,
+        place: usize,
+        now: SocketTime,
+        events: &mut Events,
+    ) -> Result<(), AllocError>
+        ensures items { OnOk result (self.new ≡ record self.old { items = (expire_at now place (first_step self.old.items events.old)).items }) }
+        ensures told { OnOk result (events.new ≡ (expire_at now place (first_step self.old.items events.old)).told) }
+        ensures err { OnErr result (self.new ≡ self.old) }
+        ensures silent { OnErr result (events.new ≡ events.old) }
+    {
+        if let Some(message_id) = self.expired_at(place, now) {
+            self.give_up(message_id, GivenUpCause::Lifetime, events)?;
+        }
+        Ok(())
+    }
+
+    /// With partial reliability, gives up each message that expired and has an item that is missing or lost, with a
+    /// record. Without memory this is done for some of the first items alone.
+    pub fn expire_outstanding_chunks(
+        &mut self,
+        now: SocketTime,
+        events: &mut Events,
+    ) -> Result<(), AllocError>
+        ensures items { OnOk result (self.new ≡ record self.old { items = (expire_outstanding now self.old.items events.old).items }) }
+        ensures told { OnOk result (events.new ≡ (expire_outstanding now self.old.items events.old).told) }
+        ensures err { OnErr result (SomeExpired now self.old events.old self.new events.new) }
+    {
+        for place in 0..self.kept.len() {
+            self.expire_item(place, now, events)?;
+        }
+        Ok(())
+    }
+
+    /// Whether the first item is given up, so that a forward point is due.
+    pub fn should_send_forward_tsn(&self) -> bool
+        ensures { result ≡ is_forward_due self.now.items }
+    {
+        match self.kept.get(0) {
+            Some(item) => self.is_partial && item.is_abandoned(),
+            None => false,
+        }
+    }
+
+    /// The time since the item with this number was sent, where it was sent once.
+    fn rtt_at(&self, place: usize, now: SocketTime) -> Option<Duration>
+        ensures { option_map as_nanos result ≡ sample_at now place self.now.items }
+    {
+        let item = self.kept.get(place)?;
+        if item.sendings() == 1 {
+            return Some(item.get_rtt_from(now));
+        }
+        None
+    }
+}
