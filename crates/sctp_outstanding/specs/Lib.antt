@@ -4,6 +4,7 @@ pub mod Interrupted
 pub mod Item
 pub mod Items
 pub mod Losses
+pub mod Passes
 pub mod Sack
 pub mod Totals
 pub mod Views

@@ -88,6 +88,26 @@ acked_by blocks s = record s { kept = settle blocks 1 s.kept }
 abbrev pub reported_below : List GapAckBlock → Items → ℕ
 reported_below blocks s = below_highest blocks 1 0 0 s.kept
 
+-- whether the item at a place is newly acknowledged, and its bytes then
+abbrev pub newly_of : (covered : Bool) → Option Item → Bool
+newly_of covered None = false
+newly_of covered (Some i) = is_newly_acked covered i
+
+abbrev pub bytes_of : (covered is_interleaved : Bool) → Option Item → ℕ
+bytes_of covered m None = 0
+bytes_of covered m (Some i) = when (is_newly_acked covered i) (chunk_size m i)
+
+abbrev pub is_new_at : List GapAckBlock → ℕ → List Item → Bool
+is_new_at blocks place is = newly_of (is_covered blocks (place + 1)) (slice_get is place)
+
+abbrev pub new_bytes_at : List GapAckBlock → (is_interleaved : Bool) → ℕ → List Item → ℕ
+new_bytes_at blocks m place is = bytes_of (is_covered blocks (place + 1)) m (slice_get is place)
+
+-- the bytes of an item's chunk, where it is neither acknowledged nor given up
+abbrev pub open_size : (is_interleaved : Bool) → Option Item → Option ℕ
+open_size m None = None
+open_size m (Some i) = if is_open i then Some (chunk_size m i) else None
+
 -- ---- the whole
 
 -- the items that stay, as the blocks say, with what was told of those that left

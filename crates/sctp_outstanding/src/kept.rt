@@ -1,14 +1,18 @@
 //! The kept items, with their totals.
 
-ghost use Rattle.std.specs.Prelude.{◌≡◌, ◌==◌, ℕ, Some, map, min, option_map, slice_get, not, nat_lt, sum_by, ◌<◌, ◌≤◌, ◌^◌, ◌∷◌, ◌++◌, [], length, drop, OnOk, OnErr, IfSome};
+ghost use Rattle.std.specs.Prelude.{◌≡◌, ◌==◌, ℕ, Some, map, min, option_map, slice_get, not, nat_lt, sum_by, ◌<◌, ◌≤◌, ◌^◌, ◌∷◌, ◌++◌, [], length, drop, take, OnOk, OnErr, IfSome, IfNone};
 ghost use Rattle.sctp_outstanding.specs.Change.{changed};
 ghost use Rattle.sctp_outstanding.specs.Items.{change_at, lay_down, is_of_at, last_of, later_of, without_payload, packet_part, payload_part, flight_part, queued_part, fast_part, acked_part};
 ghost use Rattle.sctp_outstanding.specs.Totals.{AreTotals, Exchanges};
 ghost use Rattle.sctp_outstanding.specs.Views.{last_tree};
+ghost use Rattle.sctp_outstanding.specs.Sack.{reports};
+ghost use Rattle.sctp_state.specs.Events.{tell_all, Grown};
 
 use crate::item::Item;
+use crate::telling::tell_left;
 use crate::totals::Totals;
 use sctp_serial::{Fsn, Mid, OutgoingMessageId, PpId, Ssn, StreamKey};
+use sctp_state::Events;
 use std::alloc::{AllocError, Global};
 use std::collections::VecDeque;
 use std::marker::Model;
@@ -64,6 +68,22 @@ fn find_last(items: &VecDeque<Item>, message_id: OutgoingMessageId) -> Option<La
         }
     }
     last
+}
+
+// Tells what is to be told as the first items leave.
+fn tell_first(items: &VecDeque<Item>, count: usize, events: &mut Events) -> Result<(), AllocError>
+    ensures ok { OnOk result (events.new ≡ tell_all (reports (take count items.now.items)) events.old) }
+    ensures err { OnErr result (Grown events.old events.new) }
+{
+    let mut left = count;
+    for item in items.iter() {
+        if left == 0 {
+            return Ok(());
+        }
+        tell_left(events, item)?;
+        left -= 1;
+    }
+    Ok(())
 }
 
 fn apply(item: &mut Item, change: Change)
@@ -139,6 +159,7 @@ fn push_item(
 fn pop_item(items: &mut VecDeque<Item>, totals: &mut Totals, is_interleaved: bool) -> Option<Item>
     requires { AreTotals is_interleaved items.old.items totals.old }
     ensures first { IfSome result (λ i. items.old.items ≡ i ∷ items.new.items) }
+    ensures none { IfNone result (items.old.items ≡ []) }
     ensures rest { items.new.items ≡ drop 1 items.old.items }
     ensures totals { AreTotals is_interleaved items.new.items totals.new }
 {
@@ -295,9 +316,18 @@ impl Kept {
     /// Takes the first item out.
     pub fn pop(&mut self) -> Option<Item>
         ensures first { IfSome result (λ i. self.old.items ≡ i ∷ self.new.items) }
+        ensures none { IfNone result (self.old.items ≡ []) }
         ensures rest { self.new ≡ record self.old { items = drop 1 self.old.items } }
     {
         pop_item(&mut self.items, &mut self.totals, self.is_interleaved)
+    }
+
+    /// Tells what is to be told as the first items leave.
+    pub fn tell_leaving(&self, count: usize, events: &mut Events) -> Result<(), AllocError>
+        ensures ok { OnOk result (events.new ≡ tell_all (reports (take count self.now.items)) events.old) }
+        ensures err { OnErr result (Grown events.old events.new) }
+    {
+        tell_first(&self.items, count, events)
     }
 
     /// The last kept fragment of a message.

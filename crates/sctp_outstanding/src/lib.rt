@@ -4,6 +4,8 @@
 pub mod item;
 pub mod kept;
 pub mod outstanding_data;
+pub mod sack;
+pub mod telling;
 pub mod totals;
 
 pub use item::{Item, ItemState};

@@ -1,21 +1,22 @@
 //! The fragments that have their TSN and are not acknowledged for good.
 
-ghost use Rattle.std.specs.Prelude.{◌≡◌, ◌⊎◌, ℕ, ◌+◌, ◌-◌, ◌*◌, ◌<◌, ◌≤◌, ◌^◌, ◌∷◌, ◌++◌, ◌&&◌, [], not, nat_lt, min, length, map, slice_get, option_map, true, ◌||◌, drop, ◌==◌, Option, Some, None, false, IsTrue, IfOk, OnOk, OnErr};
+ghost use Rattle.std.specs.Prelude.{◌≡◌, ◌⊎◌, ℕ, ◌+◌, ◌-◌, ◌*◌, ◌<◌, ◌≤◌, ◌^◌, ◌∷◌, ◌++◌, ◌&&◌, [], not, nat_lt, min, length, map, slice_get, option_map, filter, take, true, ◌||◌, drop, ◌==◌, Option, Some, None, false, IsTrue, IfOk, OnOk, OnErr};
 ghost use Rattle.std.specs.Duration.{as_nanos};
 ghost use Rattle.sctp_packet.specs.Views.{fragment_tree};
 ghost use Rattle.sctp_packet.specs.Covered.{AreRuns};
 ghost use Rattle.sctp_serial.specs.Unwrapped.{origin};
-ghost use Rattle.sctp_state.specs.Events.{give_up};
+ghost use Rattle.sctp_state.specs.Events.{give_up, tell_all};
 ghost use Rattle.sctp_outstanding.specs.Views.{discard_of, last_tree};
 ghost use Rattle.sctp_outstanding.specs.Losses.{placeholder, loss_of};
 ghost use Rattle.sctp_outstanding.specs.Items.{first_sent, inserted, begin_reset};
-ghost use Rattle.sctp_outstanding.specs.Interrupted.{SomeNacked, SomeExpired};
+ghost use Rattle.sctp_outstanding.specs.Interrupted.{Same, SomeNacked, SomeExpired, SomeHeard};
 ghost use Rattle.sctp_outstanding.specs.Forward.{is_forward_due};
-ghost use Rattle.sctp_outstanding.specs.Sack.{sample_at};
+ghost use Rattle.sctp_outstanding.specs.Sack.{sample_at, is_valid, staying, leaving, left_bytes, reports, hear, acked_bytes, highest_end};
 ghost use Rattle.sctp_state.specs.Events.{first_of};
 
 use crate::item::Item;
 use crate::kept::{Change, Kept, LastFragment};
+use crate::sack::{settle_all, take_out};
 use sctp_packet::{Data, GapAckBlock};
 use sctp_serial::{Fsn, LifecycleId, OutgoingMessageId, SerialNumber, SocketTime, StreamId, Tsn};
 use sctp_state::{Events, GivenUp, GivenUpCause, SocketEvent};
@@ -439,4 +440,101 @@ impl OutstandingData {
         }
         None
     }
+
+    // The number that the TSN stands for.
+    fn unwrapped(&self, tsn: Tsn) -> u64
+        ensures value { result ≡ number_of self.now tsn.0 }
+        ensures bound { result < 2 ^ 63 + 2 ^ 33 }
+    {
+        let ahead = tsn.steps_from(Tsn::wrapped(self.first, self.acked));
+        if ahead < Tsn::SPACE / 2 {
+            self.acked + ahead
+        } else {
+            self.acked + ahead - Tsn::SPACE
+        }
+    }
+
+    /// Whether a SACK may be taken: its cumulative TSN lies from the own one to the highest TSN that was given, and no
+    /// block reaches above that.
+    pub fn is_sack_valid(&self, cumulative_tsn: Tsn, blocks: &[GapAckBlock]) -> bool
+        ensures { result ≡ is_valid (number_of self.now cumulative_tsn.0) blocks.now self.now.items }
+    {
+        let number = self.unwrapped(cumulative_tsn);
+        let highest = number as u128 + highest_end(blocks) as u128;
+        let next = self.acked as u128 + 1 + self.kept.len() as u128;
+        self.acked <= number && highest < next && number < (1 << 32) + (1 << 62)
+    }
+
+    // The items up to the number leave, and are told. The answer is how many bytes are newly acknowledged by that.
+    fn leave(&mut self, number: u64, events: &mut Events) -> Result<usize, AllocError>
+        requires onward { self.old.items.acked ≤ number }
+        requires small { number < 2 ^ 63 }
+        ensures items { OnOk result (self.new ≡ record self.old { items = staying number self.old.items }) }
+        ensures told { OnOk result (events.new ≡ tell_all (reports (take (leaving number self.old.items) self.old.items.kept)) events.old) }
+        ensures bytes { IfOk result (λ bytes. bytes ≡ min (left_bytes number self.old.items) (2 ^ 64 - 1)) }
+        ensures err { OnErr result (self.new ≡ self.old) }
+        ensures silent { OnErr result (events.new ≡ events.old) }
+    {
+        let count = (number - self.acked) as usize;
+        let mark = events.mark();
+        if self.kept.tell_leaving(count, events).is_err() {
+            events.roll_back(mark);
+            return Err(AllocError);
+        }
+        let bytes = take_out(&mut self.kept, count);
+        self.acked = number;
+        forget_passed(&mut self.breakpoints, number);
+        Ok(bytes)
+    }
+
+    /// Takes a SACK: items up to its cumulative TSN leave, in order, and it is told of each message whose end leaves
+    /// whether it was delivered; those in blocks are acknowledged, and those that no block covers any more are in flight
+    /// again; each that is in flight or missing below the highest one newly acknowledged by a block is reported missing,
+    /// and is lost by the third report. Without memory nothing changes, or only some of the first of these reports are
+    /// done.
+    pub fn handle_sack(
+        &mut self,
+        cumulative_tsn: Tsn,
+        blocks: &[GapAckBlock],
+        is_in_fast_recovery: bool,
+        events: &mut Events,
+    ) -> Result<AckInfo, AllocError>
+        requires valid { IsTrue (is_valid (number_of self.old cumulative_tsn.0) blocks.now self.old.items) }
+        requires runs { AreRuns 0 blocks.now }
+        ensures items { let n = number_of self.old cumulative_tsn.0 in OnOk result (self.new ≡ record self.old { items = (hear n blocks.now is_in_fast_recovery self.old.items events.old).items }) }
+        ensures told { let n = number_of self.old cumulative_tsn.0 in OnOk result (events.new ≡ (hear n blocks.now is_in_fast_recovery self.old.items events.old).told) }
+        ensures lossy { let n = number_of self.old cumulative_tsn.0 in IfOk result (λ info. info.has_packet_loss ≡ (hear n blocks.now is_in_fast_recovery self.old.items events.old).is_lossy) }
+        ensures bytes { let n = number_of self.old cumulative_tsn.0 in IfOk result (λ info. info.bytes_acked ≡ min (acked_bytes n blocks.now self.old.items) (2 ^ 64 - 1)) }
+        ensures err { OnErr result (Same self.old events.old self.new events.new ⊎ SomeHeard (number_of self.old cumulative_tsn.0) blocks.now is_in_fast_recovery self.old events.old self.new events.new) }
+    {
+        let number = self.unwrapped(cumulative_tsn);
+        let left = self.leave(number, events)?;
+        let covered = settle_all(&mut self.kept, blocks);
+        let fast = !is_in_fast_recovery;
+        let is_lossy = self.nack_below(covered.below, false, fast, events)?;
+        Ok(AckInfo {
+            bytes_acked: left.saturating_add(covered.bytes),
+            has_packet_loss: is_lossy,
+        })
+    }
+}
+
+fn highest_end(blocks: &[GapAckBlock]) -> u16
+    ensures { result ≡ highest_end blocks.now }
+{
+    let mut highest = 0;
+    let mut place = blocks.len();
+    while place > 0 {
+        place -= 1;
+        highest = blocks[place].end.max(highest);
+    }
+    highest
+}
+
+// Leaves the breakpoints above the number.
+fn forget_passed(breakpoints: &mut VecDeque<u128>, number: u64)
+    ensures { breakpoints.new.items ≡ filter (λ b. nat_lt number b) breakpoints.old.items }
+{
+    let number = number as u128;
+    breakpoints.retain(|breakpoint| number < *breakpoint);
 }
