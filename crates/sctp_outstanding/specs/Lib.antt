@@ -1,4 +1,5 @@
 pub mod Change
+pub mod Entries
 pub mod Forward
 pub mod Interrupted
 pub mod Item

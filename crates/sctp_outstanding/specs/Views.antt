@@ -5,6 +5,8 @@ use Rattle.sctp_packet.specs.Written.{key_stream}
 use Rattle.sctp_packet.specs.Views.{is_unordered_key}
 use Rattle.sctp_outstanding.specs.declared.kept.LastFragment.{LastFragment}
 use Rattle.sctp_outstanding.specs.declared.outstanding_data.Discarded.{Discarded}
+use Rattle.sctp_outstanding.specs.declared.outstanding_data.ForwardPoint as given
+use Rattle.sctp_outstanding.specs.Forward.{ForwardPoint}
 use Rattle.sctp_outstanding.specs.Items.{Discard}
 
 abbrev pub discard_of : Discarded → Discard
@@ -22,3 +24,6 @@ last_tree l = record {
   is_beginning = l.is_beginning;
   is_end = l.is_end;
 }
+
+abbrev pub point_of : given.ForwardPoint → ForwardPoint
+point_of p = record { count = p.count; entries = p.entries.items }

@@ -5,8 +5,12 @@ pub mod item;
 pub mod kept;
 pub mod outstanding_data;
 pub mod sack;
+pub mod skips;
 pub mod telling;
 pub mod totals;
 
 pub use item::{Item, ItemState};
 pub use outstanding_data::{AckInfo, Discarded, OutstandingData};
+
+#[cfg(test)]
+mod tests;

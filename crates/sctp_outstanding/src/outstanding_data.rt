@@ -2,22 +2,26 @@
 
 ghost use Rattle.std.specs.Prelude.{◌≡◌, ◌⊎◌, ℕ, ◌+◌, ◌-◌, ◌*◌, ◌<◌, ◌≤◌, ◌^◌, ◌∷◌, ◌++◌, ◌&&◌, [], not, nat_lt, min, length, map, slice_get, option_map, filter, take, true, ◌||◌, drop, ◌==◌, Option, Some, None, false, IsTrue, IfOk, OnOk, OnErr};
 ghost use Rattle.std.specs.Duration.{as_nanos};
-ghost use Rattle.sctp_packet.specs.Views.{fragment_tree};
+ghost use Rattle.sctp_packet.specs.Views.{fragment_tree, forward_tsn_tree, i_forward_tsn_tree};
+ghost use Rattle.sctp_packet.specs.Chunk.{forward_tsn_chunk, i_forward_tsn_chunk};
+ghost use Rattle.sctp_outstanding.specs.Entries.{ssn_skip, mid_skip};
 ghost use Rattle.sctp_packet.specs.Covered.{AreRuns};
 ghost use Rattle.sctp_serial.specs.Unwrapped.{origin};
 ghost use Rattle.sctp_state.specs.Events.{give_up, tell_all};
-ghost use Rattle.sctp_outstanding.specs.Views.{discard_of, last_tree};
+ghost use Rattle.sctp_outstanding.specs.Views.{discard_of, last_tree, point_of};
 ghost use Rattle.sctp_outstanding.specs.Losses.{placeholder, loss_of};
 ghost use Rattle.sctp_outstanding.specs.Items.{first_sent, inserted, begin_reset};
 ghost use Rattle.sctp_outstanding.specs.Interrupted.{Same, SomeNacked, SomeExpired, SomeHeard};
-ghost use Rattle.sctp_outstanding.specs.Forward.{is_forward_due};
+ghost use Rattle.sctp_outstanding.specs.Forward.{is_forward_due, entry_at, stops, passes_of, forward_point, size_with, with_entry};
+ghost use Rattle.std.specs.List.{list_any};
 ghost use Rattle.sctp_outstanding.specs.Sack.{sample_at, is_valid, staying, leaving, left_bytes, reports, hear, acked_bytes, highest_end};
 ghost use Rattle.sctp_state.specs.Events.{first_of};
 
 use crate::item::Item;
 use crate::kept::{Change, Kept, LastFragment};
 use crate::sack::{settle_all, take_out};
-use sctp_packet::{Data, GapAckBlock};
+use crate::skips::{SkipEntry, is_named, put};
+use sctp_packet::{Data, ForwardTsnChunk, GapAckBlock, IForwardTsnChunk, SkippedStream};
 use sctp_serial::{Fsn, LifecycleId, OutgoingMessageId, SerialNumber, SocketTime, StreamId, Tsn};
 use sctp_state::{Events, GivenUp, GivenUpCause, SocketEvent};
 use std::alloc::{AllocError, Global};
@@ -517,6 +521,150 @@ impl OutstandingData {
             has_packet_loss: is_lossy,
         })
     }
+
+    // What the item at the place says of its stream.
+    fn entry_at(&self, place: usize) -> Option<SkipEntry>
+        ensures { result ≡ entry_at self.now.items place }
+    {
+        let item = self.kept.get(place)?;
+        let fragment = item.data();
+        if !self.kept.is_interleaved() && fragment.stream_key.is_unordered() {
+            return None;
+        }
+        Some(SkipEntry {
+            stream_id: fragment.stream_key.id(),
+            is_unordered: fragment.stream_key.is_unordered(),
+            number: if self.kept.is_interleaved() {
+                fragment.mid.0
+            } else {
+                u32::from(fragment.ssn.0)
+            },
+        })
+    }
+
+    // Whether a breakpoint stands before the item at the place, and another item before that.
+    fn stops_at(&self, place: usize) -> bool
+        ensures { result ≡ stops place self.now.items }
+    {
+        let number = self.acked as u128 + 1 + place as u128;
+        place > 0 && has_breakpoint(&self.breakpoints, number)
+    }
+
+    // Whether a forward point passes the item at the place too.
+    fn passes(&self, place: usize, entries: &[SkipEntry], max_size: usize) -> bool
+        ensures { result ≡ passes_of max_size self.now.items (record { count = place; entries = entries.now }) (slice_get self.now.items.kept place) }
+    {
+        let Some(item) = self.kept.get(place) else {
+            return false;
+        };
+        if !item.is_abandoned() || self.stops_at(place) {
+            return false;
+        }
+        let entry = self.entry_at(place);
+        chunk_size_with(self.kept.is_interleaved(), entry, entries) <= max_size as u128
+    }
+
+    // The entries of a forward point, and how many items it passes.
+    fn forward_point(&self, max_size: usize) -> Result<ForwardPoint, AllocError>
+        ensures { IfOk result (λ p. point_of p ≡ forward_point max_size self.now.items) }
+    {
+        let mut entries = Vec::new(self.alloc);
+        for place in 0..self.kept.len() {
+            if !self.passes(place, &entries, max_size) {
+                return Ok(ForwardPoint {
+                    count: place,
+                    entries,
+                });
+            }
+            put_if(&mut entries, self.entry_at(place))?;
+        }
+        Ok(ForwardPoint {
+            count: self.kept.len(),
+            entries,
+        })
+    }
+
+    /// A FORWARD-TSN over the given-up items from the cumulative TSN on, up to a hole, to a breakpoint of a reset, or to an
+    /// entry that would make the chunk longer than `max_size` bytes. It names the streams of ordered messages that it
+    /// touches, ascending, each with its last message's number. For messages that are not interleaved.
+    pub fn create_forward_tsn(&self, max_size: usize) -> Result<ForwardTsnChunk, AllocError>
+        requires { self.now.items.is_interleaved ≡ false }
+        ensures { let point = forward_point max_size self.now.items in IfOk result (λ c. forward_tsn_tree c ≡ forward_tsn_chunk (written self.now (self.now.items.acked + point.count)) (map ssn_skip point.entries)) }
+    {
+        let point = self.forward_point(max_size)?;
+        Ok(ForwardTsnChunk {
+            new_cumulative_tsn: self.tsn_behind(point.count),
+            skipped_streams: ssn_skips(self.alloc, &point.entries)?,
+        })
+    }
+
+    /// The same as an I-FORWARD-TSN, for interleaved messages: it names streams with their ordered and their unordered
+    /// messages.
+    pub fn create_iforward_tsn(&self, max_size: usize) -> Result<IForwardTsnChunk, AllocError>
+        requires { self.now.items.is_interleaved ≡ true }
+        ensures { let point = forward_point max_size self.now.items in IfOk result (λ c. i_forward_tsn_tree c ≡ i_forward_tsn_chunk (written self.now (self.now.items.acked + point.count)) (map mid_skip point.entries)) }
+    {
+        let point = self.forward_point(max_size)?;
+        Ok(IForwardTsnChunk {
+            new_cumulative_tsn: self.tsn_behind(point.count),
+            skipped_streams: mid_skips(self.alloc, &point.entries)?,
+        })
+    }
+
+    // The TSN so many items behind the cumulative one.
+    fn tsn_behind(&self, count: usize) -> Tsn
+        ensures { result.0 ≡ written self.now (self.now.items.acked + count) }
+    {
+        let past = (count as u64 % (1 << 32)) as u32;
+        Tsn::wrapped(self.first, self.acked) + past
+    }
+}
+
+fn ssn_skips(alloc: Global, entries: &[SkipEntry]) -> Result<Vec<SkippedStream>, AllocError>
+    ensures { IfOk result (λ skips. skips.items ≡ map ssn_skip entries.now) }
+{
+    entries.iter().map(|entry| entry.ssn_skip()).collect(alloc)
+}
+
+fn mid_skips(alloc: Global, entries: &[SkipEntry]) -> Result<Vec<SkippedStream>, AllocError>
+    ensures { IfOk result (λ skips. skips.items ≡ map mid_skip entries.now) }
+{
+    entries.iter().map(|entry| entry.mid_skip()).collect(alloc)
+}
+
+// Puts the entry, if there is one, at its place.
+fn put_if(entries: &mut Vec<SkipEntry>, entry: Option<SkipEntry>) -> Result<(), AllocError>
+    ensures { OnOk result (entries.new.items ≡ with_entry entry entries.old.items) }
+{
+    if let Some(entry) = entry {
+        put(entries, entry)?;
+    }
+    Ok(())
+}
+
+// How far a forward point goes.
+#[derive(Drop)]
+struct ForwardPoint {
+    count: usize,
+    entries: Vec<SkipEntry>,
+}
+
+fn has_breakpoint(breakpoints: &VecDeque<u128>, number: u128) -> bool
+    ensures { result ≡ list_any (λ b. b == number) breakpoints.now.items }
+{
+    breakpoints.contains(&number)
+}
+
+// The bytes of a forward chunk with these entries and one more, if it isn't named.
+fn chunk_size_with(is_interleaved: bool, entry: Option<SkipEntry>, entries: &[SkipEntry]) -> u128
+    ensures { result ≡ size_with is_interleaved entry entries.now }
+{
+    let entry_size = if is_interleaved { 8 } else { 4 };
+    let more = match entry {
+        Some(entry) if !is_named(entries, entry) => 1,
+        _ => 0,
+    };
+    8 + entry_size * (entries.len() as u128 + more)
 }
 
 fn highest_end(blocks: &[GapAckBlock]) -> u16
