@@ -6,6 +6,7 @@ pub mod Item
 pub mod Items
 pub mod Losses
 pub mod Passes
+pub mod Resending
 pub mod Sack
 pub mod Totals
 pub mod Views
