@@ -4,7 +4,7 @@ use Rattle.std.specs.Prelude.{Option, Some, None, unwrap_or, option_map, slice_g
 use Rattle.sctp_state.specs.Events.{Told}
 use Rattle.sctp_outstanding.specs.Item.{Item}
 use Rattle.sctp_outstanding.specs.Items.{Items, Outstanding}
-use Rattle.sctp_outstanding.specs.Losses.{Step, first_step, nack_item, nack_at, nack_below, gives_up, expire_at, expire_below, given_up_if, expired_at}
+use Rattle.sctp_outstanding.specs.Losses.{Step, first_step, nack_item, nack_at, nack_below, gives_up}
 
 or-true : (b : Bool) → true ≡ (b || true)
 or-true true = refl

@@ -1,14 +1,13 @@
 -- A walk through items and blocks.
-use Rattle.std.proofs.Common.{◌≡◌, ℕ, zero, suc, ◌+◌, ◌<◌, ◌≤◌, ◌||◌, ◌&&◌, Bool, true, false, cond, leb, List, [], ◌∷◌, length, drop, slice_index_or, get_or, min, refl, ap, sym, subst, ◌∙◌, arith}
-use Rattle.std.specs.Prelude.{Option, Some, None, nat_le, slice_get}
+use Rattle.std.proofs.Common.{◌≡◌, ℕ, zero, suc, ◌+◌, ◌<◌, ◌≤◌, Bool, false, cond, List, [], ◌∷◌, length, drop, slice_index_or, min, refl, ap, sym, subst, ◌∙◌, arith}
+use Rattle.std.specs.Prelude.{nat_le, slice_get}
 use Rattle.std.proofs.Math.Seq.{drop-cons}
-use Rattle.std.proofs.lemmas.Bool.{lt-ltb, le-ltb, cases_lt}
 use Rattle.std.proofs.lemmas.Bool.Decides.{nat_tests}
 use Rattle.sctp_packet.specs.declared.sack.GapAckBlock.{GapAckBlock}
-use Rattle.sctp_packet.specs.Covered.{covers, is_covered, AreRuns}
-use Rattle.sctp_outstanding.specs.Item.{Item, chunk_size}
-use Rattle.sctp_outstanding.specs.Items.{Kept, change_at, when}
-use Rattle.sctp_outstanding.specs.Sack.{settle, settled, newly_acked, below_highest, is_newly_acked, is_new_at, new_bytes_at, newly_of, bytes_of}
+use Rattle.sctp_packet.specs.Covered.{is_covered, AreRuns}
+use Rattle.sctp_outstanding.specs.Item.{Item}
+use Rattle.sctp_outstanding.specs.Items.{Kept, change_at}
+use Rattle.sctp_outstanding.specs.Sack.{settled, is_new_at, new_bytes_at, newly_of, bytes_of}
 use Rattle.sctp_outstanding.specs.Passes.{IsCursor, settle_from, acked_from, below_from}
 
 -- ---- blocks

@@ -1,5 +1,5 @@
 -- Entries of a forward point keep their order.
-use Rattle.std.proofs.Common.{◌≡◌, ℕ, zero, suc, ◌<◌, ◌≤◌, ◌++◌, Bool, true, false, cond, List, [], ◌∷◌, length, take, drop, slice_set, slice_index_or, refl, ap, sym, ◌∙◌, arith}
+use Rattle.std.proofs.Common.{◌≡◌, ℕ, zero, suc, ◌<◌, ◌≤◌, Bool, true, false, cond, List, [], ◌∷◌, length, slice_set, slice_index_or, refl, ap, sym, ◌∙◌, arith}
 use Rattle.std.specs.List.{insert}
 use Rattle.sctp_outstanding.specs.declared.skips.SkipEntry.{SkipEntry}
 use Rattle.sctp_outstanding.specs.Forward.{is_before, is_alike, is_alike_at, named, entries_before}

@@ -1,5 +1,5 @@
 -- What is told as items leave.
-use Rattle.std.proofs.Common.{◌≡◌, ℕ, zero, suc, ◌-◌, ◌<◌, ◌++◌, List, [], ◌∷◌, take, refl, ap, sym, subst, ◌∙◌, append_assoc, arith}
+use Rattle.std.proofs.Common.{◌≡◌, ℕ, suc, ◌-◌, ◌<◌, ◌++◌, List, ◌∷◌, take, ap, sym, subst, ◌∙◌, append_assoc, arith}
 use Rattle.sctp_state.specs.Events.{Event, Told, Grown, tell_all}
 use Rattle.sctp_state.proofs.EventLemmas.{grown-through, grown-told}
 use Rattle.sctp_outstanding.specs.Item.{Item}

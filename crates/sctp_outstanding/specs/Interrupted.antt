@@ -1,7 +1,7 @@
 -- What a call leaves that ran out of memory before its end: its first steps are done, and nothing else.
 use Rattle.std.specs.Prelude.{◌≡◌, ℕ, not, Bool, false, List}
 use Rattle.sctp_state.specs.Events.{Told}
-use Rattle.sctp_outstanding.specs.Items.{Items, Outstanding}
+use Rattle.sctp_outstanding.specs.Items.{Outstanding}
 use Rattle.sctp_packet.specs.declared.sack.GapAckBlock.{GapAckBlock}
 use Rattle.sctp_outstanding.specs.Sack.{heard_first}
 use Rattle.sctp_outstanding.specs.Losses.{Step, first_step, nack_below, expire_below}

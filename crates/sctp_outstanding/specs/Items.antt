@@ -1,7 +1,8 @@
 -- The fragments that have their TSN and are kept: all from the cumulative TSN on, in order. Numbers are unwrapped, and the
 -- first TSN is `origin`.
-use Rattle.std.specs.Prelude.{ℕ, zero, suc, ◌+◌, ◌-◌, ◌==◌, Bool, true, false, if◌then◌else◌, Option, Some, None, List, [], ◌∷◌, ◌++◌, length}
+use Rattle.std.specs.Prelude.{ℕ, zero, suc, ◌+◌, ◌-◌, ◌%◌, ◌^◌, Bool, false, if◌then◌else◌, Option, Some, None, List, [], ◌∷◌, ◌++◌, length}
 use Rattle.std.specs.List.{sum_by}
+use Rattle.sctp_serial.specs.Serial.{serial_difference}
 use Rattle.sctp_serial.specs.Unwrapped.{origin, words, wire, nearest}
 use Rattle.sctp_packet.specs.Chunk.{FragmentTree}
 use Rattle.sctp_outstanding.specs.declared.item.ItemState.TheVariants.{InFlight}
@@ -146,3 +147,7 @@ inserted i s = record s { kept = s.kept ++ i ∷ [] }
 -- streams are reset: no forward point crosses the number that is next
 abbrev pub begin_reset : Items → Items
 begin_reset s = record s { breaks = s.breaks ++ next_number s ∷ [] }
+
+-- a restored socket begins behind this TSN: at the least number that is written so
+abbrev pub begun_at : (first tsn : ℕ) → Items → Items
+begun_at first tsn s = record s { acked = origin - 1 + serial_difference words ((tsn + 1) % 2 ^ 32) first }

@@ -1,5 +1,5 @@
 -- How far a walk through items and blocks has come. Each says that what is done and what is left give the whole.
-use Rattle.std.specs.Prelude.{◌≡◌, ℕ, zero, suc, ◌+◌, ◌≤◌, Bool, List, [], ◌∷◌, drop, length}
+use Rattle.std.specs.Prelude.{◌≡◌, ℕ, zero, suc, ◌≤◌, Bool, List, [], ◌∷◌, drop, length}
 use Rattle.sctp_packet.specs.declared.sack.GapAckBlock.{GapAckBlock}
 use Rattle.sctp_packet.specs.Covered.{is_covered, AreRuns}
 use Rattle.sctp_outstanding.specs.Item.{Item}

@@ -1,10 +1,10 @@
 -- Items that are sent again (RFC 9260 sections 7.2.4 and 6.3.3).
-use Rattle.std.specs.Prelude.{◌≡◌, ℕ, zero, suc, ◌+◌, ◌-◌, ◌==◌, ◌&&◌, nat_le, min, Bool, true, false, if◌then◌else◌, Option, Some, None, List, [], ◌∷◌, ◌++◌, length, slice_get}
+use Rattle.std.specs.Prelude.{◌≡◌, ℕ, zero, suc, ◌+◌, ◌-◌, ◌==◌, ◌&&◌, nat_le, min, Bool, if◌then◌else◌, Option, Some, None, List, [], ◌∷◌, ◌++◌, length, slice_get}
 use Rattle.sctp_packet.specs.Chunk.{FragmentTree}
 use Rattle.sctp_outstanding.specs.declared.outstanding_data.Turn.{Turn}
 use Rattle.sctp_outstanding.specs.declared.outstanding_data.Turn.TheVariants.{Send, PassOver, Leave}
 use Rattle.sctp_outstanding.specs.Item.{Item, is_fast, should_be_retransmitted, chunk_size, mark_as_retransmitted, miss_fast}
-use Rattle.sctp_outstanding.specs.Items.{Items, Outstanding, written, flight_items}
+use Rattle.sctp_outstanding.specs.Items.{Outstanding, written, flight_items}
 use Rattle.sctp_outstanding.specs.Losses.{change_items}
 
 -- a packet that is being filled: fragments with their TSNs as they are written, the bytes that are left for chunks, and

@@ -1,5 +1,5 @@
 -- What a SACK says of the items (RFC 9260 section 6.3.2, 6.2.1 and 7.2.4).
-use Rattle.std.specs.Prelude.{◌≡◌, ◌⊎◌, ℕ, zero, suc, ◌+◌, ◌-◌, ◌^◌, ◌≤◌, ◌&&◌, ◌||◌, not, nat_lt, nat_le, max, Bool, true, false, if◌then◌else◌, Option, Some, None, List, [], ◌∷◌, ◌++◌, length, take, drop, filter, sum_by, slice_get, ◌==◌}
+use Rattle.std.specs.Prelude.{ℕ, suc, ◌+◌, ◌-◌, ◌^◌, ◌&&◌, not, nat_lt, nat_le, max, Bool, false, if◌then◌else◌, Option, Some, None, List, [], ◌∷◌, ◌++◌, take, drop, filter, sum_by, slice_get, ◌==◌}
 use Rattle.sctp_serial.specs.Unwrapped.{origin}
 use Rattle.sctp_state.specs.Events.{Event, OnLifecycleMessageMaybeExpired, OnLifecycleMessageDelivered, OnLifecycleEnd, Told, tell_all}
 use Rattle.sctp_packet.specs.declared.sack.GapAckBlock.{GapAckBlock}
@@ -132,3 +132,7 @@ sample_of now (Some i) = if i.sent == 1 then Some (rtt_from now i) else None
 -- of the item at a place, where it was sent once
 abbrev pub sample_at : ℕ → ℕ → Items → Option ℕ
 sample_at now place s = sample_of now (slice_get s.kept place)
+
+-- of the item with this number, if it is kept
+abbrev pub sample : ℕ → ℕ → Items → Option ℕ
+sample now number s = if nat_le number s.acked then None else sample_at now (number - s.acked - 1) s

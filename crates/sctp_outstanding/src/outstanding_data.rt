@@ -12,11 +12,11 @@ ghost use Rattle.sctp_outstanding.specs.Views.{discard_of, last_tree, point_of, 
 ghost use Rattle.sctp_outstanding.specs.Resending.{again_at, allowed, turn_at, step_at, resent_below, resend, empty_packet, SomeResent};
 ghost use Rattle.sctp_outstanding.specs.declared.outstanding_data.Turn.TheVariants.{Send, PassOver, Leave};
 ghost use Rattle.sctp_outstanding.specs.Losses.{placeholder, loss_of};
-ghost use Rattle.sctp_outstanding.specs.Items.{first_sent, inserted, begin_reset};
+ghost use Rattle.sctp_outstanding.specs.Items.{first_sent, inserted, begin_reset, begun_at};
 ghost use Rattle.sctp_outstanding.specs.Interrupted.{Same, SomeNacked, SomeExpired, SomeHeard};
 ghost use Rattle.sctp_outstanding.specs.Forward.{is_forward_due, entry_at, stops, passes_of, forward_point, size_with, with_entry};
 ghost use Rattle.std.specs.List.{list_any};
-ghost use Rattle.sctp_outstanding.specs.Sack.{sample_at, is_valid, staying, leaving, left_bytes, reports, hear, acked_bytes, highest_end};
+ghost use Rattle.sctp_outstanding.specs.Sack.{sample, sample_at, is_valid, staying, leaving, left_bytes, reports, hear, acked_bytes, highest_end};
 ghost use Rattle.sctp_state.specs.Events.{first_of};
 
 use crate::item::Item;
@@ -436,7 +436,7 @@ impl OutstandingData {
         }
     }
 
-    /// The time since the item with this number was sent, where it was sent once.
+    // The time since the item at the place was sent, where it was sent once.
     fn rtt_at(&self, place: usize, now: SocketTime) -> Option<Duration>
         ensures { option_map as_nanos result ≡ sample_at now place self.now.items }
     {
@@ -637,6 +637,27 @@ impl OutstandingData {
         filling.window = filling.window.saturating_sub(size);
         self.kept.change(place, Change::Retransmit);
         Ok(())
+    }
+
+    /// The round trip time that an acknowledgement of this TSN tells now: the time since its item was sent, where it is
+    /// kept and was sent once.
+    pub fn measure_rtt(&self, now: SocketTime, tsn: Tsn) -> Option<Duration>
+        ensures { option_map as_nanos result ≡ sample now (number_of self.now tsn.0) self.now.items }
+    {
+        let number = self.unwrapped(tsn);
+        if number <= self.acked {
+            return None;
+        }
+        self.rtt_at((number - self.acked - 1) as usize, now)
+    }
+
+    /// Begins behind this TSN, as a socket does that is restored. For data of which nothing is outstanding.
+    pub fn reset_sequence_numbers(&mut self, last_cumulative_tsn: Tsn)
+        requires { self.old.items.kept ≡ [] }
+        ensures { self.new ≡ record self.old { items = begun_at self.old.first last_cumulative_tsn.0 self.old.items } }
+    {
+        let next = last_cumulative_tsn + 1;
+        self.acked = (1 << 32) - 1 + next.steps_from(self.first);
     }
 
     // What may be sent now: while something is in flight the peer's window counts too.

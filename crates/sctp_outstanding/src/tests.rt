@@ -213,3 +213,68 @@ fn expired(alloc: Global) -> Result<bool, AllocError> {
 fn a_lifetime_ends(rt: HostRuntime) {
     assert!(rt; expired(rt.alloc()) == Ok(true));
 }
+
+// After a timeout the items go again as far as the peer's window allows, and the first one goes whatever it is.
+fn sent_again(alloc: Global) -> Result<bool, AllocError> {
+    let mut data = three(alloc)?;
+    let mut events = Events::new(alloc);
+    data.nack_all(&mut events)?;
+    let first = data.get_chunks_to_be_retransmitted(40, 0)?;
+    let is_first = first.len() == 1 && first[0].0 == Tsn(11);
+    let none = data.get_chunks_to_be_retransmitted(1000, 35)?;
+    let second = data.get_chunks_to_be_retransmitted(1000, 36)?;
+    let fast = data.get_chunks_to_be_fast_retransmitted(1000)?;
+    Ok(
+        is_first
+            && none.is_empty()
+            && second.len() == 1
+            && fast.is_empty()
+            && counts(&data) == (2, 72, 40),
+    )
+}
+
+#[test]
+fn lost_items_go_again(rt: HostRuntime) {
+    assert!(rt; sent_again(rt.alloc()) == Ok(true));
+}
+
+// Three SACKs tell of TSNs 12, 13 and 14, and not of 10 and 11: both are sent again at once.
+fn lost(alloc: Global) -> Result<bool, AllocError> {
+    let mut data = three(alloc)?;
+    let mut events = Events::new(alloc);
+    send(alloc, &mut data, 3, 65_535, true)?;
+    send(alloc, &mut data, 4, 65_535, true)?;
+    take(&mut data, Tsn(9), 3, &mut events)?;
+    take(&mut data, Tsn(9), 4, &mut events)?;
+    let is_none_lost = !data.has_data_to_be_fast_retransmitted();
+    take(&mut data, Tsn(9), 5, &mut events)?;
+    let is_lost = data.has_data_to_be_fast_retransmitted();
+    let chunks = data.get_chunks_to_be_fast_retransmitted(1000)?;
+    let is_second = chunks.len() == 1 && chunks[0].0 == Tsn(11);
+    Ok(is_none_lost && is_lost && is_second && events.mark().given_up == 1)
+}
+
+#[test]
+fn a_third_report_tells_a_loss(rt: HostRuntime) {
+    assert!(rt; lost(rt.alloc()) == Ok(true));
+}
+
+fn measured(alloc: Global) -> Result<bool, AllocError> {
+    let data = three(alloc)?;
+    let now = SocketTime::zero() + Duration::from_millis(7);
+    let sample = data.measure_rtt(now, Tsn(11));
+    let mut restored = OutstandingData::new(alloc, Tsn(10), true, false);
+    restored.reset_sequence_numbers(Tsn(4));
+    let is_behind = restored.next_tsn() == Tsn(5);
+    Ok(
+        is_behind
+            && sample == Some(Duration::from_millis(7))
+            && data.measure_rtt(now, Tsn(9)).is_none()
+            && data.measure_rtt(now, Tsn(13)).is_none(),
+    )
+}
+
+#[test]
+fn round_trips_are_measured(rt: HostRuntime) {
+    assert!(rt; measured(rt.alloc()) == Ok(true));
+}

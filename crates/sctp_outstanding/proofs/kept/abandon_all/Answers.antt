@@ -1,5 +1,4 @@
-use Rattle.std.proofs.Common.{◌≡◌, ◌≤◌, ap, sym, ◌∙◌, rules, refl, arith, length}
-use Rattle.sctp_outstanding.specs.Items.{is_of_at}
+use Rattle.std.proofs.Common.{◌≡◌, ap, sym, ◌∙◌, arith, length}
 use Rattle.sctp_outstanding.proofs.LaidLemmas.{laid, laid-next, laid-past, laid-all}
 use Rattle.sctp_outstanding.proofs.TotalsLemmas.{totals-as}
 use Rattle.sctp_outstanding.proofs.kept.abandon_all.Goals.{then-is_of, else-is_of}

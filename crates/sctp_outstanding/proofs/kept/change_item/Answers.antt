@@ -1,4 +1,4 @@
-use Rattle.std.proofs.Common.{◌<◌, ap, ◌∙◌, length, rules, arith}
+use Rattle.std.proofs.Common.{ap, ◌∙◌, rules}
 use Rattle.sctp_outstanding.specs.Change.{changed}
 use Rattle.sctp_outstanding.specs.Totals.{parts}
 use Rattle.sctp_outstanding.proofs.TotalsLemmas.{change-beyond, change-set, exchanges-beyond, exchanges-at}

@@ -1,4 +1,4 @@
-use Rattle.std.proofs.Common.{ap, sym, ◌∙◌, rules, ◌==◌}
+use Rattle.std.proofs.Common.{ap, ◌∙◌, rules, ◌==◌}
 use Rattle.sctp_outstanding.proofs.LaidLemmas.{is_of_at-here, is_of_at-beyond}
 use Rattle.sctp_outstanding.proofs.kept.is_of.Goals as goal
 

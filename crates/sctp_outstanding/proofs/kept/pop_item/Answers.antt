@@ -1,4 +1,4 @@
-use Rattle.std.proofs.Common.{◌<◌, ◌^◌, ◌≡◌, ◌∷◌, ◌++◌, [], ap, ◌∙◌, subst, length, rules, arith, refl, List}
+use Rattle.std.proofs.Common.{◌<◌, ◌^◌, ◌≡◌, ◌∷◌, ap, ◌∙◌, subst, length, rules, arith, refl, List}
 use Rattle.sctp_outstanding.specs.Item.{Item}
 use Rattle.sctp_outstanding.specs.declared.totals.Totals.{Totals}
 use Rattle.sctp_outstanding.specs.Totals.{exchanged, nothing, parts, AreTotals}

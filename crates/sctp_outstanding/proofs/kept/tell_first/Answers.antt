@@ -1,4 +1,4 @@
-use Rattle.std.proofs.Common.{◌≡◌, ◌<◌, ◌∷◌, ◌∙◌, rules, arith}
+use Rattle.std.proofs.Common.{◌≡◌, ◌∷◌, ◌∙◌, rules, arith}
 use Rattle.std.specs.VecDeque.Iter.{deque_iter_rest}
 use Rattle.sctp_outstanding.specs.Sack.{report}
 use Rattle.sctp_outstanding.proofs.TellingLemmas.{tell-step, grown-step}

@@ -1,4 +1,4 @@
-use Rattle.std.proofs.Common.{rules, ℕ}
+use Rattle.std.proofs.Common.{rules}
 use Rattle.std.specs.Prelude.{nat_lt}
 use Rattle.std.proofs.lemmas.Fn.{filter_same}
 use Rattle.sctp_outstanding.proofs.outstanding_data.forget_passed.Goals as goal

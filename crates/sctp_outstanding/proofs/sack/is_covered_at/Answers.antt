@@ -1,4 +1,3 @@
-use Rattle.std.proofs.Common.{rules}
 use Rattle.sctp_outstanding.proofs.SackLemmas.{covered-at}
 use Rattle.sctp_outstanding.proofs.sack.is_covered_at.Goals as goal
 

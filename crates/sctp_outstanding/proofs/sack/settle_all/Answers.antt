@@ -2,7 +2,7 @@ use Rattle.std.proofs.Common.{◌≡◌, ◌≤◌, ◌<◌, ◌+◌, ◌-◌, �
 use Rattle.sctp_outstanding.specs.Items.{Kept, change_at}
 use Rattle.sctp_outstanding.specs.Sack.{settled, new_bytes_at}
 use Rattle.sctp_packet.specs.Covered.{is_covered}
-use Rattle.sctp_outstanding.specs.Passes.{settle_from, acked_from}
+use Rattle.sctp_outstanding.specs.Passes.{acked_from}
 use Rattle.sctp_outstanding.proofs.TotalsLemmas.{length-change}
 use Rattle.sctp_outstanding.proofs.SackLemmas.{settle-step, acked-step, below-step, summed, cursor-on, settle-done, acked-done, below-done, kept-as}
 use Rattle.sctp_outstanding.proofs.sack.settle_all.Goals as goal

@@ -1,4 +1,4 @@
-use Rattle.std.proofs.Common.{rules, arith, ◌∙◌}
+use Rattle.std.proofs.Common.{arith, ◌∙◌}
 use Rattle.sctp_outstanding.proofs.SkipLemmas.{alike-here, alike-beyond}
 use Rattle.sctp_outstanding.proofs.skips.is_alike_at.Goals as goal
 

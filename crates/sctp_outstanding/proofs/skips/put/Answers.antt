@@ -1,4 +1,4 @@
-use Rattle.std.proofs.Common.{◌≡◌, ◌<◌, rules, arith, sym, ap, ◌∙◌, true, false, length}
+use Rattle.std.proofs.Common.{◌≡◌, ◌<◌, rules, arith, ◌∙◌, true, false, length}
 use Rattle.std.specs.List.{insert}
 use Rattle.sctp_outstanding.specs.Forward.{is_alike_at, entries_before}
 use Rattle.sctp_outstanding.proofs.SkipLemmas.{named-set_at, named-insert_at, alike-within}
