@@ -1,0 +1,10 @@
+use Rattle.std.proofs.Common.{◌≡◌}
+use Rattle.sctp_outstanding.specs.Totals.{AreTotals}
+use Rattle.sctp_outstanding.proofs.LaidLemmas.{laid}
+use Rattle.sctp_outstanding.proofs.kept.abandon_all.Given as goal
+
+abbrev pub invariant-loop-place : goal.invariant-loop-place
+invariant-loop-place l = record {
+  items : l.items.items ≡ laid l.place l.message_id.0 l.initial.items.items;
+  totals : AreTotals l.is_interleaved l.items.items l.totals;
+}

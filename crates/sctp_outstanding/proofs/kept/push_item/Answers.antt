@@ -1,0 +1,13 @@
+use Rattle.std.proofs.Common.{◌<◌, ◌^◌, ◌≡◌, ◌∷◌, ◌++◌, [], ap, ◌∙◌, length, rules, arith}
+use Rattle.sctp_outstanding.specs.declared.totals.Totals.{Totals}
+use Rattle.sctp_outstanding.specs.Totals.{exchanged, nothing, parts}
+use Rattle.sctp_outstanding.proofs.TotalsLemmas.{totals-pushed, totals-as}
+use Rattle.sctp_outstanding.proofs.kept.push_item.Goals as goal
+
+pub returns-clause-totals : goal.returns-clause-totals
+returns-clause-totals c =
+    let is : c.push_back.new.self.items ≡ c.args.items.now.items ++ c.args.item ∷ [] = search rules in
+    let few : length (c.args.items.now.items ++ c.args.item ∷ []) < 2 ^ 64 = omega (arith, ap (λ xs. length xs) is) in
+    totals-as c.args.is_interleaved (c.args.items.now.items ++ c.args.item ∷ []) c.push_back.new.self.items (exchanged nothing (parts c.args.is_interleaved c.args.item) c.args.totals.now) c.exchanged.result
+    (totals-pushed c.args.is_interleaved c.args.items.now.items c.args.item c.args.totals.now c.requires few (omega (arith, c.payload_size-size.ensures.size, c.payload_size-size.ensures.small)))
+    is (c.exchanged.ensures ∙ (ap (λ (t : Totals). exchanged t c.of-part.result c.args.totals.now) c.nothing.ensures ∙ ap (λ (t : Totals). exchanged nothing t c.args.totals.now) c.of-part.ensures))

@@ -1,0 +1,12 @@
+pub mod Change
+pub mod Entries
+pub mod Forward
+pub mod Interrupted
+pub mod Item
+pub mod Items
+pub mod Losses
+pub mod Passes
+pub mod Resending
+pub mod Sack
+pub mod Totals
+pub mod Views

@@ -1,0 +1,351 @@
+//! The kept items, with their totals.
+
+ghost use Rattle.std.specs.Prelude.{◌≡◌, ◌==◌, ℕ, Some, map, min, option_map, slice_get, not, nat_lt, sum_by, ◌<◌, ◌≤◌, ◌^◌, ◌∷◌, ◌++◌, [], length, drop, take, OnOk, OnErr, IfSome, IfNone};
+ghost use Rattle.sctp_outstanding.specs.Change.{changed};
+ghost use Rattle.sctp_outstanding.specs.Items.{change_at, lay_down, is_of_at, last_of, later_of, without_payload, packet_part, payload_part, flight_part, queued_part, fast_part, acked_part};
+ghost use Rattle.sctp_outstanding.specs.Totals.{AreTotals, Exchanges};
+ghost use Rattle.sctp_outstanding.specs.Views.{last_tree};
+ghost use Rattle.sctp_outstanding.specs.Sack.{reports};
+ghost use Rattle.sctp_state.specs.Events.{tell_all, Grown};
+
+use crate::item::Item;
+use crate::telling::tell_left;
+use crate::totals::Totals;
+use sctp_serial::{Fsn, Mid, OutgoingMessageId, PpId, Ssn, StreamKey};
+use sctp_state::Events;
+use std::alloc::{AllocError, Global};
+use std::collections::VecDeque;
+use std::marker::Model;
+
+/// What may happen to a kept item.
+#[derive(Clone, Copy)]
+pub enum Change {
+    Ack,
+    Uncover,
+    Nack(bool, bool),
+    Retransmit,
+    MissFast,
+    Abandon,
+}
+
+/// What a fragment says, without its payload.
+#[derive(Clone, Copy)]
+pub struct LastFragment {
+    pub stream_key: StreamKey,
+    pub ssn: Ssn,
+    pub mid: Mid,
+    pub fsn: Fsn,
+    pub ppid: PpId,
+    pub is_beginning: bool,
+    pub is_end: bool,
+}
+
+impl LastFragment {
+    fn of(item: &Item) -> LastFragment
+        ensures { last_tree result ≡ without_payload item.now.fragment }
+    {
+        let fragment = item.data();
+        LastFragment {
+            stream_key: fragment.stream_key,
+            ssn: fragment.ssn,
+            mid: fragment.mid,
+            fsn: fragment.fsn,
+            ppid: fragment.ppid,
+            is_beginning: fragment.is_beginning,
+            is_end: fragment.is_end,
+        }
+    }
+}
+
+// The last fragment of a message.
+fn find_last(items: &VecDeque<Item>, message_id: OutgoingMessageId) -> Option<LastFragment>
+    ensures { option_map last_tree result ≡ last_of message_id.0 items.now.items }
+{
+    let mut last = None;
+    for item in items.iter() {
+        if item.message_id().0 == message_id.0 {
+            last = Some(LastFragment::of(item));
+        }
+    }
+    last
+}
+
+// Tells what is to be told as the first items leave.
+fn tell_first(items: &VecDeque<Item>, count: usize, events: &mut Events) -> Result<(), AllocError>
+    ensures ok { OnOk result (events.new ≡ tell_all (reports (take count items.now.items)) events.old) }
+    ensures err { OnErr result (Grown events.old events.new) }
+{
+    let mut left = count;
+    for item in items.iter() {
+        if left == 0 {
+            return Ok(());
+        }
+        tell_left(events, item)?;
+        left -= 1;
+    }
+    Ok(())
+}
+
+fn apply(item: &mut Item, change: Change)
+    ensures { item.new ≡ changed change item.old }
+{
+    match change {
+        Change::Ack => item.ack(),
+        Change::Uncover => item.uncover(),
+        Change::Nack(at_once, fast) => item.nack(at_once, fast),
+        Change::Retransmit => item.mark_as_retransmitted(),
+        Change::MissFast => item.miss_fast(),
+        Change::Abandon => item.abandon(),
+    }
+}
+
+// Changes the item at the place. The answer is what it added to the totals, and what it adds then.
+fn change_item(
+    items: &mut VecDeque<Item>,
+    is_interleaved: bool,
+    place: usize,
+    change: Change,
+) -> (Totals, Totals)
+    ensures items { items.new.items ≡ change_at place (changed change) items.old.items }
+    ensures parts { Exchanges is_interleaved place change items.old.items result.0 result.1 }
+{
+    let Some(item) = items.get_mut(place) else {
+        return (Totals::nothing(), Totals::nothing());
+    };
+    let old = Totals::of(item, is_interleaved);
+    apply(item, change);
+    let new = Totals::of(item, is_interleaved);
+    (old, new)
+}
+
+// Changes the item at the place, if there is one.
+fn change_one(
+    items: &mut VecDeque<Item>,
+    totals: &mut Totals,
+    is_interleaved: bool,
+    place: usize,
+    change: Change,
+)
+    requires { AreTotals is_interleaved items.old.items totals.old }
+    ensures items { items.new.items ≡ change_at place (changed change) items.old.items }
+    ensures totals { AreTotals is_interleaved items.new.items totals.new }
+{
+    let _count = items.len();
+    let (old, new) = change_item(items, is_interleaved, place, change);
+    *totals = totals.exchanged(old, new);
+}
+
+// Adds an item behind the others. Without memory nothing changes.
+fn push_item(
+    items: &mut VecDeque<Item>,
+    totals: &mut Totals,
+    is_interleaved: bool,
+    item: Item,
+) -> Result<(), AllocError>
+    requires { AreTotals is_interleaved items.old.items totals.old }
+    ensures ok { OnOk result (items.new.items ≡ items.old.items ++ item ∷ []) }
+    ensures totals { AreTotals is_interleaved items.new.items totals.new }
+    ensures err { OnErr result (items.new.items ≡ items.old.items) }
+{
+    let _size = item.payload_size();
+    let part = Totals::of(&item, is_interleaved);
+    items.push_back(item)?;
+    let _count = items.len();
+    *totals = totals.exchanged(Totals::nothing(), part);
+    Ok(())
+}
+
+// Takes the first item out.
+fn pop_item(items: &mut VecDeque<Item>, totals: &mut Totals, is_interleaved: bool) -> Option<Item>
+    requires { AreTotals is_interleaved items.old.items totals.old }
+    ensures first { IfSome result (λ i. items.old.items ≡ i ∷ items.new.items) }
+    ensures none { IfNone result (items.old.items ≡ []) }
+    ensures rest { items.new.items ≡ drop 1 items.old.items }
+    ensures totals { AreTotals is_interleaved items.new.items totals.new }
+{
+    let item = items.pop_front()?;
+    let part = Totals::of(&item, is_interleaved);
+    let _count = items.len();
+    *totals = totals.exchanged(part, Totals::nothing());
+    Some(item)
+}
+
+// Gives up all items of a message.
+fn abandon_all(
+    items: &mut VecDeque<Item>,
+    totals: &mut Totals,
+    is_interleaved: bool,
+    message_id: OutgoingMessageId,
+)
+    requires { AreTotals is_interleaved items.old.items totals.old }
+    ensures items { items.new.items ≡ map (lay_down message_id.0) items.old.items }
+    ensures totals { AreTotals is_interleaved items.new.items totals.new }
+{
+    for place in 0..items.len() {
+        if is_of(items, place, message_id) {
+            change_one(items, totals, is_interleaved, place, Change::Abandon);
+        }
+    }
+}
+
+// Whether the item at the place is a fragment of the message.
+fn is_of(items: &VecDeque<Item>, place: usize, message_id: OutgoingMessageId) -> bool
+    ensures { result ≡ is_of_at message_id.0 place items.now.items }
+{
+    match items.get(place) {
+        Some(item) => item.message_id().0 == message_id.0,
+        None => false,
+    }
+}
+
+/// The kept items, with the running totals over them.
+#[derive(Drop)]
+pub struct Kept {
+    is_interleaved: bool,
+    items: VecDeque<Item>,
+    totals: Totals,
+}
+
+impl Model for Kept {
+    ghost use Rattle.sctp_outstanding.specs.Items.{Kept};
+    ghost use Rattle.sctp_outstanding.specs.Totals.{AreTotals};
+
+    ghost Value = { Kept };
+
+    ghost view = { λ k. record { is_interleaved = k.is_interleaved; items = k.items.items } };
+
+    ghost invariant = { λ k. AreTotals k.is_interleaved k.items.items k.totals };
+}
+
+impl Kept {
+    ghost use Rattle.std.specs.Prelude.{Bool, false};
+
+    /// No items. Takes no memory.
+    pub fn new(alloc: Global, is_interleaved: bool) -> Kept
+        ensures { result ≡ record { is_interleaved = is_interleaved; items = [] } }
+    {
+        Kept {
+            is_interleaved,
+            items: VecDeque::new(alloc),
+            totals: Totals::nothing(),
+        }
+    }
+
+    pub fn is_interleaved(&self) -> bool
+        ensures { result ≡ self.now.is_interleaved }
+    {
+        self.is_interleaved
+    }
+
+    pub fn len(&self) -> usize
+        ensures { result ≡ length self.now.items }
+    {
+        self.items.len()
+    }
+
+    /// The item at the place.
+    pub fn get(&self, place: usize) -> Option<&Item>
+        ensures { option_map (λ i. i.now) result ≡ slice_get self.now.items place }
+    {
+        self.items.get(place)
+    }
+
+    /// The bytes of the chunks in flight or missing, with their headers and padding.
+    pub fn flight_bytes(&self) -> u128
+        ensures { result ≡ sum_by (packet_part self.now.is_interleaved) self.now.items }
+    {
+        self.totals.packet_bytes
+    }
+
+    /// The bytes of their payloads.
+    pub fn flight_payload(&self) -> u128
+        ensures { result ≡ sum_by payload_part self.now.items }
+    {
+        self.totals.payload_bytes
+    }
+
+    /// How many items are in flight or missing.
+    pub fn flights(&self) -> usize
+        ensures { result ≡ sum_by flight_part self.now.items }
+    {
+        self.totals.flights
+    }
+
+    /// Whether an item is to be sent again.
+    pub fn has_queued(&self) -> bool
+        ensures { result ≡ nat_lt 0 (sum_by queued_part self.now.items) }
+    {
+        self.totals.queued > 0
+    }
+
+    /// Whether an item is to be sent again by the packet that ignores the congestion window.
+    pub fn has_fast(&self) -> bool
+        ensures { result ≡ nat_lt 0 (sum_by fast_part self.now.items) }
+    {
+        self.totals.fast > 0
+    }
+
+    /// Whether an item is acknowledged.
+    pub fn has_acked(&self) -> bool
+        ensures { result ≡ nat_lt 0 (sum_by acked_part self.now.items) }
+    {
+        self.totals.acked > 0
+    }
+
+    /// Changes the item at the place, if there is one.
+    pub fn change(&mut self, place: usize, how: Change)
+        ensures { self.new ≡ record self.old { items = change_at place (changed how) self.old.items } }
+    {
+        change_one(
+            &mut self.items,
+            &mut self.totals,
+            self.is_interleaved,
+            place,
+            how,
+        );
+    }
+
+    /// Adds an item behind the others. Without memory nothing changes.
+    pub fn push(&mut self, item: Item) -> Result<(), AllocError>
+        ensures ok { OnOk result (self.new ≡ record self.old { items = self.old.items ++ item ∷ [] }) }
+        ensures err { OnErr result (self.new ≡ self.old) }
+    {
+        push_item(&mut self.items, &mut self.totals, self.is_interleaved, item)
+    }
+
+    /// Takes the first item out.
+    pub fn pop(&mut self) -> Option<Item>
+        ensures first { IfSome result (λ i. self.old.items ≡ i ∷ self.new.items) }
+        ensures none { IfNone result (self.old.items ≡ []) }
+        ensures rest { self.new ≡ record self.old { items = drop 1 self.old.items } }
+    {
+        pop_item(&mut self.items, &mut self.totals, self.is_interleaved)
+    }
+
+    /// Tells what is to be told as the first items leave.
+    pub fn tell_leaving(&self, count: usize, events: &mut Events) -> Result<(), AllocError>
+        ensures ok { OnOk result (events.new ≡ tell_all (reports (take count self.now.items)) events.old) }
+        ensures err { OnErr result (Grown events.old events.new) }
+    {
+        tell_first(&self.items, count, events)
+    }
+
+    /// The last kept fragment of a message.
+    pub fn last_of(&self, message_id: OutgoingMessageId) -> Option<LastFragment>
+        ensures { option_map last_tree result ≡ last_of message_id.0 self.now.items }
+    {
+        find_last(&self.items, message_id)
+    }
+
+    /// Gives up all items of a message.
+    pub fn abandon(&mut self, message_id: OutgoingMessageId)
+        ensures { self.new ≡ record self.old { items = map (lay_down message_id.0) self.old.items } }
+    {
+        abandon_all(
+            &mut self.items,
+            &mut self.totals,
+            self.is_interleaved,
+            message_id,
+        );
+    }
+}

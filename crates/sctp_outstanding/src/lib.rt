@@ -1,0 +1,16 @@
+//! Fragments that have their TSN and wait for the peer's acknowledgement.
+#![tactic(auto)]
+
+pub mod item;
+pub mod kept;
+pub mod outstanding_data;
+pub mod sack;
+pub mod skips;
+pub mod telling;
+pub mod totals;
+
+pub use item::{Item, ItemState};
+pub use outstanding_data::{AckInfo, Discarded, OutstandingData};
+
+#[cfg(test)]
+mod tests;

@@ -1,0 +1,136 @@
+//! What a SACK says of the kept items.
+
+ghost use Rattle.std.specs.Prelude.{◌≡◌, ℕ, ◌+◌, ◌-◌, ◌<◌, ◌≤◌, ◌^◌, ◌&&◌, nat_le, min, length, take, drop, sum_by, slice_get, slice_index_or, if◌then◌else◌};
+ghost use Rattle.sctp_packet.specs.declared.sack.GapAckBlock.{GapAckBlock};
+ghost use Rattle.sctp_packet.specs.Covered.{AreRuns, is_covered};
+ghost use Rattle.sctp_outstanding.specs.Item.{chunk_size};
+ghost use Rattle.sctp_outstanding.specs.Items.{change_at};
+ghost use Rattle.sctp_outstanding.specs.Sack.{open_size, left_part, settle, newly_acked, below_highest, settled, new_bytes_at, is_new_at};
+ghost use Rattle.sctp_outstanding.specs.Passes.{IsCursor};
+
+use crate::item::Item;
+use crate::kept::{Change, Kept};
+use sctp_packet::GapAckBlock;
+
+// The bytes that count as newly acknowledged as an item leaves.
+fn left_bytes(item: &Item, is_interleaved: bool) -> usize
+    ensures { result ≡ left_part is_interleaved item.now }
+{
+    if item.is_acked() {
+        return 0;
+    }
+    item.chunk_size(is_interleaved)
+}
+
+/// Takes the first items out. The answer is how many bytes are newly acknowledged by that, at most `usize::MAX`.
+pub fn take_out(kept: &mut Kept, count: usize) -> usize
+    ensures items { kept.new ≡ record kept.old { items = drop count kept.old.items } }
+    ensures bytes { result ≡ min (sum_by (left_part kept.old.is_interleaved) (take count kept.old.items)) (2 ^ 64 - 1) }
+{
+    let is_interleaved = kept.is_interleaved();
+    let mut bytes = 0usize;
+    let mut left = count;
+    while left > 0 {
+        let Some(item) = kept.pop() else {
+            return bytes;
+        };
+        bytes = bytes.saturating_add(left_bytes(&item, is_interleaved));
+        left -= 1;
+    }
+    bytes
+}
+
+// The first block from `from` on that doesn't end before the offset.
+fn skip_blocks(blocks: &[GapAckBlock], mut from: usize, offset: usize) -> usize
+    requires { IsCursor blocks.now offset from }
+    ensures cursor { IsCursor blocks.now offset result }
+    ensures ends { (d : GapAckBlock) → result < length blocks.now → offset ≤ (slice_index_or blocks.now result d).end }
+{
+    while from < blocks.len() && (blocks[from].end as usize) < offset {
+        from += 1;
+    }
+    from
+}
+
+// Whether the block covers the offset, which it doesn't end before.
+fn is_covered_at(blocks: &[GapAckBlock], at: usize, offset: usize) -> bool
+    requires cursor { IsCursor blocks.now offset at }
+    requires ends { (d : GapAckBlock) → at < length blocks.now → offset ≤ (slice_index_or blocks.now at d).end }
+    ensures { result ≡ is_covered blocks.now offset }
+{
+    at < blocks.len() && blocks[at].start as usize <= offset
+}
+
+/// What blocks newly acknowledged.
+#[derive(Clone, Copy)]
+pub struct Covered {
+    /// The bytes of the chunks, at most `usize::MAX`.
+    pub bytes: usize,
+    /// How many items stand below the highest one.
+    pub below: usize,
+}
+
+// The bytes of the chunk at the place, where it was neither acknowledged nor given up.
+fn open_at(kept: &Kept, place: usize) -> Option<usize>
+    ensures { result ≡ open_size kept.now.is_interleaved (slice_get kept.now.items place) }
+{
+    let item = kept.get(place)?;
+    if item.is_outstanding() || item.should_be_retransmitted() {
+        return Some(item.chunk_size(kept.is_interleaved()));
+    }
+    None
+}
+
+// Where the walk stands in the blocks, and what it found.
+#[derive(Clone, Copy)]
+struct Walk {
+    block: usize,
+    covered: Covered,
+}
+
+// Settles the item at the place.
+fn settle_at(kept: &mut Kept, blocks: &[GapAckBlock], place: usize, walk: Walk) -> Walk
+    requires small { place + 1 < 2 ^ 64 }
+    requires within { place < length kept.old.items }
+    requires cursor { IsCursor blocks.now (place + 1) walk.block }
+    ensures cursor { IsCursor blocks.now (place + 1) result.block }
+    ensures items { kept.new ≡ record kept.old { items = change_at place (settled (is_covered blocks.now (place + 1))) kept.old.items } }
+    ensures bytes { result.covered.bytes ≡ min (walk.covered.bytes + new_bytes_at blocks.now kept.old.is_interleaved place kept.old.items) (2 ^ 64 - 1) }
+    ensures below { result.covered.below ≡ (if is_new_at blocks.now place kept.old.items then place else walk.covered.below) }
+{
+    let block = skip_blocks(blocks, walk.block, place + 1);
+    if !is_covered_at(blocks, block, place + 1) {
+        kept.change(place, Change::Uncover);
+        return Walk {
+            block,
+            covered: walk.covered,
+        };
+    }
+    let found = open_at(kept, place);
+    kept.change(place, Change::Ack);
+    let covered = match found {
+        Some(size) => Covered {
+            bytes: walk.covered.bytes.saturating_add(size),
+            below: place,
+        },
+        None => walk.covered,
+    };
+    Walk { block, covered }
+}
+
+/// Acknowledges the items that blocks cover, and has those in flight again that no block covers any more.
+pub fn settle_all(kept: &mut Kept, blocks: &[GapAckBlock]) -> Covered
+    requires { AreRuns 0 blocks.now }
+    ensures items { kept.new ≡ record kept.old { items = settle blocks.now 1 kept.old.items } }
+    ensures bytes { result.bytes ≡ min (newly_acked blocks.now kept.old.is_interleaved 1 kept.old.items) (2 ^ 64 - 1) }
+    ensures below { result.below ≡ below_highest blocks.now 1 0 0 kept.old.items }
+{
+    let mut walk = Walk {
+        block: 0,
+        covered: Covered { bytes: 0, below: 0 },
+    };
+    for place in 0..kept.len() {
+        walk = settle_at(kept, blocks, place, walk);
+    }
+    walk.covered
+}
