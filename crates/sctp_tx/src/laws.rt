@@ -1,5 +1,4 @@
-//! What the fragments of a message are together, that a message is ended before another begins, and that a record of the
-//! queue tells what is needed to go on.
+//! What holds over several calls of the send queue.
 
 ghost use Rattle.std.specs.Prelude.{◌≡◌, true, drop};
 ghost use Rattle.sctp_tx.specs.Begun.{joined, is_ended, AddedStays, ThresholdStays, PriorityStays, ModeStays, PreparedStays, StepsStay, DiscardStays, ResetEnds};

@@ -2,7 +2,8 @@
 
 ghost use Rattle.std.specs.Prelude.{◌≡◌, ℕ, Bool, ◌+◌, ◌-◌, ◌*◌, ◌<◌, ◌≤◌, ◌^◌, ◌==◌, [], length, not, is_some, None, Some, IsSome, IfOk, IfSome, OnOk, OnErr, option_map, map, take};
 ghost use Rattle.std.specs.List.{list_any};
-ghost use Rattle.std.specs.Map.{lookup, values_of};
+ghost use Rattle.std.specs.List.Sorted.{IsStrictlySortedBy};
+ghost use Rattle.std.specs.Map.{lookup, keys_of, values_of};
 ghost use Rattle.std.specs.Ordering.{nat_cmp};
 ghost use Rattle.std.specs.BTreeMap.{is_at};
 ghost use Rattle.sctp_state.specs.Options.{options_of};
@@ -518,6 +519,7 @@ impl SendQueue {
         state: &mut SocketHandoverState,
     ) -> Result<(), AllocError>
         ensures ok { OnOk result (let old = handover_state_of state.old in handover_state_of state.new ≡ record old { tx = written now self.now old.tx }) }
+        ensures ordered { IsStrictlySortedBy nat_cmp (keys_of self.now.streams.entries) }
         ensures err { OnErr result (state.new ≡ state.old) }
     {
         let streams = self.streams.handed_over(self.alloc)?;

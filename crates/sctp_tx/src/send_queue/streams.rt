@@ -3,6 +3,7 @@
 ghost use Rattle.std.specs.Prelude.{◌≡◌, ℕ, Bool, ◌+◌, ◌-◌, ◌<◌, ◌≤◌, ◌^◌, ◌==◌, [], length, is_some, None, Some, IsTrue, IsSome, IfOk, IfSome, OnOk, OnErr, option_map, map};
 ghost use Rattle.std.specs.Map.{lookup, keys_of, values_of};
 ghost use Rattle.std.specs.List.{list_all, list_any};
+ghost use Rattle.std.specs.List.Sorted.{IsStrictlySortedBy};
 ghost use Rattle.std.specs.Ordering.{nat_cmp};
 ghost use Rattle.std.specs.BTreeMap.{is_at};
 ghost use Rattle.sctp_state.specs.Events.{Grown};
@@ -489,7 +490,8 @@ impl Streams {
 
     /// The streams in the record of a socket that is handed over.
     pub fn handed_over(&self, alloc: Global) -> Result<Vec<HandoverOutgoingStream>, AllocError>
-        ensures { IfOk result (λ records. records.items ≡ outgoing_streams self.now.entries) }
+        ensures records { IfOk result (λ records. records.items ≡ outgoing_streams self.now.entries) }
+        ensures ordered { IsStrictlySortedBy nat_cmp (keys_of self.now.entries) }
     {
         outgoing_streams(alloc, &self.streams)
     }
@@ -565,8 +567,10 @@ fn outgoing_streams(
     alloc: Global,
     streams: &BTreeMap<u16, Stream>,
 ) -> Result<Vec<HandoverOutgoingStream>, AllocError>
-    ensures { IfOk result (λ records. records.items ≡ outgoing_streams streams.now.entries) }
+    ensures records { IfOk result (λ records. records.items ≡ outgoing_streams streams.now.entries) }
+    ensures ordered { IsStrictlySortedBy nat_cmp (keys_of streams.now.entries) }
 {
+    let _count = streams.len();
     let mut records = Vec::new(alloc);
     for (id, stream) in streams {
         records.push(stream.handed_over(StreamId(*id)))?;
