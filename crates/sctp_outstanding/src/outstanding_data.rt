@@ -138,6 +138,13 @@ impl OutstandingData {
         self.kept.len() == 0
     }
 
+    /// Whether messages are interleaved: fragments go in I-DATA chunks.
+    pub fn is_interleaved(&self) -> bool
+        ensures { result ≡ self.now.items.is_interleaved }
+    {
+        self.kept.is_interleaved()
+    }
+
     /// How many items are in flight or missing.
     pub fn unacked_items(&self) -> usize
         ensures { result ≡ flight_items self.now.items }

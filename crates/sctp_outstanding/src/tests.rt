@@ -25,16 +25,16 @@ fn fragment(alloc: Global, ssn: u16, bytes: &[u8], is_end: bool) -> Result<Data,
 fn send(
     alloc: Global,
     data: &mut OutstandingData,
-    message: u32,
+    message: u16,
     limit: u16,
     is_end: bool,
 ) -> Result<Tsn, AllocError> {
-    let fragment = fragment(alloc, message as u16, &[7; 20], is_end)?;
+    let fragment = fragment(alloc, message, &[7; 20], is_end)?;
     if fragment.payload.len() >= 100 {
         return Err(AllocError);
     }
     data.insert(
-        OutgoingMessageId(message),
+        OutgoingMessageId(u32::from(message)),
         fragment,
         SocketTime::zero(),
         limit,
@@ -165,6 +165,9 @@ fn forwarded(alloc: Global) -> Result<bool, AllocError> {
     send(alloc, &mut data, 0, 0, false)?;
     data.nack_all(&mut events)?;
     let is_due = data.should_send_forward_tsn();
+    if data.is_interleaved() {
+        return Ok(false);
+    }
     let chunk = data.create_forward_tsn(1200)?;
     Ok(is_due && chunk.new_cumulative_tsn == Tsn(11) && chunk.skipped_streams.len() == 1)
 }
@@ -182,6 +185,9 @@ fn held_back(alloc: Global) -> Result<bool, AllocError> {
     data.begin_reset_streams()?;
     send(alloc, &mut data, 1, 0, true)?;
     data.nack_all(&mut events)?;
+    if !data.is_interleaved() {
+        return Ok(false);
+    }
     let chunk = data.create_iforward_tsn(1200)?;
     Ok(chunk.new_cumulative_tsn == Tsn(10) && chunk.skipped_streams.len() == 1)
 }
