@@ -418,3 +418,19 @@ impl Item {
         now - self.sent_at
     }
 }
+
+/// The fragment once more.
+pub fn copy_of(alloc: Global, fragment: &Data) -> Result<Data, AllocError>
+    ensures { IfOk result (λ f. fragment_tree f ≡ fragment_tree fragment.now) }
+{
+    Ok(Data {
+        stream_key: fragment.stream_key,
+        ssn: fragment.ssn,
+        mid: fragment.mid,
+        fsn: fragment.fsn,
+        ppid: fragment.ppid,
+        payload: Vec::from_slice(alloc, &fragment.payload)?,
+        is_beginning: fragment.is_beginning,
+        is_end: fragment.is_end,
+    })
+}

@@ -4,6 +4,7 @@ ghost use Rattle.std.specs.Prelude.{◌≡◌, ◌==◌, ℕ, Some, map, min, op
 ghost use Rattle.sctp_outstanding.specs.Change.{changed};
 ghost use Rattle.sctp_outstanding.specs.Items.{change_at, lay_down, is_of_at, last_of, later_of, without_payload, packet_part, payload_part, flight_part, queued_part, fast_part, acked_part};
 ghost use Rattle.sctp_outstanding.specs.Totals.{AreTotals, Exchanges};
+ghost use Rattle.sctp_outstanding.specs.Losses.{placeholder};
 ghost use Rattle.sctp_outstanding.specs.Views.{last_tree};
 ghost use Rattle.sctp_outstanding.specs.Sack.{reports};
 ghost use Rattle.sctp_state.specs.Events.{tell_all, Grown};
@@ -11,6 +12,7 @@ ghost use Rattle.sctp_state.specs.Events.{tell_all, Grown};
 use crate::item::Item;
 use crate::telling::tell_left;
 use crate::totals::Totals;
+use sctp_packet::Data;
 use sctp_serial::{Fsn, Mid, OutgoingMessageId, PpId, Ssn, StreamKey};
 use sctp_state::Events;
 use std::alloc::{AllocError, Global};
@@ -348,4 +350,21 @@ impl Kept {
             message_id,
         );
     }
+}
+
+/// The end of a message whose own end was not sent.
+pub fn placeholder(alloc: Global, message_id: OutgoingMessageId, last: LastFragment) -> Item
+    ensures { result ≡ placeholder message_id.0 (last_tree last) }
+{
+    let fragment = Data {
+        stream_key: last.stream_key,
+        ssn: last.ssn,
+        mid: last.mid,
+        fsn: last.fsn + 1,
+        ppid: last.ppid,
+        payload: Vec::new(alloc),
+        is_beginning: false,
+        is_end: true,
+    };
+    Item::placeholder(message_id, fragment)
 }

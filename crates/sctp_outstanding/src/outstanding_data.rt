@@ -11,7 +11,7 @@ ghost use Rattle.sctp_state.specs.Events.{give_up, tell_all};
 ghost use Rattle.sctp_outstanding.specs.Views.{discard_of, last_tree, point_of, resent_of, chunk_of};
 ghost use Rattle.sctp_outstanding.specs.Resending.{again_at, allowed, turn_at, step_at, resent_below, resend, empty_packet, SomeResent};
 ghost use Rattle.sctp_outstanding.specs.declared.outstanding_data.Turn.TheVariants.{Send, PassOver, Leave};
-ghost use Rattle.sctp_outstanding.specs.Losses.{placeholder, loss_of};
+ghost use Rattle.sctp_outstanding.specs.Losses.{loss_of};
 ghost use Rattle.sctp_outstanding.specs.Items.{first_sent, inserted, begin_reset, begun_at};
 ghost use Rattle.sctp_outstanding.specs.Interrupted.{Same, SomeNacked, SomeExpired, SomeHeard};
 ghost use Rattle.sctp_outstanding.specs.Forward.{is_forward_due, entry_at, stops, passes_of, forward_point, size_with, with_entry};
@@ -19,11 +19,11 @@ ghost use Rattle.std.specs.List.{list_any};
 ghost use Rattle.sctp_outstanding.specs.Sack.{sample, sample_at, is_valid, staying, leaving, left_bytes, reports, hear, acked_bytes, highest_end};
 ghost use Rattle.sctp_state.specs.Events.{first_of};
 
-use crate::item::Item;
-use crate::kept::{Change, Kept, LastFragment};
-use crate::sack::{settle_all, take_out};
-use crate::skips::{SkipEntry, is_named, put};
-use sctp_packet::{Data, ForwardTsnChunk, GapAckBlock, IForwardTsnChunk, SkippedStream};
+use crate::item::{Item, copy_of};
+use crate::kept::{Change, Kept, placeholder};
+use crate::sack::{highest_end, settle_all, take_out};
+use crate::skips::{SkipEntry, chunk_size_with, mid_skips, put_if, ssn_skips};
+use sctp_packet::{Data, ForwardTsnChunk, GapAckBlock, IForwardTsnChunk};
 use sctp_serial::{Fsn, LifecycleId, OutgoingMessageId, SerialNumber, SocketTime, StreamId, Tsn};
 use sctp_state::{Events, GivenUp, GivenUpCause, SocketEvent};
 use std::alloc::{AllocError, Global};
@@ -81,23 +81,6 @@ struct Loss {
     gives_up: bool,
     message_id: OutgoingMessageId,
     resendings: u32,
-}
-
-// The end of a message whose own end was not sent.
-fn placeholder(alloc: Global, message_id: OutgoingMessageId, last: LastFragment) -> Item
-    ensures { result ≡ placeholder message_id.0 (last_tree last) }
-{
-    let fragment = Data {
-        stream_key: last.stream_key,
-        ssn: last.ssn,
-        mid: last.mid,
-        fsn: last.fsn + 1,
-        ppid: last.ppid,
-        payload: Vec::new(alloc),
-        is_beginning: false,
-        is_end: true,
-    };
-    Item::placeholder(message_id, fragment)
 }
 
 fn either(first: bool, second: bool) -> bool
@@ -790,43 +773,6 @@ struct Filling {
     window: usize,
 }
 
-fn copy_of(alloc: Global, fragment: &Data) -> Result<Data, AllocError>
-    ensures { IfOk result (λ f. fragment_tree f ≡ fragment_tree fragment.now) }
-{
-    Ok(Data {
-        stream_key: fragment.stream_key,
-        ssn: fragment.ssn,
-        mid: fragment.mid,
-        fsn: fragment.fsn,
-        ppid: fragment.ppid,
-        payload: Vec::from_slice(alloc, &fragment.payload)?,
-        is_beginning: fragment.is_beginning,
-        is_end: fragment.is_end,
-    })
-}
-
-fn ssn_skips(alloc: Global, entries: &[SkipEntry]) -> Result<Vec<SkippedStream>, AllocError>
-    ensures { IfOk result (λ skips. skips.items ≡ map ssn_skip entries.now) }
-{
-    entries.iter().map(|entry| entry.ssn_skip()).collect(alloc)
-}
-
-fn mid_skips(alloc: Global, entries: &[SkipEntry]) -> Result<Vec<SkippedStream>, AllocError>
-    ensures { IfOk result (λ skips. skips.items ≡ map mid_skip entries.now) }
-{
-    entries.iter().map(|entry| entry.mid_skip()).collect(alloc)
-}
-
-// Puts the entry, if there is one, at its place.
-fn put_if(entries: &mut Vec<SkipEntry>, entry: Option<SkipEntry>) -> Result<(), AllocError>
-    ensures { OnOk result (entries.new.items ≡ with_entry entry entries.old.items) }
-{
-    if let Some(entry) = entry {
-        put(entries, entry)?;
-    }
-    Ok(())
-}
-
 // How far a forward point goes.
 #[derive(Drop)]
 struct ForwardPoint {
@@ -838,30 +784,6 @@ fn has_breakpoint(breakpoints: &VecDeque<u128>, number: u128) -> bool
     ensures { result ≡ list_any (λ b. b == number) breakpoints.now.items }
 {
     breakpoints.contains(&number)
-}
-
-// The bytes of a forward chunk with these entries and one more, if it isn't named.
-fn chunk_size_with(is_interleaved: bool, entry: Option<SkipEntry>, entries: &[SkipEntry]) -> u128
-    ensures { result ≡ size_with is_interleaved entry entries.now }
-{
-    let entry_size = if is_interleaved { 8 } else { 4 };
-    let more = match entry {
-        Some(entry) if !is_named(entries, entry) => 1,
-        _ => 0,
-    };
-    8 + entry_size * (entries.len() as u128 + more)
-}
-
-fn highest_end(blocks: &[GapAckBlock]) -> u16
-    ensures { result ≡ highest_end blocks.now }
-{
-    let mut highest = 0;
-    let mut place = blocks.len();
-    while place > 0 {
-        place -= 1;
-        highest = blocks[place].end.max(highest);
-    }
-    highest
 }
 
 // Leaves the breakpoints above the number.

@@ -5,7 +5,7 @@ ghost use Rattle.sctp_packet.specs.declared.sack.GapAckBlock.{GapAckBlock};
 ghost use Rattle.sctp_packet.specs.Covered.{AreRuns, is_covered};
 ghost use Rattle.sctp_outstanding.specs.Item.{chunk_size};
 ghost use Rattle.sctp_outstanding.specs.Items.{change_at};
-ghost use Rattle.sctp_outstanding.specs.Sack.{open_size, left_part, settle, newly_acked, below_highest, settled, new_bytes_at, is_new_at};
+ghost use Rattle.sctp_outstanding.specs.Sack.{open_size, left_part, settle, newly_acked, below_highest, settled, new_bytes_at, is_new_at, highest_end};
 ghost use Rattle.sctp_outstanding.specs.Passes.{IsCursor};
 
 use crate::item::Item;
@@ -133,4 +133,17 @@ pub fn settle_all(kept: &mut Kept, blocks: &[GapAckBlock]) -> Covered
         walk = settle_at(kept, blocks, place, walk);
     }
     walk.covered
+}
+
+/// The greatest end of a block.
+pub fn highest_end(blocks: &[GapAckBlock]) -> u16
+    ensures { result ≡ highest_end blocks.now }
+{
+    let mut highest = 0;
+    let mut place = blocks.len();
+    while place > 0 {
+        place -= 1;
+        highest = blocks[place].end.max(highest);
+    }
+    highest
 }

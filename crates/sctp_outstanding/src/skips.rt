@@ -1,13 +1,13 @@
 //! Entries of forward points.
 
-ghost use Rattle.std.specs.Prelude.{◌≡◌, ℕ, ◌+◌, ◌<◌, ◌≤◌, not, nat_lt, length, OnOk, OnErr, ◌&&◌};
+ghost use Rattle.std.specs.Prelude.{◌≡◌, ℕ, ◌+◌, ◌<◌, ◌≤◌, not, nat_lt, length, map, IfOk, OnOk, OnErr, ◌&&◌};
 ghost use Rattle.std.specs.List.{list_any};
-ghost use Rattle.sctp_outstanding.specs.Forward.{is_before, is_same, is_alike, is_alike_at, named, entries_before};
+ghost use Rattle.sctp_outstanding.specs.Forward.{is_before, is_same, is_alike, is_alike_at, named, entries_before, size_with, with_entry};
 ghost use Rattle.sctp_outstanding.specs.Entries.{ssn_skip, mid_skip};
 
 use sctp_packet::SkippedStream;
 use sctp_serial::{Mid, Ssn, StreamId, StreamKey};
-use std::alloc::AllocError;
+use std::alloc::{AllocError, Global};
 
 /// The number of the last message of a stream, among its ordered or its unordered ones, that a forward point touches.
 #[derive(Clone, Copy, Debug)]
@@ -99,4 +99,42 @@ pub fn put(entries: &mut Vec<SkipEntry>, entry: SkipEntry) -> Result<(), AllocEr
         entries[place] = entry;
     }
     Ok(())
+}
+
+pub fn ssn_skips(alloc: Global, entries: &[SkipEntry]) -> Result<Vec<SkippedStream>, AllocError>
+    ensures { IfOk result (λ skips. skips.items ≡ map ssn_skip entries.now) }
+{
+    entries.iter().map(|entry| entry.ssn_skip()).collect(alloc)
+}
+
+pub fn mid_skips(alloc: Global, entries: &[SkipEntry]) -> Result<Vec<SkippedStream>, AllocError>
+    ensures { IfOk result (λ skips. skips.items ≡ map mid_skip entries.now) }
+{
+    entries.iter().map(|entry| entry.mid_skip()).collect(alloc)
+}
+
+/// Puts the entry, if there is one, at its place.
+pub fn put_if(entries: &mut Vec<SkipEntry>, entry: Option<SkipEntry>) -> Result<(), AllocError>
+    ensures { OnOk result (entries.new.items ≡ with_entry entry entries.old.items) }
+{
+    if let Some(entry) = entry {
+        put(entries, entry)?;
+    }
+    Ok(())
+}
+
+/// The bytes of a forward chunk with these entries and one more, if it isn't named.
+pub fn chunk_size_with(
+    is_interleaved: bool,
+    entry: Option<SkipEntry>,
+    entries: &[SkipEntry],
+) -> u128
+    ensures { result ≡ size_with is_interleaved entry entries.now }
+{
+    let entry_size = if is_interleaved { 8 } else { 4 };
+    let more = match entry {
+        Some(entry) if !is_named(entries, entry) => 1,
+        _ => 0,
+    };
+    8 + entry_size * (entries.len() as u128 + more)
 }

@@ -1,6 +1,6 @@
 use Rattle.std.proofs.Common.{◌≡◌, ◌≤◌, drop, length}
 use Rattle.sctp_outstanding.specs.Sack.{highest_end}
-use Rattle.sctp_outstanding.proofs.outstanding_data.highest_end.Given as goal
+use Rattle.sctp_outstanding.proofs.sack.highest_end.Given as goal
 
 abbrev pub invariant-loop-place : goal.invariant-loop-place
 invariant-loop-place l = record {
