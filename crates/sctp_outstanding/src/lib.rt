@@ -10,7 +10,8 @@ pub mod telling;
 pub mod totals;
 
 pub use item::{Item, ItemState};
-pub use outstanding_data::{AckInfo, Discarded, OutstandingData};
+pub use outstanding_data::{Discarded, OutstandingData};
+pub use sack::AckInfo;
 
 #[cfg(test)]
 mod tests;

@@ -21,7 +21,7 @@ ghost use Rattle.sctp_state.specs.Events.{first_of};
 
 use crate::item::{Item, copy_of};
 use crate::kept::{Change, Kept, placeholder};
-use crate::sack::{highest_end, settle_all, take_out};
+use crate::sack::{AckInfo, highest_end, settle_all, take_out};
 use crate::skips::{SkipEntry, chunk_size_with, mid_skips, put_if, ssn_skips};
 use sctp_packet::{Data, ForwardTsnChunk, GapAckBlock, IForwardTsnChunk};
 use sctp_serial::{Fsn, LifecycleId, OutgoingMessageId, SerialNumber, SocketTime, StreamId, Tsn};
@@ -36,15 +36,6 @@ use std::time::Duration;
 pub struct Discarded {
     pub stream_id: StreamId,
     pub message_id: OutgoingMessageId,
-}
-
-/// What a SACK acknowledged.
-#[derive(Clone, Copy, Debug, PartialEq, Eq)]
-pub struct AckInfo {
-    /// The bytes of the chunks newly acknowledged, with headers and padding; at most `usize::MAX`.
-    pub bytes_acked: usize,
-    /// Whether an item was found to be lost.
-    pub has_packet_loss: bool,
 }
 
 /// The fragments that have their TSN, until the peer's cumulative TSN passes them (RFC 9260 section 6.3.2). Their numbers
@@ -170,6 +161,20 @@ impl OutstandingData {
         Tsn::wrapped(self.first, self.acked)
     }
 
+    /// The number of the peer's cumulative TSN.
+    pub fn acked_number(&self) -> u64
+        ensures { result ≡ self.now.items.acked }
+    {
+        self.acked
+    }
+
+    /// The number that the next fragment takes.
+    pub fn next_number(&self) -> u128
+        ensures { result ≡ next_number self.now.items }
+    {
+        self.acked as u128 + 1 + self.kept.len() as u128
+    }
+
     /// The TSN that the next fragment takes.
     pub fn next_tsn(&self) -> Tsn
         ensures { result.0 ≡ written self.now (next_number self.now.items) }
@@ -243,7 +248,7 @@ impl OutstandingData {
         ensures ok { OnOk result (self.new ≡ record self.old { items = begin_reset self.old.items }) }
         ensures err { OnErr result (self.new ≡ self.old) }
     {
-        let number = self.acked as u128 + 1 + self.kept.len() as u128;
+        let number = self.next_number();
         self.breakpoints.push_back(number)?;
         Ok(())
     }
@@ -437,8 +442,8 @@ impl OutstandingData {
         None
     }
 
-    // The number that the TSN stands for.
-    fn unwrapped(&self, tsn: Tsn) -> u64
+    /// The number that the TSN stands for: the nearest to the peer's cumulative TSN.
+    pub fn unwrapped(&self, tsn: Tsn) -> u64
         ensures value { result ≡ number_of self.now tsn.0 }
         ensures bound { result < 2 ^ 63 + 2 ^ 33 }
     {
@@ -457,8 +462,7 @@ impl OutstandingData {
     {
         let number = self.unwrapped(cumulative_tsn);
         let highest = number as u128 + highest_end(blocks) as u128;
-        let next = self.acked as u128 + 1 + self.kept.len() as u128;
-        self.acked <= number && highest < next && number < (1 << 32) + (1 << 62)
+        self.acked <= number && highest < self.next_number() && number < (1 << 32) + (1 << 62)
     }
 
     // The items up to the number leave, and are told. The answer is how many bytes are newly acknowledged by that.

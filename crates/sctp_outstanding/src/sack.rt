@@ -12,6 +12,15 @@ use crate::item::Item;
 use crate::kept::{Change, Kept};
 use sctp_packet::GapAckBlock;
 
+/// What a SACK acknowledged.
+#[derive(Clone, Copy, Debug, PartialEq, Eq)]
+pub struct AckInfo {
+    /// The bytes of the chunks newly acknowledged, with headers and padding; at most `usize::MAX`.
+    pub bytes_acked: usize,
+    /// Whether an item was found to be lost.
+    pub has_packet_loss: bool,
+}
+
 // The bytes that count as newly acknowledged as an item leaves.
 fn left_bytes(item: &Item, is_interleaved: bool) -> usize
     ensures { result ≡ left_part is_interleaved item.now }

@@ -51,15 +51,20 @@ recovering exit w = record w { ssthresh = halved w; cwnd = halved w; fast_recove
 abbrev pub timed_out : Windows → Windows
 timed_out w = record w { ssthresh = halved w; cwnd = w.mtu }
 
-abbrev pub exit_after : (cumulative : ℕ) → Option ℕ → Option ℕ
-exit_after cumulative None = None
-exit_after cumulative (Some exit) = exit_unless (nat_le exit cumulative) exit where
-  exit_unless : Bool → ℕ → Option ℕ
-  exit_unless true exit = None
-  exit_unless false exit = Some exit
+-- whether fast recovery is over, or there is none, once all up to this number is acknowledged
+abbrev pub is_over : (cumulative : ℕ) → Option ℕ → Bool
+is_over cumulative None = true
+is_over cumulative (Some exit) = nat_le exit cumulative
+
+abbrev pub is_open : (cumulative : ℕ) → Windows → Bool
+is_open cumulative w = is_over cumulative w.fast_recovery_exit
+
+abbrev pub exit_unless : Bool → Option ℕ → Option ℕ
+exit_unless true exit = None
+exit_unless false exit = exit
 
 abbrev pub acknowledged : (cumulative : ℕ) → Windows → Windows
-acknowledged cumulative w = record w { fast_recovery_exit = exit_after cumulative w.fast_recovery_exit }
+acknowledged cumulative w = record w { fast_recovery_exit = exit_unless (is_open cumulative w) w.fast_recovery_exit }
 
 -- ---- the peer's window
 

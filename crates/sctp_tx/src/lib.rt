@@ -1,13 +1,11 @@
-//! The sender of an SCTP association: messages that wait, by stream, and which of them goes next.
+//! The sender of an SCTP association: what waits in the send queue, what was sent, and what may go next.
 #![tactic(auto)]
 
-pub mod data_to_send;
-pub mod laws;
-mod retransmission_queue;
-pub mod send_queue;
+pub mod retransmission_queue;
 
-pub use data_to_send::DataToSend;
-pub use send_queue::SendQueue;
+pub use retransmission_queue::{HandleSackResult, RetransmissionQueue};
+pub use sctp_outstanding::{AckInfo, Item, OutstandingData};
+pub use sctp_send_queue::{DataToSend, SendQueue};
 
 #[cfg(test)]
 mod tests;

@@ -1,3 +1,560 @@
-//! What is sent, and sent again.
+//! What is sent again, and when (RFC 9260 sections 6.3 and 7.2).
+
+ghost use Rattle.std.specs.Prelude.{◌≡◌, ◌-◌, min, ◌^◌, ◌<◌, ◌≤◌, ◌++◌, ◌∷◌, [], suc, nat_lt, length, map, is_some, true, false, IsTrue, OnOk, OnErr, IfOk, IfSome, Ok};
+ghost use Rattle.std.specs.Duration.{as_nanos};
+ghost use Rattle.sctp_packet.specs.Covered.{AreRuns};
+ghost use Rattle.sctp_state.specs.Options.{options_of, IsValid};
+ghost use Rattle.sctp_state.specs.Timers.{is_due, next_expiry, set_duration};
+ghost use Rattle.sctp_outstanding.specs.Items.{number_of, written, next_number, flight_bytes, flight_payload, flight_items, fast_items, begin_reset};
+ghost use Rattle.sctp_outstanding.specs.Losses.{nack_all, expire_outstanding};
+ghost use Rattle.sctp_outstanding.specs.Forward.{is_forward_due};
+ghost use Rattle.sctp_packet.specs.ChunkView.{chunk_tree};
+ghost use Rattle.sctp_tx.specs.ForwardPoints.{expired, forward_chunk};
+ghost use Rattle.sctp_outstanding.specs.Sack.{is_valid, acked_bytes};
+ghost use Rattle.sctp_tx.specs.Retransmission.{sender, heard, step_of, sender_if, told_if, answer_if, answer_of, windows_after, after_sack, kept_running, is_quiet, timed_out_sender};
+ghost use Rattle.sctp_tx.specs.Windows.{capped};
+ghost use Rattle.sctp_send_queue.specs.Views.{produced_of};
+ghost use Rattle.sctp_tx.specs.Resent.{size_of, sizes, mixes, recounted_by, resent, resent_by, resent_fast, send_fast, timed, may_send_new};
+ghost use Rattle.sctp_tx.specs.Sending.{send, fill, filling, turned, offered, sent_new, discard_all};
+ghost use Rattle.sctp_outstanding.specs.Views.{chunk_of};
+ghost use Rattle.sctp_packet.specs.Views.{fragment_tree};
 
 mod windows;
+
+use sctp_outstanding::item::copy_of;
+use sctp_outstanding::{AckInfo, OutstandingData};
+use sctp_packet::{COMMON_HEADER_SIZE, Chunk, Data, SackChunk};
+use sctp_send_queue::{DataToSend, SendQueue};
+use sctp_serial::{SocketTime, Tsn};
+use sctp_state::{BackoffAlgorithm, Events, Options, Timer};
+use std::alloc::{AllocError, Global};
+use std::marker::Model;
+use std::time::Duration;
+use windows::Windows;
+
+/// What became of a SACK.
+#[derive(Clone, Copy, Debug, PartialEq, Eq)]
+pub enum HandleSackResult {
+    /// It acknowledges what was never sent, or less than before, and changed nothing.
+    Invalid,
+    Valid {
+        /// A round trip time, where the item at a new cumulative TSN was sent once.
+        rtt: Option<Duration>,
+        /// Something was newly acknowledged.
+        reset_error_counter: bool,
+    },
+}
+
+/// The fragments that have their TSN, the windows that let more go, and the timer t3-rtx.
+#[derive(Drop)]
+pub struct RetransmissionQueue {
+    alloc: Global,
+    outstanding: OutstandingData,
+    windows: Windows,
+    t3_rtx: Timer,
+    rtx_packets_count: usize,
+    rtx_bytes_count: u64,
+}
+
+impl Model for RetransmissionQueue {
+    ghost use Rattle.sctp_tx.specs.Retransmission.{Sender};
+
+    ghost Value = { Sender };
+
+    ghost view = { λ q. record { outstanding = q.outstanding; windows = q.windows; t3 = q.t3_rtx; rtx_packets = q.rtx_packets_count; rtx_bytes = q.rtx_bytes_count } };
+}
+
+impl RetransmissionQueue {
+    /// A queue whose first TSN is `initial_tsn`, to a peer with this window.
+    pub fn new(
+        alloc: Global,
+        initial_tsn: Tsn,
+        a_rwnd: u32,
+        options: &Options,
+        partial_reliability: bool,
+        message_interleaving: bool,
+    ) -> RetransmissionQueue
+        requires { IsValid (options_of options.now) }
+        ensures { result ≡ sender (options_of options.now) initial_tsn.0 a_rwnd partial_reliability message_interleaving }
+    {
+        RetransmissionQueue {
+            alloc,
+            outstanding: OutstandingData::new(
+                alloc,
+                initial_tsn,
+                partial_reliability,
+                message_interleaving,
+            ),
+            windows: Windows::new(options, a_rwnd),
+            t3_rtx: Timer::new(
+                options.rto_initial,
+                BackoffAlgorithm::Exponential,
+                None,
+                options.max_timer_backoff_duration,
+            ),
+            rtx_packets_count: 0,
+            rtx_bytes_count: 0,
+        }
+    }
+
+    /// When t3-rtx expires next; never, where it doesn't run.
+    pub fn next_timeout(&self) -> SocketTime
+        ensures { result ≡ next_expiry self.now.t3 }
+    {
+        self.t3_rtx.next_expiry()
+    }
+
+    /// From the next start or expiry of t3-rtx on, this is its duration.
+    pub fn update_rto(&mut self, rto: Duration)
+        ensures { self.new ≡ record self.old { t3 = set_duration (as_nanos rto) self.old.t3 } }
+    {
+        self.t3_rtx.set_duration(rto);
+    }
+
+    /// The TSN that the next fragment takes.
+    pub fn next_tsn(&self) -> Tsn
+        ensures { result.0 ≡ written self.now.outstanding (next_number self.now.outstanding.items) }
+    {
+        self.outstanding.next_tsn()
+    }
+
+    /// The last TSN that was given.
+    pub fn last_assigned_tsn(&self) -> Tsn
+        ensures { result.0 ≡ written self.now.outstanding (next_number self.now.outstanding.items - 1) }
+    {
+        self.outstanding.highest_outstanding_tsn()
+    }
+
+    /// The congestion window, in bytes.
+    pub fn cwnd(&self) -> usize
+        ensures { result ≡ self.now.windows.cwnd }
+    {
+        self.windows.cwnd
+    }
+
+    pub fn set_cwnd(&mut self, cwnd: usize)
+        ensures { self.new ≡ record self.old { windows = record self.old.windows { cwnd = cwnd } } }
+    {
+        self.windows.cwnd = cwnd;
+    }
+
+    /// What the peer's window has left, in bytes.
+    pub fn rwnd(&self) -> usize
+        ensures { result ≡ self.now.windows.rwnd }
+    {
+        self.windows.rwnd
+    }
+
+    /// How many packets had an item that was sent again.
+    pub fn rtx_packets_count(&self) -> usize
+        ensures { result ≡ self.now.rtx_packets }
+    {
+        self.rtx_packets_count
+    }
+
+    /// The bytes of the chunks that were sent again, with headers and padding.
+    pub fn rtx_bytes_count(&self) -> u64
+        ensures { result ≡ self.now.rtx_bytes }
+    {
+        self.rtx_bytes_count
+    }
+
+    /// The bytes of the chunks in flight or missing, with headers and padding.
+    pub fn unacked_packet_bytes(&self) -> usize
+        ensures { result ≡ min (flight_bytes self.now.outstanding.items) (2 ^ 64 - 1) }
+    {
+        self.outstanding.unacked_packet_bytes()
+    }
+
+    /// How many items are in flight or missing.
+    pub fn unacked_items(&self) -> usize
+        ensures { result ≡ flight_items self.now.outstanding.items }
+    {
+        self.outstanding.unacked_items()
+    }
+
+    /// A SACK, whose blocks are maximal runs. What it acknowledges for good leaves, and is told; the windows and t3-rtx
+    /// follow (RFC 9260 sections 6.2.1, 6.3.2 and 7.2).
+    pub fn handle_sack(
+        &mut self,
+        now: SocketTime,
+        sack: &SackChunk,
+        events: &mut Events,
+    ) -> Result<HandleSackResult, AllocError>
+        requires runs { AreRuns 0 sack.now.gap_ack_blocks.items }
+        ensures queue { let n = number_of self.old.outstanding sack.now.cumulative_tsn_ack.0 in let blocks = sack.now.gap_ack_blocks.items in
+            OnOk result (self.new ≡ sender_if (is_valid n blocks self.old.outstanding.items) now n sack.now.a_rwnd blocks self.old events.old) }
+        ensures told { let n = number_of self.old.outstanding sack.now.cumulative_tsn_ack.0 in let blocks = sack.now.gap_ack_blocks.items in
+            OnOk result (events.new ≡ told_if (is_valid n blocks self.old.outstanding.items) n blocks self.old events.old) }
+        ensures answer { let n = number_of self.old.outstanding sack.now.cumulative_tsn_ack.0 in let blocks = sack.now.gap_ack_blocks.items in
+            IfOk result (λ answer. answer_of answer ≡ answer_if (is_valid n blocks self.old.outstanding.items) now n blocks self.old) }
+    {
+        let tsn = sack.cumulative_tsn_ack;
+        if !self.outstanding.is_sack_valid(tsn, &sack.gap_ack_blocks) {
+            return Ok(HandleSackResult::Invalid);
+        }
+        let rtt = self.outstanding.measure_rtt(now, tsn);
+        let acked = self.hear(now, sack, events)?;
+        Ok(HandleSackResult::Valid {
+            rtt,
+            reset_error_counter: acked > 0,
+        })
+    }
+
+    // A SACK that is valid. The answer is how many bytes are newly acknowledged.
+    fn hear(
+        &mut self,
+        now: SocketTime,
+        sack: &SackChunk,
+        events: &mut Events,
+    ) -> Result<usize, AllocError>
+        requires valid { IsTrue (is_valid (number_of self.old.outstanding sack.now.cumulative_tsn_ack.0) sack.now.gap_ack_blocks.items self.old.outstanding.items) }
+        requires runs { AreRuns 0 sack.now.gap_ack_blocks.items }
+        ensures queue { let n = number_of self.old.outstanding sack.now.cumulative_tsn_ack.0 in let blocks = sack.now.gap_ack_blocks.items in
+            OnOk result (self.new ≡ heard now n sack.now.a_rwnd blocks self.old events.old) }
+        ensures told { let n = number_of self.old.outstanding sack.now.cumulative_tsn_ack.0 in let blocks = sack.now.gap_ack_blocks.items in
+            OnOk result (events.new ≡ (step_of n blocks self.old events.old).told) }
+        ensures acked { let n = number_of self.old.outstanding sack.now.cumulative_tsn_ack.0 in let blocks = sack.now.gap_ack_blocks.items in
+            IfOk result (λ acked. acked ≡ capped (acked_bytes n blocks self.old.outstanding.items)) }
+    {
+        let number = self.outstanding.unwrapped(sack.cumulative_tsn_ack);
+        let moved = self.outstanding.acked_number() < number;
+        let before = self.outstanding.unacked_packet_bytes();
+        let is_open = self.windows.is_open_at(number);
+        let info = self.outstanding.handle_sack(
+            sack.cumulative_tsn_ack,
+            &sack.gap_ack_blocks,
+            !is_open,
+            events,
+        )?;
+        self.follow(number, sack.a_rwnd, moved, before, info);
+        self.run_timer(now, moved);
+        Ok(info.bytes_acked)
+    }
+
+    // The windows follow what the items heard; `before` bytes were unacknowledged.
+    fn follow(&mut self, number: u64, a_rwnd: u32, moved: bool, before: usize, info: AckInfo)
+        ensures { self.new ≡ record self.old {
+          windows = windows_after number a_rwnd moved info.has_packet_loss before info.bytes_acked
+              (capped (flight_payload self.old.outstanding.items)) (next_number self.old.outstanding.items - 1) self.old.windows;
+        } }
+    {
+        let is_open = self.windows.is_open_at(number);
+        self.windows.acknowledge(number);
+        self.windows
+            .hear_window(a_rwnd, self.outstanding.unacked_payload_bytes());
+        if moved && is_open {
+            self.windows.grow(before, info.bytes_acked);
+        }
+        if info.has_packet_loss && is_open {
+            self.windows.recover(self.outstanding.next_number() - 1);
+        }
+    }
+
+    // t3-rtx begins anew where the cumulative TSN moved, and runs while something is in flight or missing.
+    fn run_timer(&mut self, now: SocketTime, moved: bool)
+        ensures { self.new ≡ record self.old { t3 = after_sack moved self.old.outstanding.items now self.old.t3 } }
+    {
+        if moved {
+            if self.outstanding.is_empty() {
+                self.t3_rtx.stop();
+            } else {
+                self.t3_rtx.start(now);
+            }
+        }
+        self.keep_running(now);
+    }
+
+    fn keep_running(&mut self, now: SocketTime)
+        ensures { self.new ≡ record self.old { t3 = kept_running (is_quiet self.old.outstanding.items) now self.old.t3 } }
+    {
+        if !self.t3_rtx.is_running() && self.outstanding.unacked_items() != 0 {
+            self.t3_rtx.start(now);
+        }
+    }
+
+    /// Whether t3-rtx expired. All that is in flight or missing is lost then: it is to be sent again, or its message
+    /// given up (RFC 9260 section 6.3.3).
+    pub fn handle_timeout(
+        &mut self,
+        now: SocketTime,
+        events: &mut Events,
+    ) -> Result<bool, AllocError>
+        ensures expired { IfOk result (λ expired. expired ≡ is_due now self.old.t3) }
+        ensures no { result ≡ Ok false → self.new ≡ self.old }
+        ensures silent { result ≡ Ok false → events.new ≡ events.old }
+        ensures yes { result ≡ Ok true → self.new ≡ timed_out_sender now (nack_all self.old.outstanding.items events.old).items self.old }
+        ensures told { result ≡ Ok true → events.new ≡ (nack_all self.old.outstanding.items events.old).told }
+    {
+        if !self.t3_rtx.expire(now) {
+            return Ok(false);
+        }
+        self.windows.time_out();
+        self.outstanding.nack_all(events)?;
+        Ok(true)
+    }
+
+    /// Whether the windows let new fragments go.
+    pub fn can_send_data(&self) -> bool
+        ensures { result ≡ may_send_new self.now }
+    {
+        self.may_send_new()
+    }
+
+    /// Whether a forward point is due. Before that, each message that expired and has an item that is missing or waits
+    /// is given up (RFC 3758 section 3.5).
+    pub fn should_send_forward_tsn(
+        &mut self,
+        now: SocketTime,
+        events: &mut Events,
+    ) -> Result<bool, AllocError>
+        ensures queue { OnOk result (self.new ≡ expired now self.old events.old) }
+        ensures told { OnOk result (events.new ≡ (expire_outstanding now self.old.outstanding.items events.old).told) }
+        ensures due { IfOk result (λ due. due ≡ is_forward_due self.new.outstanding.items) }
+    {
+        self.outstanding.expire_outstanding_chunks(now, events)?;
+        Ok(self.outstanding.should_send_forward_tsn())
+    }
+
+    /// The forward point, as FORWARD-TSN or, where messages are interleaved, as I-FORWARD-TSN. The chunk fits a packet of
+    /// `mtu`.
+    pub fn create_forward_tsn(&self) -> Result<Chunk, AllocError>
+        ensures { IfOk result (λ chunk. chunk_tree chunk ≡ forward_chunk self.now) }
+    {
+        let most = (self.windows.mtu / 4 * 4).saturating_sub(COMMON_HEADER_SIZE);
+        if self.outstanding.is_interleaved() {
+            Ok(Chunk::IForwardTsn(self.outstanding.create_iforward_tsn(most)?))
+        } else {
+            Ok(Chunk::ForwardTsn(self.outstanding.create_forward_tsn(most)?))
+        }
+    }
+
+    /// A reset of streams begins: no forward point crosses the next TSN (RFC 6525 section 5.1.2).
+    pub fn begin_reset_streams(&mut self) -> Result<(), AllocError>
+        ensures ok { OnOk result (self.new ≡ record self.old { outstanding = record self.old.outstanding { items = begin_reset self.old.outstanding.items } }) }
+        ensures err { OnErr result (self.new ≡ self.old) }
+    {
+        self.outstanding.begin_reset_streams()
+    }
+
+    /// Whether an item waits for the packet that ignores the congestion window.
+    pub fn has_data_to_be_fast_retransmitted(&self) -> bool
+        ensures { result ≡ nat_lt 0 (fast_items self.now.outstanding.items) }
+    {
+        self.outstanding.has_data_to_be_fast_retransmitted()
+    }
+
+    /// The items that were reported missing for the third time, ascending, as far as they fit into `max_bytes`. This
+    /// packet ignores the congestion window; what doesn't fit waits for another one (RFC 9260 section 7.2.4).
+    pub fn get_chunks_for_fast_retransmit(
+        &mut self,
+        now: SocketTime,
+        max_bytes: usize,
+    ) -> Result<Vec<(Tsn, Data)>, AllocError>
+        ensures queue { OnOk result (self.new ≡ send_fast now max_bytes self.old) }
+        ensures chunks { IfOk result (λ chunks. map chunk_of chunks.items ≡ (resent_fast max_bytes self.old).chunks) }
+    {
+        let chunks = self
+            .outstanding
+            .get_chunks_to_be_fast_retransmitted(max_bytes)?;
+        self.count_resent(&chunks);
+        self.run_for(now, &chunks);
+        Ok(chunks)
+    }
+
+    /// What a packet with room for `max_bytes` of chunks takes, as far as the windows let it go: first the items that
+    /// wait to be sent again, ascending, then new fragments. Before that, what is left of messages that were given up
+    /// leaves the send queue.
+    pub fn get_chunks_to_send(
+        &mut self,
+        now: SocketTime,
+        max_bytes: usize,
+        queue: &mut SendQueue,
+        events: &mut Events,
+    ) -> Result<Vec<(Tsn, Data)>, AllocError>
+        requires small { max_bytes < 2 ^ 32 }
+        ensures sender { OnOk result (self.new ≡ (send now max_bytes self.old queue.old events.old).sender) }
+        ensures queue { OnOk result (queue.new ≡ (send now max_bytes self.old queue.old events.old).queue) }
+        ensures told { OnOk result (events.new ≡ (send now max_bytes self.old queue.old events.old).told) }
+        ensures chunks { IfOk result (λ chunks. map chunk_of chunks.items ≡ (send now max_bytes self.old queue.old events.old).chunks) }
+    {
+        discard_all(&mut self.outstanding, queue, events)?;
+        let mut chunks = self.resend(max_bytes)?;
+        let left = max_bytes.saturating_sub(sizes(&chunks, self.outstanding.is_interleaved()));
+        self.fill(now, left, queue, &mut chunks, events)?;
+        self.run_for(now, &chunks);
+        Ok(chunks)
+    }
+
+    // What is sent again, in so much of a packet.
+    fn resend(&mut self, max_bytes: usize) -> Result<Vec<(Tsn, Data)>, AllocError>
+        ensures sender { OnOk result (self.new ≡ resent_by self.old (resent max_bytes self.old)) }
+        ensures chunks { IfOk result (λ chunks. map chunk_of chunks.items ≡ (resent max_bytes self.old).chunks) }
+    {
+        let flight = self.outstanding.unacked_packet_bytes();
+        let room = max_bytes.min(self.windows.cwnd.saturating_sub(flight));
+        let rwnd = self.windows.rwnd;
+        let chunks = self.outstanding.get_chunks_to_be_retransmitted(room, rwnd)?;
+        self.count_resent(&chunks);
+        Ok(chunks)
+    }
+
+    // New fragments, one after the other.
+    fn fill(
+        &mut self,
+        now: SocketTime,
+        left: usize,
+        queue: &mut SendQueue,
+        chunks: &mut Vec<(Tsn, Data)>,
+        events: &mut Events,
+    ) -> Result<(), AllocError>
+        requires small { left < 2 ^ 32 }
+        ensures sender { OnOk result (self.new ≡ (fill (suc left) now (filling self.old queue.old events.old (map chunk_of chunks.old.items) left)).sender) }
+        ensures queue { OnOk result (queue.new ≡ (fill (suc left) now (filling self.old queue.old events.old (map chunk_of chunks.old.items) left)).queue) }
+        ensures told { OnOk result (events.new ≡ (fill (suc left) now (filling self.old queue.old events.old (map chunk_of chunks.old.items) left)).told) }
+        ensures chunks { OnOk result (map chunk_of chunks.new.items ≡ (fill (suc left) now (filling self.old queue.old events.old (map chunk_of chunks.old.items) left)).chunks) }
+    {
+        let mut left = left;
+        while let Some(rest) = self.add_new(now, left, queue, chunks, events)? {
+            left = rest;
+        }
+        Ok(())
+    }
+
+    // One more fragment, where the windows let it go and the queue has one. The answer is what the packet has left then.
+    fn add_new(
+        &mut self,
+        now: SocketTime,
+        left: usize,
+        queue: &mut SendQueue,
+        chunks: &mut Vec<(Tsn, Data)>,
+        events: &mut Events,
+    ) -> Result<Option<usize>, AllocError>
+        requires small { left < 2 ^ 32 }
+        ensures sender { OnOk result (self.new ≡ (turned now (filling self.old queue.old events.old (map chunk_of chunks.old.items) left)).filling.sender) }
+        ensures queue { OnOk result (queue.new ≡ (turned now (filling self.old queue.old events.old (map chunk_of chunks.old.items) left)).filling.queue) }
+        ensures told { OnOk result (events.new ≡ (turned now (filling self.old queue.old events.old (map chunk_of chunks.old.items) left)).filling.told) }
+        ensures chunks { OnOk result (map chunk_of chunks.new.items ≡ (turned now (filling self.old queue.old events.old (map chunk_of chunks.old.items) left)).filling.chunks) }
+        ensures left { IfOk result (λ more. IfSome more (λ rest. rest ≡ (turned now (filling self.old queue.old events.old (map chunk_of chunks.old.items) left)).filling.left)) }
+        ensures more { IfOk result (λ more. is_some more ≡ (turned now (filling self.old queue.old events.old (map chunk_of chunks.old.items) left)).is_more) }
+        ensures less { IfOk result (λ more. IfSome more (λ rest. rest < left)) }
+    {
+        let max_payload = self.offered(left);
+        if !self.may_send_new() || max_payload == 0 {
+            return Ok(None);
+        }
+        let Some(fragment) = queue.produce(now, max_payload, events)? else {
+            return Ok(None);
+        };
+        let size = self.append(now, fragment, chunks)?;
+        Ok(Some(left.saturating_sub(size)))
+    }
+
+    fn may_send_new(&self) -> bool
+        ensures { result ≡ may_send_new self.now }
+    {
+        let is_quiet = self.outstanding.unacked_items() == 0;
+        let flight = self.outstanding.unacked_packet_bytes();
+        self.windows.may_send(is_quiet, flight)
+    }
+
+    // The largest payload that a packet with so much left can take: chunks are padded to 4 bytes.
+    fn offered(&self, left: usize) -> usize
+        ensures size { result ≡ offered left self.now }
+        ensures small { result ≤ left }
+    {
+        let is_quiet = self.outstanding.unacked_items() == 0;
+        let flight = self.outstanding.unacked_packet_bytes();
+        let room = left.min(self.windows.room(is_quiet, flight)) / 4 * 4;
+        let header = if self.outstanding.is_interleaved() {
+            20
+        } else {
+            16
+        };
+        room.saturating_sub(header)
+    }
+
+    // The fragment takes the next TSN. The answer is the size of its chunk.
+    fn append(
+        &mut self,
+        now: SocketTime,
+        fragment: DataToSend,
+        chunks: &mut Vec<(Tsn, Data)>,
+    ) -> Result<usize, AllocError>
+        requires small { length fragment.data.payload.items < 2 ^ 32 }
+        ensures sender { OnOk result (self.new ≡ sent_new now (produced_of fragment) self.old) }
+        ensures chunks { OnOk result (map chunk_of chunks.new.items ≡ map chunk_of chunks.old.items
+            ++ (written self.old.outstanding (next_number self.old.outstanding.items), fragment_tree fragment.data) ∷ []) }
+        ensures size { IfOk result (λ size. size ≡ size_of (mixes self.old) (fragment_tree fragment.data)) }
+    {
+        let size = chunk_size(&fragment.data, self.outstanding.is_interleaved());
+        let copy = copy_of(self.alloc, &fragment.data)?;
+        let tsn = self.outstanding.insert(
+            fragment.message_id,
+            fragment.data,
+            now,
+            fragment.max_retransmissions,
+            fragment.expires_at,
+            fragment.lifecycle_id,
+        )?;
+        chunks.push((tsn, copy))?;
+        self.windows.take(size);
+        Ok(size)
+    }
+
+    // The timer runs once something was handed out.
+    fn run_for(&mut self, now: SocketTime, chunks: &[(Tsn, Data)])
+        ensures { self.new ≡ timed now (map chunk_of chunks.now) self.old }
+    {
+        if !chunks.is_empty() {
+            self.keep_running(now);
+        }
+    }
+
+    // These were sent again: the peer's window shrinks, and they are counted.
+    fn count_resent(&mut self, chunks: &[(Tsn, Data)])
+        ensures { self.new ≡ recounted_by (map chunk_of chunks.now) self.old }
+    {
+        let bytes = sizes(chunks, self.outstanding.is_interleaved());
+        self.windows.take(bytes);
+        if !chunks.is_empty() {
+            self.rtx_packets_count = self.rtx_packets_count.saturating_add(1);
+        }
+        self.rtx_bytes_count = self.rtx_bytes_count.saturating_add(bytes as u64);
+    }
+}
+
+// What is left of messages that were given up leaves the send queue.
+fn discard_all(
+    outstanding: &mut OutstandingData,
+    queue: &mut SendQueue,
+    events: &mut Events,
+) -> Result<(), AllocError>
+    ensures items { OnOk result (outstanding.new ≡ record outstanding.old { items = record outstanding.old.items { discards = [] } }) }
+    ensures queue { OnOk result (queue.new ≡ (discard_all outstanding.old.items.discards queue.old events.old).queue) }
+    ensures told { OnOk result (events.new ≡ (discard_all outstanding.old.items.discards queue.old events.old).told) }
+{
+    while let Some(next) = outstanding.get_unsent_message_to_discard() {
+        queue.discard(next.stream_id, next.message_id, events)?;
+    }
+    Ok(())
+}
+
+// The bytes of the chunks, with headers and padding; at most `usize::MAX`.
+fn sizes(chunks: &[(Tsn, Data)], is_interleaved: bool) -> usize
+    ensures { result ≡ capped (sizes is_interleaved (map chunk_of chunks.now)) }
+{
+    let mut bytes = 0usize;
+    for chunk in chunks {
+        bytes = bytes.saturating_add(chunk_size(&chunk.1, is_interleaved));
+    }
+    bytes
+}
+
+// The bytes of its DATA or I-DATA chunk, with the header and the padding.
+fn chunk_size(fragment: &Data, is_interleaved: bool) -> usize
+    ensures { result ≡ size_of is_interleaved (fragment_tree fragment.now) }
+{
+    let header = if is_interleaved { 20 } else { 16 };
+    (header + fragment.payload.len() + 3) / 4 * 4
+}

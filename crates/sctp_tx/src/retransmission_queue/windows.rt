@@ -2,7 +2,7 @@
 
 ghost use Rattle.std.specs.Prelude.{◌≡◌, ◌+◌, nat_le, is_some};
 ghost use Rattle.sctp_state.specs.Options.{options_of, IsValid};
-ghost use Rattle.sctp_tx.specs.Windows.{at_first, grown, slow_start, avoidance, halved, recovering, timed_out, acknowledged, told, taken, room, may_send, capped};
+ghost use Rattle.sctp_tx.specs.Windows.{at_first, grown, slow_start, avoidance, halved, recovering, timed_out, acknowledged, is_open, told, taken, room, may_send, capped};
 
 use sctp_state::Options;
 
@@ -24,7 +24,7 @@ pub struct Windows {
     /// What was acknowledged towards the next growth in congestion avoidance.
     pub partial_bytes_acked: usize,
     /// Fast recovery, until this TSN, unwrapped, is acknowledged.
-    pub fast_recovery_exit: Option<u64>,
+    pub fast_recovery_exit: Option<u128>,
 }
 
 impl Windows {
@@ -82,7 +82,7 @@ impl Windows {
     }
 
     /// An item was reported missing for the third time outside fast recovery, which lasts until `exit` is acknowledged.
-    pub fn recover(&mut self, exit: u64)
+    pub fn recover(&mut self, exit: u128)
         ensures { self.new ≡ recovering exit self.old }
     {
         self.ssthresh = self.halved();
@@ -102,17 +102,19 @@ impl Windows {
     pub fn acknowledge(&mut self, cumulative: u64)
         ensures { self.new ≡ acknowledged cumulative self.old }
     {
-        if let Some(exit) = self.fast_recovery_exit {
-            if exit <= cumulative {
-                self.fast_recovery_exit = None;
-            }
+        if self.is_open_at(cumulative) {
+            self.fast_recovery_exit = None;
         }
     }
 
-    pub fn is_in_fast_recovery(&self) -> bool
-        ensures { result ≡ is_some self.now.fast_recovery_exit }
+    /// Whether there is no fast recovery once all TSNs up to this one are acknowledged.
+    pub fn is_open_at(&self, cumulative: u64) -> bool
+        ensures { result ≡ is_open cumulative self.now }
     {
-        self.fast_recovery_exit.is_some()
+        match self.fast_recovery_exit {
+            Some(exit) => exit <= cumulative as u128,
+            None => true,
+        }
     }
 
     /// The peer told its window, while so much payload was unacknowledged.

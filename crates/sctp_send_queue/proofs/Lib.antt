@@ -1,0 +1,13 @@
+pub mod AgainLemmas
+pub mod BegunLemmas
+pub mod InOrderLemmas
+pub mod NumberLemmas
+pub mod ProduceLemmas
+pub mod ResetLemmas
+pub mod RestLemmas
+pub mod RestartLemmas
+pub mod RestoreLemmas
+pub mod StaysBegunLemmas
+pub mod StreamLemmas
+pub mod StreamsLemmas
+pub mod TellingLemmas

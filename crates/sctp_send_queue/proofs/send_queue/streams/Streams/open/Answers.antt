@@ -1,0 +1,18 @@
+use Rattle.std.proofs.Common.{◌≡◌, ap, sym, ◌∙◌}
+use Rattle.std.specs.Ordering.{nat_cmp}
+use Rattle.std.specs.BTreeMap.{insert_entry}
+use Rattle.sctp_send_queue.specs.Queue.{total_of}
+use Rattle.sctp_send_queue.proofs.StreamsLemmas.{total-opened, none-from}
+use Rattle.sctp_send_queue.proofs.send_queue.streams.Streams.open.Goals as goal
+use Rattle.sctp_send_queue.proofs.send_queue.streams.Streams.open.Goals.{Joined-branch-2}
+
+same : (c : Joined-branch-2) → total_of c.insert.new.self.entries ≡ total_of c.self.inside.streams.entries
+same c =
+    ap total_of c.in_ok-insert.ensures.entries ∙ ap (λ s. total_of (insert_entry nat_cmp c.self.inside.streams.entries c.args.id.0 s)) c.new-stream.ensures
+    ∙ total-opened c.args.id.0 c.self.inside.default_priority c.self.inside.default_threshold c.self.inside.streams.entries c.insert.ensures.was_ordered (none-from _ (sym c.contains_key.ensures ∙ c.if-contains_key.false))
+
+pub invariant_of-self-2 : goal.invariant_of-self-2
+invariant_of-self-2 c = c.self.invariant ∙ sym (same c)
+
+pub returns-clause-total : goal.returns-clause-total
+returns-clause-total c = same c ∙ ap (λ ss. total_of ss.entries) c.self.view_is

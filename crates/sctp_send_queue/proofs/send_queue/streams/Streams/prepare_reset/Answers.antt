@@ -1,0 +1,21 @@
+use Rattle.std.proofs.Common.{ap, sym, ◌∙◌, arith}
+use Rattle.std.specs.Map.{lookup}
+use Rattle.std.specs.Ordering.{nat_cmp}
+use Rattle.std.specs.BTreeMap.{is_at}
+use Rattle.sctp_send_queue.specs.Queue.{Streams, Entries, total_of}
+use Rattle.sctp_send_queue.proofs.StreamsLemmas.{total-written, amount-at_most, put-nowhere}
+use Rattle.sctp_send_queue.proofs.send_queue.streams.Streams.prepare_reset.Goals as goal
+
+pub returns-in_default : goal.returns-in_default
+returns-in_default c =
+    let view : Entries → Streams = λ es. record { entries = es; total_threshold = c.self.inside.total.low_threshold; default_threshold = c.self.inside.default_threshold; default_priority = c.self.inside.default_priority } in
+    ap view (ap (λ m. m.entries) c.get_mut.follows.holds-at-none) ∙ c.self.view_is
+    ∙ sym (put-nowhere c.args.id.0 _ c.args.self.now (c.in_default.ensures.value ∙ ap (λ ss. lookup (is_at (nat_cmp c.args.id.0)) ss.entries) c.self.view_is))
+
+pub invariant_of-self-2 : goal.invariant_of-self-2
+invariant_of-self-2 c =
+    let entries = c.self.inside.streams.entries in
+    let written = ap total_of (c.get_mut.follows.holds c.prepare_reset.new.self).0 in
+    let sums = total-written c.args.id.0 entries c.in-Some.stream.now c.prepare_reset.new.self c.in-Some.ensures.value in
+    let most = amount-at_most c.args.id.0 entries c.in-Some.stream.now c.in-Some.ensures.value in
+    omega (arith, written, sums, most, c.amount-before.ensures, c.amount.ensures, c.prepare_reset.ensures.less, c.self.invariant, ap (λ w. w.amount) c.decrease.ensures.after)

@@ -1,0 +1,32 @@
+use Rattle.std.proofs.Common.{ap, ◌∙◌, arith, rules}
+use Rattle.std.specs.Map.{set_value}
+use Rattle.std.specs.Ordering.{nat_cmp}
+use Rattle.std.specs.BTreeMap.{is_at}
+use Rattle.std.proofs.lemmas.List.Sums.{sum_by_push}
+use Rattle.sctp_send_queue.specs.Queue.{Streams, Entries, total_of, amount_of, left}
+use Rattle.sctp_send_queue.proofs.StreamsLemmas.{total-written, written-same}
+use Rattle.sctp_send_queue.proofs.send_queue.streams.Streams.push_behind.Goals as goal
+
+pub invariant_of-self-in_err-push : goal.invariant_of-self-in_err-push
+invariant_of-self-in_err-push c =
+    let entries = c.self.inside.streams.entries in
+    let written = ap total_of (c.get_mut.follows.holds c.push.new.self).0 in
+    let sums = total-written c.args.id.0 entries c.in-Some.stream.now c.push.new.self c.in-Some.ensures.value in
+    omega (arith, written, sums, ap amount_of c.in_err-push.ensures.err, c.self.invariant)
+
+pub returns-in_err-push-clause-err : goal.returns-in_err-push-clause-err
+returns-in_err-push-clause-err c =
+    let view : Entries → Streams = λ es. record { entries = es; total_threshold = c.self.inside.total.low_threshold; default_threshold = c.self.inside.default_threshold; default_priority = c.self.inside.default_priority } in
+    let entries = c.self.inside.streams.entries in
+    let same = (c.get_mut.follows.holds c.push.new.self).0 ∙ ap (λ w. set_value (is_at (nat_cmp c.args.id.0)) entries w) c.in_err-push.ensures.err ∙ written-same (is_at (nat_cmp c.args.id.0)) c.in-Some.stream.now entries c.in-Some.ensures.value in
+    let all = ap view same ∙ c.self.view_is in
+    search (rules, all)
+
+pub invariant_of-self-2 : goal.invariant_of-self-2
+invariant_of-self-2 c =
+    let entries = c.self.inside.streams.entries in
+    let written = ap total_of (c.get_mut.follows.holds c.push.new.self).0 in
+    let sums = total-written c.args.id.0 entries c.in-Some.stream.now c.push.new.self c.in-Some.ensures.value in
+    let grown = ap amount_of c.in_ok-push.ensures.ok in
+    let more = sum_by_push left c.in-Some.stream.now.messages c.args.message in
+    omega (arith, written, sums, grown, more, c.left-bytes.ensures.value, c.self.invariant, ap (λ w. w.amount) c.increase.ensures)

@@ -1,0 +1,29 @@
+use Rattle.std.proofs.Common.{ap, sym, ◌∙◌, arith}
+use Rattle.std.specs.Map.{lookup}
+use Rattle.std.specs.Ordering.{nat_cmp}
+use Rattle.std.specs.BTreeMap.{is_at, insert_entry}
+use Rattle.sctp_send_queue.specs.Queue.{Streams, total_of, amount_of, pushed, stream, put, opened}
+use Rattle.sctp_send_queue.proofs.StreamsLemmas.{total-inserted, first-is}
+use Rattle.sctp_send_queue.proofs.send_queue.streams.Streams.push_first.Goals as goal
+
+pub invariant_of-self-2 : goal.invariant_of-self-2
+invariant_of-self-2 c =
+    let none = c.requires.absent ∙ ap (λ ss. lookup (is_at (nat_cmp c.args.id.0)) ss.entries) (sym c.self.view_is) in
+    omega (
+      arith,
+      ap total_of c.in_ok-insert.ensures.entries,
+      total-inserted c.args.id.0 c.push.new.self c.self.inside.streams.entries c.insert.ensures.was_ordered none,
+      ap amount_of (c.in_ok-push.ensures.ok ∙ ap (λ s. pushed c.args.message s) c.new-stream.ensures),
+      c.left-bytes.ensures.value,
+      c.self.invariant,
+      ap (λ w. w.amount) c.increase.ensures,
+    )
+
+pub returns-clause-ok : goal.returns-clause-ok
+returns-clause-ok c =
+    let id = c.args.id.0 in
+    let inside : Streams = record { entries = c.self.inside.streams.entries; total_threshold = c.self.inside.total.low_threshold; default_threshold = c.self.inside.default_threshold; default_priority = c.self.inside.default_priority } in
+    let none = c.requires.absent ∙ ap (λ ss. lookup (is_at (nat_cmp id)) ss.entries) (sym c.self.view_is) in
+    first-is id c.args.message inside c.insert.new.self.entries c.increase.new.self.low_threshold none
+    (c.in_ok-insert.ensures.entries ∙ ap (λ s. insert_entry nat_cmp c.self.inside.streams.entries id s) (c.in_ok-push.ensures.ok ∙ ap (λ s. pushed c.args.message s) c.new-stream.ensures)) (ap (λ w. w.low_threshold) c.increase.ensures)
+    ∙ ap (λ ss. put id (pushed c.args.message (stream id ss)) (opened id ss)) c.self.view_is

@@ -1,0 +1,13 @@
+pub mod Again
+pub mod Begun
+pub mod Handover
+pub mod InOrder
+pub mod Interrupted
+pub mod Produced
+pub mod Queue
+pub mod Readiness
+pub mod Resets
+pub mod Restarted
+pub mod Restored
+pub mod Settings
+pub mod Views

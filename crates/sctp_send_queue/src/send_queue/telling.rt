@@ -1,0 +1,104 @@
+//! What the send queue tells the socket's user.
+
+ghost use Rattle.std.specs.Prelude.{◌≡◌, Bool, [], ◌∷◌, ◌++◌, OnOk, OnErr, option_map};
+ghost use Rattle.sctp_state.specs.Events.{event_of, expiry, give_up, tell_all, Grown};
+ghost use Rattle.sctp_state.specs.declared.api.GivenUpCause.TheVariants.{Lifetime};
+ghost use Rattle.sctp_send_queue.specs.Produced.{when, fully_sent, production, told_made};
+ghost use Rattle.sctp_send_queue.specs.Views.{produced_of};
+
+use crate::data_to_send::DataToSend;
+use crate::send_queue::streams::Lows;
+use sctp_serial::{LifecycleId, OutgoingMessageId, StreamId};
+use sctp_state::{Events, GivenUp, GivenUpCause, SocketEvent};
+use std::alloc::AllocError;
+
+// A message was dropped before it was fully sent.
+pub(crate) fn tell_expired(
+    events: &mut Events,
+    lifecycle_id: Option<LifecycleId>,
+) -> Result<(), AllocError>
+    ensures ok { OnOk result (events.new ≡ tell_all (expiry lifecycle_id) events.old) }
+    ensures err { OnErr result (Grown events.old events.new) }
+{
+    if let Some(id) = lifecycle_id {
+        events.add(SocketEvent::OnLifecycleMessageExpired(id))?;
+        events.add(SocketEvent::OnLifecycleEnd(id))?;
+    }
+    Ok(())
+}
+
+// A message's lifetime passed before a fragment of it was sent.
+pub(crate) fn tell_stale(
+    events: &mut Events,
+    number: OutgoingMessageId,
+    lifecycle_id: Option<LifecycleId>,
+) -> Result<(), AllocError>
+    ensures ok { OnOk result (events.new ≡ tell_all (expiry lifecycle_id) (give_up number.0 Lifetime events.old)) }
+    ensures err { OnErr result (Grown events.old events.new) }
+{
+    events.add_given_up(GivenUp {
+        number,
+        cause: GivenUpCause::Lifetime,
+    })?;
+    tell_expired(events, lifecycle_id)?;
+    Ok(())
+}
+
+pub(crate) fn tell_if(
+    events: &mut Events,
+    condition: bool,
+    event: SocketEvent,
+) -> Result<(), AllocError>
+    ensures ok { OnOk result (events.new ≡ tell_all (when condition (event_of event)) events.old) }
+    ensures err { OnErr result (Grown events.old events.new) }
+{
+    if condition {
+        events.add(event)?;
+    }
+    Ok(())
+}
+
+fn tell_fully_sent(events: &mut Events, lifecycle_id: Option<LifecycleId>) -> Result<(), AllocError>
+    ensures ok { OnOk result (events.new ≡ tell_all (fully_sent lifecycle_id) events.old) }
+    ensures err { OnErr result (Grown events.old events.new) }
+{
+    if let Some(id) = lifecycle_id {
+        events.add(SocketEvent::OnLifecycleMessageFullySent(id))?;
+    }
+    Ok(())
+}
+
+fn tell_production(
+    events: &mut Events,
+    id: StreamId,
+    lows: Lows,
+    lifecycle_id: Option<LifecycleId>,
+) -> Result<(), AllocError>
+    ensures ok { OnOk result (events.new ≡ tell_all (production id.0 lows.is_low lows.is_total_low lifecycle_id) events.old) }
+    ensures err { OnErr result (Grown events.old events.new) }
+{
+    tell_if(events, lows.is_low, SocketEvent::OnBufferedAmountLow(id))?;
+    tell_if(
+        events,
+        lows.is_total_low,
+        SocketEvent::OnTotalBufferedAmountLow(),
+    )?;
+    tell_fully_sent(events, lifecycle_id)?;
+    Ok(())
+}
+
+// A fragment was handed out, if there was one.
+pub(crate) fn tell_made(
+    events: &mut Events,
+    id: StreamId,
+    lows: Lows,
+    made: &Option<DataToSend>,
+) -> Result<(), AllocError>
+    ensures ok { OnOk result (events.new ≡ told_made id.0 lows.is_low lows.is_total_low (option_map produced_of made.now) events.old) }
+    ensures err { OnErr result (Grown events.old events.new) }
+{
+    match made {
+        Some(made) => tell_production(events, id, lows, made.lifecycle_id),
+        None => Ok(()),
+    }
+}

@@ -1,0 +1,46 @@
+use Rattle.std.proofs.Common.{ℕ, List, suc, map, refl, sym, ap, ◌∙◌, arith}
+use Rattle.sctp_outstanding.specs.Views.{chunk_of}
+use Rattle.sctp_tx.specs.Sending.{Filling}
+use Rattle.sctp_tx.proofs.SendingLemmas.{ended, goes_on}
+use Rattle.sctp_tx.proofs.retransmission_queue.RetransmissionQueue.fill.Goals as goal
+
+pub loop-rest-init : goal.loop-rest-init
+loop-rest-init c = (suc c.args.left, omega arith, c.requires.small, refl)
+
+pub loop-rest-preserved : goal.loop-rest-preserved
+loop-rest-preserved c =
+    let here = c.loop-rest in
+    let new = c.add_new.new in
+    let said = c.in_ok-rest.ensures in
+    let on = goes_on c.args.now here.invariant.0 here.left here.self here.queue here.events (map chunk_of here.chunks.items) _
+    new.self new.queue new.events (map chunk_of new.chunks.items) c.in-Some.rest here.invariant.1 here.invariant.3
+    (sym (rw c.in-Some.is at said.more)) said.sender said.queue said.told said.chunks (rw c.in-Some.is at said.left) (rw c.in-Some.is at said.less) in
+    (on.0, on.1, omega (arith, here.invariant.2, rw c.in-Some.is at said.less), on.2)
+
+pub returns-clause-sender : goal.returns-clause-sender
+returns-clause-sender c =
+    let here = c.loop-rest in
+    c.in_ok-rest.ensures.sender ∙ ap (λ (f : Filling (List ℕ)). f.sender)
+    (ended c.args.now here.invariant.0 here.left here.self here.queue here.events (map chunk_of here.chunks.items) _ here.invariant.1 here.invariant.3
+    (sym (rw c.in_default.is at c.in_ok-rest.ensures.more)))
+
+pub returns-clause-queue : goal.returns-clause-queue
+returns-clause-queue c =
+    let here = c.loop-rest in
+    c.in_ok-rest.ensures.queue ∙ ap (λ (f : Filling (List ℕ)). f.queue)
+    (ended c.args.now here.invariant.0 here.left here.self here.queue here.events (map chunk_of here.chunks.items) _ here.invariant.1 here.invariant.3
+    (sym (rw c.in_default.is at c.in_ok-rest.ensures.more)))
+
+pub returns-clause-told : goal.returns-clause-told
+returns-clause-told c =
+    let here = c.loop-rest in
+    c.in_ok-rest.ensures.told ∙ ap (λ (f : Filling (List ℕ)). f.told)
+    (ended c.args.now here.invariant.0 here.left here.self here.queue here.events (map chunk_of here.chunks.items) _ here.invariant.1 here.invariant.3
+    (sym (rw c.in_default.is at c.in_ok-rest.ensures.more)))
+
+pub returns-clause-chunks : goal.returns-clause-chunks
+returns-clause-chunks c =
+    let here = c.loop-rest in
+    c.in_ok-rest.ensures.chunks ∙ ap (λ (f : Filling (List ℕ)). f.chunks)
+    (ended c.args.now here.invariant.0 here.left here.self here.queue here.events (map chunk_of here.chunks.items) _ here.invariant.1 here.invariant.3
+    (sym (rw c.in_default.is at c.in_ok-rest.ensures.more)))

@@ -1,0 +1,108 @@
+-- What is sent again, and when: the items, the windows, and the timer of retransmissions (RFC 9260 sections 6.3, 7.2).
+use Rattle.std.specs.Prelude.{ℕ, ◌-◌, ◌==◌, ◌&&◌, ◌||◌, not, nat_lt, Bool, true, false, if◌then◌else◌, Option, None, option_map, List, length}
+use Rattle.std.specs.Duration.{as_nanos}
+use Rattle.sctp_packet.specs.declared.sack.GapAckBlock.{GapAckBlock}
+use Rattle.sctp_state.specs.Events.{Told}
+use Rattle.sctp_state.specs.Options.{Options}
+use Rattle.sctp_state.specs.Timers.{Timer, timer, start, stop, is_running, expire}
+use Rattle.sctp_state.specs.declared.timer.BackoffAlgorithm.TheVariants.{Exponential}
+use Rattle.sctp_outstanding.specs.Items.{Outstanding, Items, no_items, next_number, flight_bytes, flight_payload, flight_items}
+use Rattle.sctp_outstanding.specs.Losses.{Step}
+use Rattle.sctp_outstanding.specs.Sack.{hear, acked_bytes, sample}
+use Rattle.sctp_tx.specs.declared.retransmission_queue.windows.Windows.{Windows}
+use Rattle.sctp_tx.specs.declared.retransmission_queue.HandleSackResult as given
+use Rattle.sctp_tx.specs.declared.retransmission_queue.HandleSackResult.TheVariants as results
+use Rattle.sctp_tx.specs.Windows.{at_first, grown, recovering, timed_out, acknowledged, is_open, told, capped}
+
+pub record Sender : Type 0 where
+  pub outstanding : Outstanding
+  pub windows : Windows
+  pub t3 : Timer
+  pub rtx_packets : ℕ  -- packets in which an item was sent again
+  pub rtx_bytes : ℕ
+
+abbrev pub sender : Options → (first a_rwnd : ℕ) → (is_partial is_interleaved : Bool) → Sender
+sender o first a_rwnd is_partial is_interleaved = record {
+  outstanding = record { first = first; items = no_items is_partial is_interleaved };
+  windows = at_first o a_rwnd;
+  t3 = timer o.rto_initial Exponential None o.max_timer_backoff_duration;
+  rtx_packets = 0;
+  rtx_bytes = 0;
+}
+
+-- ---- the timer runs while something is in flight or missing
+
+abbrev pub is_quiet : Items → Bool
+is_quiet s = flight_items s == 0
+
+abbrev pub kept_running : (is_quiet : Bool) → ℕ → Timer → Timer
+kept_running is_quiet now t = if is_running t || is_quiet then t else start now t
+
+-- the cumulative TSN moved
+abbrev pub restarted : (is_empty : Bool) → ℕ → Timer → Timer
+restarted is_empty now t = if is_empty then stop t else start now t
+
+abbrev pub after_sack : (moved : Bool) → Items → ℕ → Timer → Timer
+after_sack moved s now t = kept_running (is_quiet s) now (if moved then restarted (length s.kept == 0) now t else t)
+
+-- ---- a SACK
+
+abbrev pub grown_if : Bool → (before acked : ℕ) → Windows → Windows
+grown_if true before acked w = grown before acked w
+grown_if false before acked w = w
+
+abbrev pub recovering_if : Bool → (exit : ℕ) → Windows → Windows
+recovering_if true exit w = recovering exit w
+recovering_if false exit w = w
+
+-- the peer's window, the growth where the cumulative TSN moved, and the cut after a loss; both outside fast recovery
+abbrev pub windows_after : (cumulative a_rwnd : ℕ) → (moved is_lossy : Bool) → (before acked payload exit : ℕ) → Windows → Windows
+windows_after n a_rwnd moved is_lossy before acked payload exit w =
+    recovering_if (is_lossy && is_open n w) exit (grown_if (moved && is_open n w) before acked (told a_rwnd payload (acknowledged n w)))
+
+-- what the items say to it
+abbrev pub step_of : {P : Type 0} → (cumulative : ℕ) → List GapAckBlock → Sender → Told P → Step P
+step_of n blocks s told = hear n blocks (not (is_open n s.windows)) s.outstanding.items told
+
+abbrev pub heard_by : {P : Type 0} → ℕ → (cumulative a_rwnd : ℕ) → List GapAckBlock → Sender → Step P → Sender
+heard_by now n a_rwnd blocks s step = record s {
+  outstanding = record s.outstanding { items = step.items };
+  windows = windows_after n a_rwnd (nat_lt s.outstanding.items.acked n) step.is_lossy (capped (flight_bytes s.outstanding.items))
+      (capped (acked_bytes n blocks s.outstanding.items)) (capped (flight_payload step.items)) (next_number step.items - 1) s.windows;
+  t3 = after_sack (nat_lt s.outstanding.items.acked n) step.items now s.t3;
+}
+
+abbrev pub heard : {P : Type 0} → ℕ → (cumulative a_rwnd : ℕ) → List GapAckBlock → Sender → Told P → Sender
+heard now n a_rwnd blocks s told = heard_by now n a_rwnd blocks s (step_of n blocks s told)
+
+-- one that is not valid changes nothing
+
+abbrev pub sender_if : {P : Type 0} → (is_valid : Bool) → ℕ → (cumulative a_rwnd : ℕ) → List GapAckBlock → Sender → Told P → Sender
+sender_if true now n a_rwnd blocks s told = heard now n a_rwnd blocks s told
+sender_if false now n a_rwnd blocks s told = s
+
+abbrev pub told_if : {P : Type 0} → (is_valid : Bool) → (cumulative : ℕ) → List GapAckBlock → Sender → Told P → Told P
+told_if true n blocks s told = (step_of n blocks s told).told
+told_if false n blocks s told = told
+
+-- the answer: a round trip, and whether something was newly acknowledged
+pub data SackAnswer : Type 0 where
+  Invalid : SackAnswer
+  Valid : (rtt : Option ℕ) → (is_progress : Bool) → SackAnswer
+
+abbrev pub answer_if : (is_valid : Bool) → ℕ → (cumulative : ℕ) → List GapAckBlock → Sender → SackAnswer
+answer_if true now n blocks s = Valid (sample now n s.outstanding.items) (nat_lt 0 (acked_bytes n blocks s.outstanding.items))
+answer_if false now n blocks s = Invalid
+
+abbrev pub answer_of : given.HandleSackResult → SackAnswer
+answer_of results.Invalid = Invalid
+answer_of (results.Valid rtt progress) = Valid (option_map as_nanos rtt) progress
+
+-- ---- a timeout
+
+abbrev pub timed_out_sender : ℕ → Items → Sender → Sender
+timed_out_sender now after s = record s {
+  outstanding = record s.outstanding { items = after };
+  windows = timed_out s.windows;
+  t3 = expire now s.t3;
+}
