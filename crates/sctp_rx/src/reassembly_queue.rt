@@ -1,6 +1,6 @@
 //! Messages put together of their fragments, and taken one after the other.
 
-ghost use Rattle.std.specs.Prelude.{◌≡◌, [], ℕ, ◌+◌, ◌-◌, ◌<◌, ◌≤◌, ◌^◌, ◌++◌, nat_le, max, true, length, option_map, OnOk, OnErr, IsSome, IfSome, IfNone, ◌↔◌, slice_index_or, Some, unwrap_or};
+ghost use Rattle.std.specs.Prelude.{◌≡◌, [], ℕ, ◌+◌, ◌-◌, ◌<◌, ◌≤◌, ◌^◌, ◌++◌, nat_le, max, true, false, length, option_map, OnOk, OnErr, IsSome, IfSome, IfNone, ◌↔◌, slice_index_or, Some, unwrap_or};
 ghost use Rattle.std.specs.List.{sum_by};
 ghost use Rattle.std.specs.Option.{option_to_list};
 ghost use Rattle.sctp_serial.specs.Messages.{message_of};
@@ -104,7 +104,8 @@ impl ReassemblyQueue {
 
     /// Whether the bytes are the greatest number that is let in, or more.
     pub fn is_full(&self) -> bool
-        ensures { result ≡ nat_le self.now.max_size (queued_bytes self.now) }
+        ensures test { result ≡ nat_le self.now.max_size (queued_bytes self.now) }
+        ensures small { result ≡ false → queued_bytes self.now < 2 ^ 32 }
     {
         self.max_size <= self.queued_bytes()
     }
@@ -118,7 +119,8 @@ impl ReassemblyQueue {
 
     /// How many bytes are left below the watermark.
     pub fn remaining_bytes(&self) -> usize
-        ensures { result ≡ watermark self.now - queued_bytes self.now }
+        ensures bytes { result ≡ watermark self.now - queued_bytes self.now }
+        ensures small { result < 2 ^ 32 }
     {
         (self.max_size * 9 / 10).saturating_sub(self.queued_bytes())
     }

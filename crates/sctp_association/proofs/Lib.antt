@@ -1,0 +1,4 @@
+pub mod BurstLemmas
+pub mod CleanedLemmas
+pub mod OutgoingLemmas
+pub mod RowsLemmas

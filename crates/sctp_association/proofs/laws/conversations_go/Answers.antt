@@ -1,0 +1,21 @@
+use Rattle.sctp_association.proofs.RowsLemmas.{first_goes, order_goes, both_goes, given_up_goes, fragments_goes, closes_goes}
+use Rattle.sctp_association.proofs.laws.conversations_go.Goals as goal
+
+pub returns-clause-first : goal.returns-clause-first
+returns-clause-first c = first_goes
+
+pub returns-clause-order : goal.returns-clause-order
+returns-clause-order c = order_goes
+
+pub returns-clause-both : goal.returns-clause-both
+returns-clause-both c = both_goes
+
+pub returns-clause-given_up : goal.returns-clause-given_up
+returns-clause-given_up c = given_up_goes
+
+pub returns-clause-fragments : goal.returns-clause-fragments
+returns-clause-fragments c = fragments_goes
+
+pub returns-clause-closes : goal.returns-clause-closes
+returns-clause-closes c = closes_goes
+

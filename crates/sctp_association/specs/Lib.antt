@@ -1,0 +1,15 @@
+pub mod Association
+pub mod Packets
+pub mod Sending
+pub mod Closing
+pub mod Data
+pub mod Acknowledging
+pub mod Opening
+pub mod Time
+pub mod Calls
+pub mod Input
+pub mod Pair
+pub mod Rows
+pub mod Wire
+pub mod PacketView
+pub mod Views

@@ -1,0 +1,110 @@
+-- Conversations of two ends with default options, as they have to go.
+use Rattle.std.specs.Prelude.{◌≡◌, ℕ, ◌*◌, Bool, true, false, Option, Some, None, List, [], ◌∷◌, ◌++◌, replicate, codes}
+use Rattle.sctp_serial.specs.Messages.{Message}
+use Rattle.sctp_state.specs.Numbers.{ms}
+use Rattle.sctp_state.specs.Options.{SendOptions, plainly}
+use Rattle.sctp_state.specs.declared.api.ErrorKind.TheVariants.{PeerReported}
+use Rattle.sctp_state.specs.declared.api.GivenUpCause.TheVariants.{Retransmissions}
+use Rattle.sctp_state.specs.Events.{Event, OnConnected, OnClosed, OnAborted, OnBufferedAmountLow, OnLifecycleMessageFullySent, OnLifecycleMessageDelivered, OnLifecycleEnd}
+use Rattle.sctp_association.specs.Association.{Identity, State, Closed, CookieWait, Open, Endpoint}
+use Rattle.sctp_association.specs.Pair.{Sent, Line, Packet, Says, Gone, Pair, Move, Connect, Give, Send, Receive, Time, Close, after, then, ready_b}
+
+abbrev pub message : (stream : ℕ) → List ℕ → Message
+message stream bytes = record { stream = stream; ppid = 53; payload = bytes }
+
+abbrev pub opened : List Move
+opened = Connect true ∷ Give 0 false ∷ Give 0 true ∷ Give 1 false ∷ Give 1 true ∷ []
+
+-- each end's tags and first TSNs are the other's, exchanged
+abbrev pub crossed : Identity → Identity → Type 0
+crossed i j = (i.my_tag ≡ j.peer_tag) × (i.my_first ≡ j.peer_first) × (i.peer_tag ≡ j.my_tag) × (i.peer_first ≡ j.my_first)
+
+abbrev pub AreCrossed : State → State → Type 0
+AreCrossed (Open p t) (Open q u) = crossed t.identity u.identity
+AreCrossed s r = ⊥
+
+abbrev pub AreCrossedAfter : List Move → Type 0
+AreCrossedAfter moves = AreCrossed (after moves).a.standing.state (after moves).b.standing.state
+
+abbrev pub size : ℕ → Line
+size bytes = Packet bytes
+
+-- ---- the first conversation
+
+abbrev pub first_message : Move
+first_message = Send true (message 1 (1 ∷ 2 ∷ 3 ∷ [])) (record plainly { lifecycle_id = Some 7 })
+
+abbrev pub sent_first : List Move
+sent_first = opened ++ (first_message ∷ [])
+
+pub record FirstConversation : Type 0 where
+  pub opening : (after opened).log ≡ size 44 ∷ size 96 ∷ size 64 ∷ Says OnConnected ∷ size 16 ∷ Says OnConnected ∷ []
+  pub crossed : AreCrossedAfter opened
+  pub sent : then opened (first_message ∷ []) ≡ Says (OnBufferedAmountLow 1) ∷ Says (OnLifecycleMessageFullySent 7) ∷ size 32 ∷ []
+  pub came : ready_b (sent_first ++ (Give 2 false ∷ [])) ≡ message 1 (1 ∷ 2 ∷ 3 ∷ []) ∷ []
+  pub answered : then sent_first (Give 2 false ∷ Receive false ∷ Give 2 true ∷ []) ≡
+      size 28 ∷ Says (OnLifecycleMessageDelivered 7) ∷ Says (OnLifecycleEnd 7) ∷ []
+  pub repeated : ready_b (sent_first ++ (Give 2 false ∷ Give 2 false ∷ Give 2 false ∷ [])) ≡ message 1 (1 ∷ 2 ∷ 3 ∷ []) ∷ []
+
+-- ---- two messages that come in the other order
+
+abbrev pub two : (is_unordered : Bool) → List Move
+two is_unordered = opened
+    ++ (Send true (message 1 (97 ∷ [])) (record plainly { unordered = is_unordered })
+    ∷ Send true (message 1 (98 ∷ [])) (record plainly { unordered = is_unordered }) ∷ [])
+
+pub record OtherOrder : Type 0 where
+  pub waits : ready_b (two false ++ (Give 3 false ∷ [])) ≡ []
+  pub ordered : ready_b (two false ++ (Give 3 false ∷ Give 2 false ∷ [])) ≡ message 1 (97 ∷ []) ∷ message 1 (98 ∷ []) ∷ []
+  pub unordered : ready_b (two true ++ (Give 3 false ∷ Give 2 false ∷ [])) ≡ message 1 (98 ∷ []) ∷ message 1 (97 ∷ []) ∷ []
+
+-- ---- both ends connect
+
+abbrev pub simultaneous : List Move
+simultaneous = Connect true ∷ Connect false ∷ Give 0 false ∷ Give 0 true ∷ Give 1 true ∷ Give 1 false ∷ Give 2 false ∷ Give 2 true ∷ Give 3 true ∷ Give 3 false ∷ []
+
+abbrev pub late_cookie : List Move
+late_cookie = Connect true ∷ Give 0 false ∷ Connect false ∷ Give 1 true ∷ Give 1 false ∷ Give 0 true ∷ []
+
+pub record BothConnect : Type 0 where
+  pub together : (after simultaneous).log ≡ size 44 ∷ size 44 ∷ size 96 ∷ size 96 ∷ size 64 ∷ size 64 ∷ Says OnConnected ∷ size 16 ∷ Says OnConnected ∷ size 16 ∷ []
+  pub crossed : AreCrossedAfter simultaneous
+  pub discarded : then late_cookie (Give 2 false ∷ []) ≡ []
+  pub goes_on : then late_cookie (Give 2 false ∷ Give 2 true ∷ []) ≡ Says OnConnected ∷ size 16 ∷ []
+  pub crossed_late : AreCrossedAfter (late_cookie ++ (Give 2 false ∷ Give 2 true ∷ Give 3 false ∷ []))
+  pub again : then opened (Give 1 false ∷ []) ≡ size 16 ∷ []
+  pub same : AreCrossedAfter (opened ++ (Give 1 false ∷ []))
+
+-- ---- a message that is given up
+
+abbrev pub lossy : List Move
+lossy = opened ++ (Send true (message 1 (120 ∷ [])) (record plainly { max_retransmissions = Some 0 })
+    ∷ Send true (message 1 (120 ∷ [])) (record plainly { lifecycle_id = Some 9 }) ∷ [])
+
+abbrev pub lost : List Move
+lost = lossy ++ (Give 3 false ∷ Give 2 true ∷ [])
+
+abbrev pub passed : List Move
+passed = lost ++ (Time (500 * ms) ∷ Give 4 false ∷ [])
+
+pub record GivenUpOnce : Type 0 where
+  pub held : then lossy (Give 3 false ∷ Give 2 true ∷ []) ≡ size 32 ∷ []
+  pub given_up : then lost (Time (500 * ms) ∷ []) ≡ size 24 ∷ Gone (record { number = 0; cause = Retransmissions 0 }) ∷ []
+  pub came : ready_b passed ≡ message 1 (120 ∷ []) ∷ []
+  pub silent : then (lost ++ (Time (500 * ms) ∷ [])) (Give 4 false ∷ []) ≡ []
+  pub delivered : then passed (Time (700 * ms) ∷ Give 3 true ∷ []) ≡ size 28 ∷ Says (OnLifecycleMessageDelivered 9) ∷ Says (OnLifecycleEnd 9) ∷ []
+
+-- ---- three fragments, a close, and an INIT that isn't answered
+
+abbrev pub long_message : Move
+long_message = Send true (message 1 (replicate 2500 0)) plainly
+
+pub record Fragments : Type 0 where
+  pub sent : then opened (long_message ∷ []) ≡ size 1188 ∷ size 1188 ∷ Says (OnBufferedAmountLow 1) ∷ size 208 ∷ []
+  pub answered : then (opened ++ (long_message ∷ [])) (Give 2 false ∷ Give 3 false ∷ Give 4 false ∷ []) ≡ size 28 ∷ size 28 ∷ []
+  pub came : ready_b (opened ++ (long_message ∷ Give 2 false ∷ Give 3 false ∷ Give 4 false ∷ [])) ≡ message 1 (replicate 2500 0) ∷ []
+
+pub record Closes : Type 0 where
+  pub told : then opened (Close true ∷ Give 2 false ∷ []) ≡
+      size 32 ∷ Says OnClosed ∷ Says (OnAborted PeerReported (codes "USER INITIATED ABORT, reason=Close called")) ∷ []
+  pub resent : then (Connect true ∷ []) (Time (999 * ms) ∷ Time (1000 * ms) ∷ []) ≡ size 44 ∷ []

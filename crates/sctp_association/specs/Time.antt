@@ -1,0 +1,153 @@
+-- Time: which timers a state looks at, and what their expiries lead to.
+use Rattle.std.specs.Prelude.{ℕ, ◌&&◌, nat_lt, min, max, Bool, true, false, Option, Some, None, List, codes}
+use Rattle.sctp_serial.specs.Time.{forever}
+use Rattle.sctp_state.specs.declared.api.ErrorKind.TheVariants.{TooManyRetries}
+use Rattle.sctp_state.specs.Errors.{one_error, is_exhausted}
+use Rattle.sctp_state.specs.Timers.{Timer, is_due, is_running, expire, next_expiry}
+use Rattle.sctp_state.specs.Events.{OnAborted}
+use Rattle.sctp_outstanding.specs.Losses.{Step, nack_all}
+use Rattle.sctp_rx.specs.Tracker.{ack_timeout}
+use Rattle.sctp_tx.specs.Retransmission.{timed_out_sender}
+use Rattle.sctp_association.specs.Association.{Tcb, Phase, CookieEchoed, Established, ShutdownPending, ShutdownSent, ShutdownReceived, ShutdownAckSent, State, Closed, CookieWait, Open, Context, Standing, open_as, where_open}
+use Rattle.sctp_association.specs.Sending.{send_buffered, send_cookie}
+use Rattle.sctp_association.specs.Closing.{closed, send_shutdown, send_shutdown_ack, too_many}
+use Rattle.sctp_association.specs.Opening.{send_init}
+
+-- ---- the timers of a control block, one after the other
+
+pub record Ticking (P : Type 0) : Type 0 where
+  pub tcb : Tcb
+  pub context : Context P
+  pub has_expired : Bool
+
+abbrev pub ack_if : {P : Type 0} → (is_due : Bool) → Ticking P → Ticking P
+ack_if true x = record x {
+  tcb = record x.tcb { tracker = record x.tcb.tracker { tracker = ack_timeout x.context.now x.tcb.tracker.tracker } };
+  has_expired = true;
+}
+ack_if false x = x
+
+-- the delay of an acknowledgement
+abbrev pub tick_ack : {P : Type 0} → Ticking P → Ticking P
+tick_ack x = ack_if (is_due x.context.now x.tcb.tracker.tracker.delay) x
+
+abbrev pub timed_out : {P : Type 0} → Step P → Ticking P → Ticking P
+timed_out step x = record {
+  tcb = record x.tcb { sender = timed_out_sender x.context.now step.items x.tcb.sender };
+  context = record x.context { told = step.told; errors = one_error x.context.errors };
+  has_expired = true;
+}
+
+abbrev pub t3_if : {P : Type 0} → (is_due : Bool) → Ticking P → Ticking P
+t3_if true x = timed_out (nack_all x.tcb.sender.outstanding.items x.context.told) x
+t3_if false x = x
+
+-- T3-rtx (RFC 9260 section 6.3.3)
+abbrev pub tick_t3 : {P : Type 0} → Ticking P → Ticking P
+tick_t3 x = t3_if (is_due x.context.now x.tcb.sender.t3) x
+
+abbrev pub ticking : {P : Type 0} → Tcb → Context P → Ticking P
+ticking t c = record { tcb = t; context = c; has_expired = false }
+
+abbrev pub ticked : {P : Type 0} → Tcb → Context P → Ticking P
+ticked t c = tick_t3 (tick_ack (ticking t c))
+
+-- ---- what an expiry leads to at last
+
+abbrev pub ended_or_sent : {P : Type 0} → (is_exhausted : Bool) → Phase → Tcb → Context P → Standing P
+ended_or_sent true phase t c = too_many t c
+ended_or_sent false phase t c = send_buffered phase t c
+
+abbrev pub settled_if : {P : Type 0} → (has_expired : Bool) → Phase → Tcb → Context P → Standing P
+settled_if true phase t c = ended_or_sent (is_exhausted c.errors) phase t c
+settled_if false phase t c = open_as phase t c
+
+abbrev pub settled : {P : Type 0} → Phase → Ticking P → Standing P
+settled phase x = settled_if x.has_expired phase x.tcb x.context
+
+-- ---- T2-shutdown, which sends its chunk again (RFC 9260 section 9.2)
+
+abbrev pub t2_expired : {P : Type 0} → (is_running : Bool) → Phase → (Tcb → Context P → Context P) → Ticking P → Standing P
+t2_expired true phase again x = ended_or_sent (is_exhausted x.context.errors) phase x.tcb (again x.tcb x.context)
+t2_expired false phase again x = too_many x.tcb x.context
+
+abbrev pub t2_if : {P : Type 0} → (is_due : Bool) → (Timer → Phase) → (Tcb → Context P → Context P) → Timer → Ticking P → Standing P
+t2_if true phase again t2 x = t2_expired (is_running (expire x.context.now t2)) (phase (expire x.context.now t2)) again x
+t2_if false phase again t2 x = settled (phase t2) x
+
+abbrev pub tick_t2 : {P : Type 0} → (Timer → Phase) → (Tcb → Context P → Context P) → Timer → Ticking P → Standing P
+tick_t2 phase again t2 x = t2_if (is_due x.context.now t2) phase again t2 x
+
+-- ---- T1-cookie (RFC 9260 section 5.1): nothing is sent but the COOKIE ECHO and its packet
+
+abbrev pub ended_if : {P : Type 0} → (is_exhausted : Bool) → Phase → Tcb → Context P → Standing P
+ended_if true phase t c = too_many t c
+ended_if false phase t c = open_as phase t c
+
+abbrev pub ended_open : {P : Type 0} → Phase → Tcb → Context P → Standing P
+ended_open phase t c = ended_if (is_exhausted c.errors) phase t c
+
+abbrev pub t1_expired : {P : Type 0} → (is_running : Bool) → Timer → List ℕ → Ticking P → Standing P
+t1_expired true t1 cookie x = where_open ended_open (send_cookie cookie (CookieEchoed t1 cookie) x.tcb x.context)
+t1_expired false t1 cookie x = closed (OnAborted TooManyRetries (codes "No COOKIE_ACK received")) x.context
+
+abbrev pub t1_if : {P : Type 0} → (is_due : Bool) → Timer → List ℕ → Ticking P → Standing P
+t1_if true t1 cookie x = t1_expired (is_running (expire x.context.now t1)) (expire x.context.now t1) cookie x
+t1_if false t1 cookie x = ended_if (x.has_expired && is_exhausted x.context.errors) (CookieEchoed t1 cookie) x.tcb x.context
+
+abbrev pub tick_cookie : {P : Type 0} → Timer → List ℕ → Ticking P → Standing P
+tick_cookie t1 cookie x = t1_if (is_due x.context.now t1) t1 cookie x
+
+-- ---- T1-init
+
+abbrev pub init_expired : {P : Type 0} → (is_running : Bool) → (tag first : ℕ) → Timer → Context P → Standing P
+init_expired true tag first t1 c = record { state = CookieWait tag first t1; context = send_init tag first c }
+init_expired false tag first t1 c = closed (OnAborted TooManyRetries (codes "No INIT_ACK received")) c
+
+abbrev pub init_if : {P : Type 0} → (is_due : Bool) → (tag first : ℕ) → Timer → Context P → Standing P
+init_if true tag first t1 c = init_expired (is_running (expire c.now t1)) tag first (expire c.now t1) c
+init_if false tag first t1 c = record { state = CookieWait tag first t1; context = c }
+
+-- ---- by state
+
+abbrev pub tick_open : {P : Type 0} → Phase → Tcb → Context P → Standing P
+tick_open (CookieEchoed t1 cookie) t c = tick_cookie t1 cookie (tick_ack (ticking t c))
+tick_open Established t c = settled Established (ticked t c)
+tick_open ShutdownPending t c = settled ShutdownPending (ticked t c)
+tick_open (ShutdownSent t2) t c = tick_t2 ShutdownSent send_shutdown t2 (ticked t c)
+tick_open ShutdownReceived t c = settled ShutdownReceived (ticked t c)
+tick_open (ShutdownAckSent t2) t c = tick_t2 ShutdownAckSent send_shutdown_ack t2 (ticked t c)
+
+abbrev pub tick_in : {P : Type 0} → State → Context P → Standing P
+tick_in Closed c = record { state = Closed; context = c }
+tick_in (CookieWait tag first t1) c = init_if (is_due c.now t1) tag first t1 c
+tick_in (Open phase t) c = tick_open phase t c
+
+-- a moment before the clock's changes nothing
+abbrev pub advance_if : {P : Type 0} → (is_back : Bool) → (now : ℕ) → Standing P → Standing P
+advance_if true now s = s
+advance_if false now s = tick_in s.state (record s.context { now = now })
+
+abbrev pub advance : {P : Type 0} → (now : ℕ) → Standing P → Standing P
+advance now s = advance_if (nat_lt now s.context.now) now s
+
+-- ---- when to call next
+
+abbrev pub tcb_expiry : Tcb → ℕ
+tcb_expiry t = min (next_expiry t.sender.t3) (next_expiry t.tracker.tracker.delay)
+
+abbrev pub phase_expiry : Phase → Tcb → ℕ
+phase_expiry (CookieEchoed t1 cookie) t = next_expiry t1
+phase_expiry Established t = tcb_expiry t
+phase_expiry ShutdownPending t = tcb_expiry t
+phase_expiry (ShutdownSent t2) t = min (next_expiry t2) (tcb_expiry t)
+phase_expiry ShutdownReceived t = tcb_expiry t
+phase_expiry (ShutdownAckSent t2) t = min (next_expiry t2) (tcb_expiry t)
+
+abbrev pub timeout_in : State → ℕ → ℕ
+timeout_in Closed now = forever
+timeout_in (CookieWait tag first t1) now = max (next_expiry t1) now
+timeout_in (Open phase t) now = max (phase_expiry phase t) now
+
+abbrev pub poll_timeout : {P : Type 0} → Standing P → ℕ
+poll_timeout s = timeout_in s.state s.context.now

@@ -1,0 +1,84 @@
+-- What the program's values of an end say.
+use Rattle.std.specs.Prelude.{ℕ, List}
+use Rattle.sctp_state.specs.declared.api.SctpImplementation.{SctpImplementation}
+use Rattle.sctp_state.specs.Errors.{ErrorCounter}
+use Rattle.sctp_state.specs.Events.{Told}
+use Rattle.sctp_state.specs.Options.{Options}
+use Rattle.sctp_state.specs.Capabilities.{capabilities_of}
+use Rattle.sctp_association.specs.declared.transmission_control_block.Identity as given_identity
+use Rattle.sctp_association.specs.declared.transmission_control_block.TransmissionControlBlock as given_tcb
+use Rattle.sctp_send_queue.specs.Queue.{Queue}
+use Rattle.sctp_association.specs.declared.state.Phase as given_phase
+use Rattle.sctp_association.specs.declared.state.Phase.TheVariants as phases
+use Rattle.sctp_association.specs.declared.state.State as given_state
+use Rattle.sctp_association.specs.declared.state.State.TheVariants as states
+use Rattle.sctp_association.specs.Association.{Identity, Tcb, Phase, CookieEchoed, Established, ShutdownPending, ShutdownSent, ShutdownReceived, ShutdownAckSent, State, Closed, CookieWait, Open, Counts, Context, Standing, Endpoint}
+use Rattle.sctp_association.specs.Packets.{Packet}
+use Rattle.sctp_association.specs.Sending.{Filling}
+use Rattle.sctp_association.specs.Wire.{written}
+
+abbrev pub identity_of : given_identity.Identity → Identity
+identity_of i = record {
+  my_tag = i.my_verification_tag;
+  my_first = i.my_initial_tsn.0;
+  peer_tag = i.peer_verification_tag;
+  peer_first = i.peer_initial_tsn.0;
+  tie = i.tie_tag;
+}
+
+abbrev pub tcb_of : given_tcb.TransmissionControlBlock → Tcb
+tcb_of t = record {
+  identity = identity_of t.identity;
+  capabilities = capabilities_of t.capabilities;
+  tracker = t.data_tracker;
+  reassembly = t.reassembly_queue;
+  sender = t.retransmission_queue;
+  rtt = t.rto;
+}
+
+-- ---- states
+
+abbrev pub phase_of : given_phase.Phase → Phase
+phase_of (phases.CookieEchoed s) = CookieEchoed s.t1_cookie s.cookie.items
+phase_of phases.Established = Established
+phase_of phases.ShutdownPending = ShutdownPending
+phase_of (phases.ShutdownSent t2) = ShutdownSent t2
+phase_of phases.ShutdownReceived = ShutdownReceived
+phase_of (phases.ShutdownAckSent t2) = ShutdownAckSent t2
+
+abbrev pub state_of : given_state.State → State
+state_of states.Closed = Closed
+state_of (states.CookieWait s) = CookieWait s.verification_tag s.initial_tsn.0 s.t1_init
+state_of (states.Open phase t) = Open (phase_of phase) (tcb_of t)
+
+-- ---- what an end has in every state
+
+pub record ContextValue (C : Type 0) : Type 0 where
+  pub options : Options
+  pub clock : ℕ
+  pub queue : Queue
+  pub forward_from : ℕ
+  pub errors : ErrorCounter
+  pub counts : Counts
+  pub peer : SctpImplementation
+  pub told : Told (List ℕ)
+  pub checksum : C
+
+abbrev pub context_of : {C : Type 0} → (C → List ℕ → ℕ) → ContextValue C → Context (List ℕ)
+context_of word_of c = record {
+  options = c.options;
+  now = c.clock;
+  queue = c.queue;
+  forward_from = c.forward_from;
+  errors = c.errors;
+  counts = c.counts;
+  peer = c.peer;
+  told = c.told;
+  pack = written (word_of c.checksum);
+}
+
+abbrev pub filling_of : {C : Type 0} → (C → List ℕ → ℕ) → Packet → given_tcb.TransmissionControlBlock → ContextValue C → Filling (List ℕ)
+filling_of word_of p t c = record { packet = p; tcb = tcb_of t; context = context_of word_of c }
+
+abbrev pub standing_of : {C : Type 0} → (C → List ℕ → ℕ) → given_state.State → ContextValue C → Standing (List ℕ)
+standing_of word_of s c = record { state = state_of s; context = context_of word_of c }

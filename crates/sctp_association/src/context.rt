@@ -1,0 +1,123 @@
+//! What an end has in every state: its options, its clock, the messages that wait, and what it tells.
+
+ghost use Rattle.std.specs.Prelude.{◌≡◌, OnOk};
+ghost use Rattle.sctp_packet.specs.ChunkView.{chunk_tree};
+ghost use Rattle.sctp_state.specs.Events.{OnError};
+ghost use Rattle.sctp_state.specs.Options.{IsValid, options_of};
+ghost use Rattle.sctp_association.specs.Association.{context};
+ghost use Rattle.sctp_association.specs.Packets.{complain, emit, emit_chunk, emptied, say};
+ghost use Rattle.sctp_association.specs.Views.{context_of, tcb_of};
+ghost use Rattle.sctp_association.specs.Wire.{written};
+
+use crate::outgoing_packet::OutgoingPacket;
+use crate::transmission_control_block::TransmissionControlBlock;
+use sctp_packet::Chunk;
+use sctp_serial::SocketTime;
+use sctp_state::{
+    ErrorKind, Events, Options, SctpImplementation, SocketEvent, TxErrorCounter,
+};
+use sctp_tx::SendQueue;
+use sctp_wire::Checksum;
+use std::alloc::{AllocError, Global};
+use std::marker::Model;
+
+/// What an end has in every state.
+#[derive(Drop)]
+pub struct Context<C: Checksum> {
+    pub(crate) alloc: Global,
+    pub(crate) options: Options,
+    pub(crate) clock: SocketTime,
+    pub(crate) send_queue: SendQueue,
+    /// No forward point is tested or sent before this moment.
+    pub(crate) limit_forward_tsn_until: SocketTime,
+    pub(crate) tx_error_counter: TxErrorCounter,
+    pub(crate) rx_packets_count: usize,
+    pub(crate) tx_packets_count: usize,
+    pub(crate) tx_messages_count: usize,
+    pub(crate) peer_implementation: SctpImplementation,
+    pub(crate) events: Events,
+    checksum: C,
+}
+
+impl<C: Checksum> Model for Context<C> {
+    ghost use Rattle.sctp_state.specs.Options.{IsValid, options_of};
+    ghost use Rattle.sctp_association.specs.Views.{ContextValue};
+
+    ghost Value = { ContextValue C };
+
+    ghost view = { λ c. record {
+      options = options_of c.options;
+      clock = c.clock;
+      queue = c.send_queue;
+      forward_from = c.limit_forward_tsn_until;
+      errors = c.tx_error_counter;
+      counts = record { rx_packets = c.rx_packets_count; tx_packets = c.tx_packets_count; tx_messages = c.tx_messages_count };
+      peer = c.peer_implementation;
+      told = c.events;
+      checksum = c.checksum;
+    } };
+
+    ghost invariant = { λ c. IsValid (options_of c.options) };
+}
+
+impl<C: Checksum> Context<C> {
+    /// A new end, at moment zero.
+    pub fn new(alloc: Global, options: Options, checksum: C) -> Context<C>
+        requires { IsValid (options_of options) }
+        ensures { context_of C.word_of result ≡ context (options_of options) (written (C.word_of checksum)) }
+    {
+        Context {
+            alloc,
+            send_queue: SendQueue::new(alloc, &options),
+            tx_error_counter: TxErrorCounter::new(options.max_retransmissions),
+            options,
+            clock: SocketTime::zero(),
+            limit_forward_tsn_until: SocketTime::zero(),
+            rx_packets_count: 0,
+            tx_packets_count: 0,
+            tx_messages_count: 0,
+            peer_implementation: SctpImplementation::Unknown,
+            events: Events::new(alloc),
+            checksum,
+        }
+    }
+
+    /// A packet goes out, where something was put into it; then it is empty again.
+    pub(crate) fn emit(&mut self, packet: &mut OutgoingPacket) -> Result<(), AllocError>
+        ensures context { OnOk result (context_of C.word_of self.new ≡ emit packet.old (context_of C.word_of self.old)) }
+        ensures packet { OnOk result (packet.new ≡ emptied packet.old) }
+    {
+        if packet.is_empty() {
+            return Ok(());
+        }
+        let bytes = packet.build(
+            self.options.local_port,
+            self.options.remote_port,
+            &self.checksum,
+        )?;
+        self.events.add(SocketEvent::SendPacket(bytes))?;
+        self.tx_packets_count = self.tx_packets_count.saturating_add(1);
+        Ok(())
+    }
+
+    /// A packet of one chunk goes out to the peer.
+    pub(crate) fn emit_chunk(
+        &mut self,
+        tcb: &TransmissionControlBlock,
+        chunk: Chunk,
+    ) -> Result<(), AllocError>
+        ensures { OnOk result (context_of C.word_of self.new ≡ emit_chunk (chunk_tree chunk) (tcb_of tcb.now) (context_of C.word_of self.old)) }
+    {
+        let mut packet = tcb.new_packet(self.alloc, &self.options);
+        packet.add(chunk)?;
+        self.emit(&mut packet)
+    }
+
+    /// Tells of an error.
+    pub(crate) fn complain(&mut self, kind: ErrorKind, text: &str) -> Result<(), AllocError>
+        ensures { OnOk result (context_of C.word_of self.new ≡ complain kind text.now (context_of C.word_of self.old)) }
+    {
+        let text = String::from_str(self.alloc, text)?;
+        self.events.add(SocketEvent::OnError(kind, text))
+    }
+}

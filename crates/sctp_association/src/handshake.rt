@@ -1,0 +1,192 @@
+//! The packets of the handshake (RFC 9260 section 5.1).
+
+ghost use Rattle.std.specs.Prelude.{◌≡◌, None, map, IfOk, OnOk};
+ghost use Rattle.std.specs.Duration.{as_nanos};
+ghost use Rattle.sctp_state.specs.Timers.{start, timer};
+ghost use Rattle.std.specs.Option.{option_map};
+ghost use Rattle.sctp_wire.specs.ParameterViews.{parameter_tree};
+ghost use Rattle.sctp_packet.specs.Chunk.{init_chunk, init_ack_chunk};
+ghost use Rattle.sctp_packet.specs.ChunkView.{chunk_tree};
+ghost use Rattle.sctp_packet.specs.Views.{init_tree};
+ghost use Rattle.sctp_state.specs.Capabilities.{announced, capabilities_of};
+ghost use Rattle.sctp_state.specs.Cookie.{cookie_of};
+ghost use Rattle.sctp_state.specs.Options.{IsValid, options_of};
+ghost use Rattle.sctp_association.specs.Opening.{agreed_by, answer, cookie_for, cookie_in, init_ack_of, init_of, maker, send_init, t1_cookie, t1_init};
+ghost use Rattle.sctp_association.specs.Views.{context_of};
+
+use crate::context::Context;
+use crate::outgoing_packet::OutgoingPacket;
+use sctp_packet::{Chunk, InitAckChunk, InitChunk};
+use sctp_serial::Tsn;
+use sctp_state::{
+    BackoffAlgorithm, Capabilities, Options, SctpImplementation, StateCookie, Timer,
+    announced_parameters,
+};
+use sctp_wire::{Checksum, Parameter, StateCookieParameter};
+use std::alloc::{AllocError, Global};
+use std::time::Duration;
+
+fn make_init(
+    alloc: Global,
+    options: &Options,
+    tag: u32,
+    initial_tsn: Tsn,
+) -> Result<Chunk, AllocError>
+    requires { IsValid (options_of options.now) }
+    ensures { IfOk result (λ chunk. chunk_tree chunk ≡ init_chunk (init_of (options_of options.now) tag initial_tsn.0
+        (announced (options_of options.now) (options_of options.now).zero_checksum_method))) }
+{
+    Ok(Chunk::Init(InitChunk {
+        initiate_tag: tag,
+        a_rwnd: options.max_receiver_window_buffer_size as u32,
+        nbr_outbound_streams: options.announced_maximum_outgoing_streams,
+        nbr_inbound_streams: options.announced_maximum_incoming_streams,
+        initial_tsn,
+        parameters: announced_parameters(
+            alloc,
+            options,
+            options.zero_checksum_alternate_error_detection_method,
+        )?,
+    }))
+}
+
+/// What both ends do, by the end's options and what an INIT or INIT ACK tells.
+pub(crate) fn agreed_by(options: &Options, init: &InitChunk) -> Capabilities
+    ensures { capabilities_of result ≡ agreed_by (options_of options.now) (init_tree init.now) }
+{
+    Capabilities::from_parameters(
+        init.nbr_outbound_streams,
+        init.nbr_inbound_streams,
+        &init.parameters,
+    )
+    .negotiate(options)
+}
+
+/// The cookie that an INIT is answered with.
+fn cookie_for(init: &InitChunk, tag: u32, initial_tsn: Tsn, tie_tag: u64) -> StateCookie
+    ensures { cookie_of result ≡ cookie_for (init_tree init.now) tag initial_tsn.0 tie_tag }
+{
+    StateCookie {
+        peer_tag: init.initiate_tag,
+        my_tag: tag,
+        peer_initial_tsn: init.initial_tsn,
+        my_initial_tsn: initial_tsn,
+        a_rwnd: init.a_rwnd,
+        tie_tag,
+        peer_capabilities: Capabilities::from_parameters(
+            init.nbr_outbound_streams,
+            init.nbr_inbound_streams,
+            &init.parameters,
+        ),
+    }
+}
+
+fn make_init_ack(
+    alloc: Global,
+    options: &Options,
+    init: &InitChunk,
+    tag: u32,
+    initial_tsn: Tsn,
+    tie_tag: u64,
+) -> Result<Chunk, AllocError>
+    requires { IsValid (options_of options.now) }
+    ensures { IfOk result (λ chunk. chunk_tree chunk ≡ init_ack_chunk (init_ack_of (options_of options.now) (init_tree init.now) tag initial_tsn.0 tie_tag)) }
+{
+    let agreed = agreed_by(options, init);
+    let mut parameters = announced_parameters(alloc, options, agreed.zero_checksum_method)?;
+    let cookie = cookie_for(init, tag, initial_tsn, tie_tag).serialize(alloc)?;
+    parameters.push(Parameter::StateCookie(StateCookieParameter { cookie }))?;
+    Ok(Chunk::InitAck(InitAckChunk {
+        initiate_tag: tag,
+        a_rwnd: options.max_receiver_window_buffer_size as u32,
+        nbr_outbound_streams: options.announced_maximum_outgoing_streams,
+        nbr_inbound_streams: options.announced_maximum_incoming_streams,
+        initial_tsn,
+        parameters,
+    }))
+}
+
+/// The first cookie among the parameters.
+pub(crate) fn cookie_in(parameters: &[Parameter]) -> Option<&[u8]>
+    ensures { option_map (λ cookie. cookie.now) result ≡ cookie_in (map parameter_tree parameters.now) }
+{
+    for parameter in parameters {
+        if let Parameter::StateCookie(found) = parameter {
+            return Some(&found.cookie);
+        }
+    }
+    None
+}
+
+/// Who made a cookie, by its first eight bytes.
+pub(crate) fn determine_sctp_implementation(cookie: &[u8]) -> SctpImplementation
+    ensures { result ≡ maker cookie.now }
+{
+    if cookie.len() <= 8 {
+        SctpImplementation::Unknown
+    } else if cookie.starts_with(b"dcSCTP00") {
+        SctpImplementation::DcsctpCc
+    } else if cookie.starts_with(b"dcSCTPr0") {
+        SctpImplementation::DcsctpRs
+    } else if cookie.starts_with(b"KAME-BSD") {
+        SctpImplementation::UsrSctp
+    } else {
+        SctpImplementation::Unknown
+    }
+}
+
+impl<C: Checksum> Context<C> {
+    /// A timer that runs from now on.
+    fn started(&self, duration: Duration) -> Timer
+        ensures { result ≡ start self.now.clock (timer (as_nanos duration) BackoffAlgorithm.Exponential self.now.options.max_init_retransmits None) }
+    {
+        let mut timer = Timer::new(
+            duration,
+            BackoffAlgorithm::Exponential,
+            self.options.max_init_retransmits,
+            None,
+        );
+        timer.start(self.clock);
+        timer
+    }
+
+    pub(crate) fn t1_init(&self) -> Timer
+        ensures { result ≡ t1_init (context_of C.word_of self.now) }
+    {
+        self.started(self.options.t1_init_timeout)
+    }
+
+    pub(crate) fn t1_cookie(&self) -> Timer
+        ensures { result ≡ t1_cookie (context_of C.word_of self.now) }
+    {
+        self.started(self.options.t1_cookie_timeout)
+    }
+
+    /// An INIT goes out under tag 0.
+    pub(crate) fn send_init(&mut self, tag: u32, initial_tsn: Tsn) -> Result<(), AllocError>
+        ensures { OnOk result (context_of C.word_of self.new ≡ send_init tag initial_tsn.0 (context_of C.word_of self.old)) }
+    {
+        let chunk = make_init(self.alloc, &self.options, tag, initial_tsn)?;
+        let mut packet = OutgoingPacket::new(self.alloc, 0, self.options.mtu);
+        packet.add(chunk)?;
+        self.emit(&mut packet)
+    }
+
+    /// An INIT is answered; all that has to be kept of it goes along in the cookie.
+    pub(crate) fn send_init_ack(
+        &mut self,
+        init: &InitChunk,
+        tag: u32,
+        initial_tsn: Tsn,
+        tie_tag: u64,
+    ) -> Result<(), AllocError>
+        ensures { OnOk result (context_of C.word_of self.new ≡ answer (init_tree init.now) tag initial_tsn.0 tie_tag (context_of C.word_of self.old)) }
+    {
+        let chunk = make_init_ack(self.alloc, &self.options, init, tag, initial_tsn, tie_tag)?;
+        let agreed = agreed_by(&self.options, init);
+        let mut packet = OutgoingPacket::new(self.alloc, init.initiate_tag, self.options.mtu);
+        packet.write_checksum(!agreed.zero_checksum_enabled());
+        packet.add(chunk)?;
+        self.emit(&mut packet)
+    }
+}

@@ -1,0 +1,18 @@
+//! The association: handshake, transfer, timers and the socket (RFC 9260).
+#![tactic(auto)]
+
+pub mod laws;
+mod context;
+mod data;
+mod draws;
+mod handshake;
+mod outgoing_packet;
+mod sack;
+mod sending;
+mod state;
+mod transmission_control_block;
+
+pub use context::Context;
+pub use outgoing_packet::OutgoingPacket;
+pub use state::{CookieEchoedState, CookieWaitState, Phase, State};
+pub use transmission_control_block::{Identity, TransmissionControlBlock};

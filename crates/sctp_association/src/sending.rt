@@ -1,0 +1,163 @@
+//! What goes into packets (RFC 9260 section 6.1).
+
+ghost use Rattle.std.specs.Prelude.{◌≡◌, ◌*◌, true, map, OnOk, IfOk};
+ghost use Rattle.sctp_outstanding.specs.Views.{chunk_of};
+ghost use Rattle.sctp_association.specs.Packets.{add_all};
+ghost use Rattle.sctp_association.specs.Sending.{burst_with, data_chunks, forward_if, turned, with_ack, with_data, with_forward};
+ghost use Rattle.sctp_association.specs.Views.{context_of, filling_of, tcb_of};
+
+use crate::context::Context;
+use crate::outgoing_packet::OutgoingPacket;
+use crate::transmission_control_block::TransmissionControlBlock;
+use sctp_packet::{Chunk, Data};
+use sctp_serial::Tsn;
+use sctp_wire::Checksum;
+use std::alloc::AllocError;
+use std::time::Duration;
+
+impl<C: Checksum> Context<C> {
+    /// An acknowledgement that is due goes along; a delayed one where data may go.
+    fn add_ack(
+        &self,
+        packet: &mut OutgoingPacket,
+        tcb: &mut TransmissionControlBlock,
+    ) -> Result<(), AllocError>
+        ensures { OnOk result (filling_of C.word_of packet.new tcb.new self.now ≡ with_ack (filling_of C.word_of packet.old tcb.old self.now)) }
+    {
+        let also_if_delayed =
+            self.send_queue.has_data_to_send() || tcb.retransmission_queue.can_send_data();
+        if tcb.data_tracker.should_send_ack(self.clock, also_if_delayed) {
+            let window = tcb.reassembly_queue.remaining_bytes() as u32;
+            let sack = tcb.data_tracker.create_selective_ack(window)?;
+            packet.add(Chunk::Sack(sack))?;
+        }
+        Ok(())
+    }
+
+    /// A forward point that is due goes along, where it fits. A test for it first gives up what has expired.
+    fn add_forward_tsn(
+        &mut self,
+        packet: &mut OutgoingPacket,
+        tcb: &mut TransmissionControlBlock,
+    ) -> Result<(), AllocError>
+        ensures { OnOk result (filling_of C.word_of packet.new tcb.new self.new ≡ with_forward (filling_of C.word_of packet.old tcb.old self.old)) }
+    {
+        if self.clock < self.limit_forward_tsn_until {
+            return Ok(());
+        }
+        if tcb
+            .retransmission_queue
+            .should_send_forward_tsn(self.clock, &mut self.events)?
+        {
+            self.push_forward_tsn(packet, tcb)?;
+        }
+        Ok(())
+    }
+
+    /// The forward point goes along, where it fits; not sooner again than after a round trip, of which at most 200 ms count
+    /// (RFC 3758 section 3.5).
+    fn push_forward_tsn(
+        &mut self,
+        packet: &mut OutgoingPacket,
+        tcb: &TransmissionControlBlock,
+    ) -> Result<(), AllocError>
+        ensures { OnOk result (filling_of C.word_of packet.new tcb.now self.new ≡ forward_if true (filling_of C.word_of packet.old tcb.now self.old)) }
+    {
+        let chunk = tcb.retransmission_queue.create_forward_tsn()?;
+        if packet.fits(&chunk) {
+            packet.add(chunk)?;
+            self.limit_forward_tsn_until =
+                self.clock + tcb.rto.srtt().min(Duration::from_millis(200));
+        }
+        Ok(())
+    }
+
+    /// As much data goes along as the windows and the packet let go.
+    fn add_data(
+        &mut self,
+        packet: &mut OutgoingPacket,
+        tcb: &mut TransmissionControlBlock,
+    ) -> Result<(), AllocError>
+        ensures { OnOk result (filling_of C.word_of packet.new tcb.new self.new ≡ with_data (filling_of C.word_of packet.old tcb.old self.old)) }
+    {
+        let fragments = tcb.retransmission_queue.get_chunks_to_send(
+            self.clock,
+            packet.bytes_remaining(),
+            &mut self.send_queue,
+            &mut self.events,
+        )?;
+        let is_immediate = tcb.retransmission_queue.cwnd() < self.immediate_sack_cwnd();
+        add_fragments(packet, tcb, is_immediate, fragments)
+    }
+
+    /// Below this window the peer is asked to acknowledge at once (RFC 7053).
+    fn immediate_sack_cwnd(&self) -> usize
+        ensures { result ≡ self.now.options.immediate_sack_under_cwnd_mtus * self.now.options.mtu }
+    {
+        self.options.immediate_sack_under_cwnd_mtus * self.options.mtu
+    }
+
+    /// One packet of a burst. The answer is whether another one may follow.
+    fn send_packet(
+        &mut self,
+        packet: &mut OutgoingPacket,
+        tcb: &mut TransmissionControlBlock,
+        is_first: bool,
+        is_alone: bool,
+    ) -> Result<bool, AllocError>
+        ensures filling { OnOk result (filling_of C.word_of packet.new tcb.new self.new
+            ≡ (turned is_first is_alone (filling_of C.word_of packet.old tcb.old self.old)).filling) }
+        ensures more { IfOk result (λ more. more ≡ (turned is_first is_alone (filling_of C.word_of packet.old tcb.old self.old)).is_more) }
+    {
+        if is_first {
+            self.add_ack(packet, tcb)?;
+            self.add_forward_tsn(packet, tcb)?;
+        }
+        self.add_data(packet, tcb)?;
+        if packet.is_empty() {
+            return Ok(false);
+        }
+        self.emit(packet)?;
+        Ok(!is_alone)
+    }
+
+    /// The most packets of a burst.
+    fn max_burst(&self) -> u32
+        ensures { result ≡ self.now.options.max_burst }
+    {
+        u32::try_from(self.options.max_burst).unwrap_or(0)
+    }
+
+    /// What may be sent goes out, in at most `max_burst` packets, the first of which may hold chunks already; in one
+    /// packet before the COOKIE ACK (RFC 9260 section 5.1).
+    pub(crate) fn send_burst(
+        &mut self,
+        packet: &mut OutgoingPacket,
+        tcb: &mut TransmissionControlBlock,
+        is_alone: bool,
+    ) -> Result<(), AllocError>
+        ensures { OnOk result (filling_of C.word_of packet.new tcb.new self.new ≡ burst_with is_alone packet.old (tcb_of tcb.old) (context_of C.word_of self.old)) }
+    {
+        for index in 0..self.max_burst() {
+            if !self.send_packet(packet, tcb, index == 0, is_alone)? {
+                return Ok(());
+            }
+        }
+        Ok(())
+    }
+}
+
+/// The chunks of the fragments that fit, one after the other.
+fn add_fragments(
+    packet: &mut OutgoingPacket,
+    tcb: &TransmissionControlBlock,
+    is_immediate: bool,
+    fragments: Vec<(Tsn, Data)>,
+) -> Result<(), AllocError>
+    ensures { OnOk result (packet.new ≡ add_all (data_chunks (tcb_of tcb.now) is_immediate (map chunk_of fragments.items)) packet.old) }
+{
+    for (tsn, data) in fragments {
+        packet.add(tcb.make_data_chunk(tsn, data, is_immediate))?;
+    }
+    Ok(())
+}
