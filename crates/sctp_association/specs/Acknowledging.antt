@@ -10,10 +10,10 @@ use Rattle.sctp_outstanding.specs.Items.{number_of}
 use Rattle.sctp_outstanding.specs.Sack.{is_valid}
 use Rattle.sctp_rx.specs.Tracker.{update_rto}
 use Rattle.sctp_tx.specs.Retransmission.{SackAnswer, Invalid, Valid, sender_if, told_if, answer_if}
-use Rattle.sctp_association.specs.Association.{Tcb, Phase, State, Closed, CookieWait, Open, Context, Standing, open_as, with_context, where_open}
+use Rattle.sctp_association.specs.Association.{Tcb, Phase, State, Closed, CookieWait, Open, Context, Standing, open_as}
 use Rattle.sctp_association.specs.Packets.{complain}
-use Rattle.sctp_association.specs.Sending.{send_buffered, send_lost}
-use Rattle.sctp_association.specs.Closing.{go_on}
+use Rattle.sctp_association.specs.Sending.{Sent, is_alone, open_with, send_buffered, send_lost}
+use Rattle.sctp_association.specs.Closing.{Onward, go_on}
 
 -- ---- blocks, as the maximal runs of the offsets that they cover
 
@@ -45,11 +45,19 @@ abbrev pub answered_if : (is_progress : Bool) → ErrorCounter → ErrorCounter
 answered_if true e = no_errors e.limit
 answered_if false e = e
 
+-- the packet of what was lost, and what else may be sent
+abbrev pub send_after : {P : Type 0} → (is_alone : Bool) → Tcb → Context P → Sent P
+send_after is_alone t c = let x = send_lost t c in send_buffered is_alone x.tcb x.context
+
+abbrev pub goes_on : {P : Type 0} → Tcb → Onward P → Standing P
+goes_on t o = open_with o.phase (send_after (is_alone o.phase) t o.context)
+
+abbrev pub answered : {P : Type 0} → (is_progress : Bool) → Context P → Context P
+answered is_progress c = record c { errors = answered_if is_progress c.errors }
+
 abbrev pub heard : {P : Type 0} → SackAnswer → Phase → Tcb → Context P → Standing P
 heard Invalid phase t c = open_as phase t c
-heard (Valid rtt is_progress) phase t c =
-    where_open send_buffered (where_open send_lost
-    (go_on phase (sampled rtt t) (record c { errors = answered_if is_progress c.errors })))
+heard (Valid rtt is_progress) phase t c = goes_on (sampled rtt t) (go_on phase (sampled rtt t) (answered is_progress c))
 
 -- with blocks that are maximal runs
 abbrev pub on_clean_sack : {P : Type 0} → (cumulative a_rwnd : ℕ) → List GapAckBlock → Phase → Tcb → Context P → Standing P

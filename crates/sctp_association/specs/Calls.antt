@@ -12,7 +12,7 @@ use Rattle.sctp_state.specs.Events.{Event, OnError, OnLifecycleEnd, tell_all}
 use Rattle.sctp_send_queue.specs.Queue.{Queued, stream, amount_of, total_of, expiry_of, added}
 use Rattle.sctp_send_queue.specs.Settings as settings
 use Rattle.sctp_association.specs.Association.{Tcb, Phase, CookieEchoed, Established, ShutdownPending, ShutdownSent, ShutdownReceived, ShutdownAckSent, State, Closed, CookieWait, Open, Context, Standing, open_as, with_context, where_open}
-use Rattle.sctp_association.specs.Sending.{send_buffered}
+use Rattle.sctp_association.specs.Sending.{send_in}
 
 -- ---- what `state` answers
 
@@ -98,7 +98,7 @@ offered None m o s = with_context s (accepted m o s.context)
 offered (Some e) m o s = with_context s (refused e o.lifecycle_id s.context)
 
 abbrev pub send_if : {P : Type 0} → Option SendError → Message → SendOptions → Standing P → Standing P
-send_if None m o s = where_open send_buffered (with_context s (accepted m o s.context))
+send_if None m o s = where_open send_in (with_context s (accepted m o s.context))
 send_if (Some e) m o s = with_context s (refused e o.lifecycle_id s.context)
 
 abbrev pub send : {P : Type 0} → Message → SendOptions → Standing P → Standing P
@@ -110,7 +110,7 @@ offer_all [] o s = s
 offer_all (m ∷ ms) o s = offer_all ms o (offered (refusal_of m s) m o s)
 
 abbrev pub send_many : {P : Type 0} → List Message → SendOptions → Standing P → Standing P
-send_many ms o s = where_open send_buffered (offer_all ms o s)
+send_many ms o s = where_open send_in (offer_all ms o s)
 
 -- which are refused, by their places
 abbrev pub with_refusal : (place : ℕ) → Option SendError → List (ℕ × SendError) → List (ℕ × SendError)

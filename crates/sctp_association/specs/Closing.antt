@@ -28,22 +28,30 @@ send_shutdown t c = emit_chunk (shutdown_chunk (written t.tracker t.tracker.trac
 abbrev pub send_shutdown_ack : {P : Type 0} → Tcb → Context P → Context P
 send_shutdown_ack t c = emit_chunk shutdown_ack_chunk t c
 
-abbrev pub pending : {P : Type 0} → (is_quiet : Bool) → Tcb → Context P → Standing P
-pending true t c = open_as (ShutdownSent (t2_shutdown t c)) t (send_shutdown t c)
-pending false t c = open_as ShutdownPending t c
+-- a phase that may be another one
+pub record Onward (P : Type 0) : Type 0 where
+  pub phase : Phase
+  pub context : Context P
 
-abbrev pub received : {P : Type 0} → (is_quiet : Bool) → Tcb → Context P → Standing P
-received true t c = open_as (ShutdownAckSent (t2_shutdown t c)) t (send_shutdown_ack t c)
-received false t c = open_as ShutdownReceived t c
+abbrev pub onward : {P : Type 0} → Phase → Context P → Onward P
+onward phase c = record { phase = phase; context = c }
+
+abbrev pub pending : {P : Type 0} → (is_quiet : Bool) → Tcb → Context P → Onward P
+pending true t c = onward (ShutdownSent (t2_shutdown t c)) (send_shutdown t c)
+pending false t c = onward ShutdownPending c
+
+abbrev pub received : {P : Type 0} → (is_quiet : Bool) → Tcb → Context P → Onward P
+received true t c = onward (ShutdownAckSent (t2_shutdown t c)) (send_shutdown_ack t c)
+received false t c = onward ShutdownReceived c
 
 -- where nothing is unacknowledged, a shutdown that waited for that goes on
-abbrev pub go_on : {P : Type 0} → Phase → Tcb → Context P → Standing P
-go_on (CookieEchoed t1 cookie) t c = open_as (CookieEchoed t1 cookie) t c
-go_on Established t c = open_as Established t c
+abbrev pub go_on : {P : Type 0} → Phase → Tcb → Context P → Onward P
+go_on (CookieEchoed t1 cookie) t c = onward (CookieEchoed t1 cookie) c
+go_on Established t c = onward Established c
 go_on ShutdownPending t c = pending (is_quiet t.sender.outstanding.items) t c
-go_on (ShutdownSent t2) t c = open_as (ShutdownSent t2) t c
+go_on (ShutdownSent t2) t c = onward (ShutdownSent t2) c
 go_on ShutdownReceived t c = received (is_quiet t.sender.outstanding.items) t c
-go_on (ShutdownAckSent t2) t c = open_as (ShutdownAckSent t2) t c
+go_on (ShutdownAckSent t2) t c = onward (ShutdownAckSent t2) c
 
 -- ---- aborts
 

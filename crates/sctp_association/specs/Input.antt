@@ -17,7 +17,7 @@ use Rattle.sctp_state.specs.Capabilities.{Capabilities}
 use Rattle.sctp_rx.specs.Tracker.{packet_end, is_ack_due, take_ack}
 use Rattle.sctp_association.specs.Association.{Tcb, Phase, CookieEchoed, Established, ShutdownPending, ShutdownSent, ShutdownReceived, ShutdownAckSent, State, Closed, CookieWait, Open, Context, Standing, Endpoint, open_as, with_context, where_open}
 use Rattle.sctp_association.specs.Packets.{add, rounded, new_packet, complain, emit_chunk}
-use Rattle.sctp_association.specs.Sending.{asked, acknowledged, selective_ack, send_with}
+use Rattle.sctp_association.specs.Sending.{asked, acknowledged, selective_ack, is_alone, open_with, send_with}
 use Rattle.sctp_association.specs.Closing.{send_shutdown, violated, on_abort, on_error}
 use Rattle.sctp_association.specs.Data.{on_data, on_forward}
 use Rattle.sctp_association.specs.Acknowledging.{on_sack}
@@ -248,7 +248,7 @@ repeats_if false s = s
 
 -- at the end of a packet an acknowledgement, where one is due, and what else may be sent
 abbrev pub ack_now : {P : Type 0} → Phase → Tcb → Context P → Standing P
-ack_now phase t c = send_with (add (selective_ack t) (new_packet c.options t)) phase (acknowledged t) c
+ack_now phase t c = open_with phase (send_with (is_alone phase) (add (selective_ack t) (new_packet c.options t)) (acknowledged t) c)
 
 abbrev pub ended_if : {P : Type 0} → (is_due : Bool) → Phase → Tcb → Context P → Standing P
 ended_if true phase t c = ack_now phase t c

@@ -22,7 +22,7 @@ use Rattle.sctp_outstanding.specs.Items.{next_number}
 use Rattle.sctp_outstanding.specs.Items as items
 use Rattle.sctp_association.specs.Association.{Identity, Tcb, tcb, Phase, CookieEchoed, Established, ShutdownPending, ShutdownSent, ShutdownReceived, ShutdownAckSent, State, Closed, CookieWait, Open, Context, Standing, Endpoint, open_as, with_context}
 use Rattle.sctp_association.specs.Packets.{add, packet_to, new_packet, rounded, say, complain, emit}
-use Rattle.sctp_association.specs.Sending.{send_with, send_buffered, send_cookie}
+use Rattle.sctp_association.specs.Sending.{Sent, open_with, send_with, send_buffered, send_cookie}
 use Rattle.sctp_association.specs.Closing.{closed, send_shutdown_ack}
 
 -- ---- draws: a TSN but the last, a tag but 0 and the last
@@ -175,8 +175,8 @@ t1_cookie c = start c.now (timer c.options.t1_cookie_timeout Exponential c.optio
 -- the peer is named, and its cookie echoed
 abbrev pub echo : {P : Type 0} → InitTree → List ℕ → Identity → Context P → Standing P
 echo i cookie me c =
-    send_cookie cookie (CookieEchoed (t1_cookie c) cookie) (tcb c.options me i.a_rwnd (agreed_by c.options i))
-    (record c { peer = maker cookie; queue = queue_anew (agreed_by c.options i).message_interleaving c.queue })
+    open_with (CookieEchoed (t1_cookie c) cookie) (send_cookie cookie (tcb c.options me i.a_rwnd (agreed_by c.options i))
+    (record c { peer = maker cookie; queue = queue_anew (agreed_by c.options i).message_interleaving c.queue }))
 
 abbrev pub names : InitTree → (tag first tie : ℕ) → Identity
 names i tag first tie = record { my_tag = tag; my_first = first; peer_tag = i.initiate_tag; peer_first = i.initial_tsn; tie = tie }
@@ -196,7 +196,7 @@ on_init_ack i s = on_init_ack_in s.standing.state i s
 -- ---- COOKIE ACK
 
 abbrev pub established : {P : Type 0} → Tcb → Context P → Standing P
-established t c = send_buffered Established t (say OnConnected c)
+established t c = open_with Established (send_buffered false t (say OnConnected c))
 
 abbrev pub on_cookie_ack : {P : Type 0} → Phase → Tcb → Context P → Standing P
 on_cookie_ack (CookieEchoed t1 cookie) t c = established t c
@@ -239,10 +239,10 @@ judged tag k (CookieWait my_tag first t1) = new_if (tag == k.my_tag)
 judged tag k (Open phase t) = compared tag t.identity k
 
 -- with data behind it
-abbrev pub cookie_ack : {P : Type 0} → (peer_tag : ℕ) → Phase → Tcb → Context P → Standing P
-cookie_ack peer_tag phase t c =
-    send_with (add cookie_ack_chunk
-    (record (packet_to peer_tag c.options.mtu) { is_summed = not (zero_checksum_enabled t.capabilities) })) phase t c
+abbrev pub cookie_ack : {P : Type 0} → (peer_tag : ℕ) → Tcb → Context P → Sent P
+cookie_ack peer_tag t c =
+    send_with false (add cookie_ack_chunk
+    (record (packet_to peer_tag c.options.mtu) { is_summed = not (zero_checksum_enabled t.capabilities) })) t c
 
 abbrev pub identity_of : Cookie → (tie : ℕ) → Identity
 identity_of k tie = record {
@@ -271,19 +271,19 @@ tcb_by o k tie = tcb o (identity_of k tie) (min k.a_rwnd o.max_send_buffer_size)
 
 abbrev pub anew : {P : Type 0} → (resets : Bool) → Cookie → (tie : ℕ) → Context P → Standing P
 anew resets k tie c =
-    cookie_ack k.peer_tag Established (tcb_by c.options k tie)
-    (say OnConnected (record c { queue = queue_for resets (negotiated c.options k.peer_capabilities).message_interleaving c.queue }))
+    open_with Established (cookie_ack k.peer_tag (tcb_by c.options k tie)
+    (say OnConnected (record c { queue = queue_for resets (negotiated c.options k.peer_capabilities).message_interleaving c.queue })))
 
 abbrev pub establishes : {P : Type 0} → (resets : Bool) → Cookie → Context P → Endpoint P → Endpoint P
 establishes resets k c s = stands (anew resets k (long_word s) c) (drew_long_word s)
 
 abbrev pub kept : {P : Type 0} → Cookie → Phase → Tcb → Context P → Standing P
-kept k (CookieEchoed t1 cookie) t c = cookie_ack k.peer_tag Established t (say OnConnected c)
-kept k Established t c = cookie_ack k.peer_tag Established t c
-kept k ShutdownPending t c = cookie_ack k.peer_tag ShutdownPending t c
-kept k (ShutdownSent t2) t c = cookie_ack k.peer_tag (ShutdownSent t2) t c
-kept k ShutdownReceived t c = cookie_ack k.peer_tag ShutdownReceived t c
-kept k (ShutdownAckSent t2) t c = cookie_ack k.peer_tag (ShutdownAckSent t2) t c
+kept k (CookieEchoed t1 cookie) t c = open_with Established (cookie_ack k.peer_tag t (say OnConnected c))
+kept k Established t c = open_with Established (cookie_ack k.peer_tag t c)
+kept k ShutdownPending t c = open_with ShutdownPending (cookie_ack k.peer_tag t c)
+kept k (ShutdownSent t2) t c = open_with (ShutdownSent t2) (cookie_ack k.peer_tag t c)
+kept k ShutdownReceived t c = open_with ShutdownReceived (cookie_ack k.peer_tag t c)
+kept k (ShutdownAckSent t2) t c = open_with (ShutdownAckSent t2) (cookie_ack k.peer_tag t c)
 
 abbrev pub keep : {P : Type 0} → Cookie → Standing P → Standing P
 keep k s = elim s.state [ Closed ↦ s | CookieWait tag first t1 ↦ s | Open phase t ↦ kept k phase t s.context ]

@@ -151,24 +151,39 @@ is_alone (ShutdownAckSent t2) = false
 abbrev pub burst_with : {P : Type 0} → (is_alone : Bool) → Packet → Tcb → Context P → Filling P
 burst_with is_alone p t c = burst c.options.max_burst true is_alone (record { packet = p; tcb = t; context = c })
 
-abbrev pub standing_of : {P : Type 0} → Phase → Filling P → Standing P
-standing_of phase x = open_as phase x.tcb x.context
+-- what a sending leaves
+pub record Sent (P : Type 0) : Type 0 where
+  pub tcb : Tcb
+  pub context : Context P
+
+abbrev pub sent : {P : Type 0} → Tcb → Context P → Sent P
+sent t c = record { tcb = t; context = c }
+
+abbrev pub sent_by : {P : Type 0} → Filling P → Sent P
+sent_by x = sent x.tcb x.context
+
+abbrev pub open_with : {P : Type 0} → Phase → Sent P → Standing P
+open_with phase x = open_as phase x.tcb x.context
 
 -- what may be sent goes out, behind the chunks of this packet
-abbrev pub send_with : {P : Type 0} → Packet → Phase → Tcb → Context P → Standing P
-send_with p phase t c = standing_of phase (burst_with (is_alone phase) p t c)
+abbrev pub send_with : {P : Type 0} → (is_alone : Bool) → Packet → Tcb → Context P → Sent P
+send_with is_alone p t c = sent_by (burst_with is_alone p t c)
 
-abbrev pub send_buffered : {P : Type 0} → Phase → Tcb → Context P → Standing P
-send_buffered phase t c = send_with (new_packet c.options t) phase t c
+abbrev pub send_buffered : {P : Type 0} → (is_alone : Bool) → Tcb → Context P → Sent P
+send_buffered is_alone t c = send_with is_alone (new_packet c.options t) t c
+
+-- the same in a phase
+abbrev pub send_in : {P : Type 0} → Phase → Tcb → Context P → Standing P
+send_in phase t c = open_with phase (send_buffered (is_alone phase) t c)
 
 -- ---- the cookie, with data where both fit
 
-abbrev pub cookie_if : {P : Type 0} → (fits : Bool) → List ℕ → Phase → Tcb → Context P → Standing P
-cookie_if true cookie phase t c = send_with (add (cookie_echo_chunk cookie) (packet_to t.identity.peer_tag c.options.mtu)) phase t c
-cookie_if false cookie phase t c = open_as phase t c
+abbrev pub cookie_if : {P : Type 0} → (fits : Bool) → List ℕ → Tcb → Context P → Sent P
+cookie_if true cookie t c = send_with true (add (cookie_echo_chunk cookie) (packet_to t.identity.peer_tag c.options.mtu)) t c
+cookie_if false cookie t c = sent t c
 
-abbrev pub send_cookie : {P : Type 0} → List ℕ → Phase → Tcb → Context P → Standing P
-send_cookie cookie phase t c = cookie_if (fits (packet_to t.identity.peer_tag c.options.mtu) (cookie_echo_chunk cookie)) cookie phase t c
+abbrev pub send_cookie : {P : Type 0} → List ℕ → Tcb → Context P → Sent P
+send_cookie cookie t c = cookie_if (fits (packet_to t.identity.peer_tag c.options.mtu) (cookie_echo_chunk cookie)) cookie t c
 
 -- ---- the packet that a third missing report sends at once, whatever the window says (RFC 9260 section 7.2.4)
 
@@ -178,10 +193,9 @@ fast_most o = rounded o.mtu - 12
 abbrev pub fast_packet : Options → Tcb → Packet
 fast_packet o t = add_all (data_chunks t false (resent_fast (fast_most o) t.sender).chunks) (new_packet o t)
 
-abbrev pub fast_if : {P : Type 0} → (has_fast : Bool) → Phase → Tcb → Context P → Standing P
-fast_if true phase t c =
-    open_as phase (record t { sender = send_fast c.now (fast_most c.options) t.sender }) (emit (fast_packet c.options t) c)
-fast_if false phase t c = open_as phase t c
+abbrev pub fast_if : {P : Type 0} → (has_fast : Bool) → Tcb → Context P → Sent P
+fast_if true t c = sent (record t { sender = send_fast c.now (fast_most c.options) t.sender }) (emit (fast_packet c.options t) c)
+fast_if false t c = sent t c
 
-abbrev pub send_lost : {P : Type 0} → Phase → Tcb → Context P → Standing P
-send_lost phase t c = fast_if (nat_lt 0 (fast_items t.sender.outstanding.items)) phase t c
+abbrev pub send_lost : {P : Type 0} → Tcb → Context P → Sent P
+send_lost t c = fast_if (nat_lt 0 (fast_items t.sender.outstanding.items)) t c

@@ -8,8 +8,8 @@ use Rattle.sctp_state.specs.Events.{OnAborted}
 use Rattle.sctp_outstanding.specs.Losses.{Step, nack_all}
 use Rattle.sctp_rx.specs.Tracker.{ack_timeout}
 use Rattle.sctp_tx.specs.Retransmission.{timed_out_sender}
-use Rattle.sctp_association.specs.Association.{Tcb, Phase, CookieEchoed, Established, ShutdownPending, ShutdownSent, ShutdownReceived, ShutdownAckSent, State, Closed, CookieWait, Open, Context, Standing, open_as, where_open}
-use Rattle.sctp_association.specs.Sending.{send_buffered, send_cookie}
+use Rattle.sctp_association.specs.Association.{Tcb, Phase, CookieEchoed, Established, ShutdownPending, ShutdownSent, ShutdownReceived, ShutdownAckSent, State, Closed, CookieWait, Open, Context, Standing, open_as}
+use Rattle.sctp_association.specs.Sending.{send_in, send_cookie}
 use Rattle.sctp_association.specs.Closing.{closed, send_shutdown, send_shutdown_ack, too_many}
 use Rattle.sctp_association.specs.Opening.{send_init}
 
@@ -56,7 +56,7 @@ ticked t c = tick_t3 (tick_ack (ticking t c))
 
 abbrev pub ended_or_sent : {P : Type 0} → (is_exhausted : Bool) → Phase → Tcb → Context P → Standing P
 ended_or_sent true phase t c = too_many t c
-ended_or_sent false phase t c = send_buffered phase t c
+ended_or_sent false phase t c = send_in phase t c
 
 abbrev pub settled_if : {P : Type 0} → (has_expired : Bool) → Phase → Tcb → Context P → Standing P
 settled_if true phase t c = ended_or_sent (is_exhausted c.errors) phase t c
@@ -88,7 +88,7 @@ abbrev pub ended_open : {P : Type 0} → Phase → Tcb → Context P → Standin
 ended_open phase t c = ended_if (is_exhausted c.errors) phase t c
 
 abbrev pub t1_expired : {P : Type 0} → (is_running : Bool) → Timer → List ℕ → Ticking P → Standing P
-t1_expired true t1 cookie x = where_open ended_open (send_cookie cookie (CookieEchoed t1 cookie) x.tcb x.context)
+t1_expired true t1 cookie x = let y = send_cookie cookie x.tcb x.context in ended_open (CookieEchoed t1 cookie) y.tcb y.context
 t1_expired false t1 cookie x = closed (OnAborted TooManyRetries (codes "No COOKIE_ACK received")) x.context
 
 abbrev pub t1_if : {P : Type 0} → (is_due : Bool) → Timer → List ℕ → Ticking P → Standing P

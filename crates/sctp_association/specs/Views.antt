@@ -7,6 +7,8 @@ use Rattle.sctp_state.specs.Options.{Options}
 use Rattle.sctp_state.specs.Capabilities.{capabilities_of}
 use Rattle.sctp_association.specs.declared.transmission_control_block.Identity as given_identity
 use Rattle.sctp_association.specs.declared.transmission_control_block.TransmissionControlBlock as given_tcb
+use Rattle.sctp_packet.specs.declared.sack.SackChunk.{SackChunk}
+use Rattle.sctp_packet.specs.Chunk.{SackTree}
 use Rattle.sctp_send_queue.specs.Queue.{Queue}
 use Rattle.sctp_association.specs.declared.state.Phase as given_phase
 use Rattle.sctp_association.specs.declared.state.Phase.TheVariants as phases
@@ -14,7 +16,8 @@ use Rattle.sctp_association.specs.declared.state.State as given_state
 use Rattle.sctp_association.specs.declared.state.State.TheVariants as states
 use Rattle.sctp_association.specs.Association.{Identity, Tcb, Phase, CookieEchoed, Established, ShutdownPending, ShutdownSent, ShutdownReceived, ShutdownAckSent, State, Closed, CookieWait, Open, Counts, Context, Standing, Endpoint}
 use Rattle.sctp_association.specs.Packets.{Packet}
-use Rattle.sctp_association.specs.Sending.{Filling}
+use Rattle.sctp_association.specs.Closing.{Onward}
+use Rattle.sctp_association.specs.Sending.{Filling, Sent}
 use Rattle.sctp_association.specs.Wire.{written}
 
 abbrev pub identity_of : given_identity.Identity → Identity
@@ -82,3 +85,20 @@ filling_of word_of p t c = record { packet = p; tcb = tcb_of t; context = contex
 
 abbrev pub standing_of : {C : Type 0} → (C → List ℕ → ℕ) → given_state.State → ContextValue C → Standing (List ℕ)
 standing_of word_of s c = record { state = state_of s; context = context_of word_of c }
+
+abbrev pub sent_of : {C : Type 0} → (C → List ℕ → ℕ) → given_tcb.TransmissionControlBlock → ContextValue C → Sent (List ℕ)
+sent_of word_of t c = record { tcb = tcb_of t; context = context_of word_of c }
+
+abbrev pub onward_of : {C : Type 0} → (C → List ℕ → ℕ) → given_phase.Phase → ContextValue C → Onward (List ℕ)
+onward_of word_of phase c = record { phase = phase_of phase; context = context_of word_of c }
+
+abbrev pub opened_of : {C : Type 0} → (C → List ℕ → ℕ) → given_phase.Phase → given_tcb.TransmissionControlBlock → ContextValue C → Standing (List ℕ)
+opened_of word_of phase t c = record { state = Open (phase_of phase) (tcb_of t); context = context_of word_of c }
+
+abbrev pub sack_of : SackChunk → SackTree
+sack_of c = record {
+  cumulative_tsn_ack = c.cumulative_tsn_ack.0;
+  a_rwnd = c.a_rwnd;
+  gap_ack_blocks = c.gap_ack_blocks.items;
+  duplicate_tsns = c.duplicate_tsns.items;
+}

@@ -12,5 +12,4 @@ pub fn conversations_go()
     ensures given_up { GivenUpOnce }
     ensures fragments { Fragments }
     ensures closes { Closes }
-{
-}
+{}

@@ -1,14 +1,15 @@
 //! The association: handshake, transfer, timers and the socket (RFC 9260).
 #![tactic(auto)]
 
-pub mod laws;
 mod context;
 mod data;
 mod draws;
 mod handshake;
+pub mod laws;
 mod outgoing_packet;
 mod sack;
 mod sending;
+mod shutdown;
 mod state;
 mod transmission_control_block;
 

@@ -3,13 +3,13 @@
 ghost use Rattle.std.specs.Prelude.{◌≡◌, ◌*◌, true, map, OnOk, IfOk};
 ghost use Rattle.sctp_outstanding.specs.Views.{chunk_of};
 ghost use Rattle.sctp_association.specs.Packets.{add_all};
-ghost use Rattle.sctp_association.specs.Sending.{burst_with, data_chunks, forward_if, turned, with_ack, with_data, with_forward};
-ghost use Rattle.sctp_association.specs.Views.{context_of, filling_of, tcb_of};
+ghost use Rattle.sctp_association.specs.Sending.{burst_with, data_chunks, forward_if, send_buffered, send_cookie, send_lost, send_with, turned, with_ack, with_data, with_forward};
+ghost use Rattle.sctp_association.specs.Views.{context_of, filling_of, sent_of, tcb_of};
 
 use crate::context::Context;
 use crate::outgoing_packet::OutgoingPacket;
 use crate::transmission_control_block::TransmissionControlBlock;
-use sctp_packet::{Chunk, Data};
+use sctp_packet::{COMMON_HEADER_SIZE, Chunk, CookieEchoChunk, Data};
 use sctp_serial::Tsn;
 use sctp_wire::Checksum;
 use std::alloc::AllocError;
@@ -24,9 +24,12 @@ impl<C: Checksum> Context<C> {
     ) -> Result<(), AllocError>
         ensures { OnOk result (filling_of C.word_of packet.new tcb.new self.now ≡ with_ack (filling_of C.word_of packet.old tcb.old self.now)) }
     {
-        let also_if_delayed =
-            self.send_queue.has_data_to_send() || tcb.retransmission_queue.can_send_data();
-        if tcb.data_tracker.should_send_ack(self.clock, also_if_delayed) {
+        let also_if_delayed = self.send_queue.has_data_to_send()
+            || tcb.retransmission_queue.can_send_data();
+        if tcb
+            .data_tracker
+            .should_send_ack(self.clock, also_if_delayed)
+        {
             let window = tcb.reassembly_queue.remaining_bytes() as u32;
             let sack = tcb.data_tracker.create_selective_ack(window)?;
             packet.add(Chunk::Sack(sack))?;
@@ -66,8 +69,8 @@ impl<C: Checksum> Context<C> {
         let chunk = tcb.retransmission_queue.create_forward_tsn()?;
         if packet.fits(&chunk) {
             packet.add(chunk)?;
-            self.limit_forward_tsn_until =
-                self.clock + tcb.rto.srtt().min(Duration::from_millis(200));
+            self.limit_forward_tsn_until = self.clock
+                + tcb.rto.srtt().min(Duration::from_millis(200));
         }
         Ok(())
     }
@@ -144,6 +147,71 @@ impl<C: Checksum> Context<C> {
             }
         }
         Ok(())
+    }
+
+    /// What may be sent goes out, behind the chunks of this packet.
+    pub(crate) fn send_buffered_packets_with(
+        &mut self,
+        tcb: &mut TransmissionControlBlock,
+        is_alone: bool,
+        mut packet: OutgoingPacket,
+    ) -> Result<(), AllocError>
+        ensures { OnOk result (sent_of C.word_of tcb.new self.new ≡ send_with is_alone packet (tcb_of tcb.old) (context_of C.word_of self.old)) }
+    {
+        self.send_burst(&mut packet, tcb, is_alone)
+    }
+
+    /// What may be sent goes out.
+    pub(crate) fn send_buffered_packets(
+        &mut self,
+        tcb: &mut TransmissionControlBlock,
+        is_alone: bool,
+    ) -> Result<(), AllocError>
+        ensures { OnOk result (sent_of C.word_of tcb.new self.new ≡ send_buffered is_alone (tcb_of tcb.old) (context_of C.word_of self.old)) }
+    {
+        let packet = tcb.new_packet(self.alloc, &self.options);
+        self.send_buffered_packets_with(tcb, is_alone, packet)
+    }
+
+    /// The cookie goes out, with data where both fit (RFC 9260 section 5.1).
+    pub(crate) fn send_cookie_echo(
+        &mut self,
+        tcb: &mut TransmissionControlBlock,
+        cookie: &[u8],
+    ) -> Result<(), AllocError>
+        ensures { OnOk result (sent_of C.word_of tcb.new self.new ≡ send_cookie cookie.now (tcb_of tcb.old) (context_of C.word_of self.old)) }
+    {
+        let mut packet = OutgoingPacket::new(
+            self.alloc,
+            tcb.identity.peer_verification_tag,
+            self.options.mtu,
+        );
+        let cookie = Vec::from_slice(self.alloc, cookie)?;
+        let chunk = Chunk::CookieEcho(CookieEchoChunk { cookie });
+        if !packet.fits(&chunk) {
+            return Ok(());
+        }
+        packet.add(chunk)?;
+        self.send_buffered_packets_with(tcb, true, packet)
+    }
+
+    /// What a third missing report showed to be lost goes out, whatever the window says (RFC 9260 section 7.2.4).
+    pub(crate) fn send_fast_retransmit(
+        &mut self,
+        tcb: &mut TransmissionControlBlock,
+    ) -> Result<(), AllocError>
+        ensures { OnOk result (sent_of C.word_of tcb.new self.new ≡ send_lost (tcb_of tcb.old) (context_of C.word_of self.old)) }
+    {
+        if !tcb.retransmission_queue.has_data_to_be_fast_retransmitted() {
+            return Ok(());
+        }
+        let mut packet = tcb.new_packet(self.alloc, &self.options);
+        let most = (self.options.mtu / 4 * 4).saturating_sub(COMMON_HEADER_SIZE);
+        let fragments = tcb
+            .retransmission_queue
+            .get_chunks_for_fast_retransmit(self.clock, most)?;
+        add_fragments(&mut packet, tcb, false, fragments)?;
+        self.emit(&mut packet)
     }
 }
 

@@ -18,4 +18,3 @@ returns-clause-fragments c = fragments_goes
 
 pub returns-clause-closes : goal.returns-clause-closes
 returns-clause-closes c = closes_goes
-

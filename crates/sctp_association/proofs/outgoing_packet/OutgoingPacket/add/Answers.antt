@@ -13,8 +13,10 @@ overflow_add-self c =
     let size = c.serialized_size-size.ensures ∙ ap (λ (n : ℕ). min n (2 ^ 64 - 1)) (size_of_chunk item) in
     let room = rw (← c.self.view_is) at (c.fits.ensures.room c.if-fits.true) in
     let inside = c.self.inside in
-    record { fits = sum_fits inside.body_size c.serialized_size-size.result (length (chunk_bytes item)) _ inside.limit
-        c.self.invariant.counted size room c.self.invariant.small c.self.invariant.short }
+    record {
+      fits = sum_fits inside.body_size c.serialized_size-size.result (length (chunk_bytes item)) _ inside.limit
+          c.self.invariant.counted size room c.self.invariant.small c.self.invariant.short;
+    }
 
 pub invariant_of-self-then-fits : goal.invariant_of-self-then-fits
 invariant_of-self-then-fits c =
