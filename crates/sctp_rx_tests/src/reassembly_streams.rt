@@ -1,11 +1,13 @@
 ghost use Rattle.std.specs.Prelude.{◌≡◌, ◌<◌, ◌∷◌, [], length, IfOk};
 
-use super::*;
-use crate::interleaved_reassembly_streams::InterleavedReassemblyStreams;
-use crate::traditional_reassembly_streams::TraditionalReassemblyStreams;
-use sctp_serial::{Fsn, Message, Mid, PpId, Ssn, StreamKey};
-
 mod slow;
+
+use sctp_packet::{Data, SkippedStream};
+use sctp_rx::{
+    InterleavedReassemblyStreams, ReadyMessages, ReassemblyStreams, TraditionalReassemblyStreams,
+};
+use sctp_serial::{Fsn, Message, Mid, PpId, Ssn, StreamId, StreamKey};
+use std::alloc::{AllocError, Global};
 
 // A fragment of one byte.
 fn piece(
