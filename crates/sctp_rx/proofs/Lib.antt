@@ -15,6 +15,7 @@ pub mod ReassemblyRowsLemmas
 pub mod DeliverLemmas
 pub mod EntriesLemmas
 pub mod SkipLemmas
+pub mod SortLemmas
 pub mod WaitingLemmas
 pub mod ExtendsLemmas
 pub mod RestoredLemmas

@@ -1,15 +1,12 @@
 -- Forward points, entry after entry.
 use Rattle.std.proofs.Common.{◌≡◌, ℕ, zero, suc, ◌+◌, ◌<◌, ◌≤◌, Bool, true, false, cond, Option, Some, None, List, [], ◌∷◌, ◌++◌, length, take, drop, get_or, refl, ap, sym, subst, ◌∙◌, arith, append_assoc, append-nil, drop-cons}
-use Rattle.std.specs.Prelude.{nat_lt}
-use Rattle.std.proofs.lemmas.Bool.{lt-ltb, le-ltb}
-use Rattle.std.proofs.lemmas.List.{take_more}
 use Rattle.sctp_serial.specs.Messages.{Message}
 use Rattle.sctp_packet.specs.declared.forward_tsn.SkippedStream.{SkippedStream}
 use Rattle.sctp_rx.specs.Held.{Held}
 use Rattle.sctp_rx.specs.Delivery.{OrderedStream, UnorderedStream, fresh_ordered, fresh_unordered, ordered_arrival, unordered_arrival, ordered_forward, unordered_forward}
 use Rattle.sctp_serial.specs.Unwrapped.{words, nearest}
 use Rattle.sctp_packet.specs.Chunk.{FragmentTree}
-use Rattle.sctp_rx.specs.Streams.{Entries, Streams, Outcome, add, add_in_order, held_as, place_of, unchanged, numbered, is_far, stream_at, changed, with_ordered, with_unordered, add_ordered, add_unordered, skip_ordered, skip_unordered, skip, skip_each, skipped_id, put_skip, put_each}
+use Rattle.sctp_rx.specs.Streams.{Entries, Streams, Outcome, add, add_in_order, held_as, place_of, unchanged, numbered, is_far, stream_at, changed, with_ordered, with_unordered, add_ordered, add_unordered, skip_ordered, skip_unordered, skip, skip_each}
 
 -- what is numbered
 far : (b : Bool) (n : ℕ) → cond b None (Some n) ≡ None → b ≡ true
@@ -52,33 +49,6 @@ pub skip_near : (id n m : ℕ) (ss : Streams) → numbered n ≡ Some m → skip
 skip_near id n m ss some =
     ap (λ (b : Bool). cond b (unchanged ss) (with_ordered id (ordered_forward n (stream_at fresh_ordered id ss.ordered)) ss)) (near-from n m some)
     ∙ ap (λ (k : ℕ). with_ordered id (ordered_forward k (stream_at fresh_ordered id ss.ordered)) ss) (same-from n m some)
-
--- entries in order
-pub put_more : (e d : SkippedStream) (xs : List SkippedStream) (i : ℕ) (whole : List SkippedStream) → i < length xs → d ≡ get_or xs i d → skipped_id d ≤ skipped_id e → take i xs ++ put_skip e (drop i xs) ≡ whole → take (i + 1) xs ++ put_skip e (drop (i + 1) xs) ≡ whole
-put_more e d xs i whole h read least before =
-    let up : suc i ≡ i + 1 = omega arith in
-    let rest : drop i xs ≡ d ∷ drop (i + 1) xs = drop-cons xs i d h ∙ (ap (λ (t : SkippedStream). t ∷ drop (suc i) xs) (sym read) ∙ ap (λ (k : ℕ). d ∷ drop k xs) up) in
-    let head : put_skip e (d ∷ drop (i + 1) xs) ≡ d ∷ put_skip e (drop (i + 1) xs) =
-    ap (λ (b : Bool). cond b (e ∷ (d ∷ drop (i + 1) xs)) (d ∷ put_skip e (drop (i + 1) xs))) (le-ltb (skipped_id e) (skipped_id d) least) in
-    ap (λ (t : List SkippedStream). t ++ put_skip e (drop (i + 1) xs)) (take_more xs i d h ∙ ap (λ (t : SkippedStream). take i xs ++ t ∷ []) (sym read))
-    ∙ (append_assoc (take i xs) (d ∷ []) (put_skip e (drop (i + 1) xs)) ∙ (ap (λ (t : List SkippedStream). take i xs ++ t) (sym head ∙ ap (put_skip e) (sym rest)) ∙ before))
-
-pub put_here : (e d : SkippedStream) (xs : List SkippedStream) (i : ℕ) → i < length xs → d ≡ get_or xs i d → skipped_id e < skipped_id d → put_skip e (drop i xs) ≡ e ∷ drop i xs
-put_here e d xs i h read less =
-    let rest : drop i xs ≡ d ∷ drop (suc i) xs = drop-cons xs i d h ∙ ap (λ (t : SkippedStream). t ∷ drop (suc i) xs) (sym read) in
-    ap (put_skip e) rest ∙ (ap (λ (b : Bool). cond b (e ∷ (d ∷ drop (suc i) xs)) (d ∷ put_skip e (drop (suc i) xs))) (lt-ltb (skipped_id e) (skipped_id d) less) ∙ ap (λ (t : List SkippedStream). e ∷ t) (sym rest))
-
-pub put_end : (e : SkippedStream) (xs : List SkippedStream) (i : ℕ) → length xs ≤ i → take i xs ++ put_skip e (drop i xs) ≡ xs ++ e ∷ []
-put_end e [] zero h = refl
-put_end e [] (suc i) h = refl
-put_end e (x ∷ xs) zero h = absurd (omega arith)
-put_end e (x ∷ xs) (suc i) h = ap (λ (t : List SkippedStream). x ∷ t) (put_end e xs i (omega arith))
-
-pub each_put : (e : SkippedStream) (es xs ys whole : List SkippedStream) (i : ℕ) → i < length es → e ≡ get_or es i e → ys ≡ put_skip e xs → put_each (drop i es) xs ≡ whole → put_each (drop (i + 1) es) ys ≡ whole
-each_put e es xs ys whole i h read made before =
-    let up : suc i ≡ i + 1 = omega arith in
-    let rest : drop i es ≡ e ∷ drop (i + 1) es = drop-cons es i e h ∙ (ap (λ (t : SkippedStream). t ∷ drop (suc i) es) (sym read) ∙ ap (λ (k : ℕ). e ∷ drop k es) up) in
-    ap (put_each (drop (i + 1) es)) made ∙ (ap (λ (t : List SkippedStream). put_each t xs) (sym rest) ∙ before)
 
 -- what is left to do after one more entry
 module _ (e : SkippedStream) (es : List SkippedStream) (i : ℕ) (h : i < length es) (read : e ≡ get_or es i e) where

@@ -91,6 +91,10 @@ came tsn r = record r { first = Some (unwrap_or r.first tsn); near = max origin 
 abbrev pub counted : ℕ → ℕ → ℕ
 counted n m = min (n + m) (2 ^ 64 - 1)
 
+-- each message that became ready since is counted
+abbrev pub IsCounted : Reassembly → Reassembly → Type 0
+IsCounted old new = new.ready_count ≡ counted old.ready_count (length new.ready - length old.ready)
+
 -- messages became ready
 abbrev pub made : Outcome → Reassembly → Reassembly
 made o r = record r { streams = o.streams; ready = r.ready ++ o.messages; ready_count = counted r.ready_count (length o.messages) }

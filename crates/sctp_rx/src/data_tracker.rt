@@ -369,6 +369,3 @@ fn remember(duplicates: &mut Vec<u64>, number: u64) -> Result<(), AllocError>
     duplicates.insert(place, number)?;
     Ok(())
 }
-
-#[cfg(test)]
-mod tests;

@@ -360,6 +360,3 @@ fn insert_at<K: ReassemblyKey>(
     intervals.insert(place, Interval { entries })?;
     Ok(place)
 }
-
-#[cfg(test)]
-mod tests;

@@ -57,7 +57,7 @@ impl Model for ReassemblyQueue {
 }
 
 impl ReassemblyQueue {
-    ghost use Rattle.sctp_rx.specs.ReassemblyQueue.{reassembly, queued_bytes, watermark, number_of, came, add_now, forward_now, fragment_waits, point_waits, waits, waiting_bytes, waiting_number, add, forward, defer, apply, apply_each, reset};
+    ghost use Rattle.sctp_rx.specs.ReassemblyQueue.{reassembly, queued_bytes, watermark, number_of, came, add_now, forward_now, fragment_waits, point_waits, waits, waiting_bytes, waiting_number, counted, IsCounted, add, forward, defer, apply, apply_each, reset};
     ghost use Rattle.sctp_rx.specs.WaitingViews.{waiting_of};
 
     /// An empty queue, which is full at `max_size` bytes. Takes no memory.
@@ -155,18 +155,28 @@ impl ReassemblyQueue {
         self.near = number.max(FIRST);
     }
 
+    // Counts the messages that became ready since there were so many.
+    fn count_from(&mut self, before: usize)
+        requires { before ≤ length self.old.ready }
+        ensures { self.new ≡ record self.old { ready_count = counted self.old.ready_count (length self.old.ready - before) } }
+    {
+        let more = self.ready.len() - before;
+        self.ready_count = self.ready_count.saturating_add(more);
+    }
+
     // Adds a fragment to its stream.
     fn add_now(&mut self, number: u64, fragment: Data) -> Result<(), AllocError>
         requires room { queued_bytes self.old + length fragment.payload.items < 2 ^ 64 }
         requires small { number < 2 ^ 63 }
         ensures ok { OnOk result (self.new ≡ add_now number (fragment_tree fragment) self.old) }
         ensures kept { Extends self.old.ready self.new.ready }
+        ensures counted { IsCounted self.old self.new }
         ensures bytes { queued_bytes self.new ≤ queued_bytes self.old + length fragment.payload.items }
     {
         let before = self.ready.len();
-        self.streams.add(number, fragment, &mut self.ready)?;
-        self.ready_count = self.ready_count.saturating_add(self.ready.len() - before);
-        Ok(())
+        let added = self.streams.add(number, fragment, &mut self.ready);
+        self.count_from(before);
+        added
     }
 
     // Takes a forward point.
@@ -174,13 +184,15 @@ impl ReassemblyQueue {
         requires { number < 2 ^ 63 }
         ensures ok { OnOk result (self.new ≡ forward_now number skipped.now self.old) }
         ensures kept { Extends self.old.ready self.new.ready }
+        ensures counted { IsCounted self.old self.new }
         ensures bytes { queued_bytes self.new ≤ queued_bytes self.old }
     {
         let before = self.ready.len();
-        self.streams
-            .handle_forward_tsn(self.alloc, number, skipped, &mut self.ready)?;
-        self.ready_count = self.ready_count.saturating_add(self.ready.len() - before);
-        Ok(())
+        let passed = self
+            .streams
+            .handle_forward_tsn(self.alloc, number, skipped, &mut self.ready);
+        self.count_from(before);
+        passed
     }
 
     // Whether a fragment waits for a reset.
@@ -210,6 +222,7 @@ impl ReassemblyQueue {
         requires small { waiting_number (waiting_of waiting) < 2 ^ 63 }
         ensures ok { OnOk result (self.new ≡ waits (waiting_of waiting) self.old) }
         ensures kept { Extends self.old.ready self.new.ready }
+        ensures counted { IsCounted self.old self.new }
     {
         match &mut self.deferred {
             Some(deferred) => deferred.push(waiting),
@@ -226,7 +239,9 @@ impl ReassemblyQueue {
         requires { queued_bytes self.old + length fragment.payload.items < 2 ^ 64 }
         ensures ok { OnOk result (self.new ≡ add tsn.0 (fragment_tree fragment) self.old) }
         ensures kept { Extends self.old.ready self.new.ready }
+        ensures counted { IsCounted self.old self.new }
     {
+        let _fields = &self.ready_count;
         let number = self.number_of(tsn);
         if number >= LIMIT {
             return Ok(());
@@ -248,7 +263,9 @@ impl ReassemblyQueue {
     ) -> Result<(), AllocError>
         ensures ok { OnOk result (self.new ≡ forward tsn.0 skipped.now self.old) }
         ensures kept { Extends self.old.ready self.new.ready }
+        ensures counted { IsCounted self.old self.new }
     {
+        let _fields = &self.ready_count;
         let number = self.number_of(tsn);
         if number >= LIMIT {
             return Ok(());
@@ -287,6 +304,7 @@ impl ReassemblyQueue {
         requires small { waiting_number (waiting_of waiting) < 2 ^ 63 }
         ensures ok { OnOk result (self.new ≡ apply (waiting_of waiting) self.old) }
         ensures kept { Extends self.old.ready self.new.ready }
+        ensures counted { IsCounted self.old self.new }
         ensures bytes { queued_bytes self.new ≤ queued_bytes self.old + waiting_bytes (waiting_of waiting) }
     {
         match waiting {
@@ -296,12 +314,14 @@ impl ReassemblyQueue {
     }
 
     // Takes all that waited, in order.
-    #[tactic(auto, using(crate::proofs::ExtendsLemmas::extends_none, crate::proofs::ExtendsLemmas::extends_both))]
+    #[tactic(auto, using(crate::proofs::ExtendsLemmas::extends_none, crate::proofs::ExtendsLemmas::extends_both, crate::proofs::ExtendsLemmas::counted_none, crate::proofs::ExtendsLemmas::counted_both))]
     fn apply_each(&mut self, mut deferred: Deferred) -> Result<(), AllocError>
         requires { queued_bytes self.old + sum_by waiting_bytes deferred.waiting < 2 ^ 64 }
         ensures ok { OnOk result (self.new ≡ apply_each deferred.waiting self.old) }
         ensures kept { Extends self.old.ready self.new.ready }
+        ensures counted { IsCounted self.old self.new }
     {
+        let _fields = &self.ready_count;
         while let Some(waiting) = deferred.pop() {
             self.apply(waiting)?;
         }
@@ -319,6 +339,7 @@ impl ReassemblyQueue {
     ) -> Result<(), AllocError>
         ensures ok { OnOk result (self.new ≡ reset streams.now self.old) }
         ensures kept { Extends self.old.ready self.new.ready }
+        ensures counted { IsCounted self.old self.new }
     {
         self.streams.reset_streams(streams);
         match self.deferred.take() {
@@ -365,6 +386,3 @@ impl ReassemblyQueue {
         self.ready.get(place)
     }
 }
-
-#[cfg(test)]
-mod tests;

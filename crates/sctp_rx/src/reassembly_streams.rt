@@ -112,6 +112,3 @@ fn skip_each<S: ReassemblyStreams>(
     }
     Ok(())
 }
-
-#[cfg(test)]
-mod tests;

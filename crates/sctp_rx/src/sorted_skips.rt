@@ -1,7 +1,7 @@
 //! Entries of a forward point in the order of their streams.
 
-ghost use Rattle.std.specs.Prelude.{◌≡◌, ◌≤◌, [], IfOk, OnOk};
-ghost use Rattle.sctp_rx.specs.Streams.{skipped_id, put_skip, by_stream};
+ghost use Rattle.std.specs.Prelude.{◌≡◌, IfOk};
+ghost use Rattle.sctp_rx.specs.Streams.{skipped_id, by_stream};
 
 use sctp_packet::SkippedStream;
 use std::alloc::{AllocError, Global};
@@ -15,20 +15,6 @@ fn stream_id(entry: SkippedStream) -> u16
     }
 }
 
-// Puts an entry behind those of its stream and of lower ones.
-fn put(sorted: &mut Vec<SkippedStream>, entry: SkippedStream) -> Result<(), AllocError>
-    ensures { OnOk result (sorted.new.items ≡ put_skip entry sorted.old.items) }
-{
-    for place in 0..sorted.len() {
-        if stream_id(entry) < stream_id(sorted[place]) {
-            sorted.insert(place, entry)?;
-            return Ok(());
-        }
-    }
-    sorted.push(entry)?;
-    Ok(())
-}
-
 /// The entries by ascending stream, those of one stream as they came.
 pub(crate) fn by_stream(
     alloc: Global,
@@ -36,9 +22,7 @@ pub(crate) fn by_stream(
 ) -> Result<Vec<SkippedStream>, AllocError>
     ensures { IfOk result (λ sorted. sorted.items ≡ by_stream entries.now) }
 {
-    let mut sorted = Vec::new(alloc);
-    for entry in entries {
-        put(&mut sorted, *entry)?;
-    }
+    let mut sorted = Vec::from_slice(alloc, entries)?;
+    sorted.sort_by_key(|entry| stream_id(*entry))?;
     Ok(sorted)
 }

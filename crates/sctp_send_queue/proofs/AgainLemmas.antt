@@ -68,7 +68,7 @@ none_on now k id (m ∷ ms) e =
     ap (λ t. cond t (queued_message now id m ∷ rest) rest) e ∙ none_on now k id ms e
 
 -- all ids are above this one
-abbrev AreAbove : ℕ → Entries → Type 0
+abbrev pub AreAbove : ℕ → Entries → Type 0
 AreAbove k [] = Unit
 AreAbove k (e ∷ es) = (k < e.0) × AreAbove k es
 
@@ -79,7 +79,7 @@ raised k m (e ∷ es) l h = (omega (arith, l, h.0), raised k m es l h.1)
 is_less : (m k : ℕ) → nat_cmp m k ≡ Less → m < k
 is_less m k e = grind (arith, nat_tests)
 
-are_above : (k : ℕ) (es : Entries) → IsStrictlySortedBy nat_cmp (k ∷ keys_of es) → AreAbove k es
+pub are_above : (k : ℕ) (es : Entries) → IsStrictlySortedBy nat_cmp (k ∷ keys_of es) → AreAbove k es
 unfolding IsStrictlySortedBy
 are_above k [] s = tt
 are_above k (e ∷ es) s = (is_less k e.0 s.0.0, raised k e.0 es (omega (arith, is_less k e.0 s.0.0)) (are_above e.0 es s.1))

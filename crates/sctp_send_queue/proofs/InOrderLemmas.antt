@@ -17,7 +17,7 @@ use Rattle.sctp_send_queue.specs.Queue.{Queued, Queue, Stream, Streams, Entries,
 use Rattle.sctp_send_queue.specs.Produced.{Produced, Turn, is_stale, is_due, fresh, without_stale, streams_without_stale, moved_front, moved, ends, front_numbers, front_made, advanced, begun_by, in_line, next_fragment, turn, next_stream, produce_within, produce, settled}
 use Rattle.sctp_send_queue.specs.Settings.{with_threshold, with_priority, set_low_threshold, set_priority, set_mode, front_discarded, without_front, streams_discarded, begun_without, discard_from, discard}
 use Rattle.sctp_send_queue.specs.Resets.{is_partly, prepared, prepare_reset, after_step, stepped, each_stepped}
-use Rattle.sctp_send_queue.specs.Restarted.{whole_front, restarted, restarted_one, each_restarted, unbegun, reset}
+use Rattle.sctp_send_queue.specs.Restarted.{whole_front, restarted, restarted_one, each_restarted, reset}
 use Rattle.sctp_send_queue.specs.InOrder.{is_waiting, is_begun_or_waiting, are_in_order, is_first_begun, is_this, IsInOrder, IsUnsent, NewIsInOrder}
 use Rattle.sctp_send_queue.proofs.StreamsLemmas.{stream-put, stream-nowhere, put-nowhere}
 use Rattle.sctp_send_queue.proofs.ProduceLemmas.{idles, gives, turned}
@@ -100,7 +100,7 @@ waits m h = go (is_some m.numbers) h
     go true h = absurd (cc)
     go false h = (refl, h)
 
-waiting_in_order : (m : Queued) → is_waiting m ≡ true → is_begun_or_waiting m ≡ true
+pub waiting_in_order : (m : Queued) → is_waiting m ≡ true → is_begun_or_waiting m ≡ true
 waiting_in_order m h = ap (λ b. cond b (nat_lt 0 m.offset) (m.offset == 0)) (waits m h).0 ∙ (waits m h).1
 
 rest_in_order : (ms : List Queued) → list_all is_waiting ms ≡ true → (are_in_order ms ≡ true) × (is_first_begun ms ≡ false)
@@ -126,11 +126,11 @@ pushed_first [] m w = (waits m w).0
 pushed_first (x ∷ xs) m w = refl
 
 -- a new association
-whole_order : (ms : List Queued) → are_in_order ms ≡ true → are_in_order (whole_front ms) ≡ true
+pub whole_order : (ms : List Queued) → are_in_order ms ≡ true → are_in_order (whole_front ms) ≡ true
 whole_order [] h = refl
 whole_order (m ∷ rest) h = (both (is_begun_or_waiting m) (list_all is_waiting rest) h).1
 
-whole_first : (ms : List Queued) → is_first_begun (whole_front ms) ≡ false
+pub whole_first : (ms : List Queued) → is_first_begun (whole_front ms) ≡ false
 whole_first [] = refl
 whole_first (m ∷ rest) = refl
 
@@ -175,7 +175,7 @@ unnumbered : (a b : Bool) → not a && b ≡ true → a ≡ false
 unnumbered true b h = absurd (cc)
 unnumbered false b h = refl
 
-fresh_both : (now : ℕ) (ms : List Queued) → are_in_order ms ≡ true → (are_in_order (fresh now ms) ≡ true) × (is_first_begun (fresh now ms) ≡ is_first_begun ms)
+pub fresh_both : (now : ℕ) (ms : List Queued) → are_in_order ms ≡ true → (are_in_order (fresh now ms) ≡ true) × (is_first_begun (fresh now ms) ≡ is_first_begun ms)
 fresh_both now [] h = (refl, refl)
 fresh_both now (m ∷ rest) h = go (is_stale now m) refl
   where
@@ -213,7 +213,7 @@ without_order message (m ∷ rest) s e h = go (m.number == message)
 
 -- ---- the mode stays
 
-hears_mode : (id bytes priority : ℕ) (s : Scheduler) → (set_bytes_remaining id bytes priority s).is_interleaved ≡ s.is_interleaved
+pub hears_mode : (id bytes priority : ℕ) (s : Scheduler) → (set_bytes_remaining id bytes priority s).is_interleaved ≡ s.is_interleaved
 hears_mode id bytes priority s = go (bytes == 0) (is_active id s)
   where
     go : (a b : Bool) → (cond a (left id s) (cond b s (entered id (finish_now bytes priority s) s))).is_interleaved ≡ s.is_interleaved
@@ -234,7 +234,7 @@ line_mode id bytes priority (Some made) s = hears_mode id bytes priority (accept
 
 -- ---- calls that change one stream
 
-kept : (id : ℕ) (s : Stream) (ss : Streams) (q after : Queue) → ((k : ℕ) → stream k ss ≡ stream k q.streams) → after.streams ≡ put id s ss → after.begun ≡ q.begun
+pub kept : (id : ℕ) (s : Stream) (ss : Streams) (q after : Queue) → ((k : ℕ) → stream k ss ≡ stream k q.streams) → after.streams ≡ put id s ss → after.begun ≡ q.begun
     → after.scheduler.is_interleaved ≡ q.scheduler.is_interleaved → are_in_order s.messages ≡ true → is_first_begun s.messages ≡ is_first_begun (stream id q.streams).messages → IsInOrder q → IsInOrder after
 kept id s ss q after same streams begun mode order first h = record { order = ordered; begun = λ m k. begun_on (sym mode ∙ m) k }
   where
@@ -347,23 +347,19 @@ found_among k (e ∷ es) h = go (is_at (nat_cmp k) e.0) refl h (found_among k es
     go true e' h ih = ap (λ b. b || is_among k (keys_of es)) (is_here k e.0 e')
     go false e' h ih = ap (λ b. (k == e.0) || b) (ih h) ∙ or_true (k == e.0)
 
-restart_begun : (ids : List ℕ) (q : Queue) → (each_restarted ids q).begun ≡ q.begun
-restart_begun [] q = refl
-restart_begun (id ∷ ids) q = restart_begun ids (restarted_one id q)
-
 pub reset_unsent : (q : Queue) → IsUnsent (reset q)
-reset_unsent q = record { first = λ k. go k (is_some (lookup (is_at (nat_cmp k)) q.streams.entries)) refl; begun = restart_begun (keys_of q.streams.entries) (unbegun q) }
+reset_unsent q = record { first = λ k. go k (is_some (lookup (is_at (nat_cmp k)) q.streams.entries)) refl; begun = refl }
   where
     go : (k : ℕ) (b : Bool) → is_some (lookup (is_at (nat_cmp k)) q.streams.entries) ≡ b → is_first_begun (stream k (reset q).streams).messages ≡ false
-    go k true e = among_unsent (keys_of q.streams.entries) k (unbegun q) (found_among k q.streams.entries e)
+    go k true e = among_unsent (keys_of q.streams.entries) k q (found_among k q.streams.entries e)
     go k false e =
-        restarted_unsent (keys_of q.streams.entries) k (unbegun q)
+        restarted_unsent (keys_of q.streams.entries) k q
         (ap (λ o. is_first_begun (unwrap_or o (blank q.streams)).messages) (is_none (lookup (is_at (nat_cmp k)) q.streams.entries) e))
 
 pub reset_in_order : (q : Queue) → IsInOrder q → IsInOrder (reset q)
 reset_in_order q h =
     let u = reset_unsent q in
-    record { order = restarted_order (keys_of q.streams.entries) (unbegun q) h.order; begun = λ m k. u.first k ∙ sym (ap (λ b. is_this k b) u.begun) }
+    record { order = restarted_order (keys_of q.streams.entries) q h.order; begun = λ m k. u.first k ∙ sym (ap (λ b. is_this k b) u.begun) }
 
 pub new_in_order : NewIsInOrder
 new_in_order = record { order = λ o. record { order = λ k. refl; begun = λ m k. refl }; unsent = λ o. record { first = λ k. refl; begun = refl } }
@@ -371,7 +367,7 @@ new_in_order = record { order = λ o. record { order = λ k. refl; begun = λ m 
 -- ---- a turn
 
 -- the messages of a stream after a change that leaves a blank one without messages
-put_messages : (id : ℕ) (f : Stream → Stream) (ss : Streams) → (f (blank ss)).messages ≡ [] → (stream id (put id (f (stream id ss)) ss)).messages ≡ (f (stream id ss)).messages
+pub put_messages : (id : ℕ) (f : Stream → Stream) (ss : Streams) → (f (blank ss)).messages ≡ [] → (stream id (put id (f (stream id ss)) ss)).messages ≡ (f (stream id ss)).messages
 put_messages id f ss none = go (lookup (is_at (nat_cmp id)) ss.entries) refl
   where
     go : (o : Option Stream) → lookup (is_at (nat_cmp id)) ss.entries ≡ o → (stream id (put id (f (stream id ss)) ss)).messages ≡ (f (stream id ss)).messages
@@ -380,7 +376,7 @@ put_messages id f ss none = go (lookup (is_at (nat_cmp id)) ss.entries) refl
         ∙ sym none ∙ sym (ap (λ (t : Stream). (f t).messages) (stream-nowhere id ss (sym e)))
     go (Some s) e = ap (λ (t : Stream). t.messages) (stream-put id (f (stream id ss)) ss (ap is_some e))
 
-put_elsewhere : (k id : ℕ) (s : Stream) (ss : Streams) → (k == id) ≡ false → stream k (put id s ss) ≡ stream k ss
+pub put_elsewhere : (k id : ℕ) (s : Stream) (ss : Streams) → (k == id) ≡ false → stream k (put id s ss) ≡ stream k ss
 put_elsewhere k id s ss e = ap (λ o. unwrap_or o (blank ss)) (written_elsewhere k id s ss.entries e)
 
 inside : (x y : ℕ) → Some x ≡ Some y → x ≡ y
@@ -400,7 +396,7 @@ others_after k id mode (Some made) e = go made.fragment.is_end mode
     go false true = refl
     go false false = e
 
-turn_in_order : {P : Type 0} (now id size : ℕ) (q : Queue) (told : Told P) → 0 < size → next_stream q ≡ Some id → IsInOrder q → IsInOrder (turn now id size q told).queue
+pub turn_in_order : {P : Type 0} (now id size : ℕ) (q : Queue) (told : Told P) → 0 < size → next_stream q ≡ Some id → IsInOrder q → IsInOrder (turn now id size q told).queue
 turn_in_order {P} now id size q told some next h = record { order = ordered; begun = λ m k. begun_on (sym mode ∙ m) k (k == id) refl }
   where
     ss : Streams
@@ -486,7 +482,7 @@ other_in_order id message q told none same h =
 turned_id : (a b : ℕ) → (a == b) ≡ false → (b == a) ≡ false
 turned_id a b e = grind (arith, nat_tests)
 
-none_here : (id : ℕ) (begun : Option ℕ) → is_this id (begun_without id begun) ≡ false
+pub none_here : (id : ℕ) (begun : Option ℕ) → is_this id (begun_without id begun) ≡ false
 none_here id None = refl
 none_here id (Some b) = go (b == id) refl
   where
@@ -494,7 +490,7 @@ none_here id (Some b) = go (b == id) refl
     go true e = refl
     go false e = turned_id b id e
 
-same_there : (k id : ℕ) (begun : Option ℕ) → (k == id) ≡ false → is_this k begun ≡ is_this k (begun_without id begun)
+pub same_there : (k id : ℕ) (begun : Option ℕ) → (k == id) ≡ false → is_this k begun ≡ is_this k (begun_without id begun)
 same_there k id None e = refl
 same_there k id (Some b) e = go (b == id) refl
   where

@@ -11,3 +11,5 @@ pub mod StaysBegunLemmas
 pub mod StreamLemmas
 pub mod StreamsLemmas
 pub mod TellingLemmas
+pub mod TakenUpLemmas
+pub mod UnfinishedLemmas

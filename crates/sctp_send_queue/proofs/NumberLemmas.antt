@@ -11,7 +11,7 @@ use Rattle.sctp_send_queue.specs.Queue.{Queued, Queue, Stream, Streams, stream, 
 use Rattle.sctp_send_queue.specs.Produced.{Produced, Turn, is_stale, fresh, without_stale, streams_without_stale, moved_front, moved, ends, front_numbers, advanced, turn, next_stream, produce_within, settled}
 use Rattle.sctp_send_queue.specs.Settings.{with_threshold, with_priority, set_low_threshold, set_priority, front_discarded, without_front, streams_discarded, discard_from, discard}
 use Rattle.sctp_send_queue.specs.Resets.{is_partly, prepared, prepare_reset, after_step, stepped, each_stepped}
-use Rattle.sctp_send_queue.specs.Restarted.{whole_front, restarted, restarted_one, each_restarted, unbegun}
+use Rattle.sctp_send_queue.specs.Restarted.{whole_front, restarted, restarted_one, each_restarted}
 use Rattle.sctp_send_queue.specs.InOrder.{are_rising, IsNumbered, CallsNumber}
 use Rattle.sctp_send_queue.proofs.InOrderLemmas.{both, each_put, opened_same, discard_streams, step_messages}
 use Rattle.sctp_send_queue.proofs.ProduceLemmas.{idles, gives, turned}
@@ -85,7 +85,7 @@ filter_rising least most p (m ∷ rest) h = go (p m) (filter_rising (m.number + 
     go true ih = joined _ _ _ r.low r.high ih
     go false ih = lowered least (m.number + 1) most (filter p rest) (omega (arith, is_le least m.number r.low)) ih
 
-fresh_rising : (least most now : ℕ) (ms : List Queued) → are_rising least most ms ≡ true → are_rising least most (fresh now ms) ≡ true
+pub fresh_rising : (least most now : ℕ) (ms : List Queued) → are_rising least most ms ≡ true → are_rising least most (fresh now ms) ≡ true
 fresh_rising least most now [] h = refl
 fresh_rising least most now (m ∷ rest) h = go (is_stale now m) (fresh_rising least most now rest (behind least most m rest h))
   where
@@ -115,7 +115,7 @@ without_rising least most message (m ∷ rest) s e h = go (m.number == message)
 
 -- ---- the calls
 
-kept : (id : ℕ) (s : Stream) (ss : Streams) (q after : Queue) → ((k : ℕ) → stream k ss ≡ stream k q.streams) → after.streams ≡ put id s ss → after.next_number ≡ q.next_number → are_rising 0 q.next_number s.messages ≡ true
+pub kept : (id : ℕ) (s : Stream) (ss : Streams) (q after : Queue) → ((k : ℕ) → stream k ss ≡ stream k q.streams) → after.streams ≡ put id s ss → after.next_number ≡ q.next_number → are_rising 0 q.next_number s.messages ≡ true
     → IsNumbered q → IsNumbered after
 kept id s ss q after same streams count here h = record { rising = risen }
   where
@@ -140,7 +140,7 @@ added_numbered id m q e l h = record { rising = risen }
         (λ i. ap (λ (t : Stream). are_rising 0 (q.next_number + 1) t.messages) (opened_same i id q.streams) ∙ widened 0 q.next_number (stream i q.streams).messages (h.rising i))
         (pushed_rising 0 q.next_number s.messages m (omega arith) e (h.rising id)) k
 
-turn_numbered : {P : Type 0} (now id size : ℕ) (q : Queue) (told : Told P) → IsNumbered q → IsNumbered (turn now id size q told).queue
+pub turn_numbered : {P : Type 0} (now id size : ℕ) (q : Queue) (told : Told P) → IsNumbered q → IsNumbered (turn now id size q told).queue
 turn_numbered now id size q told h = record { rising = risen }
   where
     T : ℕ → List Queued → Type 0
@@ -174,14 +174,14 @@ discard_count : {P : Type 0} (id : ℕ) (ss : Streams) (o : Option (Option ℕ))
 discard_count id ss None q told = refl
 discard_count id ss (Some lifecycle) q told = refl
 
-steps_numbered : (step : ResetStep) (ids : List ℕ) (q : Queue) → IsNumbered q → IsNumbered (each_stepped step ids q)
+pub steps_numbered : (step : ResetStep) (ids : List ℕ) (q : Queue) → IsNumbered q → IsNumbered (each_stepped step ids q)
 steps_numbered step [] q h = h
 steps_numbered step (id ∷ ids) q h =
     let s : Stream = stream id q.streams in
     steps_numbered step ids (stepped step id q)
     (kept id (after_step step s) q.streams q (stepped step id q) (λ k. refl) refl refl (ap (λ ms. are_rising 0 q.next_number ms) (step_messages step s) ∙ h.rising id) h)
 
-restarted_numbered : (ids : List ℕ) (q : Queue) → IsNumbered q → IsNumbered (each_restarted ids q)
+pub restarted_numbered : (ids : List ℕ) (q : Queue) → IsNumbered q → IsNumbered (each_restarted ids q)
 restarted_numbered [] q h = h
 restarted_numbered (id ∷ ids) q h =
     let s : Stream = stream id q.streams in
@@ -204,5 +204,5 @@ calls_number = record {
       kept id (prepared (stream id q.streams)) (opened id q.streams) q (prepare_reset id q told).queue (λ k. opened_same k id q.streams) refl refl
       (filter_rising 0 q.next_number is_partly (stream id q.streams).messages (h.rising id)) h;
   steps = steps_numbered;
-  restarted = λ q h. restarted_numbered (keys_of q.streams.entries) (unbegun q) (record { rising = h.rising });
+  restarted = λ q h. let r = restarted_numbered (keys_of q.streams.entries) q h in record { rising = r.rising };
 }

@@ -12,7 +12,7 @@ use Rattle.sctp_send_queue.specs.Queue.{Queued, Queue, Stream, Streams, stream, 
 use Rattle.sctp_send_queue.specs.Produced.{Produced, Turn, is_stale, fresh, without_stale, streams_without_stale, moved_front, moved, ends, front_numbers, front_made, made_of, advanced, turn, next_stream, produce_within, settled}
 use Rattle.sctp_send_queue.specs.Settings.{with_threshold, with_priority, set_low_threshold, set_priority, front_discarded, without_front, streams_discarded, discard}
 use Rattle.sctp_send_queue.specs.Resets.{is_partly, prepared, prepare_reset, after_step, stepped, each_stepped}
-use Rattle.sctp_send_queue.specs.Restarted.{whole_front, restarted, restarted_one, each_restarted, unbegun}
+use Rattle.sctp_send_queue.specs.Restarted.{whole_front, restarted, restarted_one, each_restarted}
 use Rattle.sctp_send_queue.specs.InOrder.{has_rest, HasRests, IsFilled, CallsLeaveRests}
 use Rattle.sctp_send_queue.proofs.InOrderLemmas.{both, each_put, opened_same, discard_streams, step_messages}
 use Rattle.sctp_send_queue.proofs.ProduceLemmas.{idles, gives, turned}
@@ -105,11 +105,11 @@ kept id s ss q after same streams here h = record { rests = all }
         ap (λ (x : Streams). list_all has_rest (stream k x).messages) streams
         ∙ each_put (λ i ms. list_all has_rest ms ≡ true) id s ss (λ i. ap (λ (t : Stream). list_all has_rest t.messages) (same i) ∙ h.rests i) here k
 
-without_stale_rests : (now id : ℕ) (q : Queue) → HasRests q → (k : ℕ) → list_all has_rest (stream k (streams_without_stale now id q.streams)).messages ≡ true
+pub without_stale_rests : (now id : ℕ) (q : Queue) → HasRests q → (k : ℕ) → list_all has_rest (stream k (streams_without_stale now id q.streams)).messages ≡ true
 without_stale_rests now id q h k =
     each_put (λ i ms. list_all has_rest ms ≡ true) id (without_stale now (stream id q.streams)) q.streams h.rests (all_fresh now (stream id q.streams).messages (h.rests id)) k
 
-turn_rests : {P : Type 0} (now id size : ℕ) (q : Queue) (told : Told P) → HasRests q → HasRests (turn now id size q told).queue
+pub turn_rests : {P : Type 0} (now id size : ℕ) (q : Queue) (told : Told P) → HasRests q → HasRests (turn now id size q told).queue
 turn_rests now id size q told h = record { rests = all }
   where
     ss : Streams
@@ -148,13 +148,13 @@ within_runs {P} (suc m) now size q told h = go (next_stream q) refl (λ r t g. w
         pick (Some made) is = subst (λ (t : Turn P). Runs size t) (sym (gives m now size id q told made e is)) (turn_runs now id size q told h)
         pick None is = subst (λ (t : Turn P). Runs size t) (sym (turned m now size id q told e is)) (ih (turn now id size q told).queue (turn now id size q told).told (turn_rests now id size q told h))
 
-steps_rests : (step : ResetStep) (ids : List ℕ) (q : Queue) → HasRests q → HasRests (each_stepped step ids q)
+pub steps_rests : (step : ResetStep) (ids : List ℕ) (q : Queue) → HasRests q → HasRests (each_stepped step ids q)
 steps_rests step [] q h = h
 steps_rests step (id ∷ ids) q h =
     let s : Stream = stream id q.streams in
     steps_rests step ids (stepped step id q) (kept id (after_step step s) q.streams q (stepped step id q) (λ k. refl) refl (ap (λ ms. list_all has_rest ms) (step_messages step s) ∙ h.rests id) h)
 
-restarted_rests : (ids : List ℕ) (q : Queue) → HasRests q → HasRests (each_restarted ids q)
+pub restarted_rests : (ids : List ℕ) (q : Queue) → HasRests q → HasRests (each_restarted ids q)
 restarted_rests [] q h = h
 restarted_rests (id ∷ ids) q h =
     let s : Stream = stream id q.streams in
@@ -177,5 +177,5 @@ calls_leave_rests = record {
   prepared = λ id q told h.
       kept id (prepared (stream id q.streams)) (opened id q.streams) q (prepare_reset id q told).queue (λ k. opened_same k id q.streams) refl (all_filter is_partly (stream id q.streams).messages (h.rests id)) h;
   steps = steps_rests;
-  restarted = λ q h. restarted_rests (keys_of q.streams.entries) (unbegun q) (record { rests = h.rests });
+  restarted = λ q h. let r = restarted_rests (keys_of q.streams.entries) q h in record { rests = r.rests };
 }

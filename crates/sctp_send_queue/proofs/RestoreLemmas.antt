@@ -130,7 +130,7 @@ turned a b false e = grind (arith, nat_tests)
 is_below : (a b : ℕ) → (a == b) ≡ true → b < a + 1
 is_below a b e = grind (arith, nat_tests)
 
-found : (now threshold id : ℕ) (done : List StreamMessage) (ss : List HandoverOutgoingStream) → has_stream ss id ≡ true → is_some (lookup (is_at (nat_cmp id)) (entries_from now threshold done ss)) ≡ true
+pub found : (now threshold id : ℕ) (done : List StreamMessage) (ss : List HandoverOutgoingStream) → has_stream ss id ≡ true → is_some (lookup (is_at (nat_cmp id)) (entries_from now threshold done ss)) ≡ true
 found now threshold id done [] h = absurd (cc)
 found now threshold id done (s ∷ ss) h = go (s.id == id) refl h (found now threshold id done ss)
   where

@@ -1,7 +1,7 @@
 -- A message that is begun stays so, whatever is called between two of its fragments.
 use Rattle.std.proofs.Common.{◌≡◌, ℕ, Bool, true, false, cond, Less, Equal, Greater, List, [], ◌∷◌, ◌++◌, Option, Some, None, refl, ap, sym, subst, ◌∙◌, arith, inl, inr, ◌⊎◌}
 use Rattle.std.specs.Prelude.{is_some, unwrap_or, nat_lt, ◌&&◌, ◌==◌, filter}
-use Rattle.std.specs.Map.{lookup, set_value, keys_of}
+use Rattle.std.specs.Map.{lookup, set_value}
 use Rattle.std.specs.Ordering.{nat_cmp, match_ordering}
 use Rattle.std.specs.declared.cmp.Ordering.{Ordering}
 use Rattle.std.specs.BTreeMap.{is_at, insert_entry}
@@ -14,7 +14,7 @@ use Rattle.sctp_send_queue.specs.Begun.{begun_number, IsBegun, StaysBegun, Other
 use Rattle.sctp_send_queue.specs.Settings.{with_threshold, with_priority, set_low_threshold, set_priority, set_mode, front_discarded, without_front, streams_discarded, begun_without, discard_from, discard}
 use Rattle.sctp_send_queue.specs.Produced.{settled}
 use Rattle.sctp_send_queue.specs.Resets.{is_partly, prepared, prepare_reset, after_step, stepped, each_stepped}
-use Rattle.sctp_send_queue.specs.Restarted.{restarted_one, each_restarted, unbegun, reset}
+use Rattle.sctp_send_queue.specs.Restarted.{reset}
 use Rattle.sctp_send_queue.proofs.StreamsLemmas.{stream-put, stream-nowhere}
 
 differ : (x : ℕ) → None ≡ Some x → ⊥
@@ -233,9 +233,5 @@ discard_stays {P} id message q told k number b = go (k == id) refl
 
 -- ---- a new association
 
-restart_begun : (ids : List ℕ) (q : Queue) → (each_restarted ids q).begun ≡ q.begun
-restart_begun [] q = refl
-restart_begun (id ∷ ids) q = restart_begun ids (restarted_one id q)
-
 pub reset_begun : (q : Queue) → (reset q).begun ≡ None
-reset_begun q = restart_begun (keys_of q.streams.entries) (unbegun q)
+reset_begun q = refl

@@ -11,3 +11,5 @@ pub mod Restarted
 pub mod Restored
 pub mod Settings
 pub mod Views
+pub mod TakenUp
+pub mod Unfinished

@@ -1,9 +1,10 @@
 -- A new association: what waits is sent from its beginning, under numbers that begin again.
-use Rattle.std.specs.Prelude.{◌≡◌, ◌⊎◌, ℕ, None, List, [], ◌∷◌, take}
+use Rattle.std.specs.Prelude.{◌≡◌, ℕ, None, List, [], ◌∷◌, take}
 use Rattle.std.specs.Map.{keys_of}
 use Rattle.sctp_serial.specs.Unwrapped.{origin}
 use Rattle.sctp_send_queue.specs.declared.send_queue.stream.PauseState.TheVariants.{NotPaused}
 use Rattle.sctp_send_queue.specs.Queue.{Queued, Stream, Streams, Queue, stream, put, hears}
+use Rattle.sctp_send_queue.specs.Settings.{begun_without}
 
 abbrev pub whole : Queued → Queued
 whole m = record m { offset = 0; numbers = None; fsn = 0 }
@@ -19,7 +20,7 @@ restarted s = record s { messages = whole_front s.messages; pause = NotPaused; n
 abbrev pub restarted_one : ℕ → Queue → Queue
 restarted_one id q =
     let ss : Streams = put id (restarted (stream id q.streams)) q.streams in
-    record q { streams = ss; scheduler = hears id (stream id ss) q.scheduler }
+    record q { streams = ss; scheduler = hears id (stream id ss) q.scheduler; begun = begun_without id q.begun }
 
 abbrev pub each_restarted : List ℕ → Queue → Queue
 each_restarted [] q = q
@@ -31,8 +32,8 @@ unbegun q = record q { begun = None }
 
 -- all streams, ascending by id. Messages keep their numbers in the order of acceptance
 abbrev pub reset : Queue → Queue
-reset q = each_restarted (keys_of q.streams.entries) (unbegun q)
+reset q = unbegun (each_restarted (keys_of q.streams.entries) q)
 
--- what is left without memory: all as it was, or the first of the streams restarted and the others not
+-- what is left without memory: the first of the streams restarted, or none of them, and the others not
 abbrev pub SomeRestarted : Queue → Queue → Type 0
-SomeRestarted q after = (after ≡ q) ⊎ ((count : ℕ) × (after ≡ each_restarted (take count (keys_of q.streams.entries)) (unbegun q)))
+SomeRestarted q after = (count : ℕ) × (after ≡ each_restarted (take count (keys_of q.streams.entries)) q)

@@ -3,7 +3,9 @@
 ghost use Rattle.std.specs.Prelude.{◌≡◌, true, drop};
 ghost use Rattle.sctp_send_queue.specs.Begun.{joined, is_ended, AddedStays, ThresholdStays, PriorityStays, ModeStays, PreparedStays, StepsStay, DiscardStays, ResetEnds};
 ghost use Rattle.sctp_send_queue.specs.Again.{EachComesBack};
-ghost use Rattle.sctp_send_queue.specs.InOrder.{NewIsInOrder, AddedInOrder, ProducedInOrder, SettingsInOrder, DiscardedInOrder, ResetsInOrder, RestartedInOrder, CallsNumber, CallsLeaveRests};
+ghost use Rattle.sctp_send_queue.specs.InOrder.{NewIsInOrder, AddedInOrder, ProducedInOrder, SettingsInOrder, DiscardedInOrder, ResetsInOrder, RestartedInOrder, CallsNumber, CallsLeaveRests, IsInOrder, IsNumbered, HasRests};
+ghost use Rattle.sctp_send_queue.specs.TakenUp.{RestoredInOrder, WrittenAsSent};
+ghost use Rattle.sctp_send_queue.specs.Unfinished.{IsKept};
 
 use crate::send_queue::message::{MessageNumbers, QueuedMessage};
 
@@ -42,6 +44,21 @@ pub fn queues_stay_in_order()
     ensures discarded { DiscardedInOrder }
     ensures resets { ResetsInOrder }
     ensures restarted { RestartedInOrder }
+{}
+
+/// A queue that takes a valid record up is in order, if a message of the record has its MID exactly where something of it
+/// is sent. What a queue in order writes is such a record.
+pub fn restored_queues_are_in_order()
+    ensures restored { RestoredInOrder }
+    ensures written { WrittenAsSent }
+{}
+
+/// A call that runs out of memory leaves a queue in order as well, with numbers that rise along each stream and with
+/// something left of each message.
+pub fn want_of_memory_keeps_the_order()
+    ensures order { IsKept IsInOrder }
+    ensures numbers { IsKept IsNumbered }
+    ensures rests { IsKept HasRests }
 {}
 
 /// The messages of each stream stand in the order of acceptance: their numbers rise, and are below the next one.

@@ -531,16 +531,16 @@ impl SendQueue {
     }
 
     /// A new association begins: the message that is partly sent is whole again, each stream is open, and its numbers
-    /// begin again. Numbers of messages go on. Without memory nothing changes, or this is done for some of the first
-    /// streams alone.
+    /// begin again. Numbers of messages go on. Without memory this is done for some of the first streams alone, or for
+    /// none.
     pub fn reset(&mut self) -> Result<(), AllocError>
         requires { total_of self.old.streams.entries < 2 ^ 63 }
         ensures ok { OnOk result (self.new ≡ reset self.old) }
         ensures err { OnErr result (SomeRestarted self.old self.new) }
     {
         let ids = self.streams.ids(self.alloc)?;
-        self.begun = None;
         self.restart_all(&ids)?;
+        self.begun = None;
         Ok(())
     }
 
@@ -566,6 +566,7 @@ impl SendQueue {
         let priority = self.streams.priority_restarted(id);
         self.scheduler.set_bytes_remaining(id, bytes, priority)?;
         self.streams.restart(id);
+        self.begun = begun_without(id, self.begun);
         Ok(())
     }
 

@@ -1,13 +1,14 @@
 use Rattle.std.proofs.Common.{◌≡◌, ◌+◌, ◌<◌, ◌^◌, length}
 use Rattle.std.specs.List.{sum_by}
 use Rattle.sctp_rx.specs.Delivery.{Extends}
-use Rattle.sctp_rx.specs.ReassemblyQueue.{apply_each, queued_bytes, waiting_bytes}
+use Rattle.sctp_rx.specs.ReassemblyQueue.{IsCounted, apply_each, queued_bytes, waiting_bytes}
 use Rattle.sctp_rx.proofs.reassembly_queue.ReassemblyQueue.apply_each.Given as goal
 
 abbrev pub invariant-loop-waiting : goal.invariant-loop-waiting
 invariant-loop-waiting l = record {
   rest : apply_each l.deferred.waiting l.self ≡ apply_each l.fn.deferred.waiting l.fn.self;
   kept : Extends l.fn.self.ready l.self.ready;
+  counted : IsCounted l.fn.self l.self;
   room : queued_bytes l.self + sum_by waiting_bytes l.deferred.waiting < 2 ^ 64;
 }
 

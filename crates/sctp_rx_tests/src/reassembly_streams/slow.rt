@@ -1,11 +1,10 @@
 //! Both forms against a plain list of what came.
 
 use super::{give, piece};
-use crate::interleaved_reassembly_streams::InterleavedReassemblyStreams;
-use crate::ready_messages::ReadyMessages;
-use crate::reassembly_streams::ReassemblyStreams;
-use crate::traditional_reassembly_streams::TraditionalReassemblyStreams;
 use sctp_packet::Data;
+use sctp_rx::{
+    InterleavedReassemblyStreams, ReadyMessages, ReassemblyStreams, TraditionalReassemblyStreams,
+};
 use sctp_serial::{Message, StreamId, StreamKey};
 use std::alloc::{AllocError, Global};
 

@@ -1,11 +1,13 @@
 ghost use Rattle.std.specs.Prelude.{◌≡◌, ◌<◌, ◌∷◌, [], length, IfOk};
 
-use super::*;
-use crate::interleaved_reassembly_streams::InterleavedReassemblyStreams;
-use crate::traditional_reassembly_streams::TraditionalReassemblyStreams;
-use sctp_serial::{Fsn, Message, Mid, PpId, Ssn, StreamKey};
-
 mod slow;
+
+use sctp_packet::{Data, SkippedStream};
+use sctp_rx::{
+    InterleavedReassemblyStreams, ReadyMessages, ReassemblyStreams, TraditionalReassemblyStreams,
+};
+use sctp_serial::{Fsn, Message, Mid, PpId, Ssn, StreamId, StreamKey};
+use std::alloc::{AllocError, Global};
 
 // A fragment of one byte.
 fn piece(
@@ -173,6 +175,44 @@ fn goes_on_behind_a_forward_point(rt: HostRuntime) {
     let mut streams = TraditionalReassemblyStreams::new(rt.alloc());
     let mut ready = ReadyMessages::new(rt.alloc());
     assert!(rt; frees_two(rt.alloc(), &mut streams, &mut ready) == Some(true));
+}
+
+const STREAMS: u16 = 100;
+
+// The second message of each stream is ready, by ascending stream.
+fn are_next(ready: &mut ReadyMessages) -> bool {
+    for stream in 0..STREAMS {
+        let byte = (stream % 256) as u8;
+        if !is_next(ready, stream, &[byte]) {
+            return false;
+        }
+    }
+    ready.len() == 0
+}
+
+// The same of a hundred streams, which the entries name in no order.
+fn frees_many(
+    alloc: Global,
+    streams: &mut TraditionalReassemblyStreams,
+    ready: &mut ReadyMessages,
+) -> Option<bool> {
+    let mut entries = Vec::new(alloc);
+    for i in 0..STREAMS {
+        let stream = i.wrapping_mul(37) % STREAMS;
+        let byte = (stream % 256) as u8;
+        give_whole(alloc, streams, ready, 1000 + i as u64, stream, 1, byte)?;
+        let entry = SkippedStream::ForwardTsn(StreamId(stream), Ssn(0));
+        entries.push(entry).ok()?;
+    }
+    forward(alloc, streams, ready, 999, &entries)?;
+    Some(are_next(ready))
+}
+
+#[test]
+fn sorts_a_forward_point(rt: HostRuntime) {
+    let mut streams = TraditionalReassemblyStreams::new(rt.alloc());
+    let mut ready = ReadyMessages::new(rt.alloc());
+    assert!(rt; frees_many(rt.alloc(), &mut streams, &mut ready) == Some(true));
 }
 
 // A late fragment of a message that was given up is not held, and a reset forgets what is held.

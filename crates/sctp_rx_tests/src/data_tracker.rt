@@ -1,5 +1,9 @@
-use super::*;
 use sctp_packet::{GapAckBlock, SackChunk};
+use sctp_rx::DataTracker;
+use sctp_serial::{SocketTime, Tsn};
+use sctp_state::{HandoverReadiness, Options, SocketHandoverState};
+use std::alloc::{AllocError, Global};
+use std::time::Duration;
 
 fn fresh(alloc: Global, first: u32) -> DataTracker {
     DataTracker::new(alloc, Tsn(first), &Options::default())

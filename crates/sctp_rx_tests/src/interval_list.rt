@@ -1,8 +1,11 @@
 ghost use Rattle.std.specs.Prelude.{◌≡◌, IfOk};
 
-use super::*;
-use crate::reassembly_key::{InterleavedKey, TraditionalKey, UnorderedInterleavedKey};
+use sctp_packet::Data;
+use sctp_rx::{
+    InterleavedKey, Interval, IntervalList, ReassemblyKey, TraditionalKey, UnorderedInterleavedKey,
+};
 use sctp_serial::{Fsn, Mid, PpId, Ssn, StreamId, StreamKey};
+use std::alloc::{AllocError, Global};
 
 fn piece(alloc: Global, bytes: &[u8], is_beginning: bool, is_end: bool) -> Result<Data, AllocError>
     ensures { IfOk result (λ d. d.payload.items ≡ bytes.now) }

@@ -2,9 +2,12 @@ ghost use Rattle.std.specs.Prelude.{◌≡◌, ◌∷◌, [], true, IfOk, IsTrue
 ghost use Rattle.sctp_state.specs.Handover.{receive_of};
 ghost use Rattle.sctp_state.specs.Validity.{is_valid_reception};
 
-use super::*;
-use sctp_serial::{Fsn, Mid, PpId, Ssn, StreamKey};
+use sctp_packet::{Data, SkippedStream};
+use sctp_rx::ReassemblyQueue;
+use sctp_serial::{Fsn, Mid, PpId, Ssn, StreamId, StreamKey, Tsn};
 use sctp_state::api::handover::HandoverSocketState;
+use sctp_state::{HandoverReadiness, SocketHandoverState};
+use std::alloc::{AllocError, Global};
 
 // A message of one fragment and one byte.
 fn whole(alloc: Global, stream_key: StreamKey, number: u16, byte: u8) -> Result<Data, AllocError>
@@ -170,7 +173,7 @@ fn record(alloc: Global, message_interleaving: bool) -> SocketHandoverState {
     state
 }
 
-#[tactic(auto, using(crate::proofs::ReceptionLemmas::valid_reception))]
+#[tactic(auto, using(sctp_rx::proofs::ReceptionLemmas::valid_reception))]
 fn is_valid(state: &SocketHandoverState) -> bool
     ensures { IsTrue result → is_valid_reception state.now.capabilities.message_interleaving (receive_of state.now.rx) ≡ true }
 {

@@ -1,0 +1,35 @@
+use sctp_rx::{
+    InterleavedKey, ReassemblyKey, TraditionalKey, UnorderedInterleavedKey, is_before, is_same,
+    leads_to,
+};
+
+// Whether the second key is the next one behind the first, and the third one isn't.
+fn are_in_a_row<K: ReassemblyKey>(first: K, second: K, third: K) -> bool {
+    is_before(first, second)
+        && leads_to(first, second)
+        && !leads_to(first, third)
+        && !leads_to(second, first)
+        && is_same(first, first)
+        && !is_same(first, second)
+}
+
+fn by_tsn(number: u64, index: u64) -> TraditionalKey {
+    TraditionalKey { number, index }
+}
+
+fn by_fsn(number: u64, index: u64) -> InterleavedKey {
+    InterleavedKey { number, index }
+}
+
+fn unordered(number: u64, index: u64) -> UnorderedInterleavedKey {
+    UnorderedInterleavedKey { number, index }
+}
+
+// Behind the last place of a message comes the first of the next one.
+#[test]
+fn follow_each_other(rt: HostRuntime) {
+    const LAST: u64 = u64::MAX;
+    assert!(rt; are_in_a_row(by_tsn(7, LAST), by_tsn(8, 0), by_tsn(8, 1)));
+    assert!(rt; are_in_a_row(by_fsn(7, LAST), by_fsn(8, 0), by_fsn(8, 1)));
+    assert!(rt; are_in_a_row(unordered(7, LAST), unordered(8, 0), unordered(8, 1)));
+}
