@@ -1,4 +1,4 @@
-use super::*;
+use sctp_wire::*;
 use std::alloc::Global;
 use std::fmt::Display;
 use std::test::Fail;
