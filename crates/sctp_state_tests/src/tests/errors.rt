@@ -1,5 +1,5 @@
 use super::*;
-use crate::api::laws;
+use sctp_state::api::laws;
 use std::fmt;
 use std::process::Abort;
 use std::test::Fail;

@@ -1,5 +1,5 @@
 use super::*;
-use crate::api::handover::{
+use sctp_state::api::handover::{
     HandoverOrderedStream, HandoverOutgoingStream, HandoverOutstandingData, HandoverReceive,
     HandoverSocketState, HandoverStreamMessage, HandoverTransmission,
 };

@@ -1,4 +1,4 @@
-use super::*;
+use sctp_state::*;
 
 mod capabilities;
 mod cookie;
