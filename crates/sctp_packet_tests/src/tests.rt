@@ -1,10 +1,11 @@
 mod packets;
+mod sacks;
 mod texts;
 
 ghost use Rattle.std.specs.Prelude.{IfSome, ◌<◌};
 
-use super::*;
 use packets::PACKETS;
+use sctp_packet::*;
 use sctp_serial::{Fsn, Mid, PpId, Ssn, StreamId, StreamKey, Tsn};
 use sctp_wire::{ChunkParseError, Policy};
 use std::alloc::Global;
