@@ -1,4 +1,4 @@
-use super::*;
+use sctp_send_queue::*;
 use sctp_serial::{SocketTime, StreamId};
 use sctp_state::api::handover::HandoverSocketState;
 use sctp_state::{Options, SocketHandoverState};

@@ -1,7 +1,7 @@
 //! Calls on a queue and what they are to answer, one after another.
 
-use crate::data_to_send::DataToSend;
-use crate::send_queue::SendQueue;
+use sctp_send_queue::data_to_send::DataToSend;
+use sctp_send_queue::send_queue::SendQueue;
 use sctp_serial::{LifecycleId, Message, OutgoingMessageId, PpId, SocketTime, StreamId};
 use sctp_state::{Events, GivenUpCause, SendOptions, SocketEvent};
 use std::alloc::{AllocError, Global};
