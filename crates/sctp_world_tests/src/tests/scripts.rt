@@ -1,6 +1,6 @@
 //! Scripts of two ends.
 
-use crate::run_script;
+use sctp_world::run_script;
 use std::alloc::AllocError;
 
 /// Both ends connect.

@@ -1,10 +1,10 @@
 //! Two ends connect, and a message crosses.
 
 use crate::tests::words::Words;
-use crate::*;
 use rand_core::Rng;
 use sctp_serial::{LifecycleId, Message, PpId, StreamId};
 use sctp_state::{ErrorKind, Options, SendError, SendOptions, SocketEvent};
+use sctp_world::*;
 use std::alloc::AllocError;
 use std::test::Fail;
 
