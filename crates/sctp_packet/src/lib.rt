@@ -36,6 +36,3 @@ pub use re_config::ReConfigChunk;
 pub use sack::{GapAckBlock, SackChunk};
 pub use shutdown::{ShutdownAckChunk, ShutdownChunk, ShutdownCompleteChunk};
 pub use unknown::UnknownChunk;
-
-#[cfg(test)]
-mod tests;

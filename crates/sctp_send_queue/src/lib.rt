@@ -7,6 +7,3 @@ pub mod send_queue;
 
 pub use data_to_send::DataToSend;
 pub use send_queue::SendQueue;
-
-#[cfg(test)]
-mod tests;

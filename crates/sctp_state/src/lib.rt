@@ -24,6 +24,3 @@ pub use stream_scheduler::StreamScheduler;
 pub use threshold_watcher::ThresholdWatcher;
 pub use timer::{BackoffAlgorithm, MAX_DURATION, MAX_RESTARTS, Timer};
 pub use tx_error_counter::TxErrorCounter;
-
-#[cfg(test)]
-mod tests;

@@ -58,6 +58,3 @@ pub use serialize::{
 };
 pub use show::{Joined, Listed};
 pub use text::text_from_bytes;
-
-#[cfg(test)]
-mod tests;

@@ -19,6 +19,3 @@ pub use probing::{one_answer, probe};
 pub use script::{ScriptFault, run_script};
 pub use socket::Association;
 pub use world::{Call, End, Entry, Event, World, WorldError};
-
-#[cfg(test)]
-mod tests;

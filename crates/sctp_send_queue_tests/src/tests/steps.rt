@@ -1,0 +1,272 @@
+//! Calls on a queue and what they are to answer, one after another.
+
+use sctp_send_queue::data_to_send::DataToSend;
+use sctp_send_queue::send_queue::SendQueue;
+use sctp_serial::{LifecycleId, Message, OutgoingMessageId, PpId, SocketTime, StreamId};
+use sctp_state::{Events, GivenUpCause, SendOptions, SocketEvent};
+use std::alloc::{AllocError, Global};
+use std::time::Duration;
+
+/// An event of the queue: of a stream, or of a message with a lifecycle id.
+#[derive(Clone, Copy, PartialEq, Eq)]
+pub enum Heard {
+    Nothing,
+    Low(u16),
+    TotalLow,
+    FullySent(u64),
+    Expired(u64),
+    End(u64),
+    Other,
+}
+
+/// A fragment: its stream, its message's place in the order of acceptance, SSN and MID, which are the same here, FSN,
+/// where in the message it begins, and its length.
+pub type Fragment = (u16, u32, u16, u32, usize, usize);
+
+/// A call, or a question with its answer. Moments are in milliseconds.
+#[derive(Clone, Copy)]
+pub enum Step {
+    /// A message of so many bytes on a stream, accepted at moment 0.
+    Accept(u16, usize),
+    /// One with this lifecycle id.
+    AcceptNamed(u16, usize, u64),
+    /// One with this lifecycle id, and a lifetime of a second.
+    AcceptShort(u16, usize, u64),
+    /// At a moment the next fragment, of at most so many bytes.
+    Gives(u64, usize, Fragment),
+    /// The next fragment is a whole message: its stream, its place, SSN and MID, and its length.
+    GivesWhole(u16, u32, u16, usize),
+    GivesNone(u64),
+    Interleave,
+    Priority(u16, u16),
+    Threshold(u16, usize),
+    Discard(u16, u32),
+    Prepare(u16),
+    /// How many streams, of at most one, go into a request.
+    Request(usize),
+    /// The reset of a stream is performed, or refused.
+    Commit(u16),
+    RollBack(u16),
+    Reset,
+    /// The next event.
+    Hears(Heard),
+    /// The next record says that the lifetime of this message passed.
+    GivenUp(u32),
+    NoneGivenUp,
+    Amount(u16, usize),
+    Total(usize),
+    IsEmpty(bool),
+    HasData(bool),
+    HasReady(bool),
+    HasPriority(u16, u16),
+    HasThreshold(u16, usize),
+    Readiness(bool, u32),
+}
+
+pub fn at(millis: u64) -> SocketTime {
+    SocketTime::zero() + Duration::from_millis(millis)
+}
+
+// Each byte is its place, modulo 256.
+fn bytes(alloc: Global, length: usize) -> Result<Vec<u8>, AllocError> {
+    let mut bytes = vec![in alloc; 0; length]?;
+    let mut next = 0u8;
+    for byte in bytes.iter_mut() {
+        *byte = next;
+        next = next.wrapping_add(1);
+    }
+    Ok(bytes)
+}
+
+fn are_bytes(bytes: &[u8], from: usize) -> bool {
+    let mut want = (from % 256) as u8;
+    for byte in bytes {
+        if *byte != want {
+            return false;
+        }
+        want = want.wrapping_add(1);
+    }
+    true
+}
+
+pub fn accept(
+    alloc: Global,
+    queue: &mut SendQueue,
+    stream: u16,
+    length: usize,
+    options: &SendOptions,
+) -> Result<bool, AllocError> {
+    let payload = bytes(alloc, length)?;
+    if payload.is_empty() || payload.len() > 1000 || queue.total_buffered_amount() > 1000 {
+        return Ok(false);
+    }
+    let message = Message::new(StreamId(stream), PpId(53), payload);
+    queue.add(at(0), message, options)?;
+    Ok(true)
+}
+
+pub fn named(id: u64) -> SendOptions {
+    SendOptions {
+        lifecycle_id: LifecycleId::new(id),
+        ..SendOptions::default()
+    }
+}
+
+fn short(id: u64) -> SendOptions {
+    SendOptions {
+        lifetime: Some(Duration::from_secs(1)),
+        lifecycle_id: LifecycleId::new(id),
+        ..SendOptions::default()
+    }
+}
+
+fn is_fragment(made: &DataToSend, want: Fragment) -> bool {
+    let (stream, message, ssn, fsn, from, length) = want;
+    made.data.stream_key.id().0 == stream
+        && made.message_id.0 == message
+        && made.data.ssn.0 == ssn
+        && made.data.mid.0 == u32::from(ssn)
+        && made.data.fsn.0 == fsn
+        && made.data.is_beginning == (from == 0)
+        && (made.data.is_end || made.lifecycle_id.is_none())
+        && made.data.payload.len() == length
+        && are_bytes(&made.data.payload, from)
+}
+
+fn gives(
+    queue: &mut SendQueue,
+    events: &mut Events,
+    millis: u64,
+    most: usize,
+    want: Fragment,
+) -> Result<bool, AllocError> {
+    if most == 0 {
+        return Ok(false);
+    }
+    Ok(match queue.produce(at(millis), most, events)? {
+        Some(made) => is_fragment(&made, want),
+        None => false,
+    })
+}
+
+fn gives_none(queue: &mut SendQueue, events: &mut Events, millis: u64) -> Result<bool, AllocError> {
+    Ok(queue.produce(at(millis), 9, events)?.is_none())
+}
+
+fn request(queue: &mut SendQueue, want: usize) -> Result<bool, AllocError> {
+    Ok(queue.get_streams_ready_to_reset(1)?.len() == want)
+}
+
+fn reset(queue: &mut SendQueue) -> Result<bool, AllocError> {
+    if queue.total_buffered_amount() > 1000 {
+        return Ok(false);
+    }
+    queue.reset()?;
+    Ok(true)
+}
+
+fn told_by(event: &Option<SocketEvent>) -> Heard {
+    match event {
+        None => Heard::Nothing,
+        Some(SocketEvent::OnBufferedAmountLow(id)) => Heard::Low(id.0),
+        Some(SocketEvent::OnTotalBufferedAmountLow()) => Heard::TotalLow,
+        Some(SocketEvent::OnLifecycleMessageFullySent(id)) => Heard::FullySent(id.value()),
+        Some(SocketEvent::OnLifecycleMessageExpired(id)) => Heard::Expired(id.value()),
+        Some(SocketEvent::OnLifecycleEnd(id)) => Heard::End(id.value()),
+        Some(_) => Heard::Other,
+    }
+}
+
+fn is_given_up(events: &mut Events, message: u32) -> bool {
+    match events.next_given_up() {
+        Some(record) => {
+            record.number == OutgoingMessageId(message) && record.cause == GivenUpCause::Lifetime
+        }
+        None => false,
+    }
+}
+
+// Whether a question has its answer; a call is none.
+fn answers(queue: &SendQueue, step: Step) -> bool {
+    match step {
+        Step::Amount(id, bytes) => queue.buffered_amount(StreamId(id)) == bytes,
+        Step::Total(bytes) => queue.total_buffered_amount() == bytes,
+        Step::IsEmpty(want) => queue.is_empty() == want,
+        Step::HasData(want) => queue.has_data_to_send() == want,
+        Step::HasReady(want) => queue.has_streams_ready_to_be_reset() == want,
+        Step::HasPriority(id, want) => queue.get_priority(StreamId(id)) == want,
+        Step::HasThreshold(id, want) => queue.buffered_amount_low_threshold(StreamId(id)) == want,
+        Step::Readiness(is_strict, want) => queue.get_handover_readiness(is_strict).0 == want,
+        _ => false,
+    }
+}
+
+// The calls that tell nothing.
+fn settles(alloc: Global, queue: &mut SendQueue, step: Step) -> Result<bool, AllocError> {
+    match step {
+        Step::Accept(id, length) => accept(alloc, queue, id, length, &SendOptions::default()),
+        Step::AcceptNamed(id, length, name) => accept(alloc, queue, id, length, &named(name)),
+        Step::AcceptShort(id, length, name) => accept(alloc, queue, id, length, &short(name)),
+        Step::Interleave => {
+            queue.enable_message_interleaving(true);
+            Ok(true)
+        }
+        Step::Priority(id, priority) => {
+            queue.set_priority(StreamId(id), priority)?;
+            Ok(true)
+        }
+        Step::Request(want) => request(queue, want),
+        Step::Commit(id) => {
+            queue.commit_reset_streams(&[StreamId(id)])?;
+            Ok(true)
+        }
+        Step::RollBack(id) => {
+            queue.rollback_reset_streams(&[StreamId(id)])?;
+            Ok(true)
+        }
+        Step::Reset => reset(queue),
+        _ => Ok(answers(queue, step)),
+    }
+}
+
+fn holds(
+    alloc: Global,
+    queue: &mut SendQueue,
+    events: &mut Events,
+    step: Step,
+) -> Result<bool, AllocError> {
+    match step {
+        Step::Gives(millis, most, want) => gives(queue, events, millis, most, want),
+        Step::GivesWhole(id, message, ssn, length) => {
+            gives(queue, events, 0, 1000, (id, message, ssn, 0, 0, length))
+        }
+        Step::GivesNone(millis) => gives_none(queue, events, millis),
+        Step::Threshold(id, bytes) => {
+            queue.set_buffered_amount_low_threshold(StreamId(id), bytes, events)?;
+            Ok(true)
+        }
+        Step::Discard(id, message) => {
+            queue.discard(StreamId(id), OutgoingMessageId(message), events)?;
+            Ok(true)
+        }
+        Step::Prepare(id) => {
+            queue.prepare_reset_stream(StreamId(id), events)?;
+            Ok(true)
+        }
+        Step::Hears(want) => Ok(told_by(&events.next_event()) == want),
+        Step::GivenUp(message) => Ok(is_given_up(events, message)),
+        Step::NoneGivenUp => Ok(events.next_given_up().is_none()),
+        _ => settles(alloc, queue, step),
+    }
+}
+
+/// How many of the steps hold on this queue, up to the first that doesn't.
+pub fn walk(alloc: Global, queue: &mut SendQueue, steps: &[Step]) -> Result<usize, AllocError> {
+    let mut events = Events::new(alloc);
+    for (count, step) in steps.iter().enumerate() {
+        if !holds(alloc, queue, &mut events, *step)? {
+            return Ok(count);
+        }
+    }
+    Ok(steps.len())
+}

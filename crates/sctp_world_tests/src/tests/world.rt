@@ -1,0 +1,145 @@
+//! Two ends connect, and a message crosses.
+
+use crate::tests::words::Words;
+use rand_core::Rng;
+use sctp_serial::{LifecycleId, Message, PpId, StreamId};
+use sctp_state::{ErrorKind, Options, SendError, SendOptions, SocketEvent};
+use sctp_world::*;
+use std::alloc::AllocError;
+use std::test::Fail;
+
+fn fresh<R: Rng>(rt: &HostRuntime, a: R, b: R) -> Option<World<R, ByteSum>> {
+    let options = Options::default();
+    World::new(rt.alloc(), &options, &options, a, b, ByteSum, ByteSum).ok()
+}
+
+/// Connects both ends.
+fn open<R: Rng>(world: &mut World<R, ByteSum>) -> Result<(), WorldError> {
+    world.run(&[
+        Event::Call(End::A, Call::Connect),
+        Event::Give(0, End::B),
+        Event::Give(0, End::A),
+        Event::Give(1, End::B),
+        Event::Give(1, End::A),
+    ])
+}
+
+/// A message of three bytes on stream 1, with protocol 53 and id 7.
+fn message(rt: &HostRuntime) -> Result<Event, AllocError> {
+    let payload = Vec::from_slice(rt.alloc(), &[1, 2, 3])?;
+    let options = SendOptions {
+        lifecycle_id: LifecycleId::new(7),
+        ..SendOptions::default()
+    };
+    let message = Message::new(StreamId(1), PpId(53), payload);
+    Ok(Event::Call(End::A, Call::Send(message, options)))
+}
+
+/// The length of a packet; 0 where there is none.
+fn size<R: Rng>(world: &World<R, ByteSum>, end: End, number: usize) -> usize {
+    match world.packet(end, number) {
+        Some(bytes) => bytes.len(),
+        None => 0,
+    }
+}
+
+#[test]
+fn a_message_crosses(rt: HostRuntime) -> Result<(), Fail> {
+    let event = message(&rt)?;
+    let world = fresh(&rt, Words::new(456, 7), Words::new(5, 11));
+    assert!(rt; world.is_some());
+    let Some(mut world) = world else {
+        return Ok(());
+    };
+    assert!(rt; open(&mut world).is_ok());
+    assert!(rt; world.step(&event).is_ok());
+    assert!(rt; !world.is_at_rest(End::A));
+    assert!(rt; world.step(&Event::Give(2, End::B)).is_ok());
+    assert!(rt; world.step(&Event::Give(2, End::A)).is_ok());
+    assert!(rt; world.is_at_rest(End::A));
+    for (number, a, b) in [(0, 44, 96), (1, 64, 16), (2, 32, 28)] {
+        assert_eq!(rt; size(&world, End::A, number), a);
+        assert_eq!(rt; size(&world, End::B, number), b);
+    }
+    Ok(())
+}
+
+/// Whether the last entries of the log tell of an empty message that was refused, and of nothing more.
+fn refuses_nothing<R: Rng>(rt: &HostRuntime, world: &mut World<R, ByteSum>) -> bool {
+    let empty = Message::new(StreamId(1), PpId(53), Vec::new(rt.alloc()));
+    let before = world.log().len();
+    let event = Event::Call(End::A, Call::Send(empty, SendOptions::default()));
+    if world.step(&event).is_err() {
+        return false;
+    }
+    match world.log().get(before..) {
+        Some(
+            [
+                Entry::Send(End::A, _, _, _, Some(error)),
+                Entry::Event(End::A, told),
+            ],
+        ) => {
+            *error == SendError::EmptyPayload
+                && matches!(told, SocketEvent::OnError(ErrorKind::ProtocolViolation, _))
+        }
+        _ => false,
+    }
+}
+
+#[test]
+fn an_empty_message(rt: HostRuntime) {
+    let world = fresh(&rt, Words::new(0, 0), Words::new(0, 0));
+    assert!(rt; world.is_some());
+    if let Some(mut world) = world {
+        assert!(rt; refuses_nothing(&rt, &mut world));
+    }
+}
+
+#[test]
+fn a_packet_that_is_not_there(rt: HostRuntime) {
+    let world = fresh(&rt, Words::new(0, 0), Words::new(0, 0));
+    assert!(rt; world.is_some());
+    if let Some(mut world) = world {
+        let answer = world.step(&Event::Give(0, End::B));
+        assert_eq!(rt; answer, Err(WorldError::NoSuchPacket));
+    }
+}
+
+/// Whether the first packet of an end that draws these words has these bytes from here on.
+fn opens_with(rt: &HostRuntime, words: Words, from: usize, want: &[u8]) -> bool {
+    let Some(mut world) = fresh(rt, words, Words::new(0, 0)) else {
+        return false;
+    };
+    if world.step(&Event::Call(End::A, Call::Connect)).is_err() {
+        return false;
+    }
+    match world.packet(End::A, 0) {
+        Some(bytes) => bytes.len() == 44 && from < 44 && bytes[from..].starts_with(want),
+        None => false,
+    }
+}
+
+#[test]
+fn the_first_packet(rt: HostRuntime) -> Result<(), Fail> {
+    let want = hex::decode(
+        rt.alloc(),
+        b"1388138800000000000009400100001e0000014100500000ffffffff000001c8c00000048008000682c00000",
+    )?;
+    // the words 456 and 320
+    assert!(rt; opens_with(&rt, Words::new(456, 4_294_967_160), 0, &want));
+    Ok(())
+}
+
+#[test]
+fn draws(rt: HostRuntime) {
+    // the same word twice: the first TSN, then the tag
+    let table: [(u32, [u8; 4], [u8; 4]); 3] = [
+        (4294967294, [255, 255, 255, 254], [0, 0, 0, 1]),
+        (4294967295, [0, 0, 0, 0], [0, 0, 0, 2]),
+        (0, [0, 0, 0, 0], [0, 0, 0, 1]),
+    ];
+    for (word, tsn, tag) in table {
+        assert!(rt; opens_with(&rt, Words::new(word, 0), 16, &tag));
+        assert!(rt; opens_with(&rt, Words::new(word, 0), 28, &tsn));
+    }
+}
