@@ -1,3 +1,4 @@
+pub mod AgainLemmas
 pub mod ForwardLemmas
 pub mod LaidLemmas
 pub mod LossesLemmas

@@ -1,6 +1,8 @@
+pub mod Again
 pub mod Change
 pub mod Entries
 pub mod Forward
+pub mod Handover
 pub mod Interrupted
 pub mod Item
 pub mod Items

@@ -5,6 +5,8 @@ ghost use Rattle.std.specs.Duration.{as_nanos};
 ghost use Rattle.sctp_packet.specs.Views.{fragment_tree};
 ghost use Rattle.sctp_outstanding.specs.Item.{flies, waits, waits_fast, lacks, has_ack, is_gone, is_due, chunk_size, acked, uncovered, nacked, resent, slowed};
 
+mod handover;
+
 use sctp_packet::Data;
 use sctp_serial::{LifecycleId, OutgoingMessageId, SocketTime};
 use std::alloc::{AllocError, Global};

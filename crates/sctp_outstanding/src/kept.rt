@@ -9,6 +9,8 @@ ghost use Rattle.sctp_outstanding.specs.Views.{last_tree};
 ghost use Rattle.sctp_outstanding.specs.Sack.{reports};
 ghost use Rattle.sctp_state.specs.Events.{tell_all, Grown};
 
+mod handover;
+
 use crate::item::Item;
 use crate::telling::tell_left;
 use crate::totals::Totals;

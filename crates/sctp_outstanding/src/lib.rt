@@ -3,6 +3,7 @@
 
 pub mod item;
 pub mod kept;
+pub mod laws;
 pub mod outstanding_data;
 pub mod sack;
 pub mod skips;
