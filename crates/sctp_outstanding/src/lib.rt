@@ -13,6 +13,3 @@ pub mod totals;
 pub use item::{Item, ItemState};
 pub use outstanding_data::{Discarded, OutstandingData};
 pub use sack::AckInfo;
-
-#[cfg(test)]
-mod tests;

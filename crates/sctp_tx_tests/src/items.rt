@@ -1,4 +1,7 @@
-use super::*;
+//! Fragments that have their TSN: what becomes of three that are sent, the first one of a message that may not be sent
+//! again.
+
+use sctp_outstanding::{Discarded, OutstandingData};
 use sctp_packet::{Data, GapAckBlock};
 use sctp_serial::{
     Fsn, LifecycleId, Mid, OutgoingMessageId, PpId, SocketTime, Ssn, StreamId, StreamKey, Tsn,
