@@ -1,7 +1,9 @@
 pub mod AgainLemmas
 pub mod ForwardLemmas
+pub mod KeepsLemmas
 pub mod LaidLemmas
 pub mod LossesLemmas
+pub mod PointLemmas
 pub mod SackLemmas
 pub mod SkipLemmas
 pub mod TellingLemmas
