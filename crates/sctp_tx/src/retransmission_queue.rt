@@ -13,6 +13,7 @@ ghost use Rattle.sctp_tx.specs.ForwardPoints.{expired, forward_chunk};
 ghost use Rattle.sctp_outstanding.specs.Sack.{is_valid, acked_bytes};
 ghost use Rattle.sctp_tx.specs.Retransmission.{sender, heard, step_of, sender_if, told_if, answer_if, answer_of, windows_after, after_sack, kept_running, is_quiet, timed_out_sender};
 ghost use Rattle.sctp_tx.specs.Interrupted.{PartlyHeard, PartlyTimedOut, PartlyExpired, PartlyResentFast};
+ghost use Rattle.sctp_tx.specs.Flight.{StaysWithin};
 ghost use Rattle.sctp_tx.specs.Windows.{capped};
 ghost use Rattle.sctp_send_queue.specs.Views.{produced_of};
 ghost use Rattle.sctp_outstanding.specs.Item.{size_of};
@@ -391,7 +392,9 @@ impl RetransmissionQueue {
         ensures queue { OnOk result (queue.new ≡ (send now max_bytes self.old queue.old events.old).queue) }
         ensures told { OnOk result (events.new ≡ (send now max_bytes self.old queue.old events.old).told) }
         ensures chunks { IfOk result (λ chunks. map chunk_of chunks.items ≡ (send now max_bytes self.old queue.old events.old).chunks) }
+        ensures flight { OnOk result (StaysWithin self.old self.new) }
     {
+        let _cwnd = self.cwnd();
         discard_all(&mut self.outstanding, queue, events)?;
         let (mut chunks, bytes) = self.resend(max_bytes)?;
         self.fill(
