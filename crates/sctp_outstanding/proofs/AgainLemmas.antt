@@ -1,9 +1,9 @@
 -- A record brings the items back.
-use Rattle.std.proofs.Common.{◌≡◌, ℕ, suc, ◌+◌, ◌-◌, ◌*◌, ◌%◌, ◌^◌, ◌<◌, Bool, cond, Option, Some, None, List, [], ◌∷◌, length, refl, ap, sym, ◌∙◌, arith}
-use Rattle.std.specs.Prelude.{map, option_map, unwrap_or, min}
+use Rattle.std.proofs.Common.{◌≡◌, ℕ, suc, ◌+◌, ◌-◌, ◌%◌, ◌<◌, cond, Option, Some, None, List, [], ◌∷◌, length, refl, ap, ◌∙◌, arith}
+use Rattle.std.specs.Prelude.{option_map, unwrap_or}
 use Rattle.sctp_serial.specs.Serial.{serial_difference}
 use Rattle.sctp_serial.specs.Unwrapped.{origin, words, wire}
-use Rattle.sctp_state.specs.Handover.{Transmission, OutstandingData}
+use Rattle.sctp_state.specs.Handover.{Transmission}
 use Rattle.sctp_state.specs.HandoverTimes.{ms_from, moment_from, lifecycle_from}
 use Rattle.sctp_outstanding.specs.declared.item.ItemState.{ItemState}
 use Rattle.sctp_outstanding.specs.declared.item.ItemState.TheVariants.{InFlight, Missing, Queued, QueuedFast, Acked, GivenUp}

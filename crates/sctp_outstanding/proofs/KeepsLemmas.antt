@@ -1,5 +1,5 @@
 -- Items that stay.
-use Rattle.std.proofs.Common.{◌≡◌, ℕ, zero, suc, ◌+◌, Bool, true, false, cond, Option, Some, None, List, [], ◌∷◌, ◌++◌, refl, ap, ◌∙◌}
+use Rattle.std.proofs.Common.{◌≡◌, ℕ, zero, suc, Bool, true, false, cond, Option, Some, None, List, [], ◌∷◌, ◌++◌, refl, ap, ◌∙◌}
 use Rattle.std.specs.Prelude.{◌-◌, ◌&&◌, map, slice_get, option_map, unwrap_or, ◌||◌, not, if◌then◌else◌}
 use Rattle.std.specs.List.{list_all}
 use Rattle.sctp_packet.specs.declared.sack.GapAckBlock.{GapAckBlock}
@@ -14,7 +14,7 @@ use Rattle.sctp_outstanding.specs.Item.{Item, flies, is_gone, is_of, is_lost, is
 use Rattle.sctp_outstanding.specs.Items.{Items, change_at, lay_down, last_of, inserted}
 use Rattle.sctp_outstanding.specs.Losses.{Step, closed, placeholders, abandon_message, given_up, given_up_if, gives_up, loses, nack_item, nack_at, nack_below, expired_at, expire_at, expire_below, change_items}
 use Rattle.sctp_outstanding.specs.Resending.{Resent, again_of, again_at, taken, turn_at, step_at, resent_below}
-use Rattle.sctp_outstanding.specs.Sack.{settle, settled, staying, hear, heard_first, acked_by, reported_below}
+use Rattle.sctp_outstanding.specs.Sack.{settle, settled, staying, hear, heard_first, reported_below}
 use Rattle.sctp_outstanding.specs.Keeps.{Remains, Remain, Keeps, is_given_up_in}
 
 -- ---- lists

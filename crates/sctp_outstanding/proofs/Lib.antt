@@ -4,6 +4,7 @@ pub mod KeepsLemmas
 pub mod LaidLemmas
 pub mod LossesLemmas
 pub mod PointLemmas
+pub mod RestLemmas
 pub mod RoomLemmas
 pub mod SackLemmas
 pub mod SkipLemmas

@@ -1,5 +1,5 @@
 -- What a forward point passes, and what it names.
-use Rattle.std.proofs.Common.{◌≡◌, ◌⊎◌, inl, inr, ℕ, zero, suc, ◌+◌, ◌≤◌, ◌<◌, Bool, true, false, cond, Option, Some, None, List, [], ◌∷◌, length, take, refl, ap, sym, subst, ◌∙◌, arith}
+use Rattle.std.proofs.Common.{◌≡◌, inl, inr, ℕ, suc, ◌+◌, ◌≤◌, ◌<◌, Bool, true, false, cond, Option, Some, None, List, [], ◌∷◌, length, take, refl, ap, sym, subst, ◌∙◌, arith}
 use Rattle.std.specs.Prelude.{◌&&◌, ◌||◌, ◌==◌, not, nat_lt, nat_le, if◌then◌else◌}
 use Rattle.std.specs.List.{list_all}
 use Rattle.std.proofs.lemmas.Bool.{cases_lt}
@@ -7,7 +7,7 @@ use Rattle.std.proofs.lemmas.Bool.Decides.{nat_tests}
 use Rattle.sctp_outstanding.specs.declared.skips.SkipEntry.{SkipEntry}
 use Rattle.sctp_outstanding.specs.Item.{Item, is_abandoned}
 use Rattle.sctp_outstanding.specs.Items.{Items}
-use Rattle.sctp_outstanding.specs.Forward.{ForwardPoint, is_first_gone, is_forward_due, entry_of, is_before, is_same, is_alike, named, with_entry, count_with, size_with, stops, passes, passed, walk, forward_point}
+use Rattle.sctp_outstanding.specs.Forward.{ForwardPoint, is_first_gone, entry_of, is_before, is_same, is_alike, named, with_entry, size_with, stops, passes, passed, walk, forward_point}
 use Rattle.sctp_outstanding.specs.Point.{named_number, number_in, last_number, IsPoint}
 
 -- ---- entries

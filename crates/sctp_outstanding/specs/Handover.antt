@@ -1,12 +1,12 @@
 -- The items in the record of a socket that is handed over, with wire numbers; and those of one that takes it up.
-use Rattle.std.specs.Prelude.{ℕ, ◌+◌, ◌-◌, ◌%◌, ◌^◌, min, Bool, if◌then◌else◌, unwrap_or, option_map, List, [], map}
+use Rattle.std.specs.Prelude.{ℕ, ◌+◌, ◌-◌, ◌%◌, ◌^◌, min, if◌then◌else◌, unwrap_or, option_map, List, [], map}
 use Rattle.sctp_packet.specs.Chunk.{FragmentTree}
 use Rattle.sctp_state.specs.Handover.{OutstandingData, Transmission}
 use Rattle.sctp_state.specs.HandoverTimes.{ms_from, moment_from, ms_since, moment_before, lifecycle_from}
 use Rattle.sctp_outstanding.specs.declared.item.ItemState.{ItemState}
 use Rattle.sctp_outstanding.specs.declared.item.ItemState.TheVariants.{InFlight, Missing, Queued, QueuedFast, Acked, GivenUp}
 use Rattle.sctp_outstanding.specs.Item.{Item, is_acked, is_abandoned, is_nacked, should_be_retransmitted}
-use Rattle.sctp_outstanding.specs.Items.{Items, Outstanding, next_number, written, begun_at}
+use Rattle.sctp_outstanding.specs.Items.{Outstanding, next_number, written, begun_at}
 
 -- ---- what is written
 

@@ -5,10 +5,10 @@ use Rattle.std.specs.List.{list_all}
 use Rattle.sctp_packet.specs.declared.sack.GapAckBlock.{GapAckBlock}
 use Rattle.sctp_state.specs.Events.{Told}
 use Rattle.sctp_outstanding.specs.Item.{Item, is_of, is_abandoned}
-use Rattle.sctp_outstanding.specs.Items.{Items, inserted, begin_reset}
+use Rattle.sctp_outstanding.specs.Items.{Items, inserted}
 use Rattle.sctp_outstanding.specs.Losses.{Step, abandon_message, nack_below, expire_below}
 use Rattle.sctp_outstanding.specs.Resending.{Resent, resent_below}
-use Rattle.sctp_outstanding.specs.Sack.{staying, heard_first, hear}
+use Rattle.sctp_outstanding.specs.Sack.{staying, hear}
 
 pub record Remains (i j : Item) : Type 0 where
   pub fragment : j.fragment ≡ i.fragment

@@ -2,7 +2,6 @@ use Rattle.std.proofs.Common.{◌≡◌, ◌<◌, ◌^◌, ◌++◌, drop}
 use Rattle.std.specs.Prelude.{map}
 use Rattle.sctp_state.specs.Handover.{outstanding_data_of}
 use Rattle.sctp_state.specs.Validity.{outstanding_bytes}
-use Rattle.sctp_outstanding.specs.Items.{Kept}
 use Rattle.sctp_outstanding.specs.Handover.{items_from}
 use Rattle.sctp_outstanding.proofs.kept.handover.restore_all.Given as goal
 
