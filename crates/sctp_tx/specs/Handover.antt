@@ -6,7 +6,7 @@ use Rattle.sctp_state.specs.Timers.{stop}
 use Rattle.sctp_outstanding.specs.Items.{Outstanding, waiting_items}
 use Rattle.sctp_outstanding.specs.Handover as items
 use Rattle.sctp_tx.specs.declared.retransmission_queue.windows.Windows.{Windows}
-use Rattle.sctp_tx.specs.Retransmission.{Sender, is_quiet, kept_running}
+use Rattle.sctp_tx.specs.Retransmission.{Sender}
 
 -- ---- what stands in the way: items count where none may be handed over
 
@@ -38,7 +38,8 @@ windows_written w tx = record tx {
 abbrev pub handed_over : ℕ → Sender → Transmission → Transmission
 handed_over now s tx = windows_written s.windows (items.handed_over now s.outstanding tx)
 
--- ---- what is read: there is no fast recovery, and t3-rtx starts where something is in flight or missing
+-- ---- what is read: there is no fast recovery, and t3-rtx doesn't run until something is handed out or a SACK leaves
+-- something in flight
 
 abbrev pub windows_from : Transmission → Windows → Windows
 windows_from tx w = record w {
@@ -49,12 +50,8 @@ windows_from tx w = record w {
   fast_recovery_exit = None;
 }
 
-abbrev pub restored_with : ℕ → Transmission → Outstanding → Sender → Sender
-restored_with now tx d s = record s {
-  outstanding = d;
-  windows = windows_from tx s.windows;
-  t3 = kept_running (is_quiet d.items) now (stop s.t3);
-}
+abbrev pub restored_with : Transmission → Outstanding → Sender → Sender
+restored_with tx d s = record s { outstanding = d; windows = windows_from tx s.windows; t3 = stop s.t3 }
 
 abbrev pub restore : ℕ → Transmission → Sender → Sender
-restore now tx s = restored_with now tx (items.restore now tx s.outstanding) s
+restore now tx s = restored_with tx (items.restore now tx s.outstanding) s

@@ -246,8 +246,8 @@ fn another_sender_goes_on(rt: HostRuntime) -> Result<(), Fail> {
         Tsns(12, 13),
         Flight(2, 2352),
         Windows(11_910, 5_240_560),
-        Expires(700),
         Sends(200, 13, 180),
+        Expires(700),
         Sack(250, 12, 0, 0, Answer::RoundTrip(250)),
         Flight(1, 196),
     ];

@@ -68,8 +68,8 @@ impl RetransmissionQueue {
         Ok(())
     }
 
-    /// Takes up the items, the TSNs and the windows of a record now, in place of its own; t3-rtx starts where something is
-    /// in flight or missing. The first TSN has to be the other socket's. Without memory nothing changes.
+    /// Takes up the items, the TSNs and the windows of a record now, in place of its own; t3-rtx stops, and starts with the
+    /// next chunk that is handed out. The first TSN has to be the other socket's. Without memory nothing changes.
     pub fn restore_from_state(
         &mut self,
         now: SocketTime,
@@ -83,7 +83,6 @@ impl RetransmissionQueue {
         self.outstanding.restore_from_state(now, state)?;
         self.windows = windows_from(&state.tx, self.windows);
         self.t3_rtx.stop();
-        self.keep_running(now);
         Ok(())
     }
 }
