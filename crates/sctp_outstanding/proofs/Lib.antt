@@ -1,6 +1,11 @@
+pub mod AgainLemmas
 pub mod ForwardLemmas
+pub mod KeepsLemmas
 pub mod LaidLemmas
 pub mod LossesLemmas
+pub mod PointLemmas
+pub mod RestLemmas
+pub mod RoomLemmas
 pub mod SackLemmas
 pub mod SkipLemmas
 pub mod TellingLemmas

@@ -109,12 +109,15 @@ is_used_up i = nat_le i.limit (i.sent - 1)
 abbrev pub is_of : ℕ → Item → Bool
 is_of number i = i.number == number
 
--- the bytes of its chunk, with the header and the padding (RFC 9260 section 3.3.1, RFC 8260 section 2.1)
+-- the bytes of a fragment's chunk, with the header and the padding (RFC 9260 section 3.3.1, RFC 8260 section 2.1)
 abbrev pub header_size : (is_interleaved : Bool) → ℕ
 header_size is_interleaved = if is_interleaved then 20 else 16
 
+abbrev pub size_of : (is_interleaved : Bool) → FragmentTree → ℕ
+size_of is_interleaved f = (header_size is_interleaved + length f.payload + 3) / 4 * 4
+
 abbrev pub chunk_size : (is_interleaved : Bool) → Item → ℕ
-chunk_size is_interleaved i = (header_size is_interleaved + length i.fragment.payload + 3) / 4 * 4
+chunk_size is_interleaved i = size_of is_interleaved i.fragment
 
 -- ---- what happens to it. Given up is for good
 

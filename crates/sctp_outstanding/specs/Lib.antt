@@ -1,11 +1,15 @@
+pub mod Again
 pub mod Change
 pub mod Entries
 pub mod Forward
+pub mod Handover
 pub mod Interrupted
 pub mod Item
 pub mod Items
+pub mod Keeps
 pub mod Losses
 pub mod Passes
+pub mod Point
 pub mod Resending
 pub mod Sack
 pub mod Totals

@@ -3,7 +3,9 @@
 ghost use Rattle.std.specs.Prelude.{◌≡◌, ℕ, ◌-◌, ◌<◌, ◌≤◌, ◌^◌, ◌&&◌, Bool, length, min, max, false, true, None, IfOk};
 ghost use Rattle.std.specs.Duration.{as_nanos};
 ghost use Rattle.sctp_packet.specs.Views.{fragment_tree};
-ghost use Rattle.sctp_outstanding.specs.Item.{flies, waits, waits_fast, lacks, has_ack, is_gone, is_due, chunk_size, acked, uncovered, nacked, resent, slowed};
+ghost use Rattle.sctp_outstanding.specs.Item.{flies, waits, waits_fast, lacks, has_ack, is_gone, is_due, header_size, size_of, chunk_size, acked, uncovered, nacked, resent, slowed};
+
+mod handover;
 
 use sctp_packet::Data;
 use sctp_serial::{LifecycleId, OutgoingMessageId, SocketTime};
@@ -348,8 +350,7 @@ impl Item {
         ensures size { result ≡ chunk_size is_interleaved self.now }
         ensures small { result < 2 ^ 33 }
     {
-        let header = if is_interleaved { 20 } else { 16 };
-        (header + self.data.payload.len() + 3) / 4 * 4
+        chunk_size(&self.data, is_interleaved)
     }
 
     /// The peer has it, as a block of a SACK says. What was given up stays so.
@@ -417,6 +418,20 @@ impl Item {
     {
         now - self.sent_at
     }
+}
+
+/// The bytes of the header of a DATA or an I-DATA chunk, with the chunk's own.
+pub fn header_size(is_interleaved: bool) -> usize
+    ensures { result ≡ header_size is_interleaved }
+{
+    if is_interleaved { 20 } else { 16 }
+}
+
+/// The bytes of the fragment's DATA or I-DATA chunk, with the header and the padding.
+pub fn chunk_size(fragment: &Data, is_interleaved: bool) -> usize
+    ensures { result ≡ size_of is_interleaved (fragment_tree fragment.now) }
+{
+    (header_size(is_interleaved) + fragment.payload.len() + 3) / 4 * 4
 }
 
 /// The fragment once more.

@@ -9,6 +9,8 @@ ghost use Rattle.sctp_outstanding.specs.Views.{last_tree};
 ghost use Rattle.sctp_outstanding.specs.Sack.{reports};
 ghost use Rattle.sctp_state.specs.Events.{tell_all, Grown};
 
+mod handover;
+
 use crate::item::Item;
 use crate::telling::tell_left;
 use crate::totals::Totals;
@@ -287,11 +289,11 @@ impl Kept {
         self.totals.fast > 0
     }
 
-    /// Whether an item is acknowledged.
-    pub fn has_acked(&self) -> bool
-        ensures { result ≡ nat_lt 0 (sum_by acked_part self.now.items) }
+    /// How many items are acknowledged.
+    pub fn acked(&self) -> usize
+        ensures { result ≡ sum_by acked_part self.now.items }
     {
-        self.totals.acked > 0
+        self.totals.acked
     }
 
     /// Changes the item at the place, if there is one.

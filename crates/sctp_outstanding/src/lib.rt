@@ -3,6 +3,7 @@
 
 pub mod item;
 pub mod kept;
+pub mod laws;
 pub mod outstanding_data;
 pub mod sack;
 pub mod skips;
@@ -12,6 +13,3 @@ pub mod totals;
 pub use item::{Item, ItemState};
 pub use outstanding_data::{Discarded, OutstandingData};
 pub use sack::AckInfo;
-
-#[cfg(test)]
-mod tests;

@@ -19,6 +19,8 @@ ghost use Rattle.std.specs.List.{list_any};
 ghost use Rattle.sctp_outstanding.specs.Sack.{sample, sample_at, is_valid, staying, leaving, left_bytes, reports, hear, acked_bytes, highest_end};
 ghost use Rattle.sctp_state.specs.Events.{first_of};
 
+mod handover;
+
 use crate::item::{Item, copy_of};
 use crate::kept::{Change, Kept, placeholder};
 use crate::sack::{AckInfo, highest_end, settle_all, take_out};
@@ -72,12 +74,6 @@ struct Loss {
     gives_up: bool,
     message_id: OutgoingMessageId,
     resendings: u32,
-}
-
-fn either(first: bool, second: bool) -> bool
-    ensures { result ≡ (first || second) }
-{
-    first || second
 }
 
 impl OutstandingData {
@@ -357,7 +353,7 @@ impl OutstandingData {
         let mut is_lossy = false;
         for place in 0..count {
             let is_lost = self.nack_item(place, at_once, fast, events)?;
-            is_lossy = either(is_lossy, is_lost);
+            is_lossy |= is_lost;
         }
         Ok(is_lossy)
     }

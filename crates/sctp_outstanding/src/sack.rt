@@ -6,7 +6,7 @@ ghost use Rattle.sctp_packet.specs.Covered.{AreRuns, is_covered};
 ghost use Rattle.sctp_outstanding.specs.Item.{chunk_size};
 ghost use Rattle.sctp_outstanding.specs.Items.{change_at};
 ghost use Rattle.sctp_outstanding.specs.Sack.{open_size, left_part, settle, newly_acked, below_highest, settled, new_bytes_at, is_new_at, highest_end};
-ghost use Rattle.sctp_outstanding.specs.Passes.{IsCursor};
+ghost use Rattle.sctp_outstanding.specs.Passes.{IsCursor, acked_at};
 
 use crate::item::Item;
 use crate::kept::{Change, Kept};
@@ -127,7 +127,19 @@ fn settle_at(kept: &mut Kept, blocks: &[GapAckBlock], place: usize, walk: Walk) 
     Walk { block, covered }
 }
 
-/// Acknowledges the items that blocks cover, and has those in flight again that no block covers any more.
+// One where the item at the place is acknowledged.
+fn acked_at(kept: &Kept, place: usize) -> usize
+    ensures acked { result ≡ acked_at place kept.now.items }
+    ensures few { result ≤ 1 }
+{
+    match kept.get(place) {
+        Some(item) => usize::from(item.is_acked()),
+        None => 0,
+    }
+}
+
+/// Acknowledges the items that blocks cover, and has those in flight again that no block covers any more. Behind the last
+/// block it looks no further than to the last item that was acknowledged.
 pub fn settle_all(kept: &mut Kept, blocks: &[GapAckBlock]) -> Covered
     requires { AreRuns 0 blocks.now }
     ensures items { kept.new ≡ record kept.old { items = settle blocks.now 1 kept.old.items } }
@@ -138,8 +150,14 @@ pub fn settle_all(kept: &mut Kept, blocks: &[GapAckBlock]) -> Covered
         block: 0,
         covered: Covered { bytes: 0, below: 0 },
     };
+    let end = highest_end(blocks) as usize;
+    let mut acked = 0;
     for place in 0..kept.len() {
+        if place >= end && kept.acked() == acked {
+            return walk.covered;
+        }
         walk = settle_at(kept, blocks, place, walk);
+        acked += acked_at(kept, place);
     }
     walk.covered
 }

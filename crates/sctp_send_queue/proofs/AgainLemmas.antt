@@ -9,10 +9,11 @@ use Rattle.std.proofs.lemmas.List.{append-nil}
 use Rattle.std.proofs.lemmas.List.Elements.{filter-append}
 use Rattle.sctp_serial.specs.Unwrapped.{words, halves, wire}
 use Rattle.sctp_state.specs.Handover.{StreamMessage, Transmission}
+use Rattle.sctp_state.specs.HandoverTimes.{ms_from, moment_from, lifecycle_from}
 use Rattle.sctp_send_queue.specs.declared.send_queue.message.MessageNumbers.{MessageNumbers}
 use Rattle.sctp_send_queue.specs.Queue.{Queued, Stream, Entries, Queue}
-use Rattle.sctp_send_queue.specs.Handover.{ms_from, queued_message, messages_of, outgoing_stream, outgoing_streams, queued_messages}
-use Rattle.sctp_send_queue.specs.Restored.{moment_from, lifecycle_from, numbers_from, message_from, is_on, stream_from, entries_from}
+use Rattle.sctp_send_queue.specs.Handover.{queued_message, messages_of, outgoing_stream, outgoing_streams, queued_messages}
+use Rattle.sctp_send_queue.specs.Restored.{numbers_from, message_from, is_on, stream_from, entries_from}
 use Rattle.sctp_send_queue.specs.Again.{moment_again, numbers_again, lifecycle_again, message_again, stream_again, entries_again, ComesBack}
 
 -- ---- a message

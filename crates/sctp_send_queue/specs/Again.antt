@@ -6,11 +6,12 @@ use Rattle.std.specs.Map.{keys_of}
 use Rattle.std.specs.Ordering.{nat_cmp}
 use Rattle.sctp_serial.specs.Unwrapped.{origin, words, halves, wire}
 use Rattle.sctp_state.specs.Handover.{Transmission}
+use Rattle.sctp_state.specs.HandoverTimes.{ms_from, moment_from, lifecycle_from}
 use Rattle.sctp_send_queue.specs.declared.send_queue.message.MessageNumbers.{MessageNumbers}
 use Rattle.sctp_send_queue.specs.declared.send_queue.stream.PauseState.TheVariants.{NotPaused}
 use Rattle.sctp_send_queue.specs.Queue.{Queued, Stream, Entries, Queue}
-use Rattle.sctp_send_queue.specs.Handover.{ms_from, written}
-use Rattle.sctp_send_queue.specs.Restored.{moment_from, lifecycle_from, restore}
+use Rattle.sctp_send_queue.specs.Handover.{written}
+use Rattle.sctp_send_queue.specs.Restored.{restore}
 
 -- the number that is written the same and lies in the first of its spaces
 abbrev pub again : ℕ → ℕ → ℕ

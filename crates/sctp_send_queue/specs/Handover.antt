@@ -1,15 +1,11 @@
 -- The queue in the record of a socket that is handed over. Like a packet it has wire numbers.
-use Rattle.std.specs.Prelude.{ℕ, ℤ, pos, negsuc, ◌-◌, ◌/◌, ◌^◌, min, nat_le, if◌then◌else◌, None, unwrap_or, option_map, List, map}
+use Rattle.std.specs.Prelude.{ℕ, if◌then◌else◌, None, unwrap_or, option_map, List, map}
 use Rattle.std.specs.List.{flat_map}
 use Rattle.sctp_serial.specs.Unwrapped.{words, halves, wire}
-use Rattle.sctp_state.specs.Numbers.{ms}
 use Rattle.sctp_state.specs.declared.api.handover.HandoverOutgoingStream.{HandoverOutgoingStream}
 use Rattle.sctp_state.specs.Handover.{StreamMessage, Transmission}
+use Rattle.sctp_state.specs.HandoverTimes.{ms_from}
 use Rattle.sctp_send_queue.specs.Queue.{Queued, Stream, Entries, Queue}
-
--- milliseconds from now to a moment, rounded down, in 32 bits
-abbrev pub ms_from : ℕ → ℕ → ℤ
-ms_from now moment = if nat_le now moment then pos (min ((moment - now) / ms) (2 ^ 31 - 1)) else negsuc (min ((now - moment - 1) / ms) (2 ^ 31 - 1))
 
 abbrev pub queued_message : ℕ → ℕ → Queued → StreamMessage
 queued_message now id m = record {

@@ -1,10 +1,9 @@
 -- The queue of a socket that takes up another one's record: the messages go on where they were.
-use Rattle.std.specs.Prelude.{ℕ, ℤ, pos, negsuc, ◌+◌, ◌-◌, ◌*◌, ◌%◌, ◌^◌, ◌==◌, Bool, if◌then◌else◌, Option, Some, None, unwrap_or, option_map, List, [], ◌∷◌, map, filter}
-use Rattle.sctp_serial.specs.Time.{later}
+use Rattle.std.specs.Prelude.{ℕ, ◌+◌, ◌%◌, ◌^◌, ◌==◌, Bool, if◌then◌else◌, Option, Some, None, unwrap_or, option_map, List, [], ◌∷◌, map, filter}
 use Rattle.sctp_serial.specs.Unwrapped.{origin}
-use Rattle.sctp_state.specs.Numbers.{ms}
 use Rattle.sctp_state.specs.declared.api.handover.HandoverOutgoingStream.{HandoverOutgoingStream}
 use Rattle.sctp_state.specs.Handover.{StreamMessage, Transmission}
+use Rattle.sctp_state.specs.HandoverTimes.{moment_from, lifecycle_from}
 use Rattle.sctp_state.specs.Scheduler.{Scheduler, scheduler, enable_message_interleaving}
 use Rattle.sctp_state.specs.Validity.{is_partly_sent, outgoing_ids}
 use Rattle.sctp_send_queue.specs.declared.send_queue.message.MessageNumbers.{MessageNumbers}
@@ -12,14 +11,6 @@ use Rattle.sctp_send_queue.specs.declared.send_queue.stream.PauseState.TheVarian
 use Rattle.sctp_send_queue.specs.Queue.{Queued, Stream, Streams, Entries, Queue, stream, hears}
 
 -- ---- a message
-
--- so many milliseconds from now
-abbrev pub moment_from : ℕ → ℤ → ℕ
-moment_from now (pos n) = later now (n * ms)
-moment_from now (negsuc n) = now - (n + 1) * ms
-
-abbrev pub lifecycle_from : ℕ → Option ℕ
-lifecycle_from n = if n == 0 then None else Some n
 
 -- an unordered message has no SSN
 abbrev pub numbers_from : Option ℕ → Option ℕ → Option MessageNumbers

@@ -1,1 +1,2 @@
+pub mod FlightLemmas
 pub mod SendingLemmas

@@ -1,4 +1,7 @@
+pub mod Flight
 pub mod ForwardPoints
+pub mod Handover
+pub mod Interrupted
 pub mod Retransmission
 pub mod Resent
 pub mod Sending

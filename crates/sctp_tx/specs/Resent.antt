@@ -2,15 +2,11 @@
 use Rattle.std.specs.Prelude.{ℕ, ◌+◌, ◌-◌, ◌*◌, ◌/◌, nat_lt, min, Bool, true, false, List, length}
 use Rattle.std.specs.List.{sum_by}
 use Rattle.sctp_packet.specs.Chunk.{FragmentTree}
-use Rattle.sctp_outstanding.specs.Item.{header_size}
+use Rattle.sctp_outstanding.specs.Item.{size_of}
 use Rattle.sctp_outstanding.specs.Items.{flight_bytes}
 use Rattle.sctp_outstanding.specs.Resending.{Resent, resend}
 use Rattle.sctp_tx.specs.Windows.{capped, taken, room, may_send}
 use Rattle.sctp_tx.specs.Retransmission.{Sender, is_quiet, kept_running}
-
--- the bytes of a fragment's chunk, with the header and the padding
-abbrev pub size_of : (is_interleaved : Bool) → FragmentTree → ℕ
-size_of m f = (header_size m + length f.payload + 3) / 4 * 4
 
 abbrev pub sizes : (is_interleaved : Bool) → List (ℕ × FragmentTree) → ℕ
 sizes m chunks = sum_by (λ c. size_of m c.1) chunks

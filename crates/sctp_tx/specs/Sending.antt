@@ -3,7 +3,7 @@
 use Rattle.std.specs.Prelude.{ℕ, zero, suc, ◌-◌, ◌*◌, ◌/◌, ◌&&◌, nat_lt, min, Bool, true, false, if◌then◌else◌, Option, Some, None, List, [], ◌∷◌, ◌++◌}
 use Rattle.sctp_packet.specs.Chunk.{FragmentTree}
 use Rattle.sctp_state.specs.Events.{Told}
-use Rattle.sctp_outstanding.specs.Item.{Item, header_size}
+use Rattle.sctp_outstanding.specs.Item.{Item, header_size, size_of}
 use Rattle.sctp_outstanding.specs.Items.{Discard, next_number, written, first_sent, inserted}
 use Rattle.sctp_outstanding.specs.Resending.{Resent}
 use Rattle.sctp_send_queue.specs.Queue.{Queue}
@@ -11,7 +11,7 @@ use Rattle.sctp_send_queue.specs.Produced.{Produced, Turn, produce}
 use Rattle.sctp_send_queue.specs.Settings.{Changed, discard}
 use Rattle.sctp_tx.specs.Windows.{capped, taken}
 use Rattle.sctp_tx.specs.Retransmission.{Sender}
-use Rattle.sctp_tx.specs.Resent.{size_of, sizes, mixes, room_of, may_send_new, resent, resent_by, timed}
+use Rattle.sctp_tx.specs.Resent.{sizes, mixes, room_of, may_send_new, resent, resent_by, timed}
 
 -- ---- new fragments
 

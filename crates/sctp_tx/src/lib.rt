@@ -6,6 +6,3 @@ pub mod retransmission_queue;
 pub use retransmission_queue::{HandleSackResult, RetransmissionQueue};
 pub use sctp_outstanding::{AckInfo, Item, OutstandingData};
 pub use sctp_send_queue::{DataToSend, SendQueue};
-
-#[cfg(test)]
-mod tests;

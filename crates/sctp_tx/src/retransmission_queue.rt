@@ -12,16 +12,20 @@ ghost use Rattle.sctp_packet.specs.ChunkView.{chunk_tree};
 ghost use Rattle.sctp_tx.specs.ForwardPoints.{expired, forward_chunk};
 ghost use Rattle.sctp_outstanding.specs.Sack.{is_valid, acked_bytes};
 ghost use Rattle.sctp_tx.specs.Retransmission.{sender, heard, step_of, sender_if, told_if, answer_if, answer_of, windows_after, after_sack, kept_running, is_quiet, timed_out_sender};
+ghost use Rattle.sctp_tx.specs.Interrupted.{PartlyHeard, PartlyTimedOut, PartlyExpired, PartlyResentFast};
+ghost use Rattle.sctp_tx.specs.Flight.{StaysWithin};
 ghost use Rattle.sctp_tx.specs.Windows.{capped};
 ghost use Rattle.sctp_send_queue.specs.Views.{produced_of};
-ghost use Rattle.sctp_tx.specs.Resent.{size_of, sizes, mixes, recounted_by, resent, resent_by, resent_fast, send_fast, timed, may_send_new};
+ghost use Rattle.sctp_outstanding.specs.Item.{size_of};
+ghost use Rattle.sctp_tx.specs.Resent.{sizes, mixes, recounted_by, resent, resent_by, resent_fast, send_fast, timed, may_send_new};
 ghost use Rattle.sctp_tx.specs.Sending.{send, fill, filling, turned, offered, sent_new, discard_all};
 ghost use Rattle.sctp_outstanding.specs.Views.{chunk_of};
 ghost use Rattle.sctp_packet.specs.Views.{fragment_tree};
 
+mod handover;
 mod windows;
 
-use sctp_outstanding::item::copy_of;
+use sctp_outstanding::item::{chunk_size, copy_of, header_size};
 use sctp_outstanding::{AckInfo, OutstandingData};
 use sctp_packet::{COMMON_HEADER_SIZE, Chunk, Data, SackChunk};
 use sctp_send_queue::{DataToSend, SendQueue};
@@ -174,7 +178,8 @@ impl RetransmissionQueue {
     }
 
     /// A SACK, whose blocks are maximal runs. What it acknowledges for good leaves, and is told; the windows and t3-rtx
-    /// follow (RFC 9260 sections 6.2.1, 6.3.2 and 7.2).
+    /// follow (RFC 9260 sections 6.2.1, 6.3.2 and 7.2). Without memory the items may have heard a part of it, and nothing
+    /// else changes.
     pub fn handle_sack(
         &mut self,
         now: SocketTime,
@@ -188,6 +193,8 @@ impl RetransmissionQueue {
             OnOk result (events.new ≡ told_if (is_valid n blocks self.old.outstanding.items) n blocks self.old events.old) }
         ensures answer { let n = number_of self.old.outstanding sack.now.cumulative_tsn_ack.0 in let blocks = sack.now.gap_ack_blocks.items in
             IfOk result (λ answer. answer_of answer ≡ answer_if (is_valid n blocks self.old.outstanding.items) now n blocks self.old) }
+        ensures err { let n = number_of self.old.outstanding sack.now.cumulative_tsn_ack.0 in let blocks = sack.now.gap_ack_blocks.items in
+            OnErr result (PartlyHeard n blocks self.old events.old self.new events.new) }
     {
         let tsn = sack.cumulative_tsn_ack;
         if !self.outstanding.is_sack_valid(tsn, &sack.gap_ack_blocks) {
@@ -216,6 +223,8 @@ impl RetransmissionQueue {
             OnOk result (events.new ≡ (step_of n blocks self.old events.old).told) }
         ensures acked { let n = number_of self.old.outstanding sack.now.cumulative_tsn_ack.0 in let blocks = sack.now.gap_ack_blocks.items in
             IfOk result (λ acked. acked ≡ capped (acked_bytes n blocks self.old.outstanding.items)) }
+        ensures err { let n = number_of self.old.outstanding sack.now.cumulative_tsn_ack.0 in let blocks = sack.now.gap_ack_blocks.items in
+            OnErr result (PartlyHeard n blocks self.old events.old self.new events.new) }
     {
         let number = self.outstanding.unwrapped(sack.cumulative_tsn_ack);
         let moved = self.outstanding.acked_number() < number;
@@ -274,7 +283,7 @@ impl RetransmissionQueue {
     }
 
     /// Whether t3-rtx expired. All that is in flight or missing is lost then: it is to be sent again, or its message
-    /// given up (RFC 9260 section 6.3.3).
+    /// given up (RFC 9260 section 6.3.3). Without memory this is done for some of the first items alone.
     pub fn handle_timeout(
         &mut self,
         now: SocketTime,
@@ -285,6 +294,7 @@ impl RetransmissionQueue {
         ensures silent { result ≡ Ok false → events.new ≡ events.old }
         ensures yes { result ≡ Ok true → self.new ≡ timed_out_sender now (nack_all self.old.outstanding.items events.old).items self.old }
         ensures told { result ≡ Ok true → events.new ≡ (nack_all self.old.outstanding.items events.old).told }
+        ensures err { OnErr result (PartlyTimedOut now self.old events.old self.new events.new) }
     {
         if !self.t3_rtx.expire(now) {
             return Ok(false);
@@ -298,11 +308,13 @@ impl RetransmissionQueue {
     pub fn can_send_data(&self) -> bool
         ensures { result ≡ may_send_new self.now }
     {
-        self.may_send_new()
+        let is_quiet = self.outstanding.unacked_items() == 0;
+        let flight = self.outstanding.unacked_packet_bytes();
+        self.windows.may_send(is_quiet, flight)
     }
 
     /// Whether a forward point is due. Before that, each message that expired and has an item that is missing or waits
-    /// is given up (RFC 3758 section 3.5).
+    /// is given up (RFC 3758 section 3.5). Without memory this is done for some of the first items alone.
     pub fn should_send_forward_tsn(
         &mut self,
         now: SocketTime,
@@ -311,6 +323,7 @@ impl RetransmissionQueue {
         ensures queue { OnOk result (self.new ≡ expired now self.old events.old) }
         ensures told { OnOk result (events.new ≡ (expire_outstanding now self.old.outstanding.items events.old).told) }
         ensures due { IfOk result (λ due. due ≡ is_forward_due self.new.outstanding.items) }
+        ensures err { OnErr result (PartlyExpired now self.old events.old self.new events.new) }
     {
         self.outstanding.expire_outstanding_chunks(now, events)?;
         Ok(self.outstanding.should_send_forward_tsn())
@@ -345,7 +358,8 @@ impl RetransmissionQueue {
     }
 
     /// The items that were reported missing for the third time, ascending, as far as they fit into `max_bytes`. This
-    /// packet ignores the congestion window; what doesn't fit waits for another one (RFC 9260 section 7.2.4).
+    /// packet ignores the congestion window; what doesn't fit waits for another one (RFC 9260 section 7.2.4). Without memory
+    /// some of the first items count as sent again, and none is handed out.
     pub fn get_chunks_for_fast_retransmit(
         &mut self,
         now: SocketTime,
@@ -353,6 +367,7 @@ impl RetransmissionQueue {
     ) -> Result<Vec<(Tsn, Data)>, AllocError>
         ensures queue { OnOk result (self.new ≡ send_fast now max_bytes self.old) }
         ensures chunks { IfOk result (λ chunks. map chunk_of chunks.items ≡ (resent_fast max_bytes self.old).chunks) }
+        ensures err { OnErr result (PartlyResentFast max_bytes self.old self.new) }
     {
         let chunks = self
             .outstanding
@@ -377,26 +392,34 @@ impl RetransmissionQueue {
         ensures queue { OnOk result (queue.new ≡ (send now max_bytes self.old queue.old events.old).queue) }
         ensures told { OnOk result (events.new ≡ (send now max_bytes self.old queue.old events.old).told) }
         ensures chunks { IfOk result (λ chunks. map chunk_of chunks.items ≡ (send now max_bytes self.old queue.old events.old).chunks) }
+        ensures flight { OnOk result (StaysWithin self.old self.new) }
     {
+        let _cwnd = self.cwnd();
         discard_all(&mut self.outstanding, queue, events)?;
-        let mut chunks = self.resend(max_bytes)?;
-        let left = max_bytes.saturating_sub(sizes(&chunks, self.outstanding.is_interleaved()));
-        self.fill(now, left, queue, &mut chunks, events)?;
+        let (mut chunks, bytes) = self.resend(max_bytes)?;
+        self.fill(
+            now,
+            max_bytes.saturating_sub(bytes),
+            queue,
+            &mut chunks,
+            events,
+        )?;
         self.run_for(now, &chunks);
         Ok(chunks)
     }
 
-    // What is sent again, in so much of a packet.
-    fn resend(&mut self, max_bytes: usize) -> Result<Vec<(Tsn, Data)>, AllocError>
+    // What is sent again, in so much of a packet, and the bytes of the chunks.
+    fn resend(&mut self, max_bytes: usize) -> Result<(Vec<(Tsn, Data)>, usize), AllocError>
         ensures sender { OnOk result (self.new ≡ resent_by self.old (resent max_bytes self.old)) }
-        ensures chunks { IfOk result (λ chunks. map chunk_of chunks.items ≡ (resent max_bytes self.old).chunks) }
+        ensures chunks { IfOk result (λ r. map chunk_of r.0.items ≡ (resent max_bytes self.old).chunks) }
+        ensures bytes { IfOk result (λ r. r.1 ≡ capped (sizes (mixes self.new) (resent max_bytes self.old).chunks)) }
     {
         let flight = self.outstanding.unacked_packet_bytes();
         let room = max_bytes.min(self.windows.cwnd.saturating_sub(flight));
         let rwnd = self.windows.rwnd;
         let chunks = self.outstanding.get_chunks_to_be_retransmitted(room, rwnd)?;
-        self.count_resent(&chunks);
-        Ok(chunks)
+        let bytes = self.count_resent(&chunks);
+        Ok((chunks, bytes))
     }
 
     // New fragments, one after the other.
@@ -440,7 +463,7 @@ impl RetransmissionQueue {
         ensures less { IfOk result (λ more. IfSome more (λ rest. rest < left)) }
     {
         let max_payload = self.offered(left);
-        if !self.may_send_new() || max_payload == 0 {
+        if !self.can_send_data() || max_payload == 0 {
             return Ok(None);
         }
         let Some(fragment) = queue.produce(now, max_payload, events)? else {
@@ -448,14 +471,6 @@ impl RetransmissionQueue {
         };
         let size = self.append(now, fragment, chunks)?;
         Ok(Some(left.saturating_sub(size)))
-    }
-
-    fn may_send_new(&self) -> bool
-        ensures { result ≡ may_send_new self.now }
-    {
-        let is_quiet = self.outstanding.unacked_items() == 0;
-        let flight = self.outstanding.unacked_packet_bytes();
-        self.windows.may_send(is_quiet, flight)
     }
 
     // The largest payload that a packet with so much left can take: chunks are padded to 4 bytes.
@@ -466,12 +481,7 @@ impl RetransmissionQueue {
         let is_quiet = self.outstanding.unacked_items() == 0;
         let flight = self.outstanding.unacked_packet_bytes();
         let room = left.min(self.windows.room(is_quiet, flight)) / 4 * 4;
-        let header = if self.outstanding.is_interleaved() {
-            20
-        } else {
-            16
-        };
-        room.saturating_sub(header)
+        room.saturating_sub(header_size(self.outstanding.is_interleaved()))
     }
 
     // The fragment takes the next TSN. The answer is the size of its chunk.
@@ -511,9 +521,10 @@ impl RetransmissionQueue {
         }
     }
 
-    // These were sent again: the peer's window shrinks, and they are counted.
-    fn count_resent(&mut self, chunks: &[(Tsn, Data)])
-        ensures { self.new ≡ recounted_by (map chunk_of chunks.now) self.old }
+    // These were sent again: the peer's window shrinks, and they are counted. The answer is their bytes.
+    fn count_resent(&mut self, chunks: &[(Tsn, Data)]) -> usize
+        ensures sender { self.new ≡ recounted_by (map chunk_of chunks.now) self.old }
+        ensures bytes { result ≡ capped (sizes (mixes self.old) (map chunk_of chunks.now)) }
     {
         let bytes = sizes(chunks, self.outstanding.is_interleaved());
         self.windows.take(bytes);
@@ -521,6 +532,7 @@ impl RetransmissionQueue {
             self.rtx_packets_count = self.rtx_packets_count.saturating_add(1);
         }
         self.rtx_bytes_count = self.rtx_bytes_count.saturating_add(bytes as u64);
+        bytes
     }
 }
 
@@ -549,12 +561,4 @@ fn sizes(chunks: &[(Tsn, Data)], is_interleaved: bool) -> usize
         bytes = bytes.saturating_add(chunk_size(&chunk.1, is_interleaved));
     }
     bytes
-}
-
-// The bytes of its DATA or I-DATA chunk, with the header and the padding.
-fn chunk_size(fragment: &Data, is_interleaved: bool) -> usize
-    ensures { result ≡ size_of is_interleaved (fragment_tree fragment.now) }
-{
-    let header = if is_interleaved { 20 } else { 16 };
-    (header + fragment.payload.len() + 3) / 4 * 4
 }

@@ -1,6 +1,6 @@
 //! A message that waits or is partly sent, and its fragments.
 
-ghost use Rattle.std.specs.Prelude.{◌≡◌, ℕ, ◌+◌, ◌-◌, ◌<◌, ◌≤◌, ◌^◌, Bool, length, IfOk, None, option_map, unwrap_or, pos, min, if◌then◌else◌};
+ghost use Rattle.std.specs.Prelude.{◌≡◌, ℕ, ◌+◌, ◌-◌, ◌<◌, ◌≤◌, ◌^◌, Bool, length, IfOk, None, option_map, min, if◌then◌else◌};
 ghost use Rattle.std.specs.Duration.{as_nanos};
 ghost use Rattle.sctp_packet.specs.Written.{key_stream};
 ghost use Rattle.sctp_packet.specs.Views.{is_unordered_key};
@@ -9,8 +9,8 @@ ghost use Rattle.sctp_send_queue.specs.Produced.{is_stale, is_due, made_of, move
 ghost use Rattle.sctp_send_queue.specs.Resets.{is_partly};
 ghost use Rattle.sctp_serial.specs.Unwrapped.{words, halves, wire};
 ghost use Rattle.sctp_state.specs.Handover.{stream_message_of};
-ghost use Rattle.sctp_send_queue.specs.Handover.{ms_from, queued_message};
-ghost use Rattle.sctp_send_queue.specs.Restored.{moment_from, lifecycle_from, numbers_from, message_from};
+ghost use Rattle.sctp_send_queue.specs.Handover.{queued_message};
+ghost use Rattle.sctp_send_queue.specs.Restored.{numbers_from, message_from};
 ghost use Rattle.sctp_send_queue.specs.Restarted.{whole};
 ghost use Rattle.sctp_send_queue.specs.Views.{produced_of, queued_of};
 
@@ -22,6 +22,7 @@ use sctp_serial::{
 };
 use sctp_state::SendOptions;
 use sctp_state::api::handover::HandoverStreamMessage;
+use sctp_state::api::handover::times::{expires_in, expiry_from, lifecycle_from, lifecycle_number};
 use std::alloc::{AllocError, Global};
 use std::marker::Model;
 use std::time::Duration;
@@ -86,43 +87,6 @@ fn stream_key(is_unordered: bool, id: StreamId) -> StreamKey
     StreamKey::new(is_unordered, id)
 }
 
-// At most the greatest number of 31 bits.
-fn bounded(millis: u128) -> i32
-    ensures { result ≡ pos (min millis (2 ^ 31 - 1)) }
-{
-    millis.min(2_147_483_647) as i32
-}
-
-// The milliseconds from now to a moment.
-fn millis_to(now: SocketTime, moment: SocketTime) -> i32
-    ensures { result ≡ ms_from now moment }
-{
-    let now = now.as_nanos();
-    let moment = moment.as_nanos();
-    if now <= moment {
-        return bounded((moment - now) / 1_000_000);
-    }
-    -1 - bounded((now - moment - 1) / 1_000_000)
-}
-
-fn expires_in(now: SocketTime, expires_at: Option<SocketTime>) -> Option<i32>
-    ensures { result ≡ option_map (ms_from now) expires_at }
-{
-    match expires_at {
-        Some(moment) => Some(millis_to(now, moment)),
-        None => None,
-    }
-}
-
-fn lifecycle_number(id: Option<LifecycleId>) -> u64
-    ensures { result ≡ unwrap_or id 0 }
-{
-    match id {
-        Some(id) => id.value(),
-        None => 0,
-    }
-}
-
 fn mid_of(numbers: Option<MessageNumbers>) -> Option<u32>
     ensures { result ≡ option_map (λ n. wire words 0 n.mid) numbers }
 {
@@ -142,29 +106,6 @@ fn ssn_of(is_unordered: bool, numbers: Option<MessageNumbers>) -> Option<u16>
         Some(numbers) => Some(Ssn::wrapped(Ssn(0), numbers.ssn).0),
         None => None,
     }
-}
-
-// So many milliseconds from now.
-fn moment_from(now: SocketTime, millis: i32) -> SocketTime
-    ensures { result ≡ moment_from now millis }
-{
-    let span = Duration::from_millis(millis.unsigned_abs() as u64);
-    if millis < 0 { now - span } else { now + span }
-}
-
-fn expiry_from(now: SocketTime, millis: Option<i32>) -> Option<SocketTime>
-    ensures { result ≡ option_map (moment_from now) millis }
-{
-    match millis {
-        Some(millis) => Some(moment_from(now, millis)),
-        None => None,
-    }
-}
-
-fn lifecycle_from(number: u64) -> Option<LifecycleId>
-    ensures { result ≡ lifecycle_from number }
-{
-    LifecycleId::new(number)
 }
 
 fn numbers_from(mid: Option<u32>, ssn: Option<u16>) -> Option<MessageNumbers>

@@ -5,6 +5,7 @@ ghost use Rattle.std.specs.Prelude.{◌≡◌};
 ghost use Rattle.sctp_state.specs.Handover.{stream_message_of, outstanding_data_of, transmission_of, receive_of, handover_state_of, no_message, no_data, no_transmission, no_reception, closed_state};
 
 mod readiness;
+pub mod times;
 mod validity;
 
 pub use readiness::HandoverReadiness;

@@ -1,3 +1,4 @@
+use Rattle.std.proofs.Common.{refl}
 use Rattle.sctp_outstanding.proofs.LossesLemmas.{nack-next-items, nack-next-told, nack-next-lossy}
 use Rattle.sctp_outstanding.proofs.outstanding_data.OutstandingData.nack_below.Goals as goal
 
@@ -11,5 +12,5 @@ loop-place-preserved c = record {
       c.loop-place.invariant.items c.loop-place.invariant.told c.nack_item.new.events c.in_ok-is_lost.ensures.told;
   lossy =
       nack-next-lossy c.args.at_once c.args.fast c.loop-place.place c.args.self.now.items c.args.events.now c.loop-place.self c.loop-place.events c.args.self.now
-      c.loop-place.invariant.items c.loop-place.invariant.told c.loop-place.is_lossy c.in_ok-is_lost.is_lost c.either-is_lossy.result c.loop-place.invariant.lossy c.in_ok-is_lost.ensures.lossy c.either-is_lossy.ensures;
+      c.loop-place.invariant.items c.loop-place.invariant.told c.loop-place.is_lossy c.in_ok-is_lost.is_lost _ c.loop-place.invariant.lossy c.in_ok-is_lost.ensures.lossy refl;
 }

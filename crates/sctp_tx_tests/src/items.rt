@@ -1,9 +1,12 @@
-use super::*;
-use sctp_packet::{Data, GapAckBlock};
+//! Fragments that have their TSN: what becomes of three that are sent, the first one of a message that may not be sent
+//! again.
+
+use sctp_outstanding::{Discarded, OutstandingData};
+use sctp_packet::{Data, GapAckBlock, SkippedStream};
 use sctp_serial::{
     Fsn, LifecycleId, Mid, OutgoingMessageId, PpId, SocketTime, Ssn, StreamId, StreamKey, Tsn,
 };
-use sctp_state::{Events, GivenUpCause};
+use sctp_state::{Events, GivenUpCause, SocketHandoverState};
 use std::alloc::{AllocError, Global};
 use std::time::Duration;
 
@@ -175,6 +178,109 @@ fn forwarded(alloc: Global) -> Result<bool, AllocError> {
 #[test]
 fn a_forward_point_passes_what_is_given_up(rt: HostRuntime) {
     assert!(rt; forwarded(rt.alloc()) == Ok(true));
+}
+
+// A message of 20 bytes on a stream that may not be sent again.
+fn send_once(
+    alloc: Global,
+    data: &mut OutstandingData,
+    stream: u16,
+    ssn: u16,
+    message: u32,
+) -> Result<(), AllocError> {
+    let mut fragment = fragment(alloc, ssn, &[7; 20], true)?;
+    if fragment.payload.len() >= 100 {
+        return Err(AllocError);
+    }
+    fragment.stream_key = StreamKey::Ordered(StreamId(stream));
+    let id = OutgoingMessageId(message);
+    data.insert(id, fragment, SocketTime::zero(), 0, None, None)?;
+    Ok(())
+}
+
+// Messages on streams 3, 1, 3 and 2 are given up; TSN 14 is in flight.
+fn four_given_up(alloc: Global) -> Result<OutstandingData, AllocError> {
+    let mut data = OutstandingData::new(alloc, Tsn(10), true, false);
+    let mut events = Events::new(alloc);
+    send_once(alloc, &mut data, 3, 0, 0)?;
+    send_once(alloc, &mut data, 1, 0, 1)?;
+    send_once(alloc, &mut data, 3, 1, 2)?;
+    send_once(alloc, &mut data, 2, 0, 3)?;
+    data.nack_all(&mut events)?;
+    send_once(alloc, &mut data, 4, 0, 4)?;
+    Ok(data)
+}
+
+// The TSN of a forward point of at most so many bytes, and how many streams it names.
+fn point(data: &OutstandingData, max_size: usize) -> Result<(Tsn, usize), AllocError> {
+    if data.is_interleaved() {
+        return Ok((Tsn(0), 0));
+    }
+    let chunk = data.create_forward_tsn(max_size)?;
+    Ok((chunk.new_cumulative_tsn, chunk.skipped_streams.len()))
+}
+
+// A point names each stream once; its chunk has 8 bytes, and 4 for each stream. One that doesn't fit ends it.
+fn named(alloc: Global) -> Result<bool, AllocError> {
+    let data = four_given_up(alloc)?;
+    Ok(
+        point(&data, 20)? == (Tsn(13), 3)
+            && point(&data, 19)? == (Tsn(12), 2)
+            && point(&data, 15)? == (Tsn(10), 1)
+            && point(&data, 11)? == (Tsn(9), 0),
+    )
+}
+
+// Streams ascend, each with the number of its last message.
+fn ascend(alloc: Global) -> Result<bool, AllocError> {
+    let data = four_given_up(alloc)?;
+    if data.is_interleaved() {
+        return Ok(false);
+    }
+    let chunk = data.create_forward_tsn(20)?;
+    let wanted = [(1, 0), (2, 0), (3, 1)];
+    for (skipped, want) in chunk.skipped_streams.iter().zip(wanted.iter()) {
+        if *skipped != SkippedStream::ForwardTsn(StreamId(want.0), Ssn(want.1)) {
+            return Ok(false);
+        }
+    }
+    Ok(chunk.skipped_streams.len() == 3)
+}
+
+#[test]
+fn a_forward_point_names_several_streams(rt: HostRuntime) {
+    assert!(rt; named(rt.alloc()) == Ok(true));
+    assert!(rt; ascend(rt.alloc()) == Ok(true));
+}
+
+// TSN 10 was reported missing, TSN 11 is acknowledged, and TSN 12 is in flight.
+fn is_written(state: &SocketHandoverState) -> bool {
+    match state.tx.outstanding_data.as_slice() {
+        [first, second, third] => state.tx.next_tsn == 13
+            && state.tx.last_cumulative_tsn_ack == 9
+            && first.is_nacked
+            && second.acked
+            && !third.is_nacked
+            && third.lifecycle_id == 4
+            && third.time_since_sent_ms == 7
+            && third.retransmission_count == 0,
+        _ => false,
+    }
+}
+
+fn written(alloc: Global) -> Result<bool, AllocError> {
+    let mut data = three(alloc)?;
+    let mut events = Events::new(alloc);
+    let mut state = SocketHandoverState::empty(alloc);
+    let taken = take(&mut data, Tsn(9), 2, &mut events)?;
+    let now = SocketTime::zero() + Duration::from_micros(7900);
+    data.add_to_handover_state(now, &mut state)?;
+    Ok(taken == Some(36) && is_written(&state))
+}
+
+#[test]
+fn items_are_written_to_be_handed_over(rt: HostRuntime) {
+    assert!(rt; written(rt.alloc()) == Ok(true));
 }
 
 // A breakpoint behind the first item holds the forward point.

@@ -1,0 +1,33 @@
+-- What a call of the sender leaves that ran out of memory before its end: the items took its first steps.
+use Rattle.std.specs.Prelude.{◌≡◌, ◌⊎◌, ℕ, not, true, false, List}
+use Rattle.sctp_packet.specs.declared.sack.GapAckBlock.{GapAckBlock}
+use Rattle.sctp_state.specs.Events.{Told}
+use Rattle.sctp_state.specs.Timers.{expire}
+use Rattle.sctp_outstanding.specs.Interrupted.{Same, SomeNacked, SomeExpired, SomeHeard}
+use Rattle.sctp_outstanding.specs.Resending.{SomeResent, empty_packet}
+use Rattle.sctp_tx.specs.Windows.{is_open, timed_out}
+use Rattle.sctp_tx.specs.Retransmission.{Sender}
+
+-- the windows, the timer and the counts are as they were
+abbrev pub ItemsAlone : Sender → Sender → Type 0
+ItemsAlone s after = after ≡ record s { outstanding = after.outstanding }
+
+-- of a SACK
+pub record PartlyHeard {P : Type 0} (n : ℕ) (blocks : List GapAckBlock) (s : Sender) (told : Told P) (after : Sender) (later : Told P) : Type 0 where
+  pub items : Same s.outstanding told after.outstanding later ⊎ SomeHeard n blocks (not (is_open n s.windows)) s.outstanding told after.outstanding later
+  pub alone : ItemsAlone s after
+
+-- of a timeout: the windows are cut, and the timer's expiry is counted
+pub record PartlyTimedOut {P : Type 0} (now : ℕ) (s : Sender) (told : Told P) (after : Sender) (later : Told P) : Type 0 where
+  pub items : SomeNacked true false s.outstanding told after.outstanding later
+  pub rest : after ≡ record s { outstanding = after.outstanding; windows = timed_out s.windows; t3 = expire now s.t3 }
+
+-- of the lifetimes that passed
+pub record PartlyExpired {P : Type 0} (now : ℕ) (s : Sender) (told : Told P) (after : Sender) (later : Told P) : Type 0 where
+  pub items : SomeExpired now s.outstanding told after.outstanding later
+  pub alone : ItemsAlone s after
+
+-- of the packet that ignores the congestion window
+pub record PartlyResentFast (most : ℕ) (s after : Sender) : Type 0 where
+  pub items : SomeResent true (empty_packet most 0 s.outstanding) after.outstanding
+  pub alone : ItemsAlone s after

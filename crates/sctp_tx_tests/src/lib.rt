@@ -1,0 +1,9 @@
+//! Tests of `sctp_outstanding` and `sctp_tx` over their public items, apart so that each crate is proved once.
+#![tactic(auto)]
+
+#[cfg(test)]
+mod items;
+#[cfg(test)]
+mod sender;
+#[cfg(test)]
+mod steps;
