@@ -1,5 +1,5 @@
 -- Time: which timers a state looks at, and what their expiries lead to.
-use Rattle.std.specs.Prelude.{ℕ, ◌&&◌, nat_lt, min, max, Bool, true, false, Option, Some, None, List, codes}
+use Rattle.std.specs.Prelude.{ℕ, nat_lt, min, max, Bool, true, false, Option, Some, None, List, codes}
 use Rattle.sctp_serial.specs.Time.{forever}
 use Rattle.sctp_state.specs.declared.api.ErrorKind.TheVariants.{TooManyRetries}
 use Rattle.sctp_state.specs.Errors.{one_error, is_exhausted}
@@ -9,9 +9,10 @@ use Rattle.sctp_outstanding.specs.Losses.{Step, nack_all}
 use Rattle.sctp_rx.specs.Tracker.{ack_timeout}
 use Rattle.sctp_tx.specs.Retransmission.{timed_out_sender}
 use Rattle.sctp_association.specs.Association.{Tcb, Phase, CookieEchoed, Established, ShutdownPending, ShutdownSent, ShutdownReceived, ShutdownAckSent, State, Closed, CookieWait, Open, Context, Standing, open_as}
-use Rattle.sctp_association.specs.Sending.{send_in, send_cookie}
+use Rattle.sctp_association.specs.Sending.{Sent, send_buffered, send_cookie}
 use Rattle.sctp_association.specs.Closing.{closed, send_shutdown, send_shutdown_ack, too_many}
 use Rattle.sctp_association.specs.Opening.{send_init}
+use Rattle.sctp_association.specs.Packets.{say}
 
 -- ---- the timers of a control block, one after the other
 
@@ -20,16 +21,12 @@ pub record Ticking (P : Type 0) : Type 0 where
   pub context : Context P
   pub has_expired : Bool
 
-abbrev pub ack_if : {P : Type 0} → (is_due : Bool) → Ticking P → Ticking P
-ack_if true x = record x {
-  tcb = record x.tcb { tracker = record x.tcb.tracker { tracker = ack_timeout x.context.now x.tcb.tracker.tracker } };
-  has_expired = true;
-}
-ack_if false x = x
-
 -- the delay of an acknowledgement
 abbrev pub tick_ack : {P : Type 0} → Ticking P → Ticking P
-tick_ack x = ack_if (is_due x.context.now x.tcb.tracker.tracker.delay) x
+tick_ack x = record x {
+  tcb = record x.tcb { tracker = record x.tcb.tracker { tracker = ack_timeout x.context.now x.tcb.tracker.tracker } };
+  has_expired = is_due x.context.now x.tcb.tracker.tracker.delay;
+}
 
 abbrev pub timed_out : {P : Type 0} → Step P → Ticking P → Ticking P
 timed_out step x = record {
@@ -52,50 +49,77 @@ ticking t c = record { tcb = t; context = c; has_expired = false }
 abbrev pub ticked : {P : Type 0} → Tcb → Context P → Ticking P
 ticked t c = tick_t3 (tick_ack (ticking t c))
 
--- ---- what an expiry leads to at last
+-- ---- what an expiry leads to at last: the association may have ended
 
-abbrev pub ended_or_sent : {P : Type 0} → (is_exhausted : Bool) → Phase → Tcb → Context P → Standing P
-ended_or_sent true phase t c = too_many t c
-ended_or_sent false phase t c = send_in phase t c
+pub record Left (P : Type 0) : Type 0 where
+  pub tcb : Tcb
+  pub context : Context P
+  pub has_ended : Bool
 
-abbrev pub settled_if : {P : Type 0} → (has_expired : Bool) → Phase → Tcb → Context P → Standing P
-settled_if true phase t c = ended_or_sent (is_exhausted c.errors) phase t c
-settled_if false phase t c = open_as phase t c
+abbrev pub left : {P : Type 0} → Tcb → Context P → (has_ended : Bool) → Left P
+left t c has_ended = record { tcb = t; context = c; has_ended = has_ended }
 
-abbrev pub settled : {P : Type 0} → Phase → Ticking P → Standing P
-settled phase x = settled_if x.has_expired phase x.tcb x.context
+abbrev pub standing_if : {P : Type 0} → (has_ended : Bool) → Phase → Tcb → Context P → Standing P
+standing_if true phase t c = record { state = Closed; context = c }
+standing_if false phase t c = open_as phase t c
+
+abbrev pub standing_left : {P : Type 0} → Phase → Left P → Standing P
+standing_left phase x = standing_if x.has_ended phase x.tcb x.context
+
+-- too many errors end the association
+abbrev pub ended_if : {P : Type 0} → (is_exhausted : Bool) → Tcb → Context P → Left P
+ended_if true t c = left t (too_many t c).context true
+ended_if false t c = left t c false
+
+abbrev pub ended : {P : Type 0} → Tcb → Context P → Left P
+ended t c = ended_if (is_exhausted c.errors) t c
+
+abbrev pub ended_or_sent : {P : Type 0} → (is_exhausted : Bool) → Tcb → Context P → Left P
+ended_or_sent true t c = left t (too_many t c).context true
+ended_or_sent false t c = let x = send_buffered false t c in left x.tcb x.context false
+
+-- else what may be sent goes out
+abbrev pub goes_on : {P : Type 0} → Tcb → Context P → Left P
+goes_on t c = ended_or_sent (is_exhausted c.errors) t c
+
+abbrev pub settled_if : {P : Type 0} → (has_expired : Bool) → Tcb → Context P → Left P
+settled_if true t c = goes_on t c
+settled_if false t c = left t c false
+
+abbrev pub settled : {P : Type 0} → Ticking P → Left P
+settled x = settled_if x.has_expired x.tcb x.context
 
 -- ---- T2-shutdown, which sends its chunk again (RFC 9260 section 9.2)
 
-abbrev pub t2_expired : {P : Type 0} → (is_running : Bool) → Phase → (Tcb → Context P → Context P) → Ticking P → Standing P
-t2_expired true phase again x = ended_or_sent (is_exhausted x.context.errors) phase x.tcb (again x.tcb x.context)
-t2_expired false phase again x = too_many x.tcb x.context
+abbrev pub t2_expired : {P : Type 0} → (is_running : Bool) → (Tcb → Context P → Context P) → Tcb → Context P → Left P
+t2_expired true again t c = goes_on t (again t c)
+t2_expired false again t c = left t (too_many t c).context true
 
-abbrev pub t2_if : {P : Type 0} → (is_due : Bool) → (Timer → Phase) → (Tcb → Context P → Context P) → Timer → Ticking P → Standing P
-t2_if true phase again t2 x = t2_expired (is_running (expire x.context.now t2)) (phase (expire x.context.now t2)) again x
-t2_if false phase again t2 x = settled (phase t2) x
+abbrev pub t2_if : {P : Type 0} → (is_due : Bool) → (Tcb → Context P → Context P) → Timer → Ticking P → Left P
+t2_if true again t2 x = t2_expired (is_running (expire x.context.now t2)) again x.tcb x.context
+t2_if false again t2 x = settled x
 
-abbrev pub tick_t2 : {P : Type 0} → (Timer → Phase) → (Tcb → Context P → Context P) → Timer → Ticking P → Standing P
-tick_t2 phase again t2 x = t2_if (is_due x.context.now t2) phase again t2 x
+abbrev pub tick_t2 : {P : Type 0} → (Tcb → Context P → Context P) → Timer → Ticking P → Left P
+tick_t2 again t2 x = t2_if (is_due x.context.now t2) again t2 x
 
 -- ---- T1-cookie (RFC 9260 section 5.1): nothing is sent but the COOKIE ECHO and its packet
 
-abbrev pub ended_if : {P : Type 0} → (is_exhausted : Bool) → Phase → Tcb → Context P → Standing P
-ended_if true phase t c = too_many t c
-ended_if false phase t c = open_as phase t c
+abbrev pub waits_if : {P : Type 0} → (has_expired : Bool) → Tcb → Context P → Left P
+waits_if true t c = ended t c
+waits_if false t c = left t c false
 
-abbrev pub ended_open : {P : Type 0} → Phase → Tcb → Context P → Standing P
-ended_open phase t c = ended_if (is_exhausted c.errors) phase t c
+abbrev pub echoed_again : {P : Type 0} → Sent P → Left P
+echoed_again x = ended x.tcb x.context
 
-abbrev pub t1_expired : {P : Type 0} → (is_running : Bool) → Timer → List ℕ → Ticking P → Standing P
-t1_expired true t1 cookie x = let y = send_cookie cookie x.tcb x.context in ended_open (CookieEchoed t1 cookie) y.tcb y.context
-t1_expired false t1 cookie x = closed (OnAborted TooManyRetries (codes "No COOKIE_ACK received")) x.context
+abbrev pub t1_expired : {P : Type 0} → (is_running : Bool) → List ℕ → Tcb → Context P → Left P
+t1_expired true cookie t c = echoed_again (send_cookie cookie t c)
+t1_expired false cookie t c = left t (say (OnAborted TooManyRetries (codes "No COOKIE_ACK received")) c) true
 
-abbrev pub t1_if : {P : Type 0} → (is_due : Bool) → Timer → List ℕ → Ticking P → Standing P
-t1_if true t1 cookie x = t1_expired (is_running (expire x.context.now t1)) (expire x.context.now t1) cookie x
-t1_if false t1 cookie x = ended_if (x.has_expired && is_exhausted x.context.errors) (CookieEchoed t1 cookie) x.tcb x.context
+abbrev pub t1_if : {P : Type 0} → (is_due : Bool) → Timer → List ℕ → Ticking P → Left P
+t1_if true t1 cookie x = t1_expired (is_running (expire x.context.now t1)) cookie x.tcb x.context
+t1_if false t1 cookie x = waits_if x.has_expired x.tcb x.context
 
-abbrev pub tick_cookie : {P : Type 0} → Timer → List ℕ → Ticking P → Standing P
+abbrev pub tick_cookie : {P : Type 0} → Timer → List ℕ → Ticking P → Left P
 tick_cookie t1 cookie x = t1_if (is_due x.context.now t1) t1 cookie x
 
 -- ---- T1-init
@@ -111,12 +135,14 @@ init_if false tag first t1 c = record { state = CookieWait tag first t1; context
 -- ---- by state
 
 abbrev pub tick_open : {P : Type 0} → Phase → Tcb → Context P → Standing P
-tick_open (CookieEchoed t1 cookie) t c = tick_cookie t1 cookie (tick_ack (ticking t c))
-tick_open Established t c = settled Established (ticked t c)
-tick_open ShutdownPending t c = settled ShutdownPending (ticked t c)
-tick_open (ShutdownSent t2) t c = tick_t2 ShutdownSent send_shutdown t2 (ticked t c)
-tick_open ShutdownReceived t c = settled ShutdownReceived (ticked t c)
-tick_open (ShutdownAckSent t2) t c = tick_t2 ShutdownAckSent send_shutdown_ack t2 (ticked t c)
+tick_open (CookieEchoed t1 cookie) t c =
+    standing_left (CookieEchoed (expire c.now t1) cookie) (tick_cookie t1 cookie (tick_ack (ticking t c)))
+tick_open Established t c = standing_left Established (settled (ticked t c))
+tick_open ShutdownPending t c = standing_left ShutdownPending (settled (ticked t c))
+tick_open (ShutdownSent t2) t c = standing_left (ShutdownSent (expire c.now t2)) (tick_t2 send_shutdown t2 (ticked t c))
+tick_open ShutdownReceived t c = standing_left ShutdownReceived (settled (ticked t c))
+tick_open (ShutdownAckSent t2) t c =
+    standing_left (ShutdownAckSent (expire c.now t2)) (tick_t2 send_shutdown_ack t2 (ticked t c))
 
 abbrev pub tick_in : {P : Type 0} → State → Context P → Standing P
 tick_in Closed c = record { state = Closed; context = c }

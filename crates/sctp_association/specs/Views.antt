@@ -1,5 +1,5 @@
 -- What the program's values of an end say.
-use Rattle.std.specs.Prelude.{ℕ, List}
+use Rattle.std.specs.Prelude.{ℕ, Bool, List}
 use Rattle.sctp_state.specs.declared.api.SctpImplementation.{SctpImplementation}
 use Rattle.sctp_state.specs.Errors.{ErrorCounter}
 use Rattle.sctp_state.specs.Events.{Told}
@@ -18,6 +18,7 @@ use Rattle.sctp_association.specs.Association.{Identity, Tcb, Phase, CookieEchoe
 use Rattle.sctp_association.specs.Packets.{Packet}
 use Rattle.sctp_association.specs.Closing.{Onward}
 use Rattle.sctp_association.specs.Sending.{Filling, Sent}
+use Rattle.sctp_association.specs.Time.{Left, Ticking, left, standing_if}
 use Rattle.sctp_association.specs.Wire.{written}
 
 abbrev pub identity_of : given_identity.Identity → Identity
@@ -91,6 +92,16 @@ sent_of word_of t c = record { tcb = tcb_of t; context = context_of word_of c }
 
 abbrev pub onward_of : {C : Type 0} → (C → List ℕ → ℕ) → given_phase.Phase → ContextValue C → Onward (List ℕ)
 onward_of word_of phase c = record { phase = phase_of phase; context = context_of word_of c }
+
+abbrev pub ticking_of : {C : Type 0} → (C → List ℕ → ℕ) → given_tcb.TransmissionControlBlock → ContextValue C → (has_expired : Bool) → Ticking (List ℕ)
+ticking_of word_of t c has_expired = record { tcb = tcb_of t; context = context_of word_of c; has_expired = has_expired }
+
+abbrev pub left_of : {C : Type 0} → (C → List ℕ → ℕ) → given_tcb.TransmissionControlBlock → ContextValue C → (has_ended : Bool) → Left (List ℕ)
+left_of word_of t c has_ended = left (tcb_of t) (context_of word_of c) has_ended
+
+-- an end that may have ended
+abbrev pub standing_after : {C : Type 0} → (C → List ℕ → ℕ) → given_phase.Phase → given_tcb.TransmissionControlBlock → ContextValue C → (has_ended : Bool) → Standing (List ℕ)
+standing_after word_of phase t c has_ended = standing_if has_ended (phase_of phase) (tcb_of t) (context_of word_of c)
 
 abbrev pub opened_of : {C : Type 0} → (C → List ℕ → ℕ) → given_phase.Phase → given_tcb.TransmissionControlBlock → ContextValue C → Standing (List ℕ)
 opened_of word_of phase t c = record { state = Open (phase_of phase) (tcb_of t); context = context_of word_of c }

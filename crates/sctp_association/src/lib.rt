@@ -11,6 +11,7 @@ mod sack;
 mod sending;
 mod shutdown;
 mod state;
+mod timers;
 mod transmission_control_block;
 
 pub use context::Context;

@@ -109,7 +109,10 @@ impl<C: Checksum> Context<C> {
         self.tell(SocketEvent::OnClosed())
     }
 
-    fn abort_by_retransmissions(&mut self, tcb: &TransmissionControlBlock) -> Result<(), AllocError>
+    pub(crate) fn abort_by_retransmissions(
+        &mut self,
+        tcb: &TransmissionControlBlock,
+    ) -> Result<(), AllocError>
         ensures { OnOk result (context_of C.word_of self.new
             ≡ say (OnAborted ErrorKind.TooManyRetries (codes "Too many retransmissions"))
             (emit_chunk (abort_chunk false (user_initiated_abort (codes "Too many retransmissions") ∷ [])) (tcb_of tcb.now) (context_of C.word_of self.old))) }

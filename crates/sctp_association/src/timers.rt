@@ -1,0 +1,138 @@
+//! Time: which timers a state looks at, and what their expiries lead to.
+
+ghost use Rattle.std.specs.Prelude.{◌≡◌, IfOk, OnOk};
+ghost use Rattle.sctp_state.specs.Events.{OnAborted};
+ghost use Rattle.sctp_association.specs.Packets.{say};
+ghost use Rattle.sctp_association.specs.Time as table;
+ghost use Rattle.sctp_association.specs.Views.{context_of, left_of, tcb_of, ticking_of};
+ghost use Rattle.sctp_state.specs.Timers.{expire};
+
+use crate::context::Context;
+use crate::state::CookieEchoedState;
+use crate::transmission_control_block::TransmissionControlBlock;
+use sctp_state::{ErrorKind, SocketEvent};
+use sctp_wire::Checksum;
+use std::alloc::AllocError;
+
+impl<C: Checksum> Context<C> {
+    /// The delay of an acknowledgement. The answer is whether it expired.
+    fn tick_ack(&self, tcb: &mut TransmissionControlBlock) -> bool
+        ensures { ticking_of C.word_of tcb.new self.now result ≡ table.tick_ack (table.ticking (tcb_of tcb.old) (context_of C.word_of self.now)) }
+    {
+        tcb.data_tracker.handle_timeout(self.clock)
+    }
+
+    /// T3-rtx (RFC 9260 section 6.3.3), after the other one has expired or not. The answer is whether any did.
+    fn tick_t3(
+        &mut self,
+        tcb: &mut TransmissionControlBlock,
+        has_expired: bool,
+    ) -> Result<bool, AllocError>
+        ensures { IfOk result (λ any. ticking_of C.word_of tcb.new self.new any ≡ table.tick_t3 (ticking_of C.word_of tcb.old self.old has_expired)) }
+    {
+        if tcb
+            .retransmission_queue
+            .handle_timeout(self.clock, &mut self.events)?
+        {
+            self.tx_error_counter.increment();
+            return Ok(true);
+        }
+        Ok(has_expired)
+    }
+
+    fn tick_tcb(&mut self, tcb: &mut TransmissionControlBlock) -> Result<bool, AllocError>
+        ensures { IfOk result (λ any. ticking_of C.word_of tcb.new self.new any ≡ table.ticked (tcb_of tcb.old) (context_of C.word_of self.old)) }
+    {
+        let has_expired = self.tick_ack(tcb);
+        self.tick_t3(tcb, has_expired)
+    }
+
+    /// Too many errors end the association. The answer is whether it ended.
+    fn end_if_exhausted(&mut self, tcb: &TransmissionControlBlock) -> Result<bool, AllocError>
+        ensures { IfOk result (λ ended. left_of C.word_of tcb.now self.new ended ≡ table.ended (tcb_of tcb.now) (context_of C.word_of self.old)) }
+    {
+        if self.tx_error_counter.is_exhausted() {
+            self.abort_by_retransmissions(tcb)?;
+            return Ok(true);
+        }
+        Ok(false)
+    }
+
+    /// Too many errors end the association; else what may be sent goes out. The answer is whether it ended.
+    fn go_on(&mut self, tcb: &mut TransmissionControlBlock) -> Result<bool, AllocError>
+        ensures { IfOk result (λ ended. left_of C.word_of tcb.new self.new ended ≡ table.goes_on (tcb_of tcb.old) (context_of C.word_of self.old)) }
+    {
+        if self.tx_error_counter.is_exhausted() {
+            self.abort_by_retransmissions(tcb)?;
+            return Ok(true);
+        }
+        self.send_buffered_packets(tcb, false)?;
+        Ok(false)
+    }
+
+    fn settle(
+        &mut self,
+        tcb: &mut TransmissionControlBlock,
+        has_expired: bool,
+    ) -> Result<bool, AllocError>
+        ensures { IfOk result (λ ended. left_of C.word_of tcb.new self.new ended ≡ table.settled_if has_expired (tcb_of tcb.old) (context_of C.word_of self.old)) }
+    {
+        if has_expired {
+            self.go_on(tcb)
+        } else {
+            Ok(false)
+        }
+    }
+
+    /// The timers of an association that is established or is being shut down, but for T2-shutdown.
+    fn tick_established(&mut self, tcb: &mut TransmissionControlBlock) -> Result<bool, AllocError>
+        ensures { IfOk result (λ ended. left_of C.word_of tcb.new self.new ended ≡ table.settled (table.ticked (tcb_of tcb.old) (context_of C.word_of self.old))) }
+    {
+        let has_expired = self.tick_tcb(tcb)?;
+        self.settle(tcb, has_expired)
+    }
+
+    /// Before the COOKIE ACK: the COOKIE ECHO goes out again (RFC 9260 section 5.1).
+    fn tick_cookie_echoed(
+        &mut self,
+        echoed: &mut CookieEchoedState,
+        tcb: &mut TransmissionControlBlock,
+    ) -> Result<bool, AllocError>
+        ensures timer { OnOk result (echoed.new.t1_cookie ≡ expire self.old.clock echoed.old.t1_cookie) }
+        ensures cookie { OnOk result (echoed.new.cookie.items ≡ echoed.old.cookie.items) }
+        ensures left { IfOk result (λ ended. left_of C.word_of tcb.new self.new ended
+            ≡ table.tick_cookie echoed.old.t1_cookie echoed.old.cookie.items (table.tick_ack (table.ticking (tcb_of tcb.old) (context_of C.word_of self.old)))) }
+    {
+        let has_expired = self.tick_ack(tcb);
+        if !echoed.t1_cookie.expire(self.clock) {
+            return self.end_if_expired(tcb, has_expired);
+        }
+        if !echoed.t1_cookie.is_running() {
+            self.tell_no_answer("No COOKIE_ACK received")?;
+            return Ok(true);
+        }
+        self.send_cookie_echo(tcb, &echoed.cookie)?;
+        self.end_if_exhausted(tcb)
+    }
+
+    fn end_if_expired(
+        &mut self,
+        tcb: &TransmissionControlBlock,
+        has_expired: bool,
+    ) -> Result<bool, AllocError>
+        ensures { IfOk result (λ ended. left_of C.word_of tcb.now self.new ended ≡ table.waits_if has_expired (tcb_of tcb.now) (context_of C.word_of self.old)) }
+    {
+        if has_expired {
+            self.end_if_exhausted(tcb)
+        } else {
+            Ok(false)
+        }
+    }
+
+    fn tell_no_answer(&mut self, text: &str) -> Result<(), AllocError>
+        ensures { OnOk result (context_of C.word_of self.new ≡ say (OnAborted ErrorKind.TooManyRetries text.now) (context_of C.word_of self.old)) }
+    {
+        let text = String::from_str(self.alloc, text)?;
+        self.tell(SocketEvent::OnAborted(ErrorKind::TooManyRetries, text))
+    }
+}
