@@ -124,13 +124,30 @@ tick_cookie t1 cookie x = t1_if (is_due x.context.now t1) t1 cookie x
 
 -- ---- T1-init
 
-abbrev pub init_expired : {P : Type 0} → (is_running : Bool) → (tag first : ℕ) → Timer → Context P → Standing P
-init_expired true tag first t1 c = record { state = CookieWait tag first t1; context = send_init tag first c }
-init_expired false tag first t1 c = closed (OnAborted TooManyRetries (codes "No INIT_ACK received")) c
+pub record Waited (P : Type 0) : Type 0 where
+  pub context : Context P
+  pub has_ended : Bool
 
-abbrev pub init_if : {P : Type 0} → (is_due : Bool) → (tag first : ℕ) → Timer → Context P → Standing P
-init_if true tag first t1 c = init_expired (is_running (expire c.now t1)) tag first (expire c.now t1) c
-init_if false tag first t1 c = record { state = CookieWait tag first t1; context = c }
+abbrev pub waited : {P : Type 0} → Context P → (has_ended : Bool) → Waited P
+waited c has_ended = record { context = c; has_ended = has_ended }
+
+abbrev pub waiting_if : {P : Type 0} → (has_ended : Bool) → (tag first : ℕ) → Timer → Context P → Standing P
+waiting_if true tag first t1 c = record { state = Closed; context = c }
+waiting_if false tag first t1 c = record { state = CookieWait tag first t1; context = c }
+
+abbrev pub standing_waited : {P : Type 0} → (tag first : ℕ) → Timer → Waited P → Standing P
+standing_waited tag first t1 x = waiting_if x.has_ended tag first t1 x.context
+
+abbrev pub init_expired : {P : Type 0} → (is_running : Bool) → (tag first : ℕ) → Context P → Waited P
+init_expired true tag first c = waited (send_init tag first c) false
+init_expired false tag first c = waited (say (OnAborted TooManyRetries (codes "No INIT_ACK received")) c) true
+
+abbrev pub init_if : {P : Type 0} → (is_due : Bool) → (tag first : ℕ) → Timer → Context P → Waited P
+init_if true tag first t1 c = init_expired (is_running (expire c.now t1)) tag first c
+init_if false tag first t1 c = waited c false
+
+abbrev pub tick_init : {P : Type 0} → (tag first : ℕ) → Timer → Context P → Waited P
+tick_init tag first t1 c = init_if (is_due c.now t1) tag first t1 c
 
 -- ---- by state
 
@@ -146,7 +163,7 @@ tick_open (ShutdownAckSent t2) t c =
 
 abbrev pub tick_in : {P : Type 0} → State → Context P → Standing P
 tick_in Closed c = record { state = Closed; context = c }
-tick_in (CookieWait tag first t1) c = init_if (is_due c.now t1) tag first t1 c
+tick_in (CookieWait tag first t1) c = standing_waited tag first (expire c.now t1) (tick_init tag first t1 c)
 tick_in (Open phase t) c = tick_open phase t c
 
 -- a moment before the clock's changes nothing

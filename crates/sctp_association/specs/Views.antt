@@ -18,7 +18,7 @@ use Rattle.sctp_association.specs.Association.{Identity, Tcb, Phase, CookieEchoe
 use Rattle.sctp_association.specs.Packets.{Packet}
 use Rattle.sctp_association.specs.Closing.{Onward}
 use Rattle.sctp_association.specs.Sending.{Filling, Sent}
-use Rattle.sctp_association.specs.Time.{Left, Ticking, left, standing_if}
+use Rattle.sctp_association.specs.Time.{Left, Ticking, Waited, left, standing_if, waited}
 use Rattle.sctp_association.specs.Wire.{written}
 
 abbrev pub identity_of : given_identity.Identity → Identity
@@ -98,6 +98,9 @@ ticking_of word_of t c has_expired = record { tcb = tcb_of t; context = context_
 
 abbrev pub left_of : {C : Type 0} → (C → List ℕ → ℕ) → given_tcb.TransmissionControlBlock → ContextValue C → (has_ended : Bool) → Left (List ℕ)
 left_of word_of t c has_ended = left (tcb_of t) (context_of word_of c) has_ended
+
+abbrev pub waited_of : {C : Type 0} → (C → List ℕ → ℕ) → ContextValue C → (has_ended : Bool) → Waited (List ℕ)
+waited_of word_of c has_ended = waited (context_of word_of c) has_ended
 
 -- an end that may have ended
 abbrev pub standing_after : {C : Type 0} → (C → List ℕ → ℕ) → given_phase.Phase → given_tcb.TransmissionControlBlock → ContextValue C → (has_ended : Bool) → Standing (List ℕ)

@@ -4,13 +4,15 @@ ghost use Rattle.std.specs.Prelude.{◌≡◌, IfOk, OnOk};
 ghost use Rattle.sctp_state.specs.Events.{OnAborted};
 ghost use Rattle.sctp_association.specs.Packets.{say};
 ghost use Rattle.sctp_association.specs.Time as table;
-ghost use Rattle.sctp_association.specs.Views.{context_of, left_of, tcb_of, ticking_of};
+ghost use Rattle.sctp_association.specs.Views.{context_of, left_of, phase_of, standing_after, standing_of, state_of, tcb_of, ticking_of, waited_of};
 ghost use Rattle.sctp_state.specs.Timers.{expire};
+ghost use Rattle.sctp_association.specs.Closing.{send_shutdown, send_shutdown_ack};
 
 use crate::context::Context;
-use crate::state::CookieEchoedState;
+use crate::state::{CookieEchoedState, CookieWaitState, Phase, State};
 use crate::transmission_control_block::TransmissionControlBlock;
-use sctp_state::{ErrorKind, SocketEvent};
+use sctp_serial::SocketTime;
+use sctp_state::{ErrorKind, SocketEvent, Timer};
 use sctp_wire::Checksum;
 use std::alloc::AllocError;
 
@@ -135,4 +137,124 @@ impl<C: Checksum> Context<C> {
         let text = String::from_str(self.alloc, text)?;
         self.tell(SocketEvent::OnAborted(ErrorKind::TooManyRetries, text))
     }
+
+    /// After the own SHUTDOWN: T2-shutdown sends it again (RFC 9260 section 9.2).
+    fn tick_shutdown_sent(
+        &mut self,
+        t2_shutdown: &mut Timer,
+        tcb: &mut TransmissionControlBlock,
+    ) -> Result<bool, AllocError>
+        ensures timer { OnOk result (t2_shutdown.new ≡ expire self.old.clock t2_shutdown.old) }
+        ensures left { IfOk result (λ ended. left_of C.word_of tcb.new self.new ended
+            ≡ table.tick_t2 send_shutdown t2_shutdown.old (table.ticked (tcb_of tcb.old) (context_of C.word_of self.old))) }
+    {
+        let has_expired = self.tick_tcb(tcb)?;
+        if !t2_shutdown.expire(self.clock) {
+            return self.settle(tcb, has_expired);
+        }
+        if !t2_shutdown.is_running() {
+            self.abort_by_retransmissions(tcb)?;
+            return Ok(true);
+        }
+        self.send_shutdown(tcb)?;
+        self.go_on(tcb)
+    }
+
+    /// After the own SHUTDOWN ACK: T2-shutdown sends it again.
+    fn tick_shutdown_ack_sent(
+        &mut self,
+        t2_shutdown: &mut Timer,
+        tcb: &mut TransmissionControlBlock,
+    ) -> Result<bool, AllocError>
+        ensures timer { OnOk result (t2_shutdown.new ≡ expire self.old.clock t2_shutdown.old) }
+        ensures left { IfOk result (λ ended. left_of C.word_of tcb.new self.new ended
+            ≡ table.tick_t2 send_shutdown_ack t2_shutdown.old (table.ticked (tcb_of tcb.old) (context_of C.word_of self.old))) }
+    {
+        let has_expired = self.tick_tcb(tcb)?;
+        if !t2_shutdown.expire(self.clock) {
+            return self.settle(tcb, has_expired);
+        }
+        if !t2_shutdown.is_running() {
+            self.abort_by_retransmissions(tcb)?;
+            return Ok(true);
+        }
+        self.send_shutdown_ack(tcb)?;
+        self.go_on(tcb)
+    }
+
+    fn tick_open(
+        &mut self,
+        phase: &mut Phase,
+        tcb: &mut TransmissionControlBlock,
+    ) -> Result<bool, AllocError>
+        ensures { IfOk result (λ ended. standing_after C.word_of phase.new tcb.new self.new ended
+            ≡ table.tick_open (phase_of phase.old) (tcb_of tcb.old) (context_of C.word_of self.old)) }
+    {
+        match phase {
+            Phase::CookieEchoed(echoed) => self.tick_cookie_echoed(echoed, tcb),
+            Phase::Established => self.tick_established(tcb),
+            Phase::ShutdownPending => self.tick_established(tcb),
+            Phase::ShutdownSent(t2_shutdown) => self.tick_shutdown_sent(t2_shutdown, tcb),
+            Phase::ShutdownReceived => self.tick_established(tcb),
+            Phase::ShutdownAckSent(t2_shutdown) => self.tick_shutdown_ack_sent(t2_shutdown, tcb),
+        }
+    }
+
+    /// Before the INIT ACK: the INIT goes out again.
+    fn tick_cookie_wait(&mut self, waiting: &mut CookieWaitState) -> Result<bool, AllocError>
+        ensures tag { OnOk result (waiting.new.verification_tag ≡ waiting.old.verification_tag) }
+        ensures first { OnOk result (waiting.new.initial_tsn ≡ waiting.old.initial_tsn) }
+        ensures timer { OnOk result (waiting.new.t1_init ≡ expire self.old.clock waiting.old.t1_init) }
+        ensures waited { IfOk result (λ ended. waited_of C.word_of self.new ended
+            ≡ table.tick_init waiting.old.verification_tag waiting.old.initial_tsn.0 waiting.old.t1_init (context_of C.word_of self.old)) }
+    {
+        if !waiting.t1_init.expire(self.clock) {
+            return Ok(false);
+        }
+        if !waiting.t1_init.is_running() {
+            self.tell_no_answer("No INIT_ACK received")?;
+            return Ok(true);
+        }
+        self.send_init(waiting.verification_tag, waiting.initial_tsn)?;
+        Ok(false)
+    }
+}
+
+/// What has expired by now.
+fn handle_timeouts<C: Checksum>(
+    state: &mut State,
+    context: &mut Context<C>,
+) -> Result<(), AllocError>
+    ensures { OnOk result (standing_of C.word_of state.new context.new ≡ table.tick_in (state_of state.old) (context_of C.word_of context.old)) }
+{
+    match state {
+        State::Closed => Ok(()),
+        State::CookieWait(waiting) => {
+            if context.tick_cookie_wait(waiting)? {
+                *state = State::Closed;
+            }
+            Ok(())
+        }
+        State::Open(phase, tcb) => {
+            if context.tick_open(phase, tcb)? {
+                *state = State::Closed;
+            }
+            Ok(())
+        }
+    }
+}
+
+/// Time passes; a moment before the clock's changes nothing.
+pub(crate) fn advance_time<C: Checksum>(
+    state: &mut State,
+    context: &mut Context<C>,
+    now: SocketTime,
+) -> Result<(), AllocError>
+    ensures { OnOk result (standing_of C.word_of state.new context.new ≡ table.advance now (standing_of C.word_of state.old context.old)) }
+{
+    if now < context.clock {
+        return Ok(());
+    }
+    context.clock = now;
+    handle_timeouts(state, context)
 }
