@@ -2,7 +2,6 @@
 
 ghost use Rattle.std.specs.Prelude.{◌≡◌, false, [], ◌∷◌, codes, IfOk, OnOk};
 ghost use Rattle.sctp_wire.specs.Cause.{user_initiated_abort};
-ghost use Rattle.sctp_association.specs.Association.{where_open};
 ghost use Rattle.sctp_wire.specs.CauseViews.{cause_tree};
 ghost use Rattle.sctp_packet.specs.Chunk.{abort_chunk};
 ghost use Rattle.sctp_association.specs.Closing as table;
@@ -155,24 +154,6 @@ pub(crate) fn handle_close<C: Checksum>(
         }
         State::Open(_, tcb) => {
             context.abort_by_user(tcb)?;
-            *state = State::Closed;
-            Ok(())
-        }
-    }
-}
-
-/// The peer doesn't answer any more.
-pub(crate) fn end_by_retransmissions<C: Checksum>(
-    state: &mut State,
-    context: &mut Context<C>,
-) -> Result<(), AllocError>
-    ensures { OnOk result (standing_of C.word_of state.new context.new ≡ where_open (λ phase t c. table.too_many t c) (standing_of C.word_of state.old context.old)) }
-{
-    match state {
-        State::Closed => Ok(()),
-        State::CookieWait(_) => Ok(()),
-        State::Open(_, tcb) => {
-            context.abort_by_retransmissions(tcb)?;
             *state = State::Closed;
             Ok(())
         }
