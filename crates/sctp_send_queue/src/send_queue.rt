@@ -410,6 +410,13 @@ impl SendQueue {
         Ok(())
     }
 
+    /// Whether messages are interleaved (RFC 8260).
+    pub fn is_interleaved(&self) -> bool
+        ensures { result ≡ self.now.scheduler.is_interleaved }
+    {
+        self.scheduler.is_interleaved()
+    }
+
     /// Sets whether messages are interleaved (RFC 8260). To be called before the first fragment of an association.
     pub fn enable_message_interleaving(&mut self, is_interleaved: bool)
         ensures { self.new ≡ set_mode is_interleaved self.old }

@@ -1,6 +1,6 @@
 //! What is sent again, and when (RFC 9260 sections 6.3 and 7.2).
 
-ghost use Rattle.std.specs.Prelude.{◌≡◌, ◌-◌, min, ◌^◌, ◌<◌, ◌≤◌, ◌++◌, ◌∷◌, [], suc, nat_lt, length, map, is_some, true, false, IsTrue, OnOk, OnErr, IfOk, IfSome, Ok};
+ghost use Rattle.std.specs.Prelude.{◌≡◌, ◌-◌, ◌==◌, min, ◌^◌, ◌<◌, ◌≤◌, ◌++◌, ◌∷◌, [], suc, nat_lt, length, map, is_some, true, false, IsTrue, OnOk, OnErr, IfOk, IfSome, Ok};
 ghost use Rattle.std.specs.Duration.{as_nanos};
 ghost use Rattle.sctp_packet.specs.Covered.{AreRuns};
 ghost use Rattle.sctp_state.specs.Options.{options_of, IsValid};
@@ -161,6 +161,13 @@ impl RetransmissionQueue {
         ensures { result ≡ self.now.rtx_bytes }
     {
         self.rtx_bytes_count
+    }
+
+    /// Whether no item is kept.
+    pub fn is_empty(&self) -> bool
+        ensures { result ≡ (length self.now.outstanding.items.kept == 0) }
+    {
+        self.outstanding.is_empty()
     }
 
     /// The bytes of the chunks in flight or missing, with headers and padding.
