@@ -675,7 +675,7 @@ impl Stream {
 
     /// A new association begins: the message at the front is whole again, and the numbers begin again.
     pub fn restart(&mut self)
-        requires { amount_of self.old + 2 ^ 32 < 2 ^ 64 }
+        requires { amount_of (restarted self.old) < 2 ^ 64 }
         ensures after { self.new ≡ restarted self.old }
         ensures least { amount_of self.old ≤ amount_of self.new }
         ensures most { amount_of self.new ≤ amount_of self.old + 2 ^ 32 }
