@@ -1,6 +1,6 @@
 //! The streams that were named, and what is left on all of them.
 
-ghost use Rattle.std.specs.Prelude.{◌≡◌, ℕ, Bool, ◌<◌, ◌≤◌, ◌^◌, ◌==◌, [], length, is_some, None, Some, IsTrue, IsSome, IfOk, IfSome, OnOk, OnErr, option_map, map};
+ghost use Rattle.std.specs.Prelude.{◌≡◌, ℕ, Bool, ◌<◌, ◌^◌, ◌==◌, [], is_some, None, Some, IsTrue, IsSome, IfOk, IfSome, OnOk, OnErr, option_map, map};
 ghost use Rattle.std.specs.Map.{lookup, keys_of, values_of};
 ghost use Rattle.std.specs.List.{list_all, list_any};
 ghost use Rattle.std.specs.List.Sorted.{IsStrictlySortedBy};
@@ -507,8 +507,7 @@ impl Streams {
 
     /// All streams, by ascending id.
     pub fn ids(&self, alloc: Global) -> Result<Vec<StreamId>, AllocError>
-        ensures ids { IfOk result (λ ids. map (λ id. id.0) ids.items ≡ keys_of self.now.entries) }
-        ensures few { IfOk result (λ ids. length ids.items ≤ 65536) }
+        ensures { IfOk result (λ ids. map (λ id. id.0) ids.items ≡ keys_of self.now.entries) }
     {
         stream_ids(alloc, &self.streams)
     }
@@ -550,10 +549,8 @@ fn ready_streams(
 }
 
 fn stream_ids(alloc: Global, streams: &BTreeMap<u16, Stream>) -> Result<Vec<StreamId>, AllocError>
-    ensures ids { IfOk result (λ ids. map (λ id. id.0) ids.items ≡ keys_of streams.now.entries) }
-    ensures few { IfOk result (λ ids. length ids.items ≤ 65536) }
+    ensures { IfOk result (λ ids. map (λ id. id.0) ids.items ≡ keys_of streams.now.entries) }
 {
-    let _count = streams.len();
     let mut ids = Vec::new(alloc);
     for (id, _) in streams {
         ids.push(StreamId(*id))?;
