@@ -1,5 +1,6 @@
 pub mod AgainLemmas
 pub mod BegunLemmas
+pub mod BoundLemmas
 pub mod InOrderLemmas
 pub mod NumberLemmas
 pub mod ProduceLemmas

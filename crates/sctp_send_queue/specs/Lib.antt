@@ -1,5 +1,6 @@
 pub mod Again
 pub mod Begun
+pub mod Bounded
 pub mod Handover
 pub mod InOrder
 pub mod Interrupted

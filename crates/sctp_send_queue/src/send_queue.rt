@@ -1,6 +1,6 @@
 //! Messages that wait to be sent.
 
-ghost use Rattle.std.specs.Prelude.{◌≡◌, ℕ, Bool, ◌+◌, ◌-◌, ◌*◌, ◌<◌, ◌≤◌, ◌^◌, ◌==◌, [], length, not, is_some, None, Some, IsSome, IfOk, IfSome, OnOk, OnErr, option_map, map, take};
+ghost use Rattle.std.specs.Prelude.{◌≡◌, ℕ, Bool, ◌<◌, ◌^◌, ◌==◌, [], length, not, is_some, None, Some, IsSome, IfOk, IfSome, OnOk, OnErr, option_map, map, take};
 ghost use Rattle.std.specs.List.{list_any};
 ghost use Rattle.std.specs.List.Sorted.{IsStrictlySortedBy};
 ghost use Rattle.std.specs.Map.{lookup, keys_of, values_of};
@@ -184,7 +184,8 @@ impl SendQueue {
         self.streams.is_empty()
     }
 
-    /// Accepts a message, and answers its number.
+    /// Accepts a message, and answers its number. Fewer than 2^32 bytes may wait before it: so there are at most 2^32
+    /// messages, and no sum of their bytes overflows, also once a new association makes them whole again.
     pub fn add(
         &mut self,
         now: SocketTime,
@@ -193,7 +194,7 @@ impl SendQueue {
     ) -> Result<OutgoingMessageId, AllocError>
         requires some { 0 < length message.payload.items }
         requires small { length message.payload.items < 2 ^ 32 }
-        requires room { total_of self.old.streams.entries + length message.payload.items < 2 ^ 64 }
+        requires room { total_of self.old.streams.entries < 2 ^ 32 }
         ensures ok { OnOk result (self.new ≡ added message.stream_id.0 (queued_of self.old.next_number now message options.now) self.old) }
         ensures number { IfOk result (λ id. id.0 ≡ self.old.next_number) }
         ensures err { OnErr result (self.new ≡ self.old) }
@@ -541,7 +542,6 @@ impl SendQueue {
     /// begin again. Numbers of messages go on. Without memory this is done for some of the first streams alone, or for
     /// none.
     pub fn reset(&mut self) -> Result<(), AllocError>
-        requires { total_of self.old.streams.entries < 2 ^ 63 }
         ensures ok { OnOk result (self.new ≡ reset self.old) }
         ensures err { OnErr result (SomeRestarted self.old self.new) }
     {
@@ -552,7 +552,6 @@ impl SendQueue {
     }
 
     fn restart_all(&mut self, ids: &[StreamId]) -> Result<(), AllocError>
-        requires { total_of self.old.streams.entries + 2 ^ 32 * length ids.now + 2 ^ 32 < 2 ^ 64 }
         ensures ok { OnOk result (self.new ≡ each_restarted (map (λ id. id.0) ids.now) self.old) }
         ensures err { OnErr result ((count : ℕ) × (self.new ≡ each_restarted (take count (map (λ id. id.0) ids.now)) self.old)) }
     {
@@ -564,9 +563,7 @@ impl SendQueue {
 
     // A new association begins for a stream. Without memory nothing changes.
     fn restart_one(&mut self, id: StreamId) -> Result<(), AllocError>
-        requires { total_of self.old.streams.entries + 2 ^ 32 < 2 ^ 64 }
         ensures ok { OnOk result (self.new ≡ restarted_one id.0 self.old) }
-        ensures most { total_of self.new.streams.entries ≤ total_of self.old.streams.entries + 2 ^ 32 }
         ensures err { OnErr result (self.new ≡ self.old) }
     {
         let bytes = self.streams.sendable_restarted(id);

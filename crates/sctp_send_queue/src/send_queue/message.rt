@@ -239,6 +239,7 @@ impl QueuedMessage {
         ensures value { result ≡ left self.now }
         ensures more { 0 < result }
         ensures small { result < 2 ^ 32 }
+        ensures whole { length self.now.payload < 2 ^ 32 }
     {
         self.payload.len() - self.offset
     }

@@ -248,7 +248,6 @@ fn hand_over_all(
 fn make_front_whole(messages: &mut VecDeque<QueuedMessage>) -> usize
     ensures messages { messages.new.items ≡ whole_front messages.old.items }
     ensures sum { sum_by left messages.new.items ≡ sum_by left messages.old.items + result }
-    ensures small { result < 2 ^ 32 }
 {
     let Some(message) = messages.front_mut() else {
         return 0;
@@ -675,10 +674,9 @@ impl Stream {
 
     /// A new association begins: the message at the front is whole again, and the numbers begin again.
     pub fn restart(&mut self)
-        requires { amount_of self.old + 2 ^ 32 < 2 ^ 64 }
+        requires { amount_of (restarted self.old) < 2 ^ 64 }
         ensures after { self.new ≡ restarted self.old }
         ensures least { amount_of self.old ≤ amount_of self.new }
-        ensures most { amount_of self.new ≤ amount_of self.old + 2 ^ 32 }
     {
         let sent = make_front_whole(&mut self.messages);
         self.buffered.increase(sent);

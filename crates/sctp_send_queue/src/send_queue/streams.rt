@@ -1,6 +1,6 @@
 //! The streams that were named, and what is left on all of them.
 
-ghost use Rattle.std.specs.Prelude.{◌≡◌, ℕ, Bool, ◌+◌, ◌-◌, ◌<◌, ◌≤◌, ◌^◌, ◌==◌, [], length, is_some, None, Some, IsTrue, IsSome, IfOk, IfSome, OnOk, OnErr, option_map, map};
+ghost use Rattle.std.specs.Prelude.{◌≡◌, ℕ, Bool, ◌<◌, ◌^◌, ◌==◌, [], is_some, None, Some, IsTrue, IsSome, IfOk, IfSome, OnOk, OnErr, option_map, map};
 ghost use Rattle.std.specs.Map.{lookup, keys_of, values_of};
 ghost use Rattle.std.specs.List.{list_all, list_any};
 ghost use Rattle.std.specs.List.Sorted.{IsStrictlySortedBy};
@@ -9,7 +9,7 @@ ghost use Rattle.std.specs.BTreeMap.{is_at};
 ghost use Rattle.sctp_state.specs.Events.{Grown};
 ghost use Rattle.sctp_state.specs.Options.{options_of};
 ghost use Rattle.sctp_state.specs.Thresholds.{crosses};
-ghost use Rattle.sctp_send_queue.specs.Queue.{Queued, left, amount_of, total_of, watched_amount, watched_total, no_streams, stream, opened, put, pushed, sendable, front_left, has_nothing};
+ghost use Rattle.sctp_send_queue.specs.Queue.{Queued, amount_of, total_of, watched_amount, watched_total, no_streams, stream, opened, put, pushed, sendable, front_left, has_nothing};
 ghost use Rattle.sctp_send_queue.specs.Produced.{dropped, streams_without_stale, streams_after, advanced, next_fragment};
 ghost use Rattle.sctp_send_queue.specs.Settings.{with_threshold, with_priority, streams_discarded, front_discarded};
 ghost use Rattle.sctp_send_queue.specs.Resets.{is_ready, after_step, ready, prepared, told_waiting};
@@ -51,14 +51,14 @@ pub struct Streams {
 }
 
 impl Model for Streams {
-    ghost use Rattle.std.specs.Prelude.{◌≡◌};
-    ghost use Rattle.sctp_send_queue.specs.Queue.{Streams, total_of};
+    ghost use Rattle.sctp_send_queue.specs.Queue.{Streams};
+    ghost use Rattle.sctp_send_queue.specs.Bounded.{IsBounded};
 
     ghost Value = { Streams };
 
     ghost view = { λ s. record { entries = s.streams.entries; total_threshold = s.total.low_threshold; default_threshold = s.default_threshold; default_priority = s.default_priority } };
 
-    ghost invariant = { λ s. s.total.amount ≡ total_of s.streams.entries };
+    ghost invariant = { λ s. IsBounded s.total.amount s.streams.entries };
 }
 
 impl Streams {
@@ -171,7 +171,7 @@ impl Streams {
         id: StreamId,
         message: QueuedMessage,
     ) -> Result<(), AllocError>
-        requires { total_of self.old.entries + left message < 2 ^ 64 }
+        requires { total_of self.old.entries < 2 ^ 32 }
         ensures ok { OnOk result (self.new ≡ put id.0 (pushed message (stream id.0 self.old)) (opened id.0 self.old)) }
         ensures err { OnErr result (self.new ≡ self.old) }
     {
@@ -184,7 +184,7 @@ impl Streams {
     // Adds a message to a stream that is there.
     fn push_behind(&mut self, id: StreamId, message: QueuedMessage) -> Result<(), AllocError>
         requires there { IsSome (lookup (is_at (nat_cmp id.0)) self.old.entries) }
-        requires room { total_of self.old.entries + left message < 2 ^ 64 }
+        requires room { total_of self.old.entries < 2 ^ 32 }
         ensures ok { OnOk result (self.new ≡ put id.0 (pushed message (stream id.0 self.old)) self.old) }
         ensures err { OnErr result (self.new ≡ self.old) }
     {
@@ -205,7 +205,7 @@ impl Streams {
         message: QueuedMessage,
     ) -> Result<(), AllocError>
         requires absent { None ≡ lookup (is_at (nat_cmp id.0)) self.old.entries }
-        requires room { total_of self.old.entries + left message < 2 ^ 64 }
+        requires room { total_of self.old.entries < 2 ^ 32 }
         ensures ok { OnOk result (self.new ≡ put id.0 (pushed message (stream id.0 self.old)) (opened id.0 self.old)) }
         ensures err { OnErr result (self.new ≡ self.old) }
     {
@@ -476,9 +476,7 @@ impl Streams {
 
     /// A new association begins for a stream.
     pub fn restart(&mut self, id: StreamId)
-        requires { total_of self.old.entries + 2 ^ 32 < 2 ^ 64 }
-        ensures after { self.new ≡ put id.0 (restarted (stream id.0 self.old)) self.old }
-        ensures most { total_of self.new.entries ≤ total_of self.old.entries + 2 ^ 32 }
+        ensures { self.new ≡ put id.0 (restarted (stream id.0 self.old)) self.old }
     {
         let Some(stream) = self.streams.get_mut(&id.0) else {
             return;
@@ -509,8 +507,7 @@ impl Streams {
 
     /// All streams, by ascending id.
     pub fn ids(&self, alloc: Global) -> Result<Vec<StreamId>, AllocError>
-        ensures ids { IfOk result (λ ids. map (λ id. id.0) ids.items ≡ keys_of self.now.entries) }
-        ensures few { IfOk result (λ ids. length ids.items ≤ 65536) }
+        ensures { IfOk result (λ ids. map (λ id. id.0) ids.items ≡ keys_of self.now.entries) }
     {
         stream_ids(alloc, &self.streams)
     }
@@ -552,10 +549,8 @@ fn ready_streams(
 }
 
 fn stream_ids(alloc: Global, streams: &BTreeMap<u16, Stream>) -> Result<Vec<StreamId>, AllocError>
-    ensures ids { IfOk result (λ ids. map (λ id. id.0) ids.items ≡ keys_of streams.now.entries) }
-    ensures few { IfOk result (λ ids. length ids.items ≤ 65536) }
+    ensures { IfOk result (λ ids. map (λ id. id.0) ids.items ≡ keys_of streams.now.entries) }
 {
-    let _count = streams.len();
     let mut ids = Vec::new(alloc);
     for (id, _) in streams {
         ids.push(StreamId(*id))?;

@@ -157,14 +157,6 @@ fn request(queue: &mut SendQueue, want: usize) -> Result<bool, AllocError> {
     Ok(queue.get_streams_ready_to_reset(1)?.len() == want)
 }
 
-fn reset(queue: &mut SendQueue) -> Result<bool, AllocError> {
-    if queue.total_buffered_amount() > 1000 {
-        return Ok(false);
-    }
-    queue.reset()?;
-    Ok(true)
-}
-
 fn told_by(event: &Option<SocketEvent>) -> Heard {
     match event {
         None => Heard::Nothing,
@@ -224,7 +216,10 @@ fn settles(alloc: Global, queue: &mut SendQueue, step: Step) -> Result<bool, All
             queue.rollback_reset_streams(&[StreamId(id)])?;
             Ok(true)
         }
-        Step::Reset => reset(queue),
+        Step::Reset => {
+            queue.reset()?;
+            Ok(true)
+        }
         _ => Ok(answers(queue, step)),
     }
 }

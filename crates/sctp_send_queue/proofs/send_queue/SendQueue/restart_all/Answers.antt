@@ -1,11 +1,8 @@
-use Rattle.std.proofs.Common.{◌≡◌, ℕ, ◌∙◌, arith, rules, take}
+use Rattle.std.proofs.Common.{◌≡◌, ℕ, ◌∙◌, rules, take}
 use Rattle.std.specs.Prelude.{map}
 use Rattle.sctp_send_queue.specs.Restarted.{each_restarted}
 use Rattle.sctp_send_queue.proofs.RestartLemmas.{restart-each, restarted-more}
 use Rattle.sctp_send_queue.proofs.send_queue.SendQueue.restart_all.Goals as goal
-
-pub restart_one-requires : goal.restart_one-requires
-restart_one-requires c = omega (arith, c.loop-id.invariant.most, c.requires, c.loop-id-test.true)
 
 pub loop-id-preserved : goal.loop-id-preserved
 loop-id-preserved c = record {
@@ -13,7 +10,6 @@ loop-id-preserved c = record {
       restart-each c.args.ids.now c.loop-id.id-index (record { 0 = 0 }) c.loop-id.self c.restart_one.new.self c.loop-id-test.true c.in_ok-restart_one.ensures.ok
       ∙ c.loop-id.invariant.rest;
   done = restarted-more c.args.ids.now c.loop-id.id-index (record { 0 = 0 }) c.args.self.now c.loop-id.self c.restart_one.new.self c.loop-id-test.true c.loop-id.invariant.done c.in_ok-restart_one.ensures.ok;
-  most = omega (arith, c.loop-id.invariant.most, c.in_ok-restart_one.ensures.most);
 }
 
 pub returns-in_err-restart_one-clause-err : goal.returns-in_err-restart_one-clause-err

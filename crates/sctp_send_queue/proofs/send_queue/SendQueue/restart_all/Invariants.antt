@@ -1,6 +1,5 @@
-use Rattle.std.proofs.Common.{◌≡◌, ◌+◌, ◌*◌, ◌≤◌, drop, take}
+use Rattle.std.proofs.Common.{◌≡◌, drop, take}
 use Rattle.std.specs.Prelude.{map}
-use Rattle.sctp_send_queue.specs.Queue.{total_of}
 use Rattle.sctp_send_queue.specs.Restarted.{each_restarted}
 use Rattle.sctp_send_queue.proofs.send_queue.SendQueue.restart_all.Given as goal
 
@@ -8,5 +7,4 @@ abbrev pub invariant-loop-id : goal.invariant-loop-id
 invariant-loop-id l = record {
   rest : each_restarted (map (λ id. id.0) (drop l.id-index l.ids)) l.self ≡ each_restarted (map (λ id. id.0) l.ids) l.initial.self;
   done : l.self ≡ each_restarted (take l.id-index (map (λ id. id.0) l.ids)) l.initial.self;
-  most : total_of l.self.streams.entries ≤ total_of l.initial.self.streams.entries + 4294967296 * l.id-index;
 }

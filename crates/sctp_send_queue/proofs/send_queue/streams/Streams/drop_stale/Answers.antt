@@ -3,6 +3,8 @@ use Rattle.std.specs.Map.{lookup}
 use Rattle.std.specs.Ordering.{nat_cmp}
 use Rattle.std.specs.BTreeMap.{is_at}
 use Rattle.sctp_send_queue.specs.Queue.{Streams, Entries, total_of}
+use Rattle.sctp_send_queue.specs.Produced.{without_stale}
+use Rattle.sctp_send_queue.proofs.BoundLemmas.{few-changed, keeps-fresh}
 use Rattle.sctp_send_queue.proofs.StreamsLemmas.{total-written, amount-at_most, put-nowhere}
 use Rattle.sctp_send_queue.proofs.send_queue.streams.Streams.drop_stale.Goals as goal
 
@@ -14,8 +16,13 @@ returns-in_default c =
 
 pub invariant_of-self-2 : goal.invariant_of-self-2
 invariant_of-self-2 c =
+    let v = c.in-Some.stream.now in
+    let w = c.drop_stale.new.self in
     let entries = c.self.inside.streams.entries in
-    let written = ap total_of (c.get_mut.follows.holds c.drop_stale.new.self).0 in
-    let sums = total-written c.args.id.0 entries c.in-Some.stream.now c.drop_stale.new.self c.in-Some.ensures.value in
-    let most = amount-at_most c.args.id.0 entries c.in-Some.stream.now c.in-Some.ensures.value in
-    omega (arith, written, sums, most, c.amount-before.ensures, c.amount.ensures, c.drop_stale.ensures.less, c.self.invariant, ap (λ w. w.amount) c.decrease.ensures.after)
+    let written = (c.get_mut.follows.holds w).0 in
+    let sums = total-written c.args.id.0 entries v w c.in-Some.ensures.value in
+    let most = amount-at_most c.args.id.0 entries v c.in-Some.ensures.value in
+    record {
+      counted = omega (arith, ap total_of written, sums, most, c.amount-before.ensures, c.amount.ensures, c.drop_stale.ensures.less, c.self.invariant.counted, ap (λ w. w.amount) c.decrease.ensures.after);
+      few = few-changed c.args.id.0 entries _ v w (without_stale c.args.now v) c.in-Some.ensures.value written c.drop_stale.ensures.after (keeps-fresh c.args.now v.messages) c.self.invariant.few;
+    }

@@ -15,7 +15,7 @@ returns-in-Some-clause-total c =
     let ss = c.args.self.now in
     let total = c.self.inside.total in
     let at = c.in-Some.ensures.value ∙ ap (λ x. lookup (is_at (nat_cmp id)) x.entries) c.self.view_is in
-    let amount = c.self.invariant ∙ ap (λ x. total_of x.entries) c.self.view_is in
+    let amount = c.self.invariant.counted ∙ ap (λ x. total_of x.entries) c.self.view_is in
     let threshold = ap (λ x. x.total_threshold) c.self.view_is in
     c.is_crossed_by.ensures
     ∙ crosses-same total (lowered c.fragment_size-bytes.result total) (watched_total ss) (watched_total (streams_after id c.args.size ss)) amount threshold

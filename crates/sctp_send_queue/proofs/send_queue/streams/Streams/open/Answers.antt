@@ -2,6 +2,7 @@ use Rattle.std.proofs.Common.{◌≡◌, ap, sym, ◌∙◌}
 use Rattle.std.specs.Ordering.{nat_cmp}
 use Rattle.std.specs.BTreeMap.{insert_entry}
 use Rattle.sctp_send_queue.specs.Queue.{total_of}
+use Rattle.sctp_send_queue.proofs.BoundLemmas.{few-opened}
 use Rattle.sctp_send_queue.proofs.StreamsLemmas.{total-opened, none-from}
 use Rattle.sctp_send_queue.proofs.send_queue.streams.Streams.open.Goals as goal
 use Rattle.sctp_send_queue.proofs.send_queue.streams.Streams.open.Goals.{Joined-branch-2}
@@ -12,7 +13,10 @@ same c =
     ∙ total-opened c.args.id.0 c.self.inside.default_priority c.self.inside.default_threshold c.self.inside.streams.entries c.insert.ensures.was_ordered (none-from _ (sym c.contains_key.ensures ∙ c.if-contains_key.false))
 
 pub invariant_of-self-2 : goal.invariant_of-self-2
-invariant_of-self-2 c = c.self.invariant ∙ sym (same c)
+invariant_of-self-2 c = record {
+  counted = c.self.invariant.counted ∙ sym (same c);
+  few = few-opened c.args.id.0 c.self.inside.streams.entries _ _ c.self.inside.default_priority c.self.inside.default_threshold c.insert.ensures.was_ordered c.in_ok-insert.ensures.entries c.new-stream.ensures c.self.invariant.few;
+}
 
 pub returns-clause-total : goal.returns-clause-total
 returns-clause-total c = same c ∙ ap (λ ss. total_of ss.entries) c.self.view_is

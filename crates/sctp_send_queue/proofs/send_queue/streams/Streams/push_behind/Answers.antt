@@ -4,15 +4,21 @@ use Rattle.std.specs.Ordering.{nat_cmp}
 use Rattle.std.specs.BTreeMap.{is_at}
 use Rattle.std.proofs.lemmas.List.Sums.{sum_by_push}
 use Rattle.sctp_send_queue.specs.Queue.{Streams, Entries, total_of, amount_of, left}
+use Rattle.sctp_send_queue.proofs.BoundLemmas.{few-changed, few-pushed, keeps-same, small-one}
 use Rattle.sctp_send_queue.proofs.StreamsLemmas.{total-written, written-same}
 use Rattle.sctp_send_queue.proofs.send_queue.streams.Streams.push_behind.Goals as goal
 
 pub invariant_of-self-in_err-push : goal.invariant_of-self-in_err-push
 invariant_of-self-in_err-push c =
+    let v = c.in-Some.stream.now in
+    let w = c.push.new.self in
     let entries = c.self.inside.streams.entries in
-    let written = ap total_of (c.get_mut.follows.holds c.push.new.self).0 in
-    let sums = total-written c.args.id.0 entries c.in-Some.stream.now c.push.new.self c.in-Some.ensures.value in
-    omega (arith, written, sums, ap amount_of c.in_err-push.ensures.err, c.self.invariant)
+    let written = (c.get_mut.follows.holds w).0 in
+    let sums = total-written c.args.id.0 entries v w c.in-Some.ensures.value in
+    record {
+      counted = omega (arith, ap total_of written, sums, ap amount_of c.in_err-push.ensures.err, c.self.invariant.counted);
+      few = few-changed c.args.id.0 entries _ v w v c.in-Some.ensures.value written c.in_err-push.ensures.err (keeps-same v.messages) c.self.invariant.few;
+    }
 
 pub returns-in_err-push-clause-err : goal.returns-in_err-push-clause-err
 returns-in_err-push-clause-err c =
@@ -24,9 +30,15 @@ returns-in_err-push-clause-err c =
 
 pub invariant_of-self-2 : goal.invariant_of-self-2
 invariant_of-self-2 c =
+    let v = c.in-Some.stream.now in
+    let w = c.push.new.self in
     let entries = c.self.inside.streams.entries in
-    let written = ap total_of (c.get_mut.follows.holds c.push.new.self).0 in
-    let sums = total-written c.args.id.0 entries c.in-Some.stream.now c.push.new.self c.in-Some.ensures.value in
+    let written = (c.get_mut.follows.holds w).0 in
+    let sums = total-written c.args.id.0 entries v w c.in-Some.ensures.value in
     let grown = ap amount_of c.in_ok-push.ensures.ok in
-    let more = sum_by_push left c.in-Some.stream.now.messages c.args.message in
-    omega (arith, written, sums, grown, more, c.left-bytes.ensures.value, c.self.invariant, ap (λ w. w.amount) c.increase.ensures)
+    let more = sum_by_push left v.messages c.args.message in
+    let small = small-one c.args.message (omega (arith, c.left-bytes.ensures.value, c.left-bytes.ensures.more)) c.left-bytes.ensures.whole in
+    record {
+      counted = omega (arith, ap total_of written, sums, grown, more, c.left-bytes.ensures.value, c.self.invariant.counted, ap (λ w. w.amount) c.increase.ensures);
+      few = few-pushed c.args.id.0 entries _ v w c.args.message c.in-Some.ensures.value written c.in_ok-push.ensures.ok small (omega (arith, c.requires.room, ap (λ ss. total_of ss.entries) c.self.view_is)) c.self.invariant.few;
+    }

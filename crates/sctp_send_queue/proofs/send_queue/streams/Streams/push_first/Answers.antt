@@ -1,23 +1,34 @@
-use Rattle.std.proofs.Common.{ap, sym, ◌∙◌, arith}
+use Rattle.std.proofs.Common.{refl, ap, sym, ◌∙◌, arith}
 use Rattle.std.specs.Map.{lookup}
 use Rattle.std.specs.Ordering.{nat_cmp}
 use Rattle.std.specs.BTreeMap.{is_at, insert_entry}
-use Rattle.sctp_send_queue.specs.Queue.{Streams, total_of, amount_of, pushed, stream, put, opened}
+use Rattle.sctp_send_queue.specs.Queue.{Streams, blank_stream, total_of, amount_of, pushed, stream, put, opened}
+use Rattle.sctp_send_queue.proofs.BoundLemmas.{few-first, small-one}
 use Rattle.sctp_send_queue.proofs.StreamsLemmas.{total-inserted, first-is}
 use Rattle.sctp_send_queue.proofs.send_queue.streams.Streams.push_first.Goals as goal
 
 pub invariant_of-self-2 : goal.invariant_of-self-2
 invariant_of-self-2 c =
-    let none = c.requires.absent ∙ ap (λ ss. lookup (is_at (nat_cmp c.args.id.0)) ss.entries) (sym c.self.view_is) in
-    omega (
-      arith,
-      ap total_of c.in_ok-insert.ensures.entries,
-      total-inserted c.args.id.0 c.push.new.self c.self.inside.streams.entries c.insert.ensures.was_ordered none,
-      ap amount_of (c.in_ok-push.ensures.ok ∙ ap (λ s. pushed c.args.message s) c.new-stream.ensures),
-      c.left-bytes.ensures.value,
-      c.self.invariant,
-      ap (λ w. w.amount) c.increase.ensures,
-    )
+    let id = c.args.id.0 in
+    let w = c.push.new.self in
+    let entries = c.self.inside.streams.entries in
+    let none = c.requires.absent ∙ ap (λ ss. lookup (is_at (nat_cmp id)) ss.entries) (sym c.self.view_is) in
+    let first = blank_stream c.self.inside.default_priority c.self.inside.default_threshold in
+    let is_first = c.in_ok-push.ensures.ok ∙ ap (λ s. pushed c.args.message s) c.new-stream.ensures in
+    let small = small-one c.args.message (omega (arith, c.left-bytes.ensures.value, c.left-bytes.ensures.more)) c.left-bytes.ensures.whole in
+    record {
+      counted =
+          omega (
+            arith,
+            ap total_of c.in_ok-insert.ensures.entries,
+            total-inserted id w entries c.insert.ensures.was_ordered none,
+            ap amount_of is_first,
+            c.left-bytes.ensures.value,
+            c.self.invariant.counted,
+            ap (λ w. w.amount) c.increase.ensures,
+          );
+      few = few-first id entries _ w first c.args.message c.insert.ensures.was_ordered c.in_ok-insert.ensures.entries is_first refl small (omega (arith, c.requires.room, ap (λ ss. total_of ss.entries) c.self.view_is)) c.self.invariant.few;
+    }
 
 pub returns-clause-ok : goal.returns-clause-ok
 returns-clause-ok c =

@@ -2,38 +2,39 @@ use Rattle.std.proofs.Common.{ap, sym, ◌∙◌, arith}
 use Rattle.std.specs.Map.{lookup}
 use Rattle.std.specs.Ordering.{nat_cmp}
 use Rattle.std.specs.BTreeMap.{is_at}
-use Rattle.sctp_send_queue.specs.Queue.{Streams, Entries, total_of}
+use Rattle.sctp_send_queue.specs.Queue.{Streams, Entries, amount_of, total_of}
+use Rattle.sctp_send_queue.specs.Restarted.{restarted}
+use Rattle.sctp_send_queue.proofs.BoundLemmas.{few-changed, keeps-whole, restarted-amount, restarted-fits}
 use Rattle.sctp_send_queue.proofs.StreamsLemmas.{total-written, amount-at_most, put-nowhere}
 use Rattle.sctp_send_queue.proofs.send_queue.streams.Streams.restart.Goals as goal
 
-pub returns-in_default-clause-after : goal.returns-in_default-clause-after
-returns-in_default-clause-after c =
+pub returns-in_default : goal.returns-in_default
+returns-in_default c =
     let view : Entries → Streams = λ es. record { entries = es; total_threshold = c.self.inside.total.low_threshold; default_threshold = c.self.inside.default_threshold; default_priority = c.self.inside.default_priority } in
     ap view (ap (λ m. m.entries) c.get_mut.follows.holds-at-none) ∙ c.self.view_is
     ∙ sym (put-nowhere c.args.id.0 _ c.args.self.now (c.in_default.ensures.value ∙ ap (λ ss. lookup (is_at (nat_cmp c.args.id.0)) ss.entries) c.self.view_is))
 
-pub returns-in_default-clause-most : goal.returns-in_default-clause-most
-returns-in_default-clause-most c = omega (arith, ap (λ m. total_of m.entries) c.get_mut.follows.holds-at-none, ap (λ ss. total_of ss.entries) c.self.view_is)
-
 pub restart-requires : goal.restart-requires
-restart-requires c = omega (arith, amount-at_most c.args.id.0 c.self.inside.streams.entries c.in-Some.stream.now c.in-Some.ensures.value, ap (λ ss. total_of ss.entries) c.self.view_is, c.requires)
+restart-requires c = restarted-amount c.args.id.0 c.self.inside.streams.entries c.in-Some.stream.now c.in-Some.ensures.value c.self.invariant.few
 
 pub increase-requires : goal.increase-requires
 increase-requires c =
-    let most = amount-at_most c.args.id.0 c.self.inside.streams.entries c.in-Some.stream.now c.in-Some.ensures.value in
-    omega (arith, most, c.amount-before.ensures, c.amount.ensures, c.restart.ensures.most, c.self.invariant, ap (λ ss. total_of ss.entries) c.self.view_is, c.requires)
+    let v = c.in-Some.stream.now in
+    let entries = c.self.inside.streams.entries in
+    let sums = total-written c.args.id.0 entries v (restarted v) c.in-Some.ensures.value in
+    let most = amount-at_most c.args.id.0 entries v c.in-Some.ensures.value in
+    let fits = restarted-fits c.args.id.0 entries v c.in-Some.ensures.value c.self.invariant.few in
+    omega (arith, sums, most, fits, c.amount-before.ensures, c.amount.ensures, ap amount_of c.restart.ensures.after, c.restart.ensures.least, c.self.invariant.counted)
 
 pub invariant_of-self-2 : goal.invariant_of-self-2
 invariant_of-self-2 c =
+    let v = c.in-Some.stream.now in
+    let w = c.restart.new.self in
     let entries = c.self.inside.streams.entries in
-    let written = ap total_of (c.get_mut.follows.holds c.restart.new.self).0 in
-    let sums = total-written c.args.id.0 entries c.in-Some.stream.now c.restart.new.self c.in-Some.ensures.value in
-    let most = amount-at_most c.args.id.0 entries c.in-Some.stream.now c.in-Some.ensures.value in
-    omega (arith, written, sums, most, c.amount-before.ensures, c.amount.ensures, c.restart.ensures.least, c.self.invariant, ap (λ w. w.amount) c.increase.ensures)
-
-pub returns-clause-most : goal.returns-clause-most
-returns-clause-most c =
-    let entries = c.self.inside.streams.entries in
-    let written = ap total_of (c.get_mut.follows.holds c.restart.new.self).0 in
-    let sums = total-written c.args.id.0 entries c.in-Some.stream.now c.restart.new.self c.in-Some.ensures.value in
-    omega (arith, written, sums, c.restart.ensures.most, ap (λ ss. total_of ss.entries) c.self.view_is)
+    let written = (c.get_mut.follows.holds w).0 in
+    let sums = total-written c.args.id.0 entries v w c.in-Some.ensures.value in
+    let most = amount-at_most c.args.id.0 entries v c.in-Some.ensures.value in
+    record {
+      counted = omega (arith, ap total_of written, sums, most, c.amount-before.ensures, c.amount.ensures, c.restart.ensures.least, c.self.invariant.counted, ap (λ w. w.amount) c.increase.ensures);
+      few = few-changed c.args.id.0 entries _ v w (restarted v) c.in-Some.ensures.value written c.restart.ensures.after (keeps-whole v.messages) c.self.invariant.few;
+    }

@@ -3,6 +3,8 @@ use Rattle.std.specs.Map.{lookup}
 use Rattle.std.specs.Ordering.{nat_cmp}
 use Rattle.std.specs.BTreeMap.{is_at}
 use Rattle.sctp_send_queue.specs.Queue.{Streams, Entries, total_of}
+use Rattle.sctp_send_queue.specs.Settings.{with_priority}
+use Rattle.sctp_send_queue.proofs.BoundLemmas.{few-changed, keeps-same}
 use Rattle.sctp_send_queue.proofs.StreamsLemmas.{total-kept, put-nowhere}
 use Rattle.sctp_send_queue.proofs.send_queue.streams.Streams.set_priority.Goals as goal
 
@@ -14,4 +16,11 @@ returns-in_default c =
 
 pub invariant_of-self-2 : goal.invariant_of-self-2
 invariant_of-self-2 c =
-    c.self.invariant ∙ sym (ap total_of (c.get_mut.follows.holds c.set_priority.new.self).0 ∙ total-kept c.args.id.0 c.self.inside.streams.entries c.in-Some.stream.now c.set_priority.new.self c.in-Some.ensures.value c.set_priority.ensures.amount)
+    let v = c.in-Some.stream.now in
+    let w = c.set_priority.new.self in
+    let entries = c.self.inside.streams.entries in
+    let written = (c.get_mut.follows.holds w).0 in
+    record {
+      counted = c.self.invariant.counted ∙ sym (ap total_of written ∙ total-kept c.args.id.0 entries v w c.in-Some.ensures.value c.set_priority.ensures.amount);
+      few = few-changed c.args.id.0 entries _ v w (with_priority c.args.priority v) c.in-Some.ensures.value written c.set_priority.ensures.after (keeps-same v.messages) c.self.invariant.few;
+    }
