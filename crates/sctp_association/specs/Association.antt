@@ -1,5 +1,5 @@
 -- The value of an end of an association. Packets are of a type P: bytes to the user, lists of chunks to the laws.
-use Rattle.std.specs.Prelude.{ℕ, Bool, Option, Some, None, List, []}
+use Rattle.std.specs.Prelude.{ℕ, Bool, Option, Some, None, List}
 use Rattle.rand_core.specs.Stream.{Stream}
 use Rattle.sctp_serial.specs.Unwrapped.{origin}
 use Rattle.sctp_packet.specs.Chunk.{ChunkTree}
@@ -119,6 +119,10 @@ open_as phase t c = record { state = Open phase t; context = c }
 -- with the same state
 abbrev pub with_context : {P : Type 0} → Standing P → Context P → Standing P
 with_context s c = record s { context = c }
+
+-- a row that the state has no part in
+abbrev pub in_context : {P : Type 0} → (Context P → Context P) → Standing P → Standing P
+in_context row s = record s { context = row s.context }
 
 -- the row for states with a control block; in the others nothing happens
 abbrev pub where_open : {P : Type 0} → (Phase → Tcb → Context P → Standing P) → Standing P → Standing P

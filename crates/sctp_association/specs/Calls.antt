@@ -1,5 +1,5 @@
 -- The calls that send, the queries and the settings.
-use Rattle.std.specs.Prelude.{ℕ, ◌+◌, ◌*◌, ◌==◌, ◌||◌, ◌&&◌, nat_lt, nat_le, Bool, true, false, if◌then◌else◌, Option, Some, None, unwrap_or, List, [], ◌∷◌, ◌++◌, length, codes, drop, slice_get}
+use Rattle.std.specs.Prelude.{ℕ, ◌+◌, ◌==◌, ◌||◌, not, nat_lt, nat_le, Bool, true, false, Option, Some, None, unwrap_or, List, [], ◌∷◌, ◌++◌, length, codes, drop}
 use Rattle.sctp_serial.specs.Messages.{Message}
 use Rattle.sctp_state.specs.declared.api.ErrorKind.TheVariants.{ProtocolViolation, WrongSequence, ResourceExhaustion}
 use Rattle.sctp_state.specs.declared.api.SocketState.{SocketState}
@@ -11,7 +11,7 @@ use Rattle.sctp_state.specs.Options.{SendOptions}
 use Rattle.sctp_state.specs.Events.{Event, OnError, OnLifecycleEnd, tell_all}
 use Rattle.sctp_send_queue.specs.Queue.{Queued, stream, amount_of, total_of, expiry_of, added}
 use Rattle.sctp_send_queue.specs.Settings as settings
-use Rattle.sctp_association.specs.Association.{Tcb, Phase, CookieEchoed, Established, ShutdownPending, ShutdownSent, ShutdownReceived, ShutdownAckSent, State, Closed, CookieWait, Open, Context, Standing, open_as, with_context, where_open}
+use Rattle.sctp_association.specs.Association.{Tcb, Phase, CookieEchoed, Established, ShutdownPending, ShutdownSent, ShutdownReceived, ShutdownAckSent, State, Closed, CookieWait, Open, Context, Standing, with_context, where_open}
 use Rattle.sctp_association.specs.Sending.{send_in}
 
 -- ---- what `state` answers
@@ -50,10 +50,13 @@ refusal_by false false true is_full len limit = Some ShuttingDown
 refusal_by false false false true len limit = Some QueueFull
 refusal_by false false false false len limit = None
 
+abbrev pub refusal : {P : Type 0} → Message → SocketState → Context P → Option SendError
+refusal m shown c =
+    refusal_by (length m.payload == 0) (nat_lt c.options.max_message_size (length m.payload)) (is_shutting_down shown) (is_queue_full m.stream c)
+    (length m.payload) c.options.max_message_size
+
 abbrev pub refusal_of : {P : Type 0} → Message → Standing P → Option SendError
-refusal_of m s =
-    refusal_by (length m.payload == 0) (nat_lt s.context.options.max_message_size (length m.payload))
-    (is_shutting_down (shown_state s.state)) (is_queue_full m.stream s.context) (length m.payload) s.context.options.max_message_size
+refusal_of m s = refusal m (shown_state s.state) s.context
 
 abbrev pub refusal_events : {P : Type 0} → SendError → List (Event P)
 refusal_events EmptyPayload = OnError ProtocolViolation (codes "Unable to send empty message") ∷ []
@@ -93,33 +96,36 @@ accepted m o c = record c {
   counts = record c.counts { tx_messages = more c.counts.tx_messages };
 }
 
-abbrev pub offered : {P : Type 0} → Option SendError → Message → SendOptions → Standing P → Standing P
-offered None m o s = with_context s (accepted m o s.context)
-offered (Some e) m o s = with_context s (refused e o.lifecycle_id s.context)
+abbrev pub offered : {P : Type 0} → (refusal : Option SendError) → Message → SendOptions → Context P → Context P
+offered None m o c = accepted m o c
+offered (Some e) m o c = refused e o.lifecycle_id c
 
-abbrev pub send_if : {P : Type 0} → Option SendError → Message → SendOptions → Standing P → Standing P
-send_if None m o s = where_open send_in (with_context s (accepted m o s.context))
-send_if (Some e) m o s = with_context s (refused e o.lifecycle_id s.context)
+abbrev pub offer : {P : Type 0} → Message → SendOptions → SocketState → Context P → Context P
+offer m o shown c = offered (refusal m shown c) m o c
+
+abbrev pub sent_if : {P : Type 0} → (refusal : Option SendError) → Standing P → Standing P
+sent_if None s = where_open send_in s
+sent_if (Some e) s = s
 
 abbrev pub send : {P : Type 0} → Message → SendOptions → Standing P → Standing P
-send m o s = send_if (refusal_of m s) m o s
+send m o s = sent_if (refusal_of m s) (with_context s (offer m o (shown_state s.state) s.context))
 
 -- several: one sending at the end
-abbrev pub offer_all : {P : Type 0} → List Message → SendOptions → Standing P → Standing P
-offer_all [] o s = s
-offer_all (m ∷ ms) o s = offer_all ms o (offered (refusal_of m s) m o s)
+abbrev pub offer_all : {P : Type 0} → List Message → SendOptions → SocketState → Context P → Context P
+offer_all [] o shown c = c
+offer_all (m ∷ ms) o shown c = offer_all ms o shown (offer m o shown c)
 
 abbrev pub send_many : {P : Type 0} → List Message → SendOptions → Standing P → Standing P
-send_many ms o s = where_open send_in (offer_all ms o s)
+send_many ms o s = where_open send_in (with_context s (offer_all ms o (shown_state s.state) s.context))
 
 -- which are refused, by their places
 abbrev pub with_refusal : (place : ℕ) → Option SendError → List (ℕ × SendError) → List (ℕ × SendError)
 with_refusal place None rest = rest
 with_refusal place (Some e) rest = (place, e) ∷ rest
 
-abbrev pub refusals : {P : Type 0} → (place : ℕ) → List Message → SendOptions → Standing P → List (ℕ × SendError)
-refusals place [] o s = []
-refusals place (m ∷ ms) o s = with_refusal place (refusal_of m s) (refusals (place + 1) ms o (offered (refusal_of m s) m o s))
+abbrev pub refusals : {P : Type 0} → (place : ℕ) → List Message → SendOptions → SocketState → Context P → List (ℕ × SendError)
+refusals place [] o shown c = []
+refusals place (m ∷ ms) o shown c = with_refusal place (refusal m shown c) (refusals (place + 1) ms o shown (offer m o shown c))
 
 -- ---- settings
 
@@ -144,11 +150,16 @@ abbrev pub taken : Tcb → Tcb
 taken t = record t { reassembly = record t.reassembly { ready = drop 1 t.reassembly.ready } }
 
 -- the first one is handed out
+abbrev pub taken_in : State → State
+taken_in Closed = Closed
+taken_in (CookieWait tag first t1) = CookieWait tag first t1
+taken_in (Open phase t) = Open phase (taken t)
+
 abbrev pub take_message : {P : Type 0} → Standing P → Standing P
-take_message s = where_open (λ phase t c. open_as phase (taken t) c) s
+take_message s = record s { state = taken_in s.state }
 
 -- nothing queued, no item kept
 abbrev pub keeps_items : State → Bool
 keeps_items Closed = false
 keeps_items (CookieWait tag first t1) = false
-keeps_items (Open phase t) = nat_lt 0 (length t.sender.outstanding.items.kept)
+keeps_items (Open phase t) = not (length t.sender.outstanding.items.kept == 0)

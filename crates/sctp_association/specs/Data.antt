@@ -8,7 +8,7 @@ use Rattle.sctp_rx.specs.Tracker.{DataTracker, number_of, is_valid, has_seen, mo
 use Rattle.sctp_rx.specs.Tracker as tracker
 use Rattle.sctp_rx.specs.ReassemblyQueue.{Reassembly, watermark, queued_bytes}
 use Rattle.sctp_rx.specs.ReassemblyQueue as reassembly
-use Rattle.sctp_association.specs.Association.{Tcb, Phase, State, Closed, CookieWait, Open, Context, Standing, open_as, with_context}
+use Rattle.sctp_association.specs.Association.{Tcb, State, Closed, CookieWait, Open, Context, Standing, open_as, with_context}
 use Rattle.sctp_association.specs.Packets.{complain, emit_chunk}
 
 -- ---- DATA

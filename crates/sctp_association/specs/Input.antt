@@ -1,11 +1,10 @@
 -- How an end takes a packet: whether it is for this association, then chunk by chunk, then what is due.
-use Rattle.std.specs.Prelude.{◌≡◌, ℕ, ◌-◌, ◌/◌, ◌%◌, ◌==◌, ◌&&◌, ◌||◌, not, Bool, true, false, if◌then◌else◌, Option, Some, None, List, [], ◌∷◌, ◌++◌, codes, take, length, ◌+◌}
-use Rattle.std.specs.List.{list_any}
+use Rattle.std.specs.Prelude.{ℕ, ◌-◌, ◌/◌, ◌%◌, ◌==◌, ◌||◌, not, Bool, true, false, Option, Some, None, List, [], ◌∷◌, ◌++◌, codes, take}
 use Rattle.sctp_wire.specs.Item.{item_bytes}
 use Rattle.hex.specs.Hex.{encode_lower}
 use Rattle.std.specs.Int.{w32, to_be_bytes}
 use Rattle.sctp_wire.specs.Cause.{unrecognized_chunk}
-use Rattle.sctp_packet.specs.Chunk.{ChunkTree, FragmentTree, data_chunk, init_chunk, init_ack_chunk, sack_chunk, heartbeat_request_chunk, heartbeat_ack_chunk, abort_chunk, shutdown_chunk, shutdown_ack_chunk, error_chunk, cookie_echo_chunk, cookie_ack_chunk, shutdown_complete_chunk, idata_chunk, re_config_chunk, forward_tsn_chunk, i_forward_tsn_chunk, unknown_chunk}
+use Rattle.sctp_packet.specs.Chunk.{ChunkTree, data_chunk, init_chunk, init_ack_chunk, sack_chunk, heartbeat_request_chunk, heartbeat_ack_chunk, abort_chunk, shutdown_chunk, shutdown_ack_chunk, error_chunk, cookie_echo_chunk, cookie_ack_chunk, shutdown_complete_chunk, idata_chunk, re_config_chunk, forward_tsn_chunk, i_forward_tsn_chunk, unknown_chunk}
 use Rattle.sctp_packet.specs.Packet.{PacketTree}
 use Rattle.sctp_packet.specs.Written.{chunk_item}
 use Rattle.sctp_packet.specs.ChunkText.{chunk_text}
@@ -14,7 +13,7 @@ use Rattle.sctp_state.specs.Numbers.{more}
 use Rattle.sctp_state.specs.Rtt.{rto}
 use Rattle.sctp_state.specs.Timers.{start, set_duration}
 use Rattle.sctp_state.specs.Capabilities.{Capabilities}
-use Rattle.sctp_rx.specs.Tracker.{packet_end, is_ack_due, take_ack}
+use Rattle.sctp_rx.specs.Tracker.{packet_end, is_ack_due}
 use Rattle.sctp_association.specs.Association.{Tcb, Phase, CookieEchoed, Established, ShutdownPending, ShutdownSent, ShutdownReceived, ShutdownAckSent, State, Closed, CookieWait, Open, Context, Standing, Endpoint, open_as, with_context, where_open}
 use Rattle.sctp_association.specs.Packets.{add, rounded, new_packet, complain, emit_chunk}
 use Rattle.sctp_association.specs.Sending.{asked, acknowledged, selective_ack, is_alone, open_with, send_with}
@@ -229,9 +228,10 @@ hear_all tag (chunk ∷ chunks) s = hear_rest (hear_all tag chunks) (hear tag ch
 
 -- ---- a packet
 
-abbrev pub is_data : ChunkTree → Bool
-is_data (data_chunk tsn immediate f) = true
-is_data chunk = false
+abbrev pub has_data : List ChunkTree → Bool
+has_data [] = false
+has_data (data_chunk tsn immediate f ∷ chunks) = true
+has_data (chunk ∷ chunks) = has_data chunks
 
 -- DATA after the own SHUTDOWN: it goes out again, and its timer starts anew (RFC 9260 section 9.2)
 abbrev pub repeats : {P : Type 0} → Phase → Tcb → Context P → Standing P
@@ -265,7 +265,7 @@ ended phase t c = ended_at phase (at_end c.now t) c
 
 abbrev pub handled : {P : Type 0} → (tag : ℕ) → List ChunkTree → Endpoint P → Endpoint P
 handled tag chunks s =
-    on_standing (where_open ended) (hear_all tag chunks (on_standing (repeats_if (list_any is_data chunks)) s))
+    on_standing (where_open ended) (hear_all tag chunks (on_standing (repeats_if (has_data chunks)) s))
 
 abbrev pub counted : {P : Type 0} → Context P → Context P
 counted c = record c { counts = record c.counts { rx_packets = more c.counts.rx_packets } }

@@ -13,3 +13,4 @@ pub mod Rows
 pub mod Wire
 pub mod PacketView
 pub mod Views
+pub mod Socket

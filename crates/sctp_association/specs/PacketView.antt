@@ -1,5 +1,5 @@
 -- What the fields of a packet that is put together mean.
-use Rattle.std.specs.Prelude.{◌≡◌, ℕ, ◌+◌, ◌≤◌, ◌<◌, ◌^◌, max, true, List, map, length, All}
+use Rattle.std.specs.Prelude.{◌≡◌, ◌+◌, ◌≤◌, ◌<◌, ◌^◌, max, true, List, map, length, All}
 use Rattle.sctp_wire.specs.Serialize.{IsEncodable}
 use Rattle.sctp_packet.specs.Chunk.{ChunkTree}
 use Rattle.sctp_packet.specs.ChunkView.{chunk_tree}

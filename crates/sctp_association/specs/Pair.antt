@@ -6,7 +6,7 @@ use Rattle.sctp_packet.specs.Written.{chunks_bytes}
 use Rattle.sctp_packet.specs.Packet.{HeaderTree}
 use Rattle.sctp_serial.specs.Messages.{Message}
 use Rattle.sctp_state.specs.Options.{SendOptions, defaults}
-use Rattle.sctp_state.specs.Events.{Event, SendPacket, OnConnected, OnClosed, OnConnectionRestarted, OnAborted, OnError, OnBufferedAmountLow, OnTotalBufferedAmountLow, OnStreamsResetFailed, OnStreamsResetPerformed, OnIncomingStreamReset, OnLifecycleMessageFullySent, OnLifecycleMessageMaybeExpired, OnLifecycleMessageExpired, OnLifecycleMessageDelivered, OnLifecycleEnd, GivenUp, silent}
+use Rattle.sctp_state.specs.Events.{Event, SendPacket, GivenUp, silent}
 use Rattle.sctp_association.specs.Association.{Standing, Endpoint, fresh}
 use Rattle.sctp_association.specs.Opening.{connect}
 use Rattle.sctp_association.specs.Closing.{close}

@@ -1,13 +1,13 @@
 -- Conversations of two ends with default options, as they have to go.
-use Rattle.std.specs.Prelude.{◌≡◌, ℕ, ◌*◌, Bool, true, false, Option, Some, None, List, [], ◌∷◌, ◌++◌, replicate, codes}
+use Rattle.std.specs.Prelude.{◌≡◌, ℕ, ◌*◌, Bool, true, false, Some, List, [], ◌∷◌, ◌++◌, replicate, codes}
 use Rattle.sctp_serial.specs.Messages.{Message}
 use Rattle.sctp_state.specs.Numbers.{ms}
-use Rattle.sctp_state.specs.Options.{SendOptions, plainly}
+use Rattle.sctp_state.specs.Options.{plainly}
 use Rattle.sctp_state.specs.declared.api.ErrorKind.TheVariants.{PeerReported}
 use Rattle.sctp_state.specs.declared.api.GivenUpCause.TheVariants.{Retransmissions}
-use Rattle.sctp_state.specs.Events.{Event, OnConnected, OnClosed, OnAborted, OnBufferedAmountLow, OnLifecycleMessageFullySent, OnLifecycleMessageDelivered, OnLifecycleEnd}
-use Rattle.sctp_association.specs.Association.{Identity, State, Closed, CookieWait, Open, Endpoint}
-use Rattle.sctp_association.specs.Pair.{Sent, Line, Packet, Says, Gone, Pair, Move, Connect, Give, Send, Receive, Time, Close, after, then, ready_b}
+use Rattle.sctp_state.specs.Events.{OnConnected, OnClosed, OnAborted, OnBufferedAmountLow, OnLifecycleMessageFullySent, OnLifecycleMessageDelivered, OnLifecycleEnd}
+use Rattle.sctp_association.specs.Association.{Identity, State, Open}
+use Rattle.sctp_association.specs.Pair.{Line, Packet, Says, Gone, Move, Connect, Give, Send, Receive, Time, Close, after, then, ready_b}
 
 abbrev pub message : (stream : ℕ) → List ℕ → Message
 message stream bytes = record { stream = stream; ppid = 53; payload = bytes }

@@ -1,6 +1,6 @@
 -- What goes into packets: in the first of a burst an acknowledgement and a forward point where they are due, and in each
 -- as much data as the windows let go (RFC 9260 section 6.1).
-use Rattle.std.specs.Prelude.{ℕ, zero, suc, ◌-◌, ◌*◌, ◌&&◌, ◌||◌, not, nat_lt, nat_le, ◌==◌, min, Bool, true, false, List, [], ◌∷◌, length, map}
+use Rattle.std.specs.Prelude.{ℕ, zero, suc, ◌-◌, ◌*◌, ◌||◌, not, nat_lt, nat_le, ◌==◌, min, Bool, true, false, List, length, map}
 use Rattle.sctp_serial.specs.Time.{later}
 use Rattle.sctp_packet.specs.Chunk.{ChunkTree, FragmentTree, data_chunk, idata_chunk, sack_chunk, cookie_echo_chunk}
 use Rattle.sctp_state.specs.Numbers.{ms}

@@ -1,5 +1,5 @@
 -- Time: which timers a state looks at, and what their expiries lead to.
-use Rattle.std.specs.Prelude.{ℕ, nat_lt, min, max, Bool, true, false, Option, Some, None, List, codes}
+use Rattle.std.specs.Prelude.{ℕ, nat_lt, min, max, Bool, true, false, List, codes}
 use Rattle.sctp_serial.specs.Time.{forever}
 use Rattle.sctp_state.specs.declared.api.ErrorKind.TheVariants.{TooManyRetries}
 use Rattle.sctp_state.specs.Errors.{one_error, is_exhausted}
@@ -10,7 +10,7 @@ use Rattle.sctp_rx.specs.Tracker.{ack_timeout}
 use Rattle.sctp_tx.specs.Retransmission.{timed_out_sender}
 use Rattle.sctp_association.specs.Association.{Tcb, Phase, CookieEchoed, Established, ShutdownPending, ShutdownSent, ShutdownReceived, ShutdownAckSent, State, Closed, CookieWait, Open, Context, Standing, open_as}
 use Rattle.sctp_association.specs.Sending.{Sent, send_buffered, send_cookie}
-use Rattle.sctp_association.specs.Closing.{closed, send_shutdown, send_shutdown_ack, too_many}
+use Rattle.sctp_association.specs.Closing.{send_shutdown, send_shutdown_ack, too_many}
 use Rattle.sctp_association.specs.Opening.{send_init}
 use Rattle.sctp_association.specs.Packets.{say}
 

@@ -1,5 +1,6 @@
 -- What the program's values of an end say.
-use Rattle.std.specs.Prelude.{ℕ, Bool, List}
+use Rattle.std.specs.Prelude.{ℕ, Bool, List, codes}
+use Rattle.rand_core.specs.Stream.{Stream}
 use Rattle.sctp_state.specs.declared.api.SctpImplementation.{SctpImplementation}
 use Rattle.sctp_state.specs.Errors.{ErrorCounter}
 use Rattle.sctp_state.specs.Events.{Told}
@@ -16,9 +17,17 @@ use Rattle.sctp_association.specs.declared.state.State as given_state
 use Rattle.sctp_association.specs.declared.state.State.TheVariants as states
 use Rattle.sctp_association.specs.Association.{Identity, Tcb, Phase, CookieEchoed, Established, ShutdownPending, ShutdownSent, ShutdownReceived, ShutdownAckSent, State, Closed, CookieWait, Open, Counts, Context, Standing, Endpoint}
 use Rattle.sctp_association.specs.Packets.{Packet}
+use Rattle.sctp_association.specs.Opening.{Verdict, EstablishNew, RestartDetected, SimultaneousInit, MaintainExisting, Discard, InvalidTag}
+use Rattle.sctp_association.specs.declared.cookie_echo.Verdict as given_verdict
+use Rattle.sctp_association.specs.declared.cookie_echo.Verdict.TheVariants as verdicts
 use Rattle.sctp_association.specs.Closing.{Onward}
 use Rattle.sctp_association.specs.Sending.{Filling, Sent}
 use Rattle.sctp_association.specs.Time.{Left, Ticking, Waited, left, standing_if, waited}
+use Rattle.sctp_association.specs.Input.{Heard, wrong_tag_text, interleaving_text, no_interleaving_text, no_partial_text}
+use Rattle.sctp_association.specs.declared.validation.Refusal.{Refusal}
+use Rattle.sctp_association.specs.declared.validation.Refusal.TheVariants as refusals
+use Rattle.sctp_association.specs.declared.misuse.Misuse.{Misuse}
+use Rattle.sctp_association.specs.declared.misuse.Misuse.TheVariants as misuses
 use Rattle.sctp_association.specs.Wire.{written}
 
 abbrev pub identity_of : given_identity.Identity → Identity
@@ -108,6 +117,39 @@ standing_after word_of phase t c has_ended = standing_if has_ended (phase_of pha
 
 abbrev pub opened_of : {C : Type 0} → (C → List ℕ → ℕ) → given_phase.Phase → given_tcb.TransmissionControlBlock → ContextValue C → Standing (List ℕ)
 opened_of word_of phase t c = record { state = Open (phase_of phase) (tcb_of t); context = context_of word_of c }
+
+-- an end with all that its generator will answer
+abbrev pub endpoint_of : {R C : Type 0} → (R → Stream) → (C → List ℕ → ℕ) → given_state.State → ContextValue C → R → Endpoint (List ℕ)
+endpoint_of stream_of word_of s c rng = record { standing = standing_of word_of s c; words = stream_of rng }
+
+abbrev pub opened_endpoint_of : {R C : Type 0} → (R → Stream) → (C → List ℕ → ℕ) → given_phase.Phase → given_tcb.TransmissionControlBlock → ContextValue C → R → Endpoint (List ℕ)
+opened_endpoint_of stream_of word_of phase t c rng = record { standing = opened_of word_of phase t c; words = stream_of rng }
+
+abbrev pub verdict_of : given_verdict.Verdict → Verdict
+verdict_of verdicts.EstablishNew = EstablishNew
+verdict_of verdicts.RestartDetected = RestartDetected
+verdict_of verdicts.SimultaneousInit = SimultaneousInit
+verdict_of verdicts.MaintainExisting = MaintainExisting
+verdict_of verdicts.Discard = Discard
+verdict_of verdicts.InvalidTag = InvalidTag
+
+-- an end, and whether the next chunk is looked at
+abbrev pub heard_of : {R C : Type 0} → (R → Stream) → (C → List ℕ → ℕ) → given_state.State → ContextValue C → R → (goes_on : Bool) → Heard (List ℕ)
+heard_of stream_of word_of s c rng goes_on = record { end = endpoint_of stream_of word_of s c rng; goes_on = goes_on }
+
+-- ---- what is told of packets and chunks that aren't taken
+
+abbrev pub refusal_text : Refusal → List ℕ
+refusal_text refusals.Abort = codes "ABORT chunk verification tag was wrong"
+refusal_text refusals.ShutdownComplete = codes "SHUTDOWN_COMPLETE chunk verification tag was wrong"
+refusal_text refusals.ShutdownAck = codes "SHUTDOWN_ACK chunk verification tag was wrong"
+refusal_text refusals.NoSingleInit = codes "Only a single INIT chunk can be present in packets sent on verification_tag = 0"
+refusal_text (refusals.WrongTag tag own) = wrong_tag_text tag own
+
+abbrev pub misuse_text : Misuse → List ℕ
+misuse_text misuses.NotInterleaved = interleaving_text
+misuse_text misuses.Interleaved = no_interleaving_text
+misuse_text misuses.Forward = no_partial_text
 
 abbrev pub sack_of : SackChunk → SackTree
 sack_of c = record {

@@ -34,7 +34,7 @@ pub struct Context<C: Checksum> {
     pub(crate) tx_messages_count: usize,
     pub(crate) peer_implementation: SctpImplementation,
     pub(crate) events: Events,
-    checksum: C,
+    pub(crate) checksum: C,
 }
 
 impl<C: Checksum> Model for Context<C> {

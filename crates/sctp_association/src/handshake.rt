@@ -8,7 +8,7 @@ ghost use Rattle.sctp_wire.specs.ParameterViews.{parameter_tree};
 ghost use Rattle.sctp_packet.specs.Chunk.{init_chunk, init_ack_chunk};
 ghost use Rattle.sctp_packet.specs.ChunkView.{chunk_tree};
 ghost use Rattle.sctp_packet.specs.Views.{init_tree};
-ghost use Rattle.sctp_state.specs.Capabilities.{announced, capabilities_of};
+ghost use Rattle.sctp_state.specs.Capabilities.{announced, capabilities_of, negotiated, told_by};
 ghost use Rattle.sctp_state.specs.Cookie.{cookie_of};
 ghost use Rattle.sctp_state.specs.Options.{IsValid, options_of};
 ghost use Rattle.sctp_association.specs.Opening.{agreed_by, answer, cookie_for, cookie_in, init_ack_of, init_of, maker, send_init, t1_cookie, t1_init};
@@ -51,15 +51,30 @@ fn make_init(
 }
 
 /// What both ends do, by the end's options and what an INIT or INIT ACK tells.
-pub(crate) fn agreed_by(options: &Options, init: &InitChunk) -> Capabilities
+pub(crate) fn agreed_by(
+    options: &Options,
+    nbr_outbound_streams: u16,
+    nbr_inbound_streams: u16,
+    parameters: &[Parameter],
+) -> Capabilities
+    ensures { capabilities_of result
+        ≡ negotiated (options_of options.now) (told_by nbr_outbound_streams nbr_inbound_streams (map parameter_tree parameters.now)) }
+{
+    Capabilities::from_parameters(nbr_outbound_streams, nbr_inbound_streams, parameters).negotiate(
+        options,
+    )
+}
+
+/// The same by an INIT.
+fn agreed_with(options: &Options, init: &InitChunk) -> Capabilities
     ensures { capabilities_of result ≡ agreed_by (options_of options.now) (init_tree init.now) }
 {
-    Capabilities::from_parameters(
+    agreed_by(
+        options,
         init.nbr_outbound_streams,
         init.nbr_inbound_streams,
         &init.parameters,
     )
-    .negotiate(options)
 }
 
 /// The cookie that an INIT is answered with.
@@ -92,7 +107,7 @@ fn make_init_ack(
     requires { IsValid (options_of options.now) }
     ensures { IfOk result (λ chunk. chunk_tree chunk ≡ init_ack_chunk (init_ack_of (options_of options.now) (init_tree init.now) tag initial_tsn.0 tie_tag)) }
 {
-    let agreed = agreed_by(options, init);
+    let agreed = agreed_with(options, init);
     let mut parameters = announced_parameters(alloc, options, agreed.zero_checksum_method)?;
     let cookie = cookie_for(init, tag, initial_tsn, tie_tag).serialize(alloc)?;
     parameters.push(Parameter::StateCookie(StateCookieParameter { cookie }))?;
@@ -183,7 +198,7 @@ impl<C: Checksum> Context<C> {
         ensures { OnOk result (context_of C.word_of self.new ≡ answer (init_tree init.now) tag initial_tsn.0 tie_tag (context_of C.word_of self.old)) }
     {
         let chunk = make_init_ack(self.alloc, &self.options, init, tag, initial_tsn, tie_tag)?;
-        let agreed = agreed_by(&self.options, init);
+        let agreed = agreed_with(&self.options, init);
         let mut packet = OutgoingPacket::new(self.alloc, init.initiate_tag, self.options.mtu);
         packet.write_checksum(!agreed.zero_checksum_enabled());
         packet.add(chunk)?;

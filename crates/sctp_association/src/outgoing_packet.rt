@@ -158,7 +158,7 @@ fn add_all(builder: &mut SctpPacketBuilder, chunks: &[Chunk]) -> Result<(), Allo
 }
 
 /// The word of a packet's bytes, with the checksum's field as zeros.
-fn word_of<C: Checksum>(checksum: &C, bytes: &[u8]) -> u32
+pub(crate) fn word_of<C: Checksum>(checksum: &C, bytes: &[u8]) -> u32
     ensures { result ≡ word_at (C.word_of checksum.now) bytes.now }
 {
     let front = bytes.len().min(8);

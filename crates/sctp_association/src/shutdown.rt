@@ -99,6 +99,21 @@ impl<C: Checksum> Context<C> {
         self.events.add(event)
     }
 
+    /// The association is told as aborted.
+    pub(crate) fn tell_aborted(&mut self, kind: ErrorKind, text: &str) -> Result<(), AllocError>
+        ensures { OnOk result (context_of C.word_of self.new ≡ say (OnAborted kind text.now) (context_of C.word_of self.old)) }
+    {
+        let text = String::from_str(self.alloc, text)?;
+        self.tell(SocketEvent::OnAborted(kind, text))
+    }
+
+    /// The same, since the peer doesn't answer.
+    pub(crate) fn tell_no_answer(&mut self, text: &str) -> Result<(), AllocError>
+        ensures { OnOk result (context_of C.word_of self.new ≡ say (OnAborted ErrorKind.TooManyRetries text.now) (context_of C.word_of self.old)) }
+    {
+        self.tell_aborted(ErrorKind::TooManyRetries, text)
+    }
+
     fn abort_by_user(&mut self, tcb: &TransmissionControlBlock) -> Result<(), AllocError>
         ensures { OnOk result (context_of C.word_of self.new
             ≡ say OnClosed (emit_chunk (abort_chunk false (user_initiated_abort (codes "Close called") ∷ [])) (tcb_of tcb.now) (context_of C.word_of self.old))) }
@@ -118,15 +133,7 @@ impl<C: Checksum> Context<C> {
     {
         let cause = self.user_abort("Too many retransmissions")?;
         self.send_abort(tcb, cause)?;
-        let event = self.too_many_retries()?;
-        self.tell(event)
-    }
-
-    fn too_many_retries(&self) -> Result<SocketEvent, AllocError>
-        ensures { IfOk result (λ event. event_of event ≡ OnAborted ErrorKind.TooManyRetries (codes "Too many retransmissions")) }
-    {
-        let text = String::from_str(self.alloc, "Too many retransmissions")?;
-        Ok(SocketEvent::OnAborted(ErrorKind::TooManyRetries, text))
+        self.tell_no_answer("Too many retransmissions")
     }
 
     /// What the user gave as the cause of an ABORT.

@@ -1,8 +1,6 @@
 //! Time: which timers a state looks at, and what their expiries lead to.
 
 ghost use Rattle.std.specs.Prelude.{◌≡◌, IfOk, OnOk};
-ghost use Rattle.sctp_state.specs.Events.{OnAborted};
-ghost use Rattle.sctp_association.specs.Packets.{say};
 ghost use Rattle.sctp_association.specs.Time as table;
 ghost use Rattle.sctp_association.specs.Views.{context_of, left_of, phase_of, standing_after, standing_of, state_of, tcb_of, ticking_of, waited_of};
 ghost use Rattle.sctp_state.specs.Timers.{expire};
@@ -12,7 +10,7 @@ use crate::context::Context;
 use crate::state::{CookieEchoedState, CookieWaitState, Phase, State};
 use crate::transmission_control_block::TransmissionControlBlock;
 use sctp_serial::SocketTime;
-use sctp_state::{ErrorKind, SocketEvent, Timer};
+use sctp_state::Timer;
 use sctp_wire::Checksum;
 use std::alloc::AllocError;
 
@@ -129,13 +127,6 @@ impl<C: Checksum> Context<C> {
         } else {
             Ok(false)
         }
-    }
-
-    fn tell_no_answer(&mut self, text: &str) -> Result<(), AllocError>
-        ensures { OnOk result (context_of C.word_of self.new ≡ say (OnAborted ErrorKind.TooManyRetries text.now) (context_of C.word_of self.old)) }
-    {
-        let text = String::from_str(self.alloc, text)?;
-        self.tell(SocketEvent::OnAborted(ErrorKind::TooManyRetries, text))
     }
 
     /// After the own SHUTDOWN: T2-shutdown sends it again (RFC 9260 section 9.2).
@@ -257,4 +248,43 @@ pub(crate) fn advance_time<C: Checksum>(
     }
     context.clock = now;
     handle_timeouts(state, context)
+}
+
+impl TransmissionControlBlock {
+    fn next_timeout(&self) -> SocketTime
+        ensures { result ≡ table.tcb_expiry (tcb_of self.now) }
+    {
+        let t3_rtx = self.retransmission_queue.next_timeout();
+        t3_rtx.min(self.data_tracker.next_timeout())
+    }
+}
+
+impl Phase {
+    fn next_timeout(&self, tcb: &TransmissionControlBlock) -> SocketTime
+        ensures { result ≡ table.phase_expiry (phase_of self.now) (tcb_of tcb.now) }
+    {
+        match self {
+            Phase::CookieEchoed(echoed) => echoed.t1_cookie.next_expiry(),
+            Phase::Established => tcb.next_timeout(),
+            Phase::ShutdownPending => tcb.next_timeout(),
+            Phase::ShutdownSent(t2_shutdown) => t2_shutdown.next_expiry().min(tcb.next_timeout()),
+            Phase::ShutdownReceived => tcb.next_timeout(),
+            Phase::ShutdownAckSent(t2_shutdown) => {
+                t2_shutdown.next_expiry().min(tcb.next_timeout())
+            }
+        }
+    }
+}
+
+impl State {
+    /// The moment by which the time is to be told next, not before this one; the greatest one where no timer runs.
+    pub(crate) fn poll_timeout(&self, now: SocketTime) -> SocketTime
+        ensures { result ≡ table.timeout_in (state_of self.now) now }
+    {
+        match self {
+            State::Closed => SocketTime::infinite_future(),
+            State::CookieWait(waiting) => waiting.t1_init.next_expiry().max(now),
+            State::Open(phase, tcb) => phase.next_timeout(tcb).max(now),
+        }
+    }
 }

@@ -29,6 +29,32 @@ pub struct Identity {
     pub tie_tag: u64,
 }
 
+/// What both ends of an association hold, crossed.
+#[derive(Clone, Copy, Debug, PartialEq, Eq)]
+pub struct Association {
+    pub my_tag: u32,
+    pub my_initial_tsn: Tsn,
+    pub peer_tag: u32,
+    pub peer_initial_tsn: Tsn,
+}
+
+impl Identity {
+    /// The tags and first TSNs.
+    pub(crate) fn association(&self) -> Association
+        ensures my_tag { result.my_tag ≡ self.now.my_verification_tag }
+        ensures my_first { result.my_initial_tsn ≡ self.now.my_initial_tsn }
+        ensures peer_tag { result.peer_tag ≡ self.now.peer_verification_tag }
+        ensures peer_first { result.peer_initial_tsn ≡ self.now.peer_initial_tsn }
+    {
+        Association {
+            my_tag: self.my_verification_tag,
+            my_initial_tsn: self.my_initial_tsn,
+            peer_tag: self.peer_verification_tag,
+            peer_initial_tsn: self.peer_initial_tsn,
+        }
+    }
+}
+
 /// The control block of an association: all that ends with it.
 #[derive(Drop)]
 pub struct TransmissionControlBlock {

@@ -1,5 +1,8 @@
 //! Packets that are put together, and control blocks with default options.
 
+mod conversations;
+mod link;
+
 use sctp_association::{Context, Identity, OutgoingPacket, Phase, State, TransmissionControlBlock};
 use sctp_packet::{Chunk, CookieAckChunk, CookieEchoChunk, Data};
 use sctp_serial::Tsn;

@@ -1,4 +1,4 @@
-use Rattle.std.proofs.Common.{◌≡◌, ◌+◌, ◌≤◌, List, [], ◌∷◌, length, map, drop, max, subst, ap, ◌∙◌, ◌++◌, sym}
+use Rattle.std.proofs.Common.{◌+◌, ◌≤◌, List, [], length, max, subst, ap, ◌∙◌, ◌++◌, sym}
 use Rattle.std.specs.List.{All}
 use Rattle.std.proofs.lemmas.List.Elements.{All-head, All-tail}
 use Rattle.sctp_packet.specs.Builder.{BuilderTree}

@@ -1,4 +1,4 @@
-use Rattle.std.proofs.Common.{◌≡◌, ◌+◌, ◌-◌, ◌==◌, Bool, true, false, not, sym, ap, ◌∙◌, arith, refl, ℕ}
+use Rattle.std.proofs.Common.{◌==◌, true, sym, ap, ◌∙◌, arith, ℕ}
 use Rattle.sctp_association.specs.Sending.{burst}
 use Rattle.sctp_association.specs.Views.{filling_of}
 use Rattle.sctp_association.proofs.BurstLemmas.{burst_on, burst_off, not_first}

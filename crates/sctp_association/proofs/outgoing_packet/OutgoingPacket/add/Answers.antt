@@ -1,4 +1,4 @@
-use Rattle.std.proofs.Common.{◌≡◌, ◌+◌, ◌≤◌, List, [], ◌∷◌, ◌++◌, length, map, ap, sym, ◌∙◌, ℕ, min, ◌-◌, ◌^◌}
+use Rattle.std.proofs.Common.{List, length, map, ap, ◌∙◌, ℕ, min, ◌-◌, ◌^◌}
 use Rattle.std.proofs.lemmas.List.Elements.{All-same}
 use Rattle.sctp_packet.specs.Chunk.{ChunkTree}
 use Rattle.sctp_packet.specs.ChunkView.{chunk_tree}

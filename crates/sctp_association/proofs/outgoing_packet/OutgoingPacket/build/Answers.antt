@@ -1,6 +1,6 @@
-use Rattle.std.proofs.Common.{◌≡◌, List, [], length, map, ap, sym, ◌∙◌, arith, ℕ}
+use Rattle.std.proofs.Common.{length, map, ap, sym, ◌∙◌, arith}
 use Rattle.std.proofs.lemmas.List.Elements.{All-nil}
-use Rattle.sctp_packet.specs.Builder.{BuilderTree, so_far}
+use Rattle.sctp_packet.specs.Builder.{BuilderTree}
 use Rattle.sctp_packet.specs.ChunkView.{chunk_tree}
 use Rattle.sctp_association.specs.PacketView.{IsWritable}
 use Rattle.sctp_association.specs.Wire.{word_at}

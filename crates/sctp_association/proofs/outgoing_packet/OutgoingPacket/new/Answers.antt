@@ -1,6 +1,5 @@
-use Rattle.std.proofs.Common.{[], map, length, sym, ap, ◌∙◌, arith, List, ℕ}
+use Rattle.std.proofs.Common.{length, sym, ap, arith}
 use Rattle.std.proofs.lemmas.List.Elements.{All-nil}
-use Rattle.sctp_packet.specs.Written.{chunks_bytes}
 use Rattle.sctp_association.specs.PacketView.{IsWritable}
 use Rattle.sctp_association.proofs.OutgoingLemmas.{no_chunks}
 use Rattle.sctp_association.proofs.outgoing_packet.OutgoingPacket.new.Goals as goal

@@ -1,0 +1,78 @@
+//! The calls of a socket.
+
+ghost use Rattle.std.specs.Prelude.{◌<◌, ◌^◌};
+
+use sctp_serial::{Message, SocketTime, StreamId};
+use sctp_state::{
+    BatchFault, CallError, Options, SendError, SendOptions, SocketEvent, SocketState,
+};
+
+/// An end of an SCTP association, which makes no system call. Packets, moments and messages are handed in; events, among
+/// them packets to send, are taken out. A changing call that finds too little memory answers `Memory`, and the socket has
+/// failed: from then on changing calls answer `Failed` and change nothing, and what was told before can still be taken.
+pub trait DcSctpSocket {
+    /// Takes the event that was told first.
+    fn poll_event(&mut self) -> Option<SocketEvent>;
+
+    /// Hands out the message that was ready first.
+    fn get_next_message(&mut self) -> Option<Message>;
+
+    /// Takes the bytes of a packet that came. Bytes that are no packet, or not one for this association, are told as an
+    /// error and counted.
+    fn handle_input(&mut self, bytes: &[u8]) -> Result<(), CallError>;
+
+    /// Tells the time. An earlier moment than the last one changes nothing.
+    fn advance_time(&mut self, now: SocketTime) -> Result<(), CallError>;
+
+    /// The moment by which the time is to be told next; the greatest one where no timer runs.
+    fn poll_timeout(&self) -> SocketTime;
+
+    /// Opens an association, where the socket is closed.
+    fn connect(&mut self) -> Result<(), CallError>;
+
+    /// Ends the association at once, with an ABORT to the peer (RFC 9260 section 9.1).
+    fn close(&mut self) -> Result<(), CallError>;
+
+    /// Queues a message, and sends as much as may be sent. A refused message changes nothing but the events that tell of
+    /// it and of the end of its lifecycle.
+    fn send(&mut self, message: Message, options: &SendOptions) -> Result<(), SendError>;
+
+    /// Queues several messages, and sends then. Some may be refused; the others are sent all the same.
+    fn send_many(
+        &mut self,
+        messages: Vec<Message>,
+        options: &SendOptions,
+    ) -> Result<(), BatchFault>;
+
+    /// Sets the priority of a stream, by which it is weighed where messages are interleaved (RFC 8260).
+    fn set_stream_priority(&mut self, id: StreamId, priority: u16) -> Result<(), CallError>;
+
+    /// The priority of a stream.
+    fn get_stream_priority(&self, id: StreamId) -> u16;
+
+    /// Sets the amount in bytes at which a stream is low.
+    fn set_buffered_amount_low_threshold(
+        &mut self,
+        id: StreamId,
+        bytes: usize,
+    ) -> Result<(), CallError>;
+
+    /// The amount in bytes at which a stream is low.
+    fn buffered_amount_low_threshold(&self, id: StreamId) -> usize;
+
+    /// The bytes of a stream that wait to be sent.
+    fn buffered_amount(&self, id: StreamId) -> usize;
+
+    /// Sets the most bytes of a message's payload, below 2^32.
+    fn set_max_message_size(&mut self, bytes: usize)
+        requires { bytes < 2 ^ 32 };
+
+    /// The options, with the size last set.
+    fn options(&self) -> Options;
+
+    /// Whether the socket is closed, connecting, connected or shutting down.
+    fn state(&self) -> SocketState;
+
+    /// How many messages wait to be handed out.
+    fn messages_ready_count(&self) -> usize;
+}

@@ -1,0 +1,435 @@
+//! How an end takes a packet: whether it is for this association, then chunk by chunk, then what is due.
+
+ghost use Rattle.std.specs.Prelude.{◌≡◌, codes, true, map, IfOk, OnOk, string_bytes};
+ghost use Rattle.sctp_wire.specs.CauseViews.{cause_tree};
+ghost use Rattle.sctp_packet.specs.ChunkView.{chunk_tree};
+ghost use Rattle.sctp_packet.specs.Packet.{IsFault};
+ghost use Rattle.sctp_packet.specs.PacketView.{packet_tree};
+ghost use Rattle.sctp_state.specs.Events.{OnAborted};
+ghost use Rattle.sctp_association.specs.Association.{where_open};
+ghost use Rattle.sctp_association.specs.Closing as closing;
+ghost use Rattle.sctp_association.specs.Input as table;
+ghost use Rattle.sctp_association.specs.Opening.{on_cookie_ack};
+ghost use Rattle.sctp_association.specs.Packets.{complain, say};
+ghost use Rattle.sctp_association.specs.Socket.{Hears, Judges, policy_of};
+ghost use Rattle.sctp_association.specs.Views.{context_of, endpoint_of, heard_of, misuse_text, opened_of, phase_of, standing_of, state_of, tcb_of};
+ghost use Rattle.sctp_association.specs.Wire.{word_at};
+
+use crate::context::Context;
+use crate::cookie_echo::{handle_cookie_ack, handle_cookie_echo};
+use crate::data::{handle_data, handle_forward_tsn};
+use crate::misuse::{Misuse, handle_unknown, is_passed_over};
+use crate::opening::{handle_init, handle_init_ack};
+use crate::outgoing_packet::word_of;
+use crate::sack::handle_sack;
+use crate::state::{Phase, State};
+use crate::transmission_control_block::TransmissionControlBlock;
+use rand_core::Rng;
+use sctp_packet::{Chunk, PacketParseError, SctpPacket};
+use sctp_state::{ErrorKind, SocketEvent};
+use sctp_wire::{Checksum, ErrorCause, Policy, ProtocolViolationErrorCause};
+use std::alloc::{AllocError, Global};
+
+/// What the causes say, with commas between them.
+fn causes_text(alloc: Global, causes: &[ErrorCause]) -> Result<String, AllocError>
+    ensures { IfOk result (λ text. string_bytes text ≡ closing.causes_text (map cause_tree causes.now)) }
+{
+    let Some((first, rest)) = causes.split_first() else {
+        return Ok(String::new(alloc));
+    };
+    let mut text = format!(in alloc; "{first}")?;
+    for cause in rest {
+        let next = format!(in alloc; ",{cause}")?;
+        text.push_str(&next)?;
+    }
+    Ok(text)
+}
+
+impl<C: Checksum> Context<C> {
+    /// A packet came.
+    pub(crate) fn count_packet(&mut self)
+        ensures { context_of C.word_of self.new ≡ table.counted (context_of C.word_of self.old) }
+    {
+        self.rx_packets_count = self.rx_packets_count.saturating_add(1);
+    }
+
+    /// The association is told as aborted by the peer.
+    fn tell_abort(&mut self, causes: &[ErrorCause]) -> Result<(), AllocError>
+        ensures { OnOk result (context_of C.word_of self.new ≡ say (OnAborted ErrorKind.PeerReported (closing.causes_text (map cause_tree causes.now))) (context_of C.word_of self.old)) }
+    {
+        let text = causes_text(self.alloc, causes)?;
+        self.tell(SocketEvent::OnAborted(ErrorKind::PeerReported, text))
+    }
+
+    /// An error that the peer reports.
+    fn tell_error(&mut self, causes: &[ErrorCause]) -> Result<(), AllocError>
+        ensures { OnOk result (context_of C.word_of self.new ≡ complain ErrorKind.PeerReported (closing.causes_text (map cause_tree causes.now)) (context_of C.word_of self.old)) }
+    {
+        let text = causes_text(self.alloc, causes)?;
+        self.tell(SocketEvent::OnError(ErrorKind::PeerReported, text))
+    }
+
+    /// An ABORT goes out, since what was negotiated forbids a chunk.
+    fn abort_by_violation(
+        &mut self,
+        tcb: &TransmissionControlBlock,
+        misuse: Misuse,
+    ) -> Result<(), AllocError>
+        ensures { OnOk result (context_of C.word_of self.new
+            ≡ (closing.violated (misuse_text misuse) (tcb_of tcb.now) (context_of C.word_of self.old)).context) }
+    {
+        let information = String::from_str(self.alloc, misuse.text())?;
+        let cause = ErrorCause::ProtocolViolation(ProtocolViolationErrorCause { information });
+        self.send_abort(tcb, cause)?;
+        self.tell_aborted(ErrorKind::ProtocolViolation, misuse.text())
+    }
+
+    /// At the end of a packet an acknowledgement goes out, where one is due, and what else may be sent.
+    fn handle_packet_end(
+        &mut self,
+        phase: &Phase,
+        tcb: &mut TransmissionControlBlock,
+    ) -> Result<(), AllocError>
+        ensures { OnOk result (opened_of C.word_of phase.now tcb.new self.new ≡ table.ended (phase_of phase.now) (tcb_of tcb.old) (context_of C.word_of self.old)) }
+    {
+        tcb.data_tracker.observe_packet_end(self.clock);
+        if !tcb.data_tracker.should_send_ack(self.clock, false) {
+            return Ok(());
+        }
+        let mut packet = tcb.new_packet(self.alloc, &self.options);
+        let window = tcb.reassembly_queue.remaining_bytes() as u32;
+        let sack = tcb.data_tracker.create_selective_ack(window)?;
+        packet.add(Chunk::Sack(sack))?;
+        self.send_buffered_packets_with(tcb, phase.is_alone(), packet)
+    }
+
+    /// After the own SHUTDOWN: it goes out again, and its timer starts anew (RFC 9260 section 9.2).
+    fn repeat_shutdown(
+        &mut self,
+        phase: &mut Phase,
+        tcb: &TransmissionControlBlock,
+    ) -> Result<(), AllocError>
+        ensures { OnOk result (opened_of C.word_of phase.new tcb.now self.new ≡ table.repeats (phase_of phase.old) (tcb_of tcb.now) (context_of C.word_of self.old)) }
+    {
+        match phase {
+            Phase::ShutdownSent(t2_shutdown) => {
+                t2_shutdown.set_duration(tcb.rto.rto());
+                t2_shutdown.start(self.clock);
+                self.send_shutdown(tcb)
+            }
+            Phase::CookieEchoed(_) => Ok(()),
+            Phase::Established => Ok(()),
+            Phase::ShutdownPending => Ok(()),
+            Phase::ShutdownReceived => Ok(()),
+            Phase::ShutdownAckSent(_) => Ok(()),
+        }
+    }
+}
+
+/// ABORT.
+fn handle_abort<C: Checksum>(
+    state: &mut State,
+    context: &mut Context<C>,
+    causes: &[ErrorCause],
+) -> Result<(), AllocError>
+    ensures { OnOk result (standing_of C.word_of state.new context.new ≡ where_open (closing.on_abort (map cause_tree causes.now)) (standing_of C.word_of state.old context.old)) }
+{
+    match state {
+        State::Closed => Ok(()),
+        State::CookieWait(_) => Ok(()),
+        State::Open(_, _) => {
+            context.tell_abort(causes)?;
+            *state = State::Closed;
+            Ok(())
+        }
+    }
+}
+
+/// ERROR.
+fn handle_error<C: Checksum>(
+    state: &State,
+    context: &mut Context<C>,
+    causes: &[ErrorCause],
+) -> Result<(), AllocError>
+    ensures { OnOk result (standing_of C.word_of state.now context.new ≡ where_open (closing.on_error (map cause_tree causes.now)) (standing_of C.word_of state.now context.old)) }
+{
+    match state {
+        State::Closed => Ok(()),
+        State::CookieWait(_) => Ok(()),
+        State::Open(_, _) => context.tell_error(causes),
+    }
+}
+
+fn handle_acked_cookie<C: Checksum>(
+    state: &mut State,
+    context: &mut Context<C>,
+) -> Result<(), AllocError>
+    ensures { OnOk result (standing_of C.word_of state.new context.new ≡ where_open on_cookie_ack (standing_of C.word_of state.old context.old)) }
+{
+    match state {
+        State::Closed => Ok(()),
+        State::CookieWait(_) => Ok(()),
+        State::Open(phase, tcb) => handle_cookie_ack(phase, tcb, context),
+    }
+}
+
+/// A chunk that what was negotiated forbids ends the association.
+fn handle_misuse<C: Checksum>(
+    state: &mut State,
+    context: &mut Context<C>,
+    misuse: Misuse,
+) -> Result<(), AllocError>
+    ensures { OnOk result (standing_of C.word_of state.new context.new ≡ table.breaks (misuse_text misuse) (standing_of C.word_of state.old context.old)) }
+{
+    match state {
+        State::Closed => Ok(()),
+        State::CookieWait(_) => Ok(()),
+        State::Open(_, tcb) => {
+            context.abort_by_violation(tcb, misuse)?;
+            *state = State::Closed;
+            Ok(())
+        }
+    }
+}
+
+/// What a chunk does, of a packet under this tag. The chunks that belong to a shutdown, to heartbeats and to resets
+/// change nothing.
+fn dispatch<R: Rng, C: Checksum>(
+    state: &mut State,
+    context: &mut Context<C>,
+    rng: &mut R,
+    tag: u32,
+    chunk: Chunk,
+) -> Result<(), AllocError>
+    ensures { OnOk result (endpoint_of R.stream C.word_of state.new context.new rng.new
+        ≡ table.on_chunk tag (chunk_tree chunk) (endpoint_of R.stream C.word_of state.old context.old rng.old)) }
+{
+    match chunk {
+        Chunk::Data(c) => handle_data(state, context, c.tsn, c.immediate_ack, c.data),
+        Chunk::IData(c) => handle_data(state, context, c.tsn, c.immediate_ack, c.data),
+        Chunk::Init(c) => handle_init(state, context, rng, &c),
+        Chunk::InitAck(c) => handle_init_ack(state, context, rng, &c),
+        Chunk::Sack(c) => handle_sack(state, context, c),
+        Chunk::Abort(c) => handle_abort(state, context, &c.error_causes),
+        Chunk::Error(c) => handle_error(state, context, &c.error_causes),
+        Chunk::CookieEcho(c) => handle_cookie_echo(state, context, rng, tag, &c.cookie),
+        Chunk::CookieAck(_) => handle_acked_cookie(state, context),
+        Chunk::ForwardTsn(c) => handle_forward_tsn(
+            state,
+            context.clock,
+            c.new_cumulative_tsn,
+            &c.skipped_streams,
+        ),
+        Chunk::IForwardTsn(c) => handle_forward_tsn(
+            state,
+            context.clock,
+            c.new_cumulative_tsn,
+            &c.skipped_streams,
+        ),
+        Chunk::Unknown(c) => handle_unknown(state, context, &c),
+        _ => Ok(()),
+    }
+}
+
+/// Whether the chunk behind this one is looked at: an unknown chunk may end the packet.
+fn goes_on(chunk: &Chunk) -> bool
+    ensures { result ≡ table.goes_on (chunk_tree chunk.now) }
+{
+    match chunk {
+        Chunk::Unknown(unknown) => is_passed_over(unknown.typ),
+        _ => true,
+    }
+}
+
+/// One chunk. The answer is whether the next one is looked at.
+fn hear<R: Rng, C: Checksum>(
+    state: &mut State,
+    context: &mut Context<C>,
+    rng: &mut R,
+    tag: u32,
+    chunk: Chunk,
+) -> Result<bool, AllocError>
+    ensures { IfOk result (λ goes_on. heard_of R.stream C.word_of state.new context.new rng.new goes_on
+        ≡ table.hear tag (chunk_tree chunk) (endpoint_of R.stream C.word_of state.old context.old rng.old)) }
+{
+    if let Some(misuse) = state.misuse(&chunk) {
+        handle_misuse(state, context, misuse)?;
+        return Ok(false);
+    }
+    let goes_on = goes_on(&chunk);
+    dispatch(state, context, rng, tag, chunk)?;
+    Ok(goes_on)
+}
+
+/// One chunk after the other.
+fn hear_all<R: Rng, C: Checksum>(
+    state: &mut State,
+    context: &mut Context<C>,
+    rng: &mut R,
+    tag: u32,
+    chunks: Vec<Chunk>,
+) -> Result<(), AllocError>
+    ensures { OnOk result (endpoint_of R.stream C.word_of state.new context.new rng.new
+        ≡ table.hear_all tag (map chunk_tree chunks.items) (endpoint_of R.stream C.word_of state.old context.old rng.old)) }
+{
+    for chunk in chunks {
+        if !hear(state, context, rng, tag, chunk)? {
+            return Ok(());
+        }
+    }
+    Ok(())
+}
+
+fn has_data(chunks: &[Chunk]) -> bool
+    ensures { result ≡ table.has_data (map chunk_tree chunks.now) }
+{
+    for chunk in chunks {
+        if let Chunk::Data(_) = chunk {
+            return true;
+        }
+    }
+    false
+}
+
+fn repeat_if<C: Checksum>(
+    state: &mut State,
+    context: &mut Context<C>,
+    has_data: bool,
+) -> Result<(), AllocError>
+    ensures { OnOk result (standing_of C.word_of state.new context.new ≡ table.repeats_if has_data (standing_of C.word_of state.old context.old)) }
+{
+    if !has_data {
+        return Ok(());
+    }
+    match state {
+        State::Closed => Ok(()),
+        State::CookieWait(_) => Ok(()),
+        State::Open(phase, tcb) => context.repeat_shutdown(phase, tcb),
+    }
+}
+
+fn end_packet<C: Checksum>(state: &mut State, context: &mut Context<C>) -> Result<(), AllocError>
+    ensures { OnOk result (standing_of C.word_of state.new context.new ≡ where_open table.ended (standing_of C.word_of state.old context.old)) }
+{
+    match state {
+        State::Closed => Ok(()),
+        State::CookieWait(_) => Ok(()),
+        State::Open(phase, tcb) => context.handle_packet_end(phase, tcb),
+    }
+}
+
+/// The chunks of a packet that is taken.
+fn handle_chunks<R: Rng, C: Checksum>(
+    state: &mut State,
+    context: &mut Context<C>,
+    rng: &mut R,
+    tag: u32,
+    chunks: Vec<Chunk>,
+) -> Result<(), AllocError>
+    ensures { OnOk result (endpoint_of R.stream C.word_of state.new context.new rng.new
+        ≡ table.handled tag (map chunk_tree chunks.items) (endpoint_of R.stream C.word_of state.old context.old rng.old)) }
+{
+    repeat_if(state, context, has_data(&chunks))?;
+    hear_all(state, context, rng, tag, chunks)?;
+    end_packet(state, context)
+}
+
+/// A packet that could be read.
+pub(crate) fn handle_packet<R: Rng, C: Checksum>(
+    state: &mut State,
+    context: &mut Context<C>,
+    rng: &mut R,
+    packet: SctpPacket,
+) -> Result<(), AllocError>
+    ensures { OnOk result (endpoint_of R.stream C.word_of state.new context.new rng.new
+        ≡ table.on_packet (packet_tree packet) (endpoint_of R.stream C.word_of state.old context.old rng.old)) }
+{
+    context.count_packet();
+    let tag = packet.common_header.verification_tag;
+    match state.validate_packet(tag, &packet.chunks) {
+        None => handle_chunks(state, context, rng, tag, packet.chunks),
+        Some(refusal) => {
+            let text = refusal.text(context.alloc)?;
+            context.tell(SocketEvent::OnError(ErrorKind::ParseFailed, text))
+        }
+    }
+}
+
+impl<C: Checksum> Context<C> {
+    /// What is asked of the checksum of a packet that comes.
+    fn policy(&self) -> Policy
+        ensures { result ≡ policy_of self.now.options }
+    {
+        let options = &self.options;
+        Policy {
+            disable_checksum_verification: options.disable_checksum_verification,
+            zero_checksum_alternate_error_detection_method: options.zero_checksum_alternate_error_detection_method,
+        }
+    }
+
+    /// The word of a packet's bytes, with the checksum's field as zeros.
+    fn word_of(&self, bytes: &[u8]) -> u32
+        ensures { result ≡ word_at (C.word_of self.now.checksum) bytes.now }
+    {
+        word_of(&self.checksum, bytes)
+    }
+
+    /// Bytes that are no packet.
+    fn refuse_bytes(&mut self, fault: PacketParseError) -> Result<(), AllocError>
+        ensures fault { OnOk result (IsFault fault) }
+        ensures told { OnOk result (context_of C.word_of self.new
+            ≡ complain ErrorKind.ParseFailed (codes "Failed to parse SCTP packet") (table.counted (context_of C.word_of self.old))) }
+    {
+        if fault == PacketParseError::Memory {
+            return Err(AllocError);
+        }
+        self.count_packet();
+        self.complain(ErrorKind::ParseFailed, "Failed to parse SCTP packet")
+    }
+}
+
+/// The bytes of a packet that came.
+pub(crate) fn handle_input<R: Rng, C: Checksum>(
+    state: &mut State,
+    context: &mut Context<C>,
+    rng: &mut R,
+    bytes: &[u8],
+) -> Result<(), AllocError>
+    ensures { OnOk result (Hears (C.word_of context.old.checksum) bytes.now (endpoint_of R.stream C.word_of state.old context.old rng.old)
+        (endpoint_of R.stream C.word_of state.new context.new rng.new)) }
+{
+    let word = context.word_of(bytes);
+    match SctpPacket::from_bytes(context.alloc, bytes, word, &context.policy()) {
+        Ok(packet) => handle_packet(state, context, rng, packet),
+        Err(fault) => context.refuse_bytes(fault),
+    }
+}
+
+/// Whether the bytes would be refused: they are no packet, or not one for this association.
+pub(crate) fn judge<C: Checksum>(
+    state: &State,
+    context: &Context<C>,
+    bytes: &[u8],
+) -> Result<bool, AllocError>
+    ensures { IfOk result (λ refused. Judges (C.word_of context.now.checksum) bytes.now context.now.options (state_of state.now) refused) }
+{
+    let word = context.word_of(bytes);
+    match SctpPacket::from_bytes(context.alloc, bytes, word, &context.policy()) {
+        Ok(packet) => {
+            let tag = packet.common_header.verification_tag;
+            Ok(state.validate_packet(tag, &packet.chunks).is_some())
+        }
+        Err(fault) => is_fault(fault),
+    }
+}
+
+/// That the bytes are no packet, which want of memory leaves open.
+fn is_fault(fault: PacketParseError) -> Result<bool, AllocError>
+    ensures refused { IfOk result (λ refused. refused ≡ true) }
+    ensures fault { OnOk result (IsFault fault) }
+{
+    if fault == PacketParseError::Memory {
+        return Err(AllocError);
+    }
+    Ok(true)
+}

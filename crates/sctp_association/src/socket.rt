@@ -1,0 +1,331 @@
+//! The socket.
+
+ghost use Rattle.std.specs.Prelude.{◌≡◌, ◌<◌, ◌^◌, ◌↔◌, false, true, Err, length, map, option_map, drop, slice_get, IfOk, IfErr, OnOk};
+ghost use Rattle.sctp_serial.specs.Messages.{message_of};
+ghost use Rattle.sctp_send_queue.specs.Queue.{amount_of, stream};
+ghost use Rattle.sctp_state.specs.Events.{event_of, first_of, given_up_of};
+ghost use Rattle.sctp_state.specs.Options.{IsValid, options_of, send_options_of};
+ghost use Rattle.sctp_association.specs.Association.{fresh, in_context};
+ghost use Rattle.sctp_association.specs.Calls as calls;
+ghost use Rattle.sctp_association.specs.Closing as closing;
+ghost use Rattle.sctp_association.specs.Input.{my_tag, on_standing};
+ghost use Rattle.sctp_association.specs.Opening as opening;
+ghost use Rattle.sctp_association.specs.Socket.{Ends, Hears, Judges, Worked, association_in, association_of, batch_ending, ending_of, endpoint, is_at_rest, refusal_in, refusals_in, sending_ending};
+ghost use Rattle.sctp_association.specs.Time as time;
+ghost use Rattle.sctp_association.specs.Wire.{written};
+
+use crate::api::DcSctpSocket;
+use crate::calls::{send, send_many};
+use crate::context::Context;
+use crate::input::{handle_input, judge};
+use crate::opening::connect;
+use crate::shutdown::handle_close;
+use crate::state::State;
+use crate::timers::advance_time;
+use crate::transmission_control_block::Association;
+use rand_core::Rng;
+use sctp_serial::{Message, SocketTime, StreamId};
+use sctp_state::{
+    BatchFault, BatchSendError, CallError, GivenUp, Options, SendError, SendOptions, SocketEvent,
+    SocketState,
+};
+use sctp_wire::Checksum;
+use std::alloc::Global;
+use std::marker::Model;
+
+/// An end of an association, which draws its words from `rng` and makes its checksums by `checksum`.
+#[derive(Drop)]
+pub struct Socket<R: Rng, C: Checksum> {
+    name: String,
+    has_failed: bool,
+    state: State,
+    context: Context<C>,
+    rng: R,
+}
+
+impl<R: Rng, C: Checksum> Model for Socket<R, C> {
+    ghost use Rattle.sctp_association.specs.Socket.{SocketValue};
+    ghost use Rattle.sctp_association.specs.Views.{state_of};
+
+    ghost Value = { SocketValue R C };
+
+    ghost view = { λ s. record { has_failed = s.has_failed; state = state_of s.state; context = s.context; rng = s.rng } };
+}
+
+impl<R: Rng + Drop, C: Checksum + Drop> Socket<R, C> {
+    /// A closed socket at moment zero. The name tells it from others where it is logged.
+    pub fn new(
+        alloc: Global,
+        name: &str,
+        options: &Options,
+        rng: R,
+        checksum: C,
+    ) -> Result<Socket<R, C>, CallError>
+        requires { IsValid (options_of options.now) }
+        ensures ok { IfOk result (λ s. endpoint R.stream C.word_of s ≡ fresh (options_of options.now) (written (C.word_of checksum)) (R.stream rng)) }
+        ensures working { IfOk result (λ s. s.has_failed ≡ false) }
+        ensures memory { IfErr result (λ e. e ≡ CallError.Memory) }
+    {
+        let name = String::from_str(alloc, name)?;
+        Ok(Socket {
+            name,
+            has_failed: false,
+            state: State::Closed,
+            context: Context::new(alloc, *options, checksum),
+            rng,
+        })
+    }
+}
+
+impl<R: Rng, C: Checksum> Socket<R, C> {
+    /// The own tag; 0 where the socket is closed.
+    pub fn verification_tag(&self) -> u32
+        ensures { result ≡ my_tag self.now.state }
+    {
+        self.state.my_verification_tag()
+    }
+
+    /// Takes the record of the message that was given up first.
+    pub fn next_given_up(&mut self) -> Option<GivenUp>
+        ensures first { option_map given_up_of result ≡ first_of self.old.context.told.gone }
+        ensures rest { let c = self.old.context in
+            self.new ≡ record self.old { context = record c { told = record c.told { gone = drop 1 c.told.gone } } } }
+    {
+        self.context.events.next_given_up()
+    }
+
+    /// The ready message at this place, the first one at 0.
+    pub fn ready_message(&self, place: usize) -> Option<&Message>
+        ensures { option_map (λ m. message_of m.now) result ≡ slice_get (calls.ready_in self.now.state) place }
+    {
+        self.state.ready_message(place)
+    }
+
+    /// Whether nothing is queued and no item kept.
+    pub fn is_at_rest(&self) -> bool
+        ensures { result ≡ is_at_rest self.now.state self.now.context.queue }
+    {
+        self.context.send_queue.is_empty() && !self.state.keeps_items()
+    }
+
+    /// What both ends hold of the association, while there is a control block.
+    pub fn association(&self) -> Option<Association>
+        ensures { option_map association_of result ≡ association_in self.now.state }
+    {
+        match self.state.tcb() {
+            Some(tcb) => Some(tcb.identity.association()),
+            None => None,
+        }
+    }
+
+    /// Whether `handle_input` would refuse these bytes: they are no packet, or not one for this association.
+    pub fn refuses(&self, bytes: &[u8]) -> Result<bool, CallError>
+        ensures judged { IfOk result (λ refused. Judges (C.word_of self.now.context.checksum) bytes.now self.now.context.options self.now.state refused) }
+        ensures failed { result ≡ Err CallError.Failed ↔ self.now.has_failed ≡ true }
+    {
+        if self.has_failed {
+            return Err(CallError::Failed);
+        }
+        Ok(judge(&self.state, &self.context, bytes)?)
+    }
+}
+
+impl<R: Rng, C: Checksum> DcSctpSocket for Socket<R, C> {
+    fn poll_event(&mut self) -> Option<SocketEvent>
+        ensures first { option_map event_of result ≡ first_of self.old.context.told.events }
+        ensures rest { let c = self.old.context in
+            self.new ≡ record self.old { context = record c { told = record c.told { events = drop 1 c.told.events } } } }
+    {
+        self.context.events.next_event()
+    }
+
+    fn get_next_message(&mut self) -> Option<Message>
+        ensures message { option_map message_of result ≡ first_of (calls.ready_in self.old.state) }
+        ensures rest { endpoint R.stream C.word_of self.new ≡ on_standing calls.take_message (endpoint R.stream C.word_of self.old) }
+        ensures failure { self.new.has_failed ≡ self.old.has_failed }
+    {
+        self.state.get_next_message()
+    }
+
+    fn handle_input(&mut self, bytes: &[u8]) -> Result<(), CallError>
+        ensures ends { Ends (ending_of result) self.old self.new }
+        ensures ok { OnOk result (Hears (C.word_of self.old.context.checksum) bytes.now (endpoint R.stream C.word_of self.old) (endpoint R.stream C.word_of self.new)) }
+    {
+        if self.has_failed {
+            return Err(CallError::Failed);
+        }
+        if handle_input(&mut self.state, &mut self.context, &mut self.rng, bytes).is_err() {
+            self.has_failed = true;
+            return Err(CallError::Memory);
+        }
+        Ok(())
+    }
+
+    fn advance_time(&mut self, now: SocketTime) -> Result<(), CallError>
+        ensures ends { Ends (ending_of result) self.old self.new }
+        ensures ok { OnOk result (endpoint R.stream C.word_of self.new ≡ on_standing (time.advance now) (endpoint R.stream C.word_of self.old)) }
+    {
+        if self.has_failed {
+            return Err(CallError::Failed);
+        }
+        if advance_time(&mut self.state, &mut self.context, now).is_err() {
+            self.has_failed = true;
+            return Err(CallError::Memory);
+        }
+        Ok(())
+    }
+
+    fn poll_timeout(&self) -> SocketTime
+        ensures { result ≡ time.poll_timeout (endpoint R.stream C.word_of self.now).standing }
+    {
+        self.state.poll_timeout(self.context.clock)
+    }
+
+    fn connect(&mut self) -> Result<(), CallError>
+        ensures ends { Ends (ending_of result) self.old self.new }
+        ensures ok { OnOk result (endpoint R.stream C.word_of self.new ≡ opening.connect (endpoint R.stream C.word_of self.old)) }
+    {
+        if self.has_failed {
+            return Err(CallError::Failed);
+        }
+        if connect(&mut self.state, &mut self.context, &mut self.rng).is_err() {
+            self.has_failed = true;
+            return Err(CallError::Memory);
+        }
+        Ok(())
+    }
+
+    fn close(&mut self) -> Result<(), CallError>
+        ensures ends { Ends (ending_of result) self.old self.new }
+        ensures ok { OnOk result (endpoint R.stream C.word_of self.new ≡ on_standing closing.close (endpoint R.stream C.word_of self.old)) }
+    {
+        if self.has_failed {
+            return Err(CallError::Failed);
+        }
+        if handle_close(&mut self.state, &mut self.context).is_err() {
+            self.has_failed = true;
+            return Err(CallError::Memory);
+        }
+        Ok(())
+    }
+
+    fn send(&mut self, message: Message, options: &SendOptions) -> Result<(), SendError>
+        ensures ends { Ends (sending_ending result) self.old self.new }
+        ensures answer { sending_ending result ≡ Worked → refusal_in result ≡ calls.refusal_of (message_of message) (endpoint R.stream C.word_of self.old).standing }
+        ensures sent { sending_ending result ≡ Worked
+            → endpoint R.stream C.word_of self.new ≡ on_standing (calls.send (message_of message) (send_options_of options.now)) (endpoint R.stream C.word_of self.old) }
+    {
+        if self.has_failed {
+            return Err(SendError::Failed);
+        }
+        match send(&mut self.state, &mut self.context, message, options) {
+            Ok(None) => Ok(()),
+            Ok(Some(refusal)) => Err(refusal),
+            Err(_) => {
+                self.has_failed = true;
+                Err(SendError::Memory)
+            }
+        }
+    }
+
+    fn send_many(&mut self, messages: Vec<Message>, options: &SendOptions) -> Result<(), BatchFault>
+        ensures ends { Ends (batch_ending result) self.old self.new }
+        ensures answer { batch_ending result ≡ Worked → refusals_in result ≡ (let s = (endpoint R.stream C.word_of self.old).standing in
+            calls.refusals 0 (map message_of messages.items) (send_options_of options.now) (calls.shown_state s.state) s.context) }
+        ensures refused { (e : BatchSendError) → result ≡ Err (BatchFault.Refused e) → 0 < length e.0.items }
+        ensures sent { batch_ending result ≡ Worked → endpoint R.stream C.word_of self.new
+            ≡ on_standing (calls.send_many (map message_of messages.items) (send_options_of options.now)) (endpoint R.stream C.word_of self.old) }
+    {
+        if self.has_failed {
+            return Err(BatchFault::Failed);
+        }
+        match send_many(&mut self.state, &mut self.context, messages, options) {
+            Ok(refusals) if refusals.is_empty() => Ok(()),
+            Ok(refusals) => Err(BatchFault::Refused(BatchSendError(refusals))),
+            Err(_) => {
+                self.has_failed = true;
+                Err(BatchFault::Memory)
+            }
+        }
+    }
+
+    fn set_stream_priority(&mut self, id: StreamId, priority: u16) -> Result<(), CallError>
+        ensures ends { Ends (ending_of result) self.old self.new }
+        ensures ok { OnOk result (endpoint R.stream C.word_of self.new ≡ on_standing (in_context (calls.set_priority id.0 priority)) (endpoint R.stream C.word_of self.old)) }
+    {
+        if self.has_failed {
+            return Err(CallError::Failed);
+        }
+        if self.context.set_stream_priority(id, priority).is_err() {
+            self.has_failed = true;
+            return Err(CallError::Memory);
+        }
+        Ok(())
+    }
+
+    fn get_stream_priority(&self, id: StreamId) -> u16
+        ensures { result ≡ (stream id.0 self.now.context.queue.streams).priority }
+    {
+        self.context.send_queue.get_priority(id)
+    }
+
+    fn set_buffered_amount_low_threshold(
+        &mut self,
+        id: StreamId,
+        bytes: usize,
+    ) -> Result<(), CallError>
+        ensures ends { Ends (ending_of result) self.old self.new }
+        ensures ok { OnOk result (endpoint R.stream C.word_of self.new ≡ on_standing (in_context (calls.set_low_threshold id.0 bytes)) (endpoint R.stream C.word_of self.old)) }
+    {
+        if self.has_failed {
+            return Err(CallError::Failed);
+        }
+        if self
+            .context
+            .set_buffered_amount_low_threshold(id, bytes)
+            .is_err()
+        {
+            self.has_failed = true;
+            return Err(CallError::Memory);
+        }
+        Ok(())
+    }
+
+    fn buffered_amount_low_threshold(&self, id: StreamId) -> usize
+        ensures { result ≡ (stream id.0 self.now.context.queue.streams).threshold }
+    {
+        self.context.send_queue.buffered_amount_low_threshold(id)
+    }
+
+    fn buffered_amount(&self, id: StreamId) -> usize
+        ensures { result ≡ amount_of (stream id.0 self.now.context.queue.streams) }
+    {
+        self.context.send_queue.buffered_amount(id)
+    }
+
+    fn set_max_message_size(&mut self, bytes: usize)
+        requires { bytes < 2 ^ 32 }
+        ensures ok { endpoint R.stream C.word_of self.new ≡ on_standing (in_context (calls.set_max_message_size bytes)) (endpoint R.stream C.word_of self.old) }
+        ensures failure { self.new.has_failed ≡ self.old.has_failed }
+    {
+        self.context.set_max_message_size(bytes);
+    }
+
+    fn options(&self) -> Options
+        ensures { options_of result ≡ self.now.context.options }
+    {
+        self.context.options
+    }
+
+    fn state(&self) -> SocketState
+        ensures { result ≡ calls.shown_state self.now.state }
+    {
+        self.state.socket_state()
+    }
+
+    fn messages_ready_count(&self) -> usize
+        ensures { result ≡ length (calls.ready_in self.now.state) }
+    {
+        self.state.ready_count()
+    }
+}

@@ -1,0 +1,219 @@
+//! Conversations of two sockets with default options, as the worked rows tell them.
+
+use crate::tests::link::End::{A, B};
+use crate::tests::link::Move::{
+    Close, Connect, Foreign, Give, Receive, Send, SendTwo, Time,
+};
+use crate::tests::link::{Move, named, once, plainly, play};
+use std::alloc::{AllocError, Global};
+
+const OPENING: &str = "a packet 0 44
+b packet 0 96
+a packet 1 64
+b OnConnected
+b packet 1 16
+a OnConnected
+";
+
+/// Whether two sockets that are connected tell this of these moves.
+fn tells(alloc: Global, moves: &[Move<'_>], rest: &str) -> Result<bool, AllocError> {
+    let mut all = Vec::new(alloc);
+    all.push(Connect(A))?;
+    all.push(Give(0, B))?;
+    all.push(Give(0, A))?;
+    all.push(Give(1, B))?;
+    all.push(Give(1, A))?;
+    for turn in moves {
+        all.push(*turn)?;
+    }
+    let log = play(alloc, &all)?;
+    let expected = format!(in alloc; "{OPENING}{rest}")?;
+    Ok(log.as_bytes() == expected.as_bytes())
+}
+
+#[test]
+fn a_message_crosses(rt: HostRuntime) -> Result<(), AllocError> {
+    let moves = [
+        Send(A, &[1, 2, 3], named(7)),
+        Give(2, B),
+        Receive(B),
+        Receive(B),
+        Give(2, A),
+    ];
+    let rest = "a OnBufferedAmountLow 1
+a OnLifecycleMessageFullySent 7
+a packet 2 32
+b packet 2 28
+b message 010203
+b none
+a OnLifecycleMessageDelivered 7
+a OnLifecycleEnd 7
+a rests
+";
+    assert!(rt; tells(rt.alloc(), &moves, rest)?);
+    Ok(())
+}
+
+#[test]
+fn bytes_that_are_no_packet_are_told(rt: HostRuntime) -> Result<(), AllocError> {
+    let moves = [
+        Send(A, &[1, 2, 3], plainly()),
+        Foreign(B, &[0; 11]),
+        Receive(B),
+        Give(2, B),
+        Receive(B),
+    ];
+    let rest = "a OnBufferedAmountLow 1
+a packet 2 32
+b OnError ParseFailed: Failed to parse SCTP packet
+b none
+b packet 2 28
+b message 010203
+";
+    assert!(rt; tells(rt.alloc(), &moves, rest)?);
+    Ok(())
+}
+
+#[test]
+fn a_cookie_comes_again(rt: HostRuntime) -> Result<(), AllocError> {
+    let moves = [Give(1, B)];
+    assert!(rt; tells(rt.alloc(), &moves, "b packet 2 16\na rests\n")?);
+    Ok(())
+}
+
+#[test]
+fn the_second_comes_first(rt: HostRuntime) -> Result<(), AllocError> {
+    let moves = [
+        SendTwo(A, &[0x61], &[0x62]),
+        Give(2, B),
+        Receive(B),
+        Receive(B),
+        Give(2, A),
+    ];
+    let rest = "a OnBufferedAmountLow 1
+a packet 2 52
+b packet 2 28
+b message 61
+b message 62
+a rests
+";
+    assert!(rt; tells(rt.alloc(), &moves, rest)?);
+    Ok(())
+}
+
+#[test]
+fn both_connect_at_once(rt: HostRuntime) -> Result<(), AllocError> {
+    let moves = [
+        Connect(A),
+        Connect(B),
+        Give(0, B),
+        Give(0, A),
+        Give(1, A),
+        Give(1, B),
+        Give(2, B),
+        Give(2, A),
+        Give(3, A),
+        Give(3, B),
+    ];
+    let expected = "a packet 0 44
+b packet 0 44
+b packet 1 96
+a packet 1 96
+a packet 2 64
+b packet 2 64
+b OnConnected
+b packet 3 16
+a OnConnected
+a packet 3 16
+a rests
+";
+    let log = play(rt.alloc(), &moves)?;
+    assert!(rt; log.as_bytes() == expected.as_bytes());
+    Ok(())
+}
+
+#[test]
+fn a_cookie_is_discarded(rt: HostRuntime) -> Result<(), AllocError> {
+    let moves = [
+        Connect(A),
+        Give(0, B),
+        Connect(B),
+        Give(1, A),
+        Give(1, B),
+        Give(0, A),
+        Give(2, B),
+        Give(2, A),
+        Give(3, B),
+    ];
+    let expected = "a packet 0 44
+b packet 0 96
+b packet 1 44
+a packet 1 96
+b packet 2 64
+a packet 2 64
+a OnConnected
+a packet 3 16
+b OnConnected
+a rests
+";
+    let log = play(rt.alloc(), &moves)?;
+    assert!(rt; log.as_bytes() == expected.as_bytes());
+    Ok(())
+}
+
+#[test]
+fn a_message_is_given_up(rt: HostRuntime) -> Result<(), AllocError> {
+    let moves = [
+        Send(A, &[0x78], once()),
+        Send(A, &[0x78], named(9)),
+        Give(3, B),
+        Give(2, A),
+        Time(500),
+        Give(4, B),
+        Receive(B),
+        Receive(B),
+        Time(700),
+        Give(3, A),
+    ];
+    let rest = "a OnBufferedAmountLow 1
+a packet 2 32
+a OnBufferedAmountLow 1
+a OnLifecycleMessageFullySent 9
+a packet 3 32
+b packet 2 32
+a packet 4 24
+a given-up 0 0
+b message 78
+b none
+b packet 3 28
+a OnLifecycleMessageDelivered 9
+a OnLifecycleEnd 9
+a rests
+";
+    assert!(rt; tells(rt.alloc(), &moves, rest)?);
+    Ok(())
+}
+
+#[test]
+fn a_message_is_refused(rt: HostRuntime) -> Result<(), AllocError> {
+    let moves = [Send(A, &[], named(3))];
+    let rest = "a refused
+a OnLifecycleEnd 3
+a OnError ProtocolViolation: Unable to send empty message
+a rests
+";
+    assert!(rt; tells(rt.alloc(), &moves, rest)?);
+    Ok(())
+}
+
+#[test]
+fn an_end_closes(rt: HostRuntime) -> Result<(), AllocError> {
+    let moves = [Close(A), Give(2, B), Close(B)];
+    let rest = "a packet 2 32
+a OnClosed
+b OnAborted PeerReported: USER INITIATED ABORT, reason=Close called
+a rests
+";
+    assert!(rt; tells(rt.alloc(), &moves, rest)?);
+    Ok(())
+}

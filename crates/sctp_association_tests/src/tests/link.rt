@@ -1,0 +1,277 @@
+//! Two sockets with default options and what they tell, a line for each event.
+
+use rand_pcg::Pcg32;
+use sctp_association::{DcSctpSocket, Socket};
+use sctp_serial::{LifecycleId, Message, PpId, SocketTime, StreamId};
+use sctp_state::{
+    CallError, ErrorKind, GivenUpCause, Options, SendOptions, SocketEvent,
+};
+use sctp_wire::Checksum;
+use std::alloc::{AllocError, Global};
+use std::time::Duration;
+
+/// The word 7, whatever the bytes are.
+#[derive(Clone, Copy, Drop)]
+pub struct Seven;
+
+impl Checksum for Seven {
+    ghost word_of = { λ _ _. 7 };
+
+    fn word(&self, _before: &[u8], _after: &[u8]) -> u32 {
+        7
+    }
+}
+
+#[derive(Clone, Copy, PartialEq, Eq)]
+pub enum End {
+    A,
+    B,
+}
+
+/// What happens to the sockets, in turn.
+#[derive(Clone, Copy)]
+pub enum Move<'a> {
+    Connect(End),
+    /// This packet of the other end is given to this one.
+    Give(usize, End),
+    /// Bytes from elsewhere.
+    Foreign(End, &'a [u8]),
+    Send(End, &'a [u8], SendOptions),
+    /// Two messages at once.
+    SendTwo(End, &'a [u8], &'a [u8]),
+    Receive(End),
+    /// In milliseconds, at both ends.
+    Time(u64),
+    Close(End),
+}
+
+pub fn plainly() -> SendOptions {
+    SendOptions::default()
+}
+
+pub fn named(id: u64) -> SendOptions {
+    let mut options = SendOptions::default();
+    options.lifecycle_id = LifecycleId::new(id);
+    options
+}
+
+/// Its fragments are sent once.
+pub fn once() -> SendOptions {
+    let mut options = SendOptions::default();
+    options.max_retransmissions = Some(0);
+    options
+}
+
+#[derive(Drop)]
+struct Side {
+    name: &'static str,
+    socket: Socket<Pcg32, Seven>,
+    packets: Vec<Vec<u8>>,
+}
+
+fn side(alloc: Global, name: &'static str, words: u64) -> Result<Side, CallError> {
+    let socket = Socket::new(
+        alloc,
+        name,
+        &Options::default(),
+        Pcg32::new(words, words),
+        Seven,
+    )?;
+    Ok(Side {
+        name,
+        socket,
+        packets: Vec::new(alloc),
+    })
+}
+
+fn kind_name(kind: ErrorKind) -> &'static str {
+    match kind {
+        ErrorKind::TooManyRetries => "TooManyRetries",
+        ErrorKind::NotConnected => "NotConnected",
+        ErrorKind::ParseFailed => "ParseFailed",
+        ErrorKind::PeerReported => "PeerReported",
+        ErrorKind::ProtocolViolation => "ProtocolViolation",
+        ErrorKind::WrongSequence => "WrongSequence",
+        _ => "Other",
+    }
+}
+
+fn event_line(
+    alloc: Global,
+    name: &str,
+    event: &SocketEvent,
+) -> Result<String, AllocError> {
+    match event {
+        SocketEvent::OnConnected() => format!(in alloc; "{name} OnConnected\n"),
+        SocketEvent::OnClosed() => format!(in alloc; "{name} OnClosed\n"),
+        SocketEvent::OnConnectionRestarted() => {
+            format!(in alloc; "{name} OnConnectionRestarted\n")
+        }
+        SocketEvent::OnAborted(kind, text) => {
+            let kind = kind_name(*kind);
+            format!(in alloc; "{name} OnAborted {kind}: {text}\n")
+        }
+        SocketEvent::OnError(kind, text) => {
+            let kind = kind_name(*kind);
+            format!(in alloc; "{name} OnError {kind}: {text}\n")
+        }
+        SocketEvent::OnBufferedAmountLow(id) => {
+            format!(in alloc; "{name} OnBufferedAmountLow {id}\n")
+        }
+        SocketEvent::OnLifecycleMessageFullySent(id) => {
+            format!(in alloc; "{name} OnLifecycleMessageFullySent {id}\n")
+        }
+        SocketEvent::OnLifecycleMessageDelivered(id) => {
+            format!(in alloc; "{name} OnLifecycleMessageDelivered {id}\n")
+        }
+        SocketEvent::OnLifecycleEnd(id) => format!(in alloc; "{name} OnLifecycleEnd {id}\n"),
+        _ => format!(in alloc; "{name} other\n"),
+    }
+}
+
+/// What a socket has told since it was looked at last.
+fn take_told(alloc: Global, side: &mut Side, log: &mut String) -> Result<(), AllocError> {
+    let name = side.name;
+    for _ in 0..100_u32 {
+        let Some(event) = side.socket.poll_event() else {
+            break;
+        };
+        if let SocketEvent::SendPacket(bytes) = event {
+            let number = side.packets.len();
+            let len = bytes.len();
+            log.push_str(&format!(in alloc; "{name} packet {number} {len}\n")?)?;
+            side.packets.push(bytes)?;
+        } else {
+            log.push_str(&event_line(alloc, name, &event)?)?;
+        }
+    }
+    for _ in 0..100_u32 {
+        let Some(gone) = side.socket.next_given_up() else {
+            break;
+        };
+        let number = gone.number;
+        let count = match gone.cause {
+            GivenUpCause::Lifetime => 1000,
+            GivenUpCause::Retransmissions(count) => count,
+        };
+        log.push_str(&format!(in alloc; "{name} given-up {number} {count}\n")?)?;
+    }
+    Ok(())
+}
+
+fn message(alloc: Global, bytes: &[u8]) -> Result<Message, AllocError> {
+    let payload = Vec::from_slice(alloc, bytes)?;
+    Ok(Message::new(StreamId(1), PpId(53), payload))
+}
+
+fn receive(alloc: Global, side: &mut Side, log: &mut String) -> Result<(), AllocError> {
+    let name = side.name;
+    match side.socket.get_next_message() {
+        Some(message) => {
+            let text = hex::encode(alloc, &message.payload)?;
+            log.push_str(&format!(in alloc; "{name} message {text}\n")?)
+        }
+        None => log.push_str(&format!(in alloc; "{name} none\n")?),
+    }
+}
+
+fn note(alloc: Global, side: &Side, text: &str, log: &mut String) -> Result<(), AllocError> {
+    let name = side.name;
+    log.push_str(&format!(in alloc; "{name} {text}\n")?)
+}
+
+fn send_two(
+    alloc: Global,
+    side: &mut Side,
+    first: &[u8],
+    second: &[u8],
+) -> Result<bool, AllocError> {
+    let mut messages = Vec::new(alloc);
+    messages.push(message(alloc, first)?)?;
+    messages.push(message(alloc, second)?)?;
+    Ok(side.socket.send_many(messages, &plainly()).is_err())
+}
+
+/// One move, at the end that it concerns; `packets` are the other end's.
+fn act(
+    alloc: Global,
+    side: &mut Side,
+    packets: &[Vec<u8>],
+    turn: Move<'_>,
+    log: &mut String,
+) -> Result<(), AllocError> {
+    let refused = match turn {
+        Move::Connect(_) => side.socket.connect().is_err(),
+        Move::Give(place, _) => match packets.get(place) {
+            Some(bytes) => side.socket.handle_input(bytes).is_err(),
+            None => true,
+        },
+        Move::Foreign(_, bytes) => side.socket.handle_input(bytes).is_err(),
+        Move::Send(_, bytes, options) => {
+            side.socket.send(message(alloc, bytes)?, &options).is_err()
+        }
+        Move::SendTwo(_, first, second) => send_two(alloc, side, first, second)?,
+        Move::Receive(_) => {
+            receive(alloc, side, log)?;
+            false
+        }
+        Move::Time(moment) => {
+            let now = SocketTime::zero() + Duration::from_millis(moment);
+            side.socket.advance_time(now).is_err()
+        }
+        Move::Close(_) => side.socket.close().is_err(),
+    };
+    if refused {
+        note(alloc, side, "refused", log)?;
+    }
+    take_told(alloc, side, log)
+}
+
+fn is_at_a(turn: Move<'_>) -> bool {
+    match turn {
+        Move::Connect(end) => end == End::A,
+        Move::Give(_, end) => end == End::A,
+        Move::Foreign(end, _) => end == End::A,
+        Move::Send(end, _, _) => end == End::A,
+        Move::SendTwo(end, _, _) => end == End::A,
+        Move::Receive(end) => end == End::A,
+        Move::Time(_) => true,
+        Move::Close(end) => end == End::A,
+    }
+}
+
+fn is_at_both(turn: Move<'_>) -> bool {
+    matches!(turn, Move::Time(_))
+}
+
+fn play_on(
+    alloc: Global,
+    a: &mut Side,
+    b: &mut Side,
+    moves: &[Move<'_>],
+) -> Result<String, AllocError> {
+    let mut log = String::new(alloc);
+    for turn in moves {
+        if is_at_a(*turn) {
+            act(alloc, a, &b.packets, *turn, &mut log)?;
+        }
+        if !is_at_a(*turn) || is_at_both(*turn) {
+            act(alloc, b, &a.packets, *turn, &mut log)?;
+        }
+    }
+    if a.socket.is_at_rest() {
+        note(alloc, a, "rests", &mut log)?;
+    }
+    Ok(log)
+}
+
+/// What two fresh sockets tell of these moves, and whether the first one is at rest then.
+pub fn play(alloc: Global, moves: &[Move<'_>]) -> Result<String, AllocError> {
+    let Ok(mut a) = side(alloc, "a", 1) else {
+        return Err(AllocError);
+    };
+    let Ok(mut b) = side(alloc, "b", 2) else {
+        return Err(AllocError);
+    };
+    play_on(alloc, &mut a, &mut b, moves)
+}
