@@ -1,9 +1,7 @@
 //! Conversations of two sockets with default options, as the worked rows tell them.
 
 use crate::tests::link::End::{A, B};
-use crate::tests::link::Move::{
-    Close, Connect, Foreign, Give, Receive, Send, SendTwo, Time,
-};
+use crate::tests::link::Move::{Close, Connect, Foreign, Give, Receive, Send, SendTwo, Time};
 use crate::tests::link::{Move, named, once, plainly, play};
 use std::alloc::{AllocError, Global};
 
@@ -17,16 +15,8 @@ a OnConnected
 
 /// Whether two sockets that are connected tell this of these moves.
 fn tells(alloc: Global, moves: &[Move<'_>], rest: &str) -> Result<bool, AllocError> {
-    let mut all = Vec::new(alloc);
-    all.push(Connect(A))?;
-    all.push(Give(0, B))?;
-    all.push(Give(0, A))?;
-    all.push(Give(1, B))?;
-    all.push(Give(1, A))?;
-    for turn in moves {
-        all.push(*turn)?;
-    }
-    let log = play(alloc, &all)?;
+    let opening = [Connect(A), Give(0, B), Give(0, A), Give(1, B), Give(1, A)];
+    let log = play(alloc, &opening, moves)?;
     let expected = format!(in alloc; "{OPENING}{rest}")?;
     Ok(log.as_bytes() == expected.as_bytes())
 }
@@ -127,7 +117,7 @@ a OnConnected
 a packet 3 16
 a rests
 ";
-    let log = play(rt.alloc(), &moves)?;
+    let log = play(rt.alloc(), &moves, &[])?;
     assert!(rt; log.as_bytes() == expected.as_bytes());
     Ok(())
 }
@@ -156,7 +146,7 @@ a packet 3 16
 b OnConnected
 a rests
 ";
-    let log = play(rt.alloc(), &moves)?;
+    let log = play(rt.alloc(), &moves, &[])?;
     assert!(rt; log.as_bytes() == expected.as_bytes());
     Ok(())
 }

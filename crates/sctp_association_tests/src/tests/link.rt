@@ -3,9 +3,7 @@
 use rand_pcg::Pcg32;
 use sctp_association::{DcSctpSocket, Socket};
 use sctp_serial::{LifecycleId, Message, PpId, SocketTime, StreamId};
-use sctp_state::{
-    CallError, ErrorKind, GivenUpCause, Options, SendOptions, SocketEvent,
-};
+use sctp_state::{CallError, ErrorKind, GivenUp, GivenUpCause, Options, SendOptions, SocketEvent};
 use sctp_wire::Checksum;
 use std::alloc::{AllocError, Global};
 use std::time::Duration;
@@ -29,7 +27,7 @@ pub enum End {
 }
 
 /// What happens to the sockets, in turn.
-#[derive(Clone, Copy)]
+#[derive(Drop)]
 pub enum Move<'a> {
     Connect(End),
     /// This packet of the other end is given to this one.
@@ -64,21 +62,28 @@ pub fn once() -> SendOptions {
 
 #[derive(Drop)]
 struct Side {
-    name: &'static str,
+    end: End,
     socket: Socket<Pcg32, Seven>,
     packets: Vec<Vec<u8>>,
 }
 
-fn side(alloc: Global, name: &'static str, words: u64) -> Result<Side, CallError> {
+fn name_of(end: End) -> &'static str {
+    match end {
+        End::A => "a",
+        End::B => "b",
+    }
+}
+
+fn made_side(alloc: Global, end: End, words: u64) -> Result<Side, CallError> {
     let socket = Socket::new(
         alloc,
-        name,
+        name_of(end),
         &Options::default(),
         Pcg32::new(words, words),
         Seven,
     )?;
     Ok(Side {
-        name,
+        end,
         socket,
         packets: Vec::new(alloc),
     })
@@ -96,11 +101,7 @@ fn kind_name(kind: ErrorKind) -> &'static str {
     }
 }
 
-fn event_line(
-    alloc: Global,
-    name: &str,
-    event: &SocketEvent,
-) -> Result<String, AllocError> {
+fn event_line(alloc: Global, name: &str, event: &SocketEvent) -> Result<String, AllocError> {
     match event {
         SocketEvent::OnConnected() => format!(in alloc; "{name} OnConnected\n"),
         SocketEvent::OnClosed() => format!(in alloc; "{name} OnClosed\n"),
@@ -129,32 +130,55 @@ fn event_line(
     }
 }
 
-/// What a socket has told since it was looked at last.
-fn take_told(alloc: Global, side: &mut Side, log: &mut String) -> Result<(), AllocError> {
-    let name = side.name;
-    for _ in 0..100_u32 {
-        let Some(event) = side.socket.poll_event() else {
-            break;
-        };
-        if let SocketEvent::SendPacket(bytes) = event {
-            let number = side.packets.len();
+/// An event; a packet is kept.
+fn log_event(
+    alloc: Global,
+    end: End,
+    event: SocketEvent,
+    packets: &mut Vec<Vec<u8>>,
+    log: &mut String,
+) -> Result<(), AllocError> {
+    let name = name_of(end);
+    match event {
+        SocketEvent::SendPacket(bytes) => {
+            let number = packets.len();
             let len = bytes.len();
             log.push_str(&format!(in alloc; "{name} packet {number} {len}\n")?)?;
-            side.packets.push(bytes)?;
-        } else {
-            log.push_str(&event_line(alloc, name, &event)?)?;
+            packets.push(bytes)?;
+            Ok(())
+        }
+        event => log.push_str(&event_line(alloc, name, &event)?),
+    }
+}
+
+fn log_given_up(
+    alloc: Global,
+    end: End,
+    gone: GivenUp,
+    log: &mut String,
+) -> Result<(), AllocError> {
+    let name = name_of(end);
+    let number = gone.number.0;
+    let count = match gone.cause {
+        GivenUpCause::Lifetime => 1000,
+        GivenUpCause::Retransmissions(count) => count,
+    };
+    log.push_str(&format!(in alloc; "{name} given-up {number} {count}\n")?)
+}
+
+/// What a socket has told since it was looked at last.
+fn take_told(alloc: Global, side: &mut Side, log: &mut String) -> Result<(), AllocError> {
+    for _ in 0..100_u32 {
+        match side.socket.poll_event() {
+            Some(event) => log_event(alloc, side.end, event, &mut side.packets, log)?,
+            None => break,
         }
     }
     for _ in 0..100_u32 {
-        let Some(gone) = side.socket.next_given_up() else {
-            break;
-        };
-        let number = gone.number;
-        let count = match gone.cause {
-            GivenUpCause::Lifetime => 1000,
-            GivenUpCause::Retransmissions(count) => count,
-        };
-        log.push_str(&format!(in alloc; "{name} given-up {number} {count}\n")?)?;
+        match side.socket.next_given_up() {
+            Some(gone) => log_given_up(alloc, side.end, gone, log)?,
+            None => break,
+        }
     }
     Ok(())
 }
@@ -165,7 +189,7 @@ fn message(alloc: Global, bytes: &[u8]) -> Result<Message, AllocError> {
 }
 
 fn receive(alloc: Global, side: &mut Side, log: &mut String) -> Result<(), AllocError> {
-    let name = side.name;
+    let name = name_of(side.end);
     match side.socket.get_next_message() {
         Some(message) => {
             let text = hex::encode(alloc, &message.payload)?;
@@ -176,7 +200,7 @@ fn receive(alloc: Global, side: &mut Side, log: &mut String) -> Result<(), Alloc
 }
 
 fn note(alloc: Global, side: &Side, text: &str, log: &mut String) -> Result<(), AllocError> {
-    let name = side.name;
+    let name = name_of(side.end);
     log.push_str(&format!(in alloc; "{name} {text}\n")?)
 }
 
@@ -197,18 +221,18 @@ fn act(
     alloc: Global,
     side: &mut Side,
     packets: &[Vec<u8>],
-    turn: Move<'_>,
+    turn: &Move<'_>,
     log: &mut String,
 ) -> Result<(), AllocError> {
     let refused = match turn {
         Move::Connect(_) => side.socket.connect().is_err(),
-        Move::Give(place, _) => match packets.get(place) {
+        Move::Give(place, _) => match packets.get(*place) {
             Some(bytes) => side.socket.handle_input(bytes).is_err(),
             None => true,
         },
         Move::Foreign(_, bytes) => side.socket.handle_input(bytes).is_err(),
         Move::Send(_, bytes, options) => {
-            side.socket.send(message(alloc, bytes)?, &options).is_err()
+            side.socket.send(message(alloc, bytes)?, options).is_err()
         }
         Move::SendTwo(_, first, second) => send_two(alloc, side, first, second)?,
         Move::Receive(_) => {
@@ -216,7 +240,7 @@ fn act(
             false
         }
         Move::Time(moment) => {
-            let now = SocketTime::zero() + Duration::from_millis(moment);
+            let now = SocketTime::zero() + Duration::from_millis(*moment);
             side.socket.advance_time(now).is_err()
         }
         Move::Close(_) => side.socket.close().is_err(),
@@ -227,20 +251,20 @@ fn act(
     take_told(alloc, side, log)
 }
 
-fn is_at_a(turn: Move<'_>) -> bool {
+fn is_at_a(turn: &Move<'_>) -> bool {
     match turn {
-        Move::Connect(end) => end == End::A,
-        Move::Give(_, end) => end == End::A,
-        Move::Foreign(end, _) => end == End::A,
-        Move::Send(end, _, _) => end == End::A,
-        Move::SendTwo(end, _, _) => end == End::A,
-        Move::Receive(end) => end == End::A,
+        Move::Connect(end) => *end == End::A,
+        Move::Give(_, end) => *end == End::A,
+        Move::Foreign(end, _) => *end == End::A,
+        Move::Send(end, _, _) => *end == End::A,
+        Move::SendTwo(end, _, _) => *end == End::A,
+        Move::Receive(end) => *end == End::A,
         Move::Time(_) => true,
-        Move::Close(end) => end == End::A,
+        Move::Close(end) => *end == End::A,
     }
 }
 
-fn is_at_both(turn: Move<'_>) -> bool {
+fn is_at_both(turn: &Move<'_>) -> bool {
     matches!(turn, Move::Time(_))
 }
 
@@ -249,29 +273,32 @@ fn play_on(
     a: &mut Side,
     b: &mut Side,
     moves: &[Move<'_>],
-) -> Result<String, AllocError> {
-    let mut log = String::new(alloc);
+    log: &mut String,
+) -> Result<(), AllocError> {
     for turn in moves {
-        if is_at_a(*turn) {
-            act(alloc, a, &b.packets, *turn, &mut log)?;
+        if is_at_a(turn) {
+            act(alloc, a, &b.packets, turn, log)?;
         }
-        if !is_at_a(*turn) || is_at_both(*turn) {
-            act(alloc, b, &a.packets, *turn, &mut log)?;
+        if !is_at_a(turn) || is_at_both(turn) {
+            act(alloc, b, &a.packets, turn, log)?;
         }
     }
-    if a.socket.is_at_rest() {
-        note(alloc, a, "rests", &mut log)?;
-    }
-    Ok(log)
+    Ok(())
 }
 
-/// What two fresh sockets tell of these moves, and whether the first one is at rest then.
-pub fn play(alloc: Global, moves: &[Move<'_>]) -> Result<String, AllocError> {
-    let Ok(mut a) = side(alloc, "a", 1) else {
+/// What two fresh sockets tell of these moves and then those, and whether the first one is at rest at last.
+pub fn play(alloc: Global, moves: &[Move<'_>], later: &[Move<'_>]) -> Result<String, AllocError> {
+    let Ok(mut a) = made_side(alloc, End::A, 1) else {
         return Err(AllocError);
     };
-    let Ok(mut b) = side(alloc, "b", 2) else {
+    let Ok(mut b) = made_side(alloc, End::B, 2) else {
         return Err(AllocError);
     };
-    play_on(alloc, &mut a, &mut b, moves)
+    let mut log = String::new(alloc);
+    play_on(alloc, &mut a, &mut b, moves, &mut log)?;
+    play_on(alloc, &mut a, &mut b, later, &mut log)?;
+    if a.socket.is_at_rest() {
+        note(alloc, &a, "rests", &mut log)?;
+    }
+    Ok(log)
 }
