@@ -11,7 +11,7 @@ use Rattle.sctp_outstanding.specs.Item.{Item, is_abandoned}
 use Rattle.sctp_outstanding.specs.Items.{Items, Discard}
 use Rattle.sctp_outstanding.specs.Losses.{Step, first_step, given_up, gives_up, loses, change_items, nack_item, nack_below, nack_all, given_up_if, expired_at, expire_below, expire_outstanding}
 use Rattle.sctp_outstanding.specs.Item as item
-use Rattle.sctp_outstanding.specs.Sack.{fate, report, reports, leaving, staying, acked_by, reported_below, heard_first, hear}
+use Rattle.sctp_outstanding.specs.Sack.{report, reports, leaving, staying, acked_by, reported_below, heard_first, hear}
 use Rattle.sctp_outstanding.specs.Sack as sack
 use Rattle.sctp_state.specs.Thresholds.{crosses}
 use Rattle.sctp_send_queue.specs.Queue.{Queued, Stream, Streams, Queue, stream, watched_amount, watched_total}
@@ -58,10 +58,6 @@ quiet_expiry P (Some id) = refl
 
 pub quiet_both : {P : Type 0} (es fs : List (Event P)) → list_all is_quiet es ≡ true → list_all is_quiet fs ≡ true → list_all is_quiet (es ++ fs) ≡ true
 quiet_both es fs h k = list_all-append is_quiet es fs ∙ (ap (λ (b : Bool). b && list_all is_quiet fs) h ∙ k)
-
-quiet_fate : (P : Type 0) (b : Bool) (id : ℕ) → is_quiet (fate {P = P} b id) ≡ true
-quiet_fate P true id = refl
-quiet_fate P false id = refl
 
 quiet_ended : (P : Type 0) (b : Bool) (l : Option ℕ) → list_all is_quiet (sack.ending {P = P} b l) ≡ true
 quiet_ended P b None = refl

@@ -135,7 +135,7 @@ pub record TellsEndings {P : Type 0} (count : ℕ) (before after : Context P) : 
 
 -- ---- the laws
 
--- by the chunks of each packet
+-- by the chunks of each packet; an mtu of valid options holds the 12 bytes of a header
 abbrev pub EachCallStaysWithin : Type 0
 EachCallStaysWithin =
     (call : Call) (s : Endpoint (List ℕ)) → 12 ≤ s.standing.context.options.mtu → StaysWithin s.standing.context (called call s).standing.context
