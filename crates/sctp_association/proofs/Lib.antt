@@ -4,3 +4,14 @@ pub mod OutgoingLemmas
 pub mod RowsLemmas
 mod MisuseLemmas
 mod HearLemmas
+pub mod StepsLemmas
+pub mod TellsLemmas
+pub mod GoesLemmas
+pub mod SendingStepsLemmas
+pub mod RowStepsLemmas
+pub mod OpeningStepsLemmas
+pub mod TimeStepsLemmas
+pub mod CallStepsLemmas
+pub mod InputStepsLemmas
+pub mod LawsLemmas
+pub mod EndingLemmas

@@ -14,3 +14,4 @@ pub mod Wire
 pub mod PacketView
 pub mod Views
 pub mod Socket
+pub mod Laws

@@ -1,5 +1,6 @@
 //! What the table of steps says of whole conversations, and what holds of all.
 
+ghost use Rattle.sctp_association.specs.Laws.{EachCallSendsAtMost, EachCallStaysWithin, EachCallTellsEndings, EachClosingEnds};
 ghost use Rattle.sctp_association.specs.Rows.{BothConnect, Closes, FirstConversation, Fragments, GivenUpOnce, OtherOrder};
 
 /// Conversations of two ends with default options go as they have to: an opening, a message that is delivered once, two
@@ -12,4 +13,17 @@ pub fn conversations_go()
     ensures given_up { GivenUpOnce }
     ensures fragments { Fragments }
     ensures closes { Closes }
+{}
+
+/// No call makes an end tell a packet above the mtu, by its chunks and by its bytes.
+pub fn packets_are_within_the_mtu()
+    ensures chunks { EachCallStaysWithin }
+    ensures bytes { EachCallSendsAtMost }
+{}
+
+/// A call that ends an association tells so once, by `OnClosed` or `OnAborted`, and no other call does. Of a packet each
+/// chunk counts alone, since after an ABORT a COOKIE ECHO may open another association.
+pub fn an_end_closes_once()
+    ensures told { EachCallTellsEndings }
+    ensures closing { EachClosingEnds }
 {}
