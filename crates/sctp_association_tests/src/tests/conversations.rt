@@ -1,7 +1,7 @@
 //! Conversations of two sockets with default options, as the worked rows tell them.
 
 use crate::tests::link::End::{A, B};
-use crate::tests::link::Move::{Close, Connect, Foreign, Give, Receive, Send, SendTwo, Time};
+use crate::tests::link::Move::{Close, Connect, Foreign, Give, Receive, Send, SendTwo, Shutdown, Time};
 use crate::tests::link::{Move, named, once, plainly, play};
 use std::alloc::{AllocError, Global};
 
@@ -202,6 +202,20 @@ fn an_end_closes(rt: HostRuntime) -> Result<(), AllocError> {
     let rest = "a packet 2 32
 a OnClosed
 b OnAborted PeerReported: USER INITIATED ABORT, reason=Close called
+a rests
+";
+    assert!(rt; tells(rt.alloc(), &moves, rest)?);
+    Ok(())
+}
+
+#[test]
+fn an_end_shuts_down(rt: HostRuntime) -> Result<(), AllocError> {
+    let moves = [Shutdown(A), Give(2, B), Give(2, A), Give(3, B)];
+    let rest = "a packet 2 20
+b packet 2 16
+a packet 3 16
+a OnClosed
+b OnClosed
 a rests
 ";
     assert!(rt; tells(rt.alloc(), &moves, rest)?);

@@ -41,6 +41,7 @@ pub enum Move<'a> {
     /// In milliseconds, at both ends.
     Time(u64),
     Close(End),
+    Shutdown(End),
 }
 
 pub fn plainly() -> SendOptions {
@@ -60,10 +61,27 @@ pub fn once() -> SendOptions {
     options
 }
 
+/// What a test asks of a socket beside the calls of the trait.
+trait Watched: DcSctpSocket {
+    fn next_gone(&mut self) -> Option<GivenUp>;
+
+    fn rests(&self) -> bool;
+}
+
+impl Watched for Socket<Pcg32, Seven> {
+    fn next_gone(&mut self) -> Option<GivenUp> {
+        self.next_given_up()
+    }
+
+    fn rests(&self) -> bool {
+        self.is_at_rest()
+    }
+}
+
 #[derive(Drop)]
-struct Side {
+struct Side<S> {
     end: End,
-    socket: Socket<Pcg32, Seven>,
+    socket: S,
     packets: Vec<Vec<u8>>,
 }
 
@@ -74,7 +92,7 @@ fn name_of(end: End) -> &'static str {
     }
 }
 
-fn made_side(alloc: Global, end: End, words: u64) -> Result<Side, CallError> {
+fn made_side(alloc: Global, end: End, words: u64) -> Result<Side<Socket<Pcg32, Seven>>, CallError> {
     let socket = Socket::new(
         alloc,
         name_of(end),
@@ -101,32 +119,54 @@ fn kind_name(kind: ErrorKind) -> &'static str {
     }
 }
 
+fn event_name(event: &SocketEvent) -> &'static str {
+    match event {
+        SocketEvent::OnConnected() => "OnConnected",
+        SocketEvent::OnClosed() => "OnClosed",
+        SocketEvent::OnConnectionRestarted() => "OnConnectionRestarted",
+        SocketEvent::OnBufferedAmountLow(_) => "OnBufferedAmountLow",
+        SocketEvent::OnLifecycleMessageFullySent(_) => "OnLifecycleMessageFullySent",
+        SocketEvent::OnLifecycleMessageDelivered(_) => "OnLifecycleMessageDelivered",
+        SocketEvent::OnLifecycleEnd(_) => "OnLifecycleEnd",
+        _ => "other",
+    }
+}
+
+/// The stream or the lifecycle that an event names.
+fn event_number(event: &SocketEvent) -> Option<u64> {
+    match event {
+        SocketEvent::OnBufferedAmountLow(id) => Some(u64::from(id.0)),
+        SocketEvent::OnLifecycleMessageFullySent(id) => Some(id.value()),
+        SocketEvent::OnLifecycleMessageDelivered(id) => Some(id.value()),
+        SocketEvent::OnLifecycleEnd(id) => Some(id.value()),
+        _ => None,
+    }
+}
+
+fn plain_line(alloc: Global, name: &str, event: &SocketEvent) -> Result<String, AllocError> {
+    let event_name = event_name(event);
+    match event_number(event) {
+        Some(number) => format!(in alloc; "{name} {event_name} {number}\n"),
+        None => format!(in alloc; "{name} {event_name}\n"),
+    }
+}
+
+fn error_line(
+    alloc: Global,
+    name: &str,
+    event_name: &str,
+    kind: ErrorKind,
+    text: &str,
+) -> Result<String, AllocError> {
+    let kind = kind_name(kind);
+    format!(in alloc; "{name} {event_name} {kind}: {text}\n")
+}
+
 fn event_line(alloc: Global, name: &str, event: &SocketEvent) -> Result<String, AllocError> {
     match event {
-        SocketEvent::OnConnected() => format!(in alloc; "{name} OnConnected\n"),
-        SocketEvent::OnClosed() => format!(in alloc; "{name} OnClosed\n"),
-        SocketEvent::OnConnectionRestarted() => {
-            format!(in alloc; "{name} OnConnectionRestarted\n")
-        }
-        SocketEvent::OnAborted(kind, text) => {
-            let kind = kind_name(*kind);
-            format!(in alloc; "{name} OnAborted {kind}: {text}\n")
-        }
-        SocketEvent::OnError(kind, text) => {
-            let kind = kind_name(*kind);
-            format!(in alloc; "{name} OnError {kind}: {text}\n")
-        }
-        SocketEvent::OnBufferedAmountLow(id) => {
-            format!(in alloc; "{name} OnBufferedAmountLow {id}\n")
-        }
-        SocketEvent::OnLifecycleMessageFullySent(id) => {
-            format!(in alloc; "{name} OnLifecycleMessageFullySent {id}\n")
-        }
-        SocketEvent::OnLifecycleMessageDelivered(id) => {
-            format!(in alloc; "{name} OnLifecycleMessageDelivered {id}\n")
-        }
-        SocketEvent::OnLifecycleEnd(id) => format!(in alloc; "{name} OnLifecycleEnd {id}\n"),
-        _ => format!(in alloc; "{name} other\n"),
+        SocketEvent::OnAborted(kind, text) => error_line(alloc, name, "OnAborted", *kind, text),
+        SocketEvent::OnError(kind, text) => error_line(alloc, name, "OnError", *kind, text),
+        _ => plain_line(alloc, name, event),
     }
 }
 
@@ -167,7 +207,11 @@ fn log_given_up(
 }
 
 /// What a socket has told since it was looked at last.
-fn take_told(alloc: Global, side: &mut Side, log: &mut String) -> Result<(), AllocError> {
+fn take_told<S: Watched>(
+    alloc: Global,
+    side: &mut Side<S>,
+    log: &mut String,
+) -> Result<(), AllocError> {
     for _ in 0..100_u32 {
         match side.socket.poll_event() {
             Some(event) => log_event(alloc, side.end, event, &mut side.packets, log)?,
@@ -175,7 +219,7 @@ fn take_told(alloc: Global, side: &mut Side, log: &mut String) -> Result<(), All
         }
     }
     for _ in 0..100_u32 {
-        match side.socket.next_given_up() {
+        match side.socket.next_gone() {
             Some(gone) => log_given_up(alloc, side.end, gone, log)?,
             None => break,
         }
@@ -188,25 +232,38 @@ fn message(alloc: Global, bytes: &[u8]) -> Result<Message, AllocError> {
     Ok(Message::new(StreamId(1), PpId(53), payload))
 }
 
-fn receive(alloc: Global, side: &mut Side, log: &mut String) -> Result<(), AllocError> {
+fn receive<S: Watched>(
+    alloc: Global,
+    side: &mut Side<S>,
+    log: &mut String,
+) -> Result<bool, AllocError> {
     let name = name_of(side.end);
-    match side.socket.get_next_message() {
-        Some(message) => {
-            let text = hex::encode(alloc, &message.payload)?;
-            log.push_str(&format!(in alloc; "{name} message {text}\n")?)
-        }
-        None => log.push_str(&format!(in alloc; "{name} none\n")?),
-    }
+    let line = match side.socket.get_next_message() {
+        Some(message) => message_line(alloc, name, &message)?,
+        None => format!(in alloc; "{name} none\n")?,
+    };
+    log.push_str(&line)?;
+    Ok(false)
 }
 
-fn note(alloc: Global, side: &Side, text: &str, log: &mut String) -> Result<(), AllocError> {
+fn message_line(alloc: Global, name: &str, message: &Message) -> Result<String, AllocError> {
+    let text = hex::encode(alloc, &message.payload)?;
+    format!(in alloc; "{name} message {text}\n")
+}
+
+fn note<S: Watched>(
+    alloc: Global,
+    side: &Side<S>,
+    text: &str,
+    log: &mut String,
+) -> Result<(), AllocError> {
     let name = name_of(side.end);
     log.push_str(&format!(in alloc; "{name} {text}\n")?)
 }
 
-fn send_two(
+fn send_two<S: Watched>(
     alloc: Global,
-    side: &mut Side,
+    side: &mut Side<S>,
     first: &[u8],
     second: &[u8],
 ) -> Result<bool, AllocError> {
@@ -216,36 +273,57 @@ fn send_two(
     Ok(side.socket.send_many(messages, &plainly()).is_err())
 }
 
-/// One move, at the end that it concerns; `packets` are the other end's.
-fn act(
+fn send_one<S: Watched>(
     alloc: Global,
-    side: &mut Side,
+    side: &mut Side<S>,
+    bytes: &[u8],
+    options: &SendOptions,
+) -> Result<bool, AllocError> {
+    let message = message(alloc, bytes)?;
+    Ok(side.socket.send(message, options).is_err())
+}
+
+fn give<S: Watched>(side: &mut Side<S>, packets: &[Vec<u8>], place: usize) -> bool {
+    match packets.get(place) {
+        Some(bytes) => side.socket.handle_input(bytes).is_err(),
+        None => true,
+    }
+}
+
+fn tell_time<S: Watched>(side: &mut Side<S>, moment: u64) -> bool {
+    let now = SocketTime::zero() + Duration::from_millis(moment);
+    side.socket.advance_time(now).is_err()
+}
+
+/// One move, at the end that it concerns; `packets` are the other end's. The answer is whether it was refused.
+fn act<S: Watched>(
+    alloc: Global,
+    side: &mut Side<S>,
+    packets: &[Vec<u8>],
+    turn: &Move<'_>,
+    log: &mut String,
+) -> Result<bool, AllocError> {
+    match turn {
+        Move::Connect(_) => Ok(side.socket.connect().is_err()),
+        Move::Give(place, _) => Ok(give(side, packets, *place)),
+        Move::Foreign(_, bytes) => Ok(side.socket.handle_input(bytes).is_err()),
+        Move::Send(_, bytes, options) => send_one(alloc, side, bytes, options),
+        Move::SendTwo(_, first, second) => send_two(alloc, side, first, second),
+        Move::Receive(_) => receive(alloc, side, log),
+        Move::Time(moment) => Ok(tell_time(side, *moment)),
+        Move::Close(_) => Ok(side.socket.close().is_err()),
+        Move::Shutdown(_) => Ok(side.socket.shutdown().is_err()),
+    }
+}
+
+fn act_and_tell<S: Watched>(
+    alloc: Global,
+    side: &mut Side<S>,
     packets: &[Vec<u8>],
     turn: &Move<'_>,
     log: &mut String,
 ) -> Result<(), AllocError> {
-    let refused = match turn {
-        Move::Connect(_) => side.socket.connect().is_err(),
-        Move::Give(place, _) => match packets.get(*place) {
-            Some(bytes) => side.socket.handle_input(bytes).is_err(),
-            None => true,
-        },
-        Move::Foreign(_, bytes) => side.socket.handle_input(bytes).is_err(),
-        Move::Send(_, bytes, options) => {
-            side.socket.send(message(alloc, bytes)?, options).is_err()
-        }
-        Move::SendTwo(_, first, second) => send_two(alloc, side, first, second)?,
-        Move::Receive(_) => {
-            receive(alloc, side, log)?;
-            false
-        }
-        Move::Time(moment) => {
-            let now = SocketTime::zero() + Duration::from_millis(*moment);
-            side.socket.advance_time(now).is_err()
-        }
-        Move::Close(_) => side.socket.close().is_err(),
-    };
-    if refused {
+    if act(alloc, side, packets, turn, log)? {
         note(alloc, side, "refused", log)?;
     }
     take_told(alloc, side, log)
@@ -261,6 +339,7 @@ fn is_at_a(turn: &Move<'_>) -> bool {
         Move::Receive(end) => *end == End::A,
         Move::Time(_) => true,
         Move::Close(end) => *end == End::A,
+        Move::Shutdown(end) => *end == End::A,
     }
 }
 
@@ -268,37 +347,51 @@ fn is_at_both(turn: &Move<'_>) -> bool {
     matches!(turn, Move::Time(_))
 }
 
-fn play_on(
+fn play_on<S: Watched>(
     alloc: Global,
-    a: &mut Side,
-    b: &mut Side,
+    a: &mut Side<S>,
+    b: &mut Side<S>,
     moves: &[Move<'_>],
     log: &mut String,
 ) -> Result<(), AllocError> {
     for turn in moves {
         if is_at_a(turn) {
-            act(alloc, a, &b.packets, turn, log)?;
+            act_and_tell(alloc, a, &b.packets, turn, log)?;
         }
         if !is_at_a(turn) || is_at_both(turn) {
-            act(alloc, b, &a.packets, turn, log)?;
+            act_and_tell(alloc, b, &a.packets, turn, log)?;
         }
     }
     Ok(())
 }
 
+fn play_both<S: Watched>(
+    alloc: Global,
+    a: &mut Side<S>,
+    b: &mut Side<S>,
+    moves: &[Move<'_>],
+    later: &[Move<'_>],
+) -> Result<String, AllocError> {
+    let mut log = String::new(alloc);
+    play_on(alloc, a, b, moves, &mut log)?;
+    play_on(alloc, a, b, later, &mut log)?;
+    if a.socket.rests() {
+        note(alloc, a, "rests", &mut log)?;
+    }
+    Ok(log)
+}
+
 /// What two fresh sockets tell of these moves and then those, and whether the first one is at rest at last.
-pub fn play(alloc: Global, moves: &[Move<'_>], later: &[Move<'_>]) -> Result<String, AllocError> {
+pub fn play(
+    alloc: Global,
+    moves: &[Move<'_>],
+    later: &[Move<'_>],
+) -> Result<String, AllocError> {
     let Ok(mut a) = made_side(alloc, End::A, 1) else {
         return Err(AllocError);
     };
     let Ok(mut b) = made_side(alloc, End::B, 2) else {
         return Err(AllocError);
     };
-    let mut log = String::new(alloc);
-    play_on(alloc, &mut a, &mut b, moves, &mut log)?;
-    play_on(alloc, &mut a, &mut b, later, &mut log)?;
-    if a.socket.is_at_rest() {
-        note(alloc, &a, "rests", &mut log)?;
-    }
-    Ok(log)
+    play_both(alloc, &mut a, &mut b, moves, later)
 }
