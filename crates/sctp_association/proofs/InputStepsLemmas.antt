@@ -2,20 +2,21 @@
 use Rattle.std.proofs.Common.{ℕ, ◌+◌, Bool, true, false, Option, Some, None, List, [], ◌∷◌, ◌++◌, codes, refl}
 use Rattle.sctp_packet.specs.Chunk.{ChunkTree, data_chunk, init_chunk, init_ack_chunk, sack_chunk, heartbeat_request_chunk, heartbeat_ack_chunk, abort_chunk, shutdown_chunk, shutdown_ack_chunk, error_chunk, cookie_echo_chunk, cookie_ack_chunk, shutdown_complete_chunk, idata_chunk, re_config_chunk, forward_tsn_chunk, i_forward_tsn_chunk, unknown_chunk}
 use Rattle.sctp_packet.specs.Packet.{PacketTree}
+use Rattle.sctp_wire.specs.Parameter.{ParameterTree}
 use Rattle.sctp_packet.specs.ChunkText.{chunk_text}
 use Rattle.sctp_state.specs.declared.api.ErrorKind.TheVariants.{ParseFailed}
 use Rattle.sctp_rx.specs.Tracker.{is_ack_due}
 use Rattle.sctp_association.specs.Association.{Tcb, Phase, CookieEchoed, Established, ShutdownPending, ShutdownSent, ShutdownReceived, ShutdownAckSent, State, Closed, CookieWait, Open, Context, Standing, Endpoint, where_open}
 use Rattle.sctp_association.specs.Packets.{Packet, add, new_packet}
 use Rattle.sctp_association.specs.Sending.{asked, acknowledged, selective_ack, is_alone}
-use Rattle.sctp_association.specs.Closing.{violated, on_abort, on_error}
+use Rattle.sctp_association.specs.Closing.{violated, on_abort, on_error, on_shutdown, on_shutdown_complete}
 use Rattle.sctp_association.specs.Opening.{on_cookie_ack}
-use Rattle.sctp_association.specs.Input.{refusal, is_reported, echoed, echoed_in, complained, on_unknown_if, on_unknown, Heard, on_standing, on_chunk, violation, heard_if, hear, hear_rest, hear_all, has_data, repeats, repeats_if, ended_if, at_end, ended, handled, counted, counts, taken_if, on_packet, on_no_packet}
+use Rattle.sctp_association.specs.Input.{refusal, is_reported, echoed, echoed_in, complained, on_unknown_if, on_unknown, on_heartbeat, Heard, on_standing, on_chunk, violation, heard_if, hear, hear_rest, hear_all, has_data, repeats, repeats_if, ended_if, at_end, ended, handled, counted, counts, taken_if, on_packet, on_no_packet}
 use Rattle.sctp_association.specs.Laws.{ends, ended_after, ended_by, ended_unless, ended_in}
 use Rattle.sctp_association.proofs.StepsLemmas.{most_bytes, Goes, Steps, EndSteps}
 use Rattle.sctp_association.proofs.GoesLemmas.{small_add, small_new, goes_silent, goes_same, goes_through, goes_then, goes_last, goes_complained, goes_emit_chunk}
 use Rattle.sctp_association.proofs.SendingStepsLemmas.{goes_send_with}
-use Rattle.sctp_association.proofs.RowStepsLemmas.{steps_context, steps_same, steps_where_open, goes_send_shutdown, steps_violated, steps_abort, steps_error, steps_data, steps_forward, steps_sack}
+use Rattle.sctp_association.proofs.RowStepsLemmas.{OpenSteps, steps_context, steps_same, steps_where_open, goes_send_shutdown, steps_violated, steps_abort, steps_error, steps_data, steps_forward, steps_sack, steps_shut_by_peer, steps_shutdown_ack, steps_shutdown_complete}
 use Rattle.sctp_association.proofs.OpeningStepsLemmas.{steps_init, steps_init_ack, steps_cookie_ack, steps_complains, steps_cookie_echo}
 
 module _ {P : Type 0} where
@@ -40,6 +41,9 @@ module _ {P : Type 0} where
   steps_unknown : (typ flags : ℕ) (value : List ℕ) (s : Standing P) → Steps s (on_unknown typ flags value s)
   steps_unknown typ flags value s = steps_unknown_if (is_reported typ) typ flags value s
 
+  steps_heartbeat : (parameters : List ParameterTree) → OpenSteps (on_heartbeat {P = P} parameters)
+  steps_heartbeat parameters phase t c = goes_emit_chunk (heartbeat_ack_chunk parameters) t c
+
   steps_chunk : (tag : ℕ) (chunk : ChunkTree) (s : Endpoint P) → EndSteps s (on_chunk tag chunk s)
   steps_chunk tag (data_chunk tsn immediate f) s = steps_data tsn immediate f s.standing
   steps_chunk tag (idata_chunk tsn immediate f) s = steps_data tsn immediate f s.standing
@@ -53,11 +57,11 @@ module _ {P : Type 0} where
   steps_chunk tag (forward_tsn_chunk tsn skipped) s = steps_forward tsn skipped s.standing
   steps_chunk tag (i_forward_tsn_chunk tsn skipped) s = steps_forward tsn skipped s.standing
   steps_chunk tag (unknown_chunk typ flags value) s = steps_unknown typ flags value s.standing
-  steps_chunk tag (heartbeat_request_chunk parameters) s = steps_same s.standing
+  steps_chunk tag (heartbeat_request_chunk parameters) s = steps_where_open (on_heartbeat parameters) s.standing (steps_heartbeat parameters)
   steps_chunk tag (heartbeat_ack_chunk parameters) s = steps_same s.standing
-  steps_chunk tag (shutdown_chunk tsn) s = steps_same s.standing
-  steps_chunk tag shutdown_ack_chunk s = steps_same s.standing
-  steps_chunk tag (shutdown_complete_chunk reflected) s = steps_same s.standing
+  steps_chunk tag (shutdown_chunk tsn) s = steps_where_open on_shutdown s.standing steps_shut_by_peer
+  steps_chunk tag shutdown_ack_chunk s = steps_shutdown_ack tag s.standing
+  steps_chunk tag (shutdown_complete_chunk reflected) s = steps_where_open on_shutdown_complete s.standing steps_shutdown_complete
   steps_chunk tag (re_config_chunk parameters) s = steps_same s.standing
 
   steps_heard_if : (v : Option (List ℕ)) (tag : ℕ) (chunk : ChunkTree) (s : Endpoint P) → EndSteps s (heard_if v tag chunk s).end

@@ -8,9 +8,9 @@ use Rattle.sctp_packet.proofs.PacketLemmas.{length_joined}
 use Rattle.sctp_state.specs.Events.{Event, SendPacket}
 use Rattle.sctp_association.specs.Association.{Context, Endpoint}
 use Rattle.sctp_association.specs.Wire.{field_of, written}
-use Rattle.sctp_association.specs.Laws.{Call, Connect, Close, Send, SendMany, TakeMessage, SetLowThreshold, SetPriority, SetMaxMessageSize, Advance, Packet, NoPacket, called, Packing, IsWithin, IsShort, StaysWithin, HasAtMost, SendsAtMost, ended_in_call, TellsEndings}
+use Rattle.sctp_association.specs.Laws.{Call, Connect, Close, Shutdown, Send, SendMany, TakeMessage, SetLowThreshold, SetPriority, SetMaxMessageSize, Advance, Packet, NoPacket, called, Packing, IsWithin, IsShort, StaysWithin, HasAtMost, SendsAtMost, ended_in_call, TellsEndings}
 use Rattle.sctp_association.proofs.StepsLemmas.{Goes}
-use Rattle.sctp_association.proofs.RowStepsLemmas.{steps_close}
+use Rattle.sctp_association.proofs.RowStepsLemmas.{steps_close, steps_shutdown}
 use Rattle.sctp_association.proofs.OpeningStepsLemmas.{steps_connect}
 use Rattle.sctp_association.proofs.TimeStepsLemmas.{steps_advance}
 use Rattle.sctp_association.proofs.CallStepsLemmas.{steps_send, steps_send_many, steps_threshold, steps_priority, steps_max_message_size, steps_take_message}
@@ -20,6 +20,7 @@ module _ {P : Type 0} where
   goes_call : (call : Call) (s : Endpoint P) → Goes (ended_in_call call s) s.standing.context (called call s).standing.context
   goes_call Connect s = steps_connect s
   goes_call Close s = steps_close s.standing
+  goes_call Shutdown s = steps_shutdown s.standing
   goes_call (Send m o) s = steps_send m o s.standing
   goes_call (SendMany ms o) s = steps_send_many ms o s.standing
   goes_call TakeMessage s = steps_take_message s.standing

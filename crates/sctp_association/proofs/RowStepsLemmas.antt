@@ -3,7 +3,7 @@ use Rattle.std.proofs.Common.{◌≡◌, ℕ, ◌==◌, Bool, true, false, List,
 use Rattle.sctp_wire.specs.Cause.{CauseTree, no_user_data, user_initiated_abort, protocol_violation}
 use Rattle.sctp_packet.specs.declared.forward_tsn.SkippedStream.{SkippedStream}
 use Rattle.sctp_packet.specs.declared.sack.GapAckBlock.{GapAckBlock}
-use Rattle.sctp_packet.specs.Chunk.{ChunkTree, FragmentTree, SackTree, abort_chunk, error_chunk, shutdown_chunk, shutdown_ack_chunk}
+use Rattle.sctp_packet.specs.Chunk.{ChunkTree, FragmentTree, SackTree, abort_chunk, error_chunk, shutdown_chunk, shutdown_ack_chunk, shutdown_complete_chunk}
 use Rattle.sctp_state.specs.declared.api.ErrorKind.TheVariants.{TooManyRetries, PeerReported, ProtocolViolation, NotConnected}
 use Rattle.sctp_state.specs.Events.{Event, OnClosed, OnAborted}
 use Rattle.sctp_outstanding.specs.Items.{number_of}
@@ -11,16 +11,16 @@ use Rattle.sctp_outstanding.specs.Sack.{is_valid}
 use Rattle.sctp_rx.specs.Tracker as tracker
 use Rattle.sctp_tx.specs.Retransmission.{is_quiet, SackAnswer, Invalid, Valid, sender_if, told_if, answer_if}
 use Rattle.sctp_association.specs.Association.{Tcb, Phase, CookieEchoed, Established, ShutdownPending, ShutdownSent, ShutdownReceived, ShutdownAckSent, State, Closed, CookieWait, Open, Context, Standing, open_as, with_context, where_open}
-use Rattle.sctp_association.specs.Packets.{emit_chunk}
+use Rattle.sctp_association.specs.Packets.{Packet, add, packet_to, emit_chunk}
 use Rattle.sctp_association.specs.Sending.{is_alone, send_lost}
-use Rattle.sctp_association.specs.Closing.{closed, send_shutdown, send_shutdown_ack, Onward, pending, received, go_on, abort, close_in, close, too_many, violated, causes_text, on_abort, on_error}
+use Rattle.sctp_association.specs.Closing.{closed, send_shutdown, send_shutdown_ack, Onward, pending, received, go_on, shut, shutdown_in, shutdown, on_shutdown, completed, out_of_the_blue, on_shutdown_ack_open, on_shutdown_ack_in, on_shutdown_ack, on_shutdown_complete, abort, close_in, close, too_many, violated, causes_text, on_abort, on_error}
 use Rattle.sctp_association.specs.Data.{no_data, on_no_data, not_connected, on_data_in, on_data_if, on_data, forwarded_in, on_forward}
 use Rattle.sctp_association.specs.Acknowledging.{cleaned, sampled, answered, send_after, heard, on_clean_sack, on_sack_open, no_block, on_sack_in, on_sack}
 use Rattle.sctp_association.specs.Acknowledging as acks
 use Rattle.sctp_association.specs.Laws.{IsShort, ending, ends}
 use Rattle.sctp_association.proofs.StepsLemmas.{most_bytes, Goes, Steps}
 use Rattle.sctp_association.proofs.TellsLemmas.{tells_sack}
-use Rattle.sctp_association.proofs.GoesLemmas.{goes_by, goes_silent, goes_same, goes_then, goes_said, goes_complained, goes_emit_chunk}
+use Rattle.sctp_association.proofs.GoesLemmas.{small_add, small_whole, goes_emit, goes_by, goes_silent, goes_same, goes_then, goes_said, goes_complained, goes_emit_chunk}
 use Rattle.sctp_association.proofs.SendingStepsLemmas.{goes_send_buffered, goes_send_lost}
 
 -- from a state and a context
@@ -104,6 +104,66 @@ module _ {P : Type 0} where
 
   pub steps_close : (s : Standing P) → Steps s (close s)
   steps_close s = steps_close_in s.state s.context
+
+  -- ---- the call for a shutdown, and its chunks
+
+  goes_shut : (phase : Phase) (t : Tcb) (c : Context P) → Goes 0 c (shut phase t c).context
+  goes_shut (CookieEchoed t1 cookie) t c = goes_on ShutdownPending t c
+  goes_shut Established t c = goes_on ShutdownPending t c
+  goes_shut ShutdownPending t c = goes_same c
+  goes_shut (ShutdownSent t2) t c = goes_same c
+  goes_shut ShutdownReceived t c = goes_same c
+  goes_shut (ShutdownAckSent t2) t c = goes_same c
+
+  steps_shutdown_in : (st : State) (c : Context P) → StepsFrom st c (shutdown_in st c)
+  steps_shutdown_in Closed c = goes_same c
+  steps_shutdown_in (CookieWait tag first t1) c = goes_closed OnClosed c tt refl
+  steps_shutdown_in (Open phase t) c = goes_shut phase t c
+
+  pub steps_shutdown : (s : Standing P) → Steps s (shutdown s)
+  steps_shutdown s = steps_shutdown_in s.state s.context
+
+  pub steps_shut_by_peer : OpenSteps (on_shutdown {P = P})
+  steps_shut_by_peer (CookieEchoed t1 cookie) t c = goes_same c
+  steps_shut_by_peer Established t c = goes_on ShutdownReceived t c
+  steps_shut_by_peer ShutdownPending t c = goes_on ShutdownReceived t c
+  steps_shut_by_peer (ShutdownSent t2) t c = goes_send_shutdown_ack t c
+  steps_shut_by_peer ShutdownReceived t c = goes_same c
+  steps_shut_by_peer (ShutdownAckSent t2) t c = goes_send_shutdown_ack t c
+
+  goes_completed : (t : Tcb) (c : Context P) → Goes 1 c (completed t c).context
+  goes_completed t c =
+      let d : Context P = emit_chunk (shutdown_complete_chunk false) t c in
+      goes_then 1 c d (closed OnClosed d).context (goes_emit_chunk (shutdown_complete_chunk false) t c) (goes_closed OnClosed d tt refl)
+
+  goes_out_of_the_blue : (tag : ℕ) (c : Context P) → Goes 0 c (out_of_the_blue tag c)
+  goes_out_of_the_blue tag c =
+      let p : Packet = packet_to tag c.options.mtu in
+      goes_emit (add (shutdown_complete_chunk true) p) c (small_add (most_bytes c) p (shutdown_complete_chunk true) (small_whole c p refl refl))
+
+  steps_shutdown_ack_open : (tag : ℕ) → OpenSteps (on_shutdown_ack_open {P = P} tag)
+  steps_shutdown_ack_open tag (CookieEchoed t1 cookie) t c = goes_out_of_the_blue tag c
+  steps_shutdown_ack_open tag Established t c = goes_out_of_the_blue tag c
+  steps_shutdown_ack_open tag ShutdownPending t c = goes_out_of_the_blue tag c
+  steps_shutdown_ack_open tag (ShutdownSent t2) t c = goes_completed t c
+  steps_shutdown_ack_open tag ShutdownReceived t c = goes_out_of_the_blue tag c
+  steps_shutdown_ack_open tag (ShutdownAckSent t2) t c = goes_completed t c
+
+  steps_shutdown_ack_in : (tag : ℕ) (st : State) (c : Context P) → StepsFrom st c (on_shutdown_ack_in tag st c)
+  steps_shutdown_ack_in tag Closed c = goes_out_of_the_blue tag c
+  steps_shutdown_ack_in tag (CookieWait my_tag first t1) c = goes_out_of_the_blue tag c
+  steps_shutdown_ack_in tag (Open phase t) c = steps_shutdown_ack_open tag phase t c
+
+  pub steps_shutdown_ack : (tag : ℕ) (s : Standing P) → Steps s (on_shutdown_ack tag s)
+  steps_shutdown_ack tag s = steps_shutdown_ack_in tag s.state s.context
+
+  pub steps_shutdown_complete : OpenSteps (on_shutdown_complete {P = P})
+  steps_shutdown_complete (CookieEchoed t1 cookie) t c = goes_same c
+  steps_shutdown_complete Established t c = goes_same c
+  steps_shutdown_complete ShutdownPending t c = goes_same c
+  steps_shutdown_complete (ShutdownSent t2) t c = goes_same c
+  steps_shutdown_complete ShutdownReceived t c = goes_same c
+  steps_shutdown_complete (ShutdownAckSent t2) t c = goes_closed OnClosed c tt refl
 
   pub goes_too_many : (t : Tcb) (c : Context P) → Goes 1 c (too_many t c).context
   goes_too_many t c =

@@ -9,7 +9,7 @@ use Rattle.sctp_wire.specs.CauseText.{cause_text}
 use Rattle.sctp_wire.specs.Show.{joined}
 use Rattle.sctp_packet.specs.Written.{chunk_bytes, chunks_bytes, chunk_value, data_value, idata_value, init_fields, block_bytes, sack_value, skip_bytes, forward_value}
 use Rattle.sctp_state.specs.Cookie.{cookie_bytes, capability_bytes, cookie_from, read_cookie}
-use Rattle.sctp_association.specs.Rows.{BothConnect, Closes, FirstConversation, Fragments, GivenUpOnce, OtherOrder}
+use Rattle.sctp_association.specs.Rows.{BothConnect, Closes, FirstConversation, Fragments, GivenUpOnce, OtherOrder, ShutsDown}
 
 pub first_goes : FirstConversation
 unfolding next_u32 next_u64 be16 be32 be64 padded_item inner_items parameter_value cause_value cause_text joined chunk_bytes chunks_bytes chunk_value data_value idata_value init_fields block_bytes sack_value skip_bytes forward_value cookie_bytes capability_bytes cookie_from read_cookie
@@ -65,4 +65,14 @@ unfolding next_u32 next_u64 be16 be32 be64 padded_item inner_items parameter_val
 closes_goes = record {
   told = refl;
   resent = refl;
+}
+
+pub shuts_down_goes : ShutsDown
+unfolding next_u32 next_u64 be16 be32 be64 padded_item inner_items parameter_value cause_value cause_text joined chunk_bytes chunks_bytes chunk_value data_value idata_value init_fields block_bytes sack_value skip_bytes forward_value cookie_bytes capability_bytes cookie_from read_cookie
+shuts_down_goes = record {
+  told = refl;
+  waits = refl;
+  goes_on = refl;
+  at_once = refl;
+  gives_up = refl;
 }

@@ -2,16 +2,16 @@
 use Rattle.std.specs.Prelude.{ℕ, Bool, true, false, None, List, [], ◌∷◌, ◌++◌, codes}
 use Rattle.sctp_wire.specs.Cause.{CauseTree, user_initiated_abort, protocol_violation}
 use Rattle.sctp_wire.specs.CauseText.{cause_text}
-use Rattle.sctp_packet.specs.Chunk.{abort_chunk, shutdown_chunk, shutdown_ack_chunk}
+use Rattle.sctp_packet.specs.Chunk.{abort_chunk, shutdown_chunk, shutdown_ack_chunk, shutdown_complete_chunk}
 use Rattle.sctp_state.specs.declared.api.ErrorKind.TheVariants.{TooManyRetries, PeerReported, ProtocolViolation}
 use Rattle.sctp_state.specs.declared.timer.BackoffAlgorithm.TheVariants.{Exponential}
-use Rattle.sctp_state.specs.Timers.{Timer, timer, start}
+use Rattle.sctp_state.specs.Timers.{Timer, timer, start, set_duration}
 use Rattle.sctp_state.specs.Rtt.{rto}
 use Rattle.sctp_state.specs.Events.{Event, OnClosed, OnAborted}
 use Rattle.sctp_rx.specs.Tracker.{written}
 use Rattle.sctp_tx.specs.Retransmission.{is_quiet}
 use Rattle.sctp_association.specs.Association.{Tcb, Phase, CookieEchoed, Established, ShutdownPending, ShutdownSent, ShutdownReceived, ShutdownAckSent, State, Closed, CookieWait, Open, Context, Standing, open_as}
-use Rattle.sctp_association.specs.Packets.{say, complain, emit_chunk}
+use Rattle.sctp_association.specs.Packets.{add, packet_to, say, complain, emit, emit_chunk}
 
 -- no control block any more
 abbrev pub closed : {P : Type 0} → Event P → Context P → Standing P
@@ -52,6 +52,72 @@ go_on ShutdownPending t c = pending (is_quiet t.sender.outstanding.items) t c
 go_on (ShutdownSent t2) t c = onward (ShutdownSent t2) c
 go_on ShutdownReceived t c = received (is_quiet t.sender.outstanding.items) t c
 go_on (ShutdownAckSent t2) t c = onward (ShutdownAckSent t2) c
+
+-- the call
+
+abbrev pub shut : {P : Type 0} → Phase → Tcb → Context P → Onward P
+shut (CookieEchoed t1 cookie) t c = go_on ShutdownPending t c
+shut Established t c = go_on ShutdownPending t c
+shut ShutdownPending t c = onward ShutdownPending c
+shut (ShutdownSent t2) t c = onward (ShutdownSent t2) c
+shut ShutdownReceived t c = onward ShutdownReceived c
+shut (ShutdownAckSent t2) t c = onward (ShutdownAckSent t2) c
+
+abbrev pub open_onward : {P : Type 0} → Tcb → Onward P → Standing P
+open_onward t o = open_as o.phase t o.context
+
+abbrev pub shutdown_in : {P : Type 0} → State → Context P → Standing P
+shutdown_in Closed c = record { state = Closed; context = c }
+shutdown_in (CookieWait tag first t1) c = closed OnClosed c
+shutdown_in (Open phase t) c = open_onward t (shut phase t c)
+
+abbrev pub shutdown : {P : Type 0} → Standing P → Standing P
+shutdown s = shutdown_in s.state s.context
+
+-- SHUTDOWN
+abbrev pub shut_by_peer : {P : Type 0} → Phase → Tcb → Context P → Onward P
+shut_by_peer (CookieEchoed t1 cookie) t c = onward (CookieEchoed t1 cookie) c
+shut_by_peer Established t c = go_on ShutdownReceived t c
+shut_by_peer ShutdownPending t c = go_on ShutdownReceived t c
+shut_by_peer (ShutdownSent t2) t c = onward (ShutdownAckSent (t2_shutdown t c)) (send_shutdown_ack t c)
+shut_by_peer ShutdownReceived t c = onward ShutdownReceived c
+shut_by_peer (ShutdownAckSent t2) t c = onward (ShutdownAckSent (start c.now (set_duration (rto t.rtt) t2))) (send_shutdown_ack t c)
+
+abbrev pub on_shutdown : {P : Type 0} → Phase → Tcb → Context P → Standing P
+on_shutdown phase t c = open_onward t (shut_by_peer phase t c)
+
+-- SHUTDOWN ACK, in a packet under this tag: one that no shutdown asked for is answered under the same tag
+-- (RFC 9260 section 8.5.1)
+abbrev pub completed : {P : Type 0} → Tcb → Context P → Standing P
+completed t c = closed OnClosed (emit_chunk (shutdown_complete_chunk false) t c)
+
+abbrev pub out_of_the_blue : {P : Type 0} → (tag : ℕ) → Context P → Context P
+out_of_the_blue tag c = emit (add (shutdown_complete_chunk true) (packet_to tag c.options.mtu)) c
+
+abbrev pub on_shutdown_ack_open : {P : Type 0} → (tag : ℕ) → Phase → Tcb → Context P → Standing P
+on_shutdown_ack_open tag (CookieEchoed t1 cookie) t c = open_as (CookieEchoed t1 cookie) t (out_of_the_blue tag c)
+on_shutdown_ack_open tag Established t c = open_as Established t (out_of_the_blue tag c)
+on_shutdown_ack_open tag ShutdownPending t c = open_as ShutdownPending t (out_of_the_blue tag c)
+on_shutdown_ack_open tag (ShutdownSent t2) t c = completed t c
+on_shutdown_ack_open tag ShutdownReceived t c = open_as ShutdownReceived t (out_of_the_blue tag c)
+on_shutdown_ack_open tag (ShutdownAckSent t2) t c = completed t c
+
+abbrev pub on_shutdown_ack_in : {P : Type 0} → (tag : ℕ) → State → Context P → Standing P
+on_shutdown_ack_in tag Closed c = record { state = Closed; context = out_of_the_blue tag c }
+on_shutdown_ack_in tag (CookieWait my_tag first t1) c = record { state = CookieWait my_tag first t1; context = out_of_the_blue tag c }
+on_shutdown_ack_in tag (Open phase t) c = on_shutdown_ack_open tag phase t c
+
+abbrev pub on_shutdown_ack : {P : Type 0} → (tag : ℕ) → Standing P → Standing P
+on_shutdown_ack tag s = on_shutdown_ack_in tag s.state s.context
+
+-- SHUTDOWN COMPLETE
+abbrev pub on_shutdown_complete : {P : Type 0} → Phase → Tcb → Context P → Standing P
+on_shutdown_complete (CookieEchoed t1 cookie) t c = open_as (CookieEchoed t1 cookie) t c
+on_shutdown_complete Established t c = open_as Established t c
+on_shutdown_complete ShutdownPending t c = open_as ShutdownPending t c
+on_shutdown_complete (ShutdownSent t2) t c = open_as (ShutdownSent t2) t c
+on_shutdown_complete ShutdownReceived t c = open_as ShutdownReceived t c
+on_shutdown_complete (ShutdownAckSent t2) t c = closed OnClosed c
 
 -- ---- aborts
 

@@ -3,6 +3,7 @@ use Rattle.std.specs.Prelude.{ℕ, ◌-◌, ◌/◌, ◌%◌, ◌==◌, ◌||◌
 use Rattle.sctp_wire.specs.Item.{item_bytes}
 use Rattle.hex.specs.Hex.{encode_lower}
 use Rattle.std.specs.Int.{w32, to_be_bytes}
+use Rattle.sctp_wire.specs.Parameter.{ParameterTree}
 use Rattle.sctp_wire.specs.Cause.{unrecognized_chunk}
 use Rattle.sctp_packet.specs.Chunk.{ChunkTree, data_chunk, init_chunk, init_ack_chunk, sack_chunk, heartbeat_request_chunk, heartbeat_ack_chunk, abort_chunk, shutdown_chunk, shutdown_ack_chunk, error_chunk, cookie_echo_chunk, cookie_ack_chunk, shutdown_complete_chunk, idata_chunk, re_config_chunk, forward_tsn_chunk, i_forward_tsn_chunk, unknown_chunk}
 use Rattle.sctp_packet.specs.Packet.{PacketTree}
@@ -17,7 +18,7 @@ use Rattle.sctp_rx.specs.Tracker.{packet_end, is_ack_due}
 use Rattle.sctp_association.specs.Association.{Tcb, Phase, CookieEchoed, Established, ShutdownPending, ShutdownSent, ShutdownReceived, ShutdownAckSent, State, Closed, CookieWait, Open, Context, Standing, Endpoint, open_as, with_context, where_open}
 use Rattle.sctp_association.specs.Packets.{add, rounded, new_packet, complain, emit_chunk}
 use Rattle.sctp_association.specs.Sending.{asked, acknowledged, selective_ack, is_alone, open_with, send_with}
-use Rattle.sctp_association.specs.Closing.{send_shutdown, violated, on_abort, on_error}
+use Rattle.sctp_association.specs.Closing.{send_shutdown, on_shutdown, on_shutdown_ack, on_shutdown_complete, violated, on_abort, on_error}
 use Rattle.sctp_association.specs.Data.{on_data, on_forward}
 use Rattle.sctp_association.specs.Acknowledging.{on_sack}
 use Rattle.sctp_association.specs.Opening.{stands, complains, on_init, on_init_ack, on_cookie_ack, on_cookie_echo}
@@ -166,6 +167,11 @@ on_unknown_if false typ flags value s = s
 abbrev pub on_unknown : {P : Type 0} → (typ flags : ℕ) → List ℕ → Standing P → Standing P
 on_unknown typ flags value s = on_unknown_if (is_reported typ) typ flags value s
 
+-- ---- HEARTBEAT is answered with its own parameters, where they fit (RFC 9260 section 8.3)
+
+abbrev pub on_heartbeat : {P : Type 0} → List ParameterTree → Phase → Tcb → Context P → Standing P
+on_heartbeat parameters phase t c = open_as phase t (emit_chunk (heartbeat_ack_chunk parameters) t c)
+
 -- ---- one chunk
 
 -- the end after a chunk, and whether the next one is looked at
@@ -190,11 +196,11 @@ on_chunk tag cookie_ack_chunk s = on_standing (where_open on_cookie_ack) s
 on_chunk tag (forward_tsn_chunk tsn skipped) s = on_standing (on_forward tsn skipped) s
 on_chunk tag (i_forward_tsn_chunk tsn skipped) s = on_standing (on_forward tsn skipped) s
 on_chunk tag (unknown_chunk typ flags value) s = on_standing (on_unknown typ flags value) s
-on_chunk tag (heartbeat_request_chunk parameters) s = s
+on_chunk tag (heartbeat_request_chunk parameters) s = on_standing (where_open (on_heartbeat parameters)) s
 on_chunk tag (heartbeat_ack_chunk parameters) s = s
-on_chunk tag (shutdown_chunk tsn) s = s
-on_chunk tag shutdown_ack_chunk s = s
-on_chunk tag (shutdown_complete_chunk reflected) s = s
+on_chunk tag (shutdown_chunk tsn) s = on_standing (where_open on_shutdown) s
+on_chunk tag shutdown_ack_chunk s = on_standing (on_shutdown_ack tag) s
+on_chunk tag (shutdown_complete_chunk reflected) s = on_standing (where_open on_shutdown_complete) s
 on_chunk tag (re_config_chunk parameters) s = s
 
 -- an unknown chunk without the bit for it ends the packet

@@ -8,7 +8,7 @@ use Rattle.sctp_state.specs.Options.{SendOptions}
 use Rattle.sctp_state.specs.Events.{Event, SendPacket, OnClosed, OnAborted}
 use Rattle.sctp_association.specs.Association.{State, Closed, CookieWait, Open, Context, Endpoint, in_context}
 use Rattle.sctp_association.specs.Opening.{connect}
-use Rattle.sctp_association.specs.Closing.{close}
+use Rattle.sctp_association.specs.Closing.{close, shutdown}
 use Rattle.sctp_association.specs.Calls.{send, send_many, set_low_threshold, set_priority, set_max_message_size, take_message}
 use Rattle.sctp_association.specs.Time.{advance}
 use Rattle.sctp_association.specs.Wire.{written}
@@ -19,6 +19,7 @@ use Rattle.sctp_association.specs.Input.{refusal, Heard, hear, has_data, repeats
 pub data Call : Type 0 where
   Connect : Call
   Close : Call
+  Shutdown : Call
   Send : Message → SendOptions → Call
   SendMany : List Message → SendOptions → Call
   TakeMessage : Call
@@ -32,6 +33,7 @@ pub data Call : Type 0 where
 abbrev pub called : {P : Type 0} → Call → Endpoint P → Endpoint P
 called Connect s = connect s
 called Close s = on_standing close s
+called Shutdown s = on_standing shutdown s
 called (Send m o) s = on_standing (send m o) s
 called (SendMany ms o) s = on_standing (send_many ms o) s
 called TakeMessage s = on_standing take_message s

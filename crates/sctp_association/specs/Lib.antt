@@ -15,3 +15,4 @@ pub mod PacketView
 pub mod Views
 pub mod Socket
 pub mod Laws
+pub mod Metrics

@@ -9,7 +9,7 @@ use Rattle.sctp_state.specs.Options.{SendOptions, defaults}
 use Rattle.sctp_state.specs.Events.{Event, SendPacket, GivenUp, silent}
 use Rattle.sctp_association.specs.Association.{Standing, Endpoint, fresh}
 use Rattle.sctp_association.specs.Opening.{connect}
-use Rattle.sctp_association.specs.Closing.{close}
+use Rattle.sctp_association.specs.Closing.{close, shutdown}
 use Rattle.sctp_association.specs.Calls.{send, ready_in, take_message}
 use Rattle.sctp_association.specs.Time.{advance}
 use Rattle.sctp_association.specs.Input.{on_packet, on_standing}
@@ -41,6 +41,7 @@ pub data Move : Type 0 where
   Receive : (at_a : Bool) → Move
   Time : (now : ℕ) → Move
   Close : (at_a : Bool) → Move
+  Shutdown : (at_a : Bool) → Move
 
 -- the words from this one on
 abbrev pub words_from : ℕ → Stream
@@ -108,6 +109,8 @@ move (Receive false) w = took_b (on_standing take_message w.b) w
 move (Time now) w = at_both (advance now) w
 move (Close true) w = took_a (on_standing close w.a) w
 move (Close false) w = took_b (on_standing close w.b) w
+move (Shutdown true) w = took_a (on_standing shutdown w.a) w
+move (Shutdown false) w = took_b (on_standing shutdown w.b) w
 
 abbrev pub moves : List Move → Pair → Pair
 moves [] w = w

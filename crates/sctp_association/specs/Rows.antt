@@ -7,7 +7,7 @@ use Rattle.sctp_state.specs.declared.api.ErrorKind.TheVariants.{PeerReported}
 use Rattle.sctp_state.specs.declared.api.GivenUpCause.TheVariants.{Retransmissions}
 use Rattle.sctp_state.specs.Events.{OnConnected, OnClosed, OnAborted, OnBufferedAmountLow, OnLifecycleMessageFullySent, OnLifecycleMessageDelivered, OnLifecycleEnd}
 use Rattle.sctp_association.specs.Association.{Identity, State, Open}
-use Rattle.sctp_association.specs.Pair.{Line, Packet, Says, Gone, Move, Connect, Give, Send, Receive, Time, Close, after, then, ready_b}
+use Rattle.sctp_association.specs.Pair.{Line, Packet, Says, Gone, Move, Connect, Give, Send, Receive, Time, Close, Shutdown, after, then, ready_b}
 
 abbrev pub message : (stream : ℕ) → List ℕ → Message
 message stream bytes = record { stream = stream; ppid = 53; payload = bytes }
@@ -108,3 +108,15 @@ pub record Closes : Type 0 where
   pub told : then opened (Close true ∷ Give 2 false ∷ []) ≡
       size 32 ∷ Says OnClosed ∷ Says (OnAborted PeerReported (codes "USER INITIATED ABORT, reason=Close called")) ∷ []
   pub resent : then (Connect true ∷ []) (Time (999 * ms) ∷ Time (1000 * ms) ∷ []) ≡ size 44 ∷ []
+
+-- ---- a shutdown, at once and behind a message
+
+abbrev pub short_message : Move
+short_message = Send true (message 1 (120 ∷ [])) plainly
+
+pub record ShutsDown : Type 0 where
+  pub told : then opened (Shutdown true ∷ Give 2 false ∷ Give 2 true ∷ Give 3 false ∷ []) ≡ size 20 ∷ size 16 ∷ size 16 ∷ Says OnClosed ∷ Says OnClosed ∷ []
+  pub waits : then (opened ++ (short_message ∷ [])) (Shutdown true ∷ []) ≡ []
+  pub goes_on : then (opened ++ (short_message ∷ Shutdown true ∷ Give 2 false ∷ [])) (Give 2 true ∷ []) ≡ size 20 ∷ []
+  pub at_once : then (opened ++ (Shutdown true ∷ Shutdown false ∷ [])) (Give 2 false ∷ Give 2 true ∷ []) ≡ size 16 ∷ size 16 ∷ []
+  pub gives_up : then (Connect true ∷ []) (Shutdown true ∷ []) ≡ Says OnClosed ∷ []

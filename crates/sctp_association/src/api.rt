@@ -4,7 +4,7 @@ ghost use Rattle.std.specs.Prelude.{◌<◌, ◌^◌};
 
 use sctp_serial::{Message, SocketTime, StreamId};
 use sctp_state::{
-    BatchFault, CallError, Options, SendError, SendOptions, SocketEvent, SocketState,
+    BatchFault, CallError, Metrics, Options, SendError, SendOptions, SocketEvent, SocketState,
 };
 
 /// An end of an SCTP association, which makes no system call. Packets, moments and messages are handed in; events, among
@@ -32,6 +32,9 @@ pub trait DcSctpSocket {
 
     /// Ends the association at once, with an ABORT to the peer (RFC 9260 section 9.1).
     fn close(&mut self) -> Result<(), CallError>;
+
+    /// Shuts the association down: no more messages are accepted, and it ends once all are delivered (RFC 9260 section 9.2).
+    fn shutdown(&mut self) -> Result<(), CallError>;
 
     /// Queues a message, and sends as much as may be sent. A refused message changes nothing but the events that tell of
     /// it and of the end of its lifecycle.
@@ -72,6 +75,9 @@ pub trait DcSctpSocket {
 
     /// Whether the socket is closed, connecting, connected or shutting down.
     fn state(&self) -> SocketState;
+
+    /// What is counted of the association and the socket, while there is a control block.
+    fn get_metrics(&self) -> Option<Metrics>;
 
     /// How many messages wait to be handed out.
     fn messages_ready_count(&self) -> usize;

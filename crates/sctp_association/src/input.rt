@@ -2,6 +2,7 @@
 
 ghost use Rattle.std.specs.Prelude.{◌≡◌, codes, true, map, IfOk, OnOk, string_bytes};
 ghost use Rattle.sctp_wire.specs.CauseViews.{cause_tree};
+ghost use Rattle.sctp_wire.specs.ParameterViews.{parameter_tree};
 ghost use Rattle.sctp_packet.specs.ChunkView.{chunk_tree};
 ghost use Rattle.sctp_packet.specs.Packet.{IsFault};
 ghost use Rattle.sctp_packet.specs.PacketView.{packet_tree};
@@ -22,12 +23,13 @@ use crate::misuse::{Misuse, handle_unknown, is_passed_over};
 use crate::opening::{handle_init, handle_init_ack};
 use crate::outgoing_packet::word_of;
 use crate::sack::handle_sack;
+use crate::shutdown::{handle_shutdown_ack, handle_shutdown_chunk, handle_shutdown_complete};
 use crate::state::{Phase, State};
 use crate::transmission_control_block::TransmissionControlBlock;
 use rand_core::Rng;
-use sctp_packet::{Chunk, PacketParseError, SctpPacket};
+use sctp_packet::{Chunk, HeartbeatAckChunk, PacketParseError, SctpPacket};
 use sctp_state::{ErrorKind, SocketEvent};
-use sctp_wire::{Checksum, ErrorCause, Policy, ProtocolViolationErrorCause};
+use sctp_wire::{Checksum, ErrorCause, Parameter, Policy, ProtocolViolationErrorCause};
 use std::alloc::{AllocError, Global};
 
 /// What the causes say, with commas between them.
@@ -160,6 +162,25 @@ fn handle_error<C: Checksum>(
     }
 }
 
+/// HEARTBEAT is answered with its own parameters, where they fit.
+fn handle_heartbeat<C: Checksum>(
+    state: &State,
+    context: &mut Context<C>,
+    parameters: Vec<Parameter>,
+) -> Result<(), AllocError>
+    ensures { OnOk result (standing_of C.word_of state.now context.new
+        ≡ where_open (table.on_heartbeat (map parameter_tree parameters.items)) (standing_of C.word_of state.now context.old)) }
+{
+    match state {
+        State::Closed => Ok(()),
+        State::CookieWait(_) => Ok(()),
+        State::Open(_, tcb) => context.emit_chunk(
+            tcb,
+            Chunk::HeartbeatAck(HeartbeatAckChunk { parameters }),
+        ),
+    }
+}
+
 fn handle_acked_cookie<C: Checksum>(
     state: &mut State,
     context: &mut Context<C>,
@@ -192,8 +213,7 @@ fn handle_misuse<C: Checksum>(
     }
 }
 
-/// What a chunk does, of a packet under this tag. The chunks that belong to a shutdown, to heartbeats and to resets
-/// change nothing.
+/// What a chunk does, of a packet under this tag. HEARTBEAT ACK and RE-CONFIG change nothing.
 fn dispatch<R: Rng, C: Checksum>(
     state: &mut State,
     context: &mut Context<C>,
@@ -226,6 +246,10 @@ fn dispatch<R: Rng, C: Checksum>(
             c.new_cumulative_tsn,
             &c.skipped_streams,
         ),
+        Chunk::HeartbeatRequest(c) => handle_heartbeat(state, context, c.parameters),
+        Chunk::Shutdown(_) => handle_shutdown_chunk(state, context),
+        Chunk::ShutdownAck(_) => handle_shutdown_ack(state, context, tag),
+        Chunk::ShutdownComplete(_) => handle_shutdown_complete(state, context),
         Chunk::Unknown(c) => handle_unknown(state, context, &c),
         _ => Ok(()),
     }

@@ -1,11 +1,11 @@
 //! What the table of steps says of whole conversations, and what holds of all.
 
 ghost use Rattle.sctp_association.specs.Laws.{EachCallSendsAtMost, EachCallStaysWithin, EachCallTellsEndings, EachClosingEnds};
-ghost use Rattle.sctp_association.specs.Rows.{BothConnect, Closes, FirstConversation, Fragments, GivenUpOnce, OtherOrder};
+ghost use Rattle.sctp_association.specs.Rows.{BothConnect, Closes, FirstConversation, Fragments, GivenUpOnce, OtherOrder, ShutsDown};
 
 /// Conversations of two ends with default options go as they have to: an opening, a message that is delivered once, two
-/// that come in the other order, ends that connect at once, a message that is given up, one of three fragments, and a
-/// close.
+/// that come in the other order, ends that connect at once, a message that is given up, one of three fragments, a close,
+/// and a shutdown.
 pub fn conversations_go()
     ensures first { FirstConversation }
     ensures order { OtherOrder }
@@ -13,6 +13,7 @@ pub fn conversations_go()
     ensures given_up { GivenUpOnce }
     ensures fragments { Fragments }
     ensures closes { Closes }
+    ensures shuts_down { ShutsDown }
 {}
 
 /// No call makes an end tell a packet above the mtu, by its chunks and by its bytes.

@@ -10,6 +10,7 @@ mod draws;
 mod handshake;
 mod input;
 pub mod laws;
+mod metrics;
 mod misuse;
 mod opening;
 mod outgoing_packet;

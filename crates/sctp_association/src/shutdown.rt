@@ -4,15 +4,17 @@ ghost use Rattle.std.specs.Prelude.{◌≡◌, false, [], ◌∷◌, codes, IfOk
 ghost use Rattle.sctp_wire.specs.Cause.{user_initiated_abort};
 ghost use Rattle.sctp_wire.specs.CauseViews.{cause_tree};
 ghost use Rattle.sctp_packet.specs.Chunk.{abort_chunk};
+ghost use Rattle.sctp_association.specs.Association.{where_open};
 ghost use Rattle.sctp_association.specs.Closing as table;
 ghost use Rattle.sctp_association.specs.Packets.{emit_chunk, say};
 ghost use Rattle.sctp_state.specs.Events.{OnAborted, OnClosed, event_of};
 ghost use Rattle.sctp_association.specs.Views.{context_of, onward_of, phase_of, standing_of, tcb_of};
 
 use crate::context::Context;
+use crate::outgoing_packet::OutgoingPacket;
 use crate::state::{Phase, State};
 use crate::transmission_control_block::TransmissionControlBlock;
-use sctp_packet::{AbortChunk, Chunk, ShutdownAckChunk, ShutdownChunk};
+use sctp_packet::{AbortChunk, Chunk, ShutdownAckChunk, ShutdownChunk, ShutdownCompleteChunk};
 use sctp_state::{BackoffAlgorithm, ErrorKind, SocketEvent, Timer};
 use sctp_wire::{Checksum, ErrorCause, UserInitiatedAbortErrorCause};
 use std::alloc::AllocError;
@@ -72,6 +74,85 @@ impl<C: Checksum> Context<C> {
             Phase::ShutdownSent(_) => Ok(()),
             Phase::ShutdownAckSent(_) => Ok(()),
         }
+    }
+
+    /// The user asks for a shutdown: it goes on once nothing is unacknowledged.
+    fn begin_shutdown(
+        &mut self,
+        phase: &mut Phase,
+        tcb: &TransmissionControlBlock,
+    ) -> Result<(), AllocError>
+        ensures { OnOk result (onward_of C.word_of phase.new self.new ≡ table.shut (phase_of phase.old) (tcb_of tcb.now) (context_of C.word_of self.old)) }
+    {
+        match phase {
+            Phase::CookieEchoed(_) => {
+                *phase = Phase::ShutdownPending;
+                self.maybe_go_on(phase, tcb)
+            }
+            Phase::Established => {
+                *phase = Phase::ShutdownPending;
+                self.maybe_go_on(phase, tcb)
+            }
+            Phase::ShutdownPending => Ok(()),
+            Phase::ShutdownSent(_) => Ok(()),
+            Phase::ShutdownReceived => Ok(()),
+            Phase::ShutdownAckSent(_) => Ok(()),
+        }
+    }
+
+    /// SHUTDOWN: the peer sends no more, and waits for what is unacknowledged.
+    fn take_shutdown(
+        &mut self,
+        phase: &mut Phase,
+        tcb: &TransmissionControlBlock,
+    ) -> Result<(), AllocError>
+        ensures { OnOk result (onward_of C.word_of phase.new self.new ≡ table.shut_by_peer (phase_of phase.old) (tcb_of tcb.now) (context_of C.word_of self.old)) }
+    {
+        match phase {
+            Phase::Established => {
+                *phase = Phase::ShutdownReceived;
+                self.maybe_go_on(phase, tcb)
+            }
+            Phase::ShutdownPending => {
+                *phase = Phase::ShutdownReceived;
+                self.maybe_go_on(phase, tcb)
+            }
+            Phase::ShutdownSent(_) => {
+                *phase = Phase::ShutdownAckSent(self.t2_shutdown(tcb));
+                self.send_shutdown_ack(tcb)
+            }
+            Phase::ShutdownAckSent(t2_shutdown) => {
+                t2_shutdown.set_duration(tcb.rto.rto());
+                t2_shutdown.start(self.clock);
+                self.send_shutdown_ack(tcb)
+            }
+            Phase::CookieEchoed(_) => Ok(()),
+            Phase::ShutdownReceived => Ok(()),
+        }
+    }
+
+    /// A SHUTDOWN ACK that no shutdown asked for is answered under its tag (RFC 9260 section 8.5.1).
+    fn answer_out_of_the_blue(&mut self, tag: u32) -> Result<(), AllocError>
+        ensures { OnOk result (context_of C.word_of self.new ≡ table.out_of_the_blue tag (context_of C.word_of self.old)) }
+    {
+        let mut packet = OutgoingPacket::new(self.alloc, tag, self.options.mtu);
+        packet.add(Chunk::ShutdownComplete(ShutdownCompleteChunk {
+            tag_reflected: true,
+        }))?;
+        self.emit(&mut packet)
+    }
+
+    /// The shutdown is complete: the peer is told, and the user.
+    fn complete_shutdown(&mut self, tcb: &TransmissionControlBlock) -> Result<(), AllocError>
+        ensures { OnOk result (context_of C.word_of self.new ≡ (table.completed (tcb_of tcb.now) (context_of C.word_of self.old)).context) }
+    {
+        self.emit_chunk(
+            tcb,
+            Chunk::ShutdownComplete(ShutdownCompleteChunk {
+                tag_reflected: false,
+            }),
+        )?;
+        self.tell(SocketEvent::OnClosed())
     }
 
     /// An ABORT with one cause goes out.
@@ -164,5 +245,81 @@ pub(crate) fn handle_close<C: Checksum>(
             *state = State::Closed;
             Ok(())
         }
+    }
+}
+
+/// The association is shut down: what is queued and sent is delivered first (RFC 9260 section 9.2).
+pub(crate) fn handle_shutdown<C: Checksum>(
+    state: &mut State,
+    context: &mut Context<C>,
+) -> Result<(), AllocError>
+    ensures { OnOk result (standing_of C.word_of state.new context.new ≡ table.shutdown (standing_of C.word_of state.old context.old)) }
+{
+    match state {
+        State::Closed => Ok(()),
+        State::CookieWait(_) => {
+            context.tell(SocketEvent::OnClosed())?;
+            *state = State::Closed;
+            Ok(())
+        }
+        State::Open(phase, tcb) => context.begin_shutdown(phase, tcb),
+    }
+}
+
+/// SHUTDOWN.
+pub(crate) fn handle_shutdown_chunk<C: Checksum>(
+    state: &mut State,
+    context: &mut Context<C>,
+) -> Result<(), AllocError>
+    ensures { OnOk result (standing_of C.word_of state.new context.new ≡ where_open table.on_shutdown (standing_of C.word_of state.old context.old)) }
+{
+    match state {
+        State::Closed => Ok(()),
+        State::CookieWait(_) => Ok(()),
+        State::Open(phase, tcb) => context.take_shutdown(phase, tcb),
+    }
+}
+
+/// SHUTDOWN ACK, in a packet under this tag.
+pub(crate) fn handle_shutdown_ack<C: Checksum>(
+    state: &mut State,
+    context: &mut Context<C>,
+    tag: u32,
+) -> Result<(), AllocError>
+    ensures { OnOk result (standing_of C.word_of state.new context.new ≡ table.on_shutdown_ack tag (standing_of C.word_of state.old context.old)) }
+{
+    match state {
+        State::Closed => context.answer_out_of_the_blue(tag),
+        State::CookieWait(_) => context.answer_out_of_the_blue(tag),
+        State::Open(Phase::ShutdownSent(_), tcb) => {
+            context.complete_shutdown(tcb)?;
+            *state = State::Closed;
+            Ok(())
+        }
+        State::Open(Phase::ShutdownAckSent(_), tcb) => {
+            context.complete_shutdown(tcb)?;
+            *state = State::Closed;
+            Ok(())
+        }
+        State::Open(_, _) => context.answer_out_of_the_blue(tag),
+    }
+}
+
+/// SHUTDOWN COMPLETE.
+pub(crate) fn handle_shutdown_complete<C: Checksum>(
+    state: &mut State,
+    context: &mut Context<C>,
+) -> Result<(), AllocError>
+    ensures { OnOk result (standing_of C.word_of state.new context.new ≡ where_open table.on_shutdown_complete (standing_of C.word_of state.old context.old)) }
+{
+    match state {
+        State::Closed => Ok(()),
+        State::CookieWait(_) => Ok(()),
+        State::Open(Phase::ShutdownAckSent(_), _) => {
+            context.tell(SocketEvent::OnClosed())?;
+            *state = State::Closed;
+            Ok(())
+        }
+        State::Open(_, _) => Ok(()),
     }
 }

@@ -9,6 +9,7 @@ ghost use Rattle.sctp_association.specs.Association.{fresh, in_context};
 ghost use Rattle.sctp_association.specs.Calls as calls;
 ghost use Rattle.sctp_association.specs.Closing as closing;
 ghost use Rattle.sctp_association.specs.Input.{my_tag, on_standing};
+ghost use Rattle.sctp_association.specs.Metrics.{metrics_in, metrics_of};
 ghost use Rattle.sctp_association.specs.Opening as opening;
 ghost use Rattle.sctp_association.specs.Socket.{Ends, Hears, Judges, Worked, association_in, association_of, batch_ending, ending_of, endpoint, is_at_rest, refusal_in, refusals_in, sending_ending};
 ghost use Rattle.sctp_association.specs.Time as time;
@@ -19,15 +20,15 @@ use crate::calls::{send, send_many};
 use crate::context::Context;
 use crate::input::{handle_input, judge};
 use crate::opening::connect;
-use crate::shutdown::handle_close;
+use crate::shutdown::{handle_close, handle_shutdown};
 use crate::state::State;
 use crate::timers::advance_time;
 use crate::transmission_control_block::Association;
 use rand_core::Rng;
 use sctp_serial::{Message, SocketTime, StreamId};
 use sctp_state::{
-    BatchFault, BatchSendError, CallError, GivenUp, Options, SendError, SendOptions, SocketEvent,
-    SocketState,
+    BatchFault, BatchSendError, CallError, GivenUp, Metrics, Options, SendError, SendOptions,
+    SocketEvent, SocketState,
 };
 use sctp_wire::Checksum;
 use std::alloc::Global;
@@ -209,6 +210,20 @@ impl<R: Rng, C: Checksum> DcSctpSocket for Socket<R, C> {
         Ok(())
     }
 
+    fn shutdown(&mut self) -> Result<(), CallError>
+        ensures ends { Ends (ending_of result) self.old self.new }
+        ensures ok { OnOk result (endpoint R.stream C.word_of self.new ≡ on_standing closing.shutdown (endpoint R.stream C.word_of self.old)) }
+    {
+        if self.has_failed {
+            return Err(CallError::Failed);
+        }
+        if handle_shutdown(&mut self.state, &mut self.context).is_err() {
+            self.has_failed = true;
+            return Err(CallError::Memory);
+        }
+        Ok(())
+    }
+
     fn send(&mut self, message: Message, options: &SendOptions) -> Result<(), SendError>
         ensures ends { Ends (sending_ending result) self.old self.new }
         ensures answer { sending_ending result ≡ Worked → refusal_in result ≡ calls.refusal_of (message_of message) (endpoint R.stream C.word_of self.old).standing }
@@ -321,6 +336,12 @@ impl<R: Rng, C: Checksum> DcSctpSocket for Socket<R, C> {
         ensures { result ≡ calls.shown_state self.now.state }
     {
         self.state.socket_state()
+    }
+
+    fn get_metrics(&self) -> Option<Metrics>
+        ensures { option_map metrics_of result ≡ metrics_in self.now.state self.now.context }
+    {
+        self.context.metrics_in(&self.state)
     }
 
     fn messages_ready_count(&self) -> usize
