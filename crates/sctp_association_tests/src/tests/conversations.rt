@@ -1,7 +1,9 @@
 //! Conversations of two sockets with default options, as the worked rows tell them.
 
 use crate::tests::link::End::{A, B};
-use crate::tests::link::Move::{Close, Connect, Foreign, Give, Receive, Send, SendTwo, Shutdown, Time};
+use crate::tests::link::Move::{
+    Close, Connect, Foreign, Give, Receive, Send, SendTwo, Shutdown, Time,
+};
 use crate::tests::link::{Move, named, once, plainly, play};
 use std::alloc::{AllocError, Global};
 

@@ -382,11 +382,7 @@ fn play_both<S: Watched>(
 }
 
 /// What two fresh sockets tell of these moves and then those, and whether the first one is at rest at last.
-pub fn play(
-    alloc: Global,
-    moves: &[Move<'_>],
-    later: &[Move<'_>],
-) -> Result<String, AllocError> {
+pub fn play(alloc: Global, moves: &[Move<'_>], later: &[Move<'_>]) -> Result<String, AllocError> {
     let Ok(mut a) = made_side(alloc, End::A, 1) else {
         return Err(AllocError);
     };
