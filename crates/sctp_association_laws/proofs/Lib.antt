@@ -1,0 +1,4 @@
+pub mod ToldMapsLemmas
+pub mod SendingMapsLemmas
+pub mod RowMapsLemmas
+pub mod OpeningMapsLemmas
