@@ -10,7 +10,7 @@ use Rattle.sctp_outstanding.specs.Items.{number_of}
 use Rattle.sctp_outstanding.specs.Sack.{is_valid}
 use Rattle.sctp_rx.specs.Tracker as tracker
 use Rattle.sctp_tx.specs.Retransmission.{Sender, SackAnswer, Invalid, Valid, sender_if, told_if, answer_if, is_quiet}
-use Rattle.sctp_association.specs.Association.{Tcb, Phase, CookieEchoed, Established, ShutdownPending, ShutdownSent, ShutdownReceived, ShutdownAckSent, State, Closed, CookieWait, Open, Context, Standing, open_as, with_context, where_open}
+use Rattle.sctp_association.specs.Association.{Tcb, Phase, CookieEchoed, Established, ShutdownPending, ShutdownSent, ShutdownReceived, ShutdownAckSent, State, Closed, CookieWait, Open, Context, Standing, where_open}
 use Rattle.sctp_association.specs.Packets.{add, packet_to, emit_chunk}
 use Rattle.sctp_association.specs.Sending.{Sent, is_alone, open_with, send_buffered, send_lost}
 use Rattle.sctp_association.specs.Closing.{closed, t2_shutdown, send_shutdown, send_shutdown_ack, Onward, onward, pending, received, go_on, shut, open_onward, shutdown_in, shutdown, shut_by_peer, on_shutdown, completed, out_of_the_blue, on_shutdown_ack_open, on_shutdown_ack_in, on_shutdown_ack, on_shutdown_complete, abort, close_in, close, too_many, violated, causes_text, on_abort, on_error}

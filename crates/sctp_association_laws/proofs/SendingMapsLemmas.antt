@@ -5,19 +5,17 @@ use Rattle.sctp_state.specs.declared.api.ErrorKind.{ErrorKind}
 use Rattle.sctp_state.specs.Numbers.{more}
 use Rattle.sctp_state.specs.Events.{Event, SendPacket, OnError, Told}
 use Rattle.sctp_outstanding.specs.Items.{fast_items}
-use Rattle.sctp_outstanding.specs.Losses.{Step, expire_outstanding}
+use Rattle.sctp_outstanding.specs.Losses.{Step}
 use Rattle.sctp_outstanding.specs.Forward.{is_forward_due}
 use Rattle.sctp_rx.specs.Tracker.{is_ack_due}
 use Rattle.sctp_tx.specs.ForwardPoints.{forward_chunk}
-use Rattle.sctp_tx.specs.Resent.{resent_fast}
-use Rattle.sctp_tx.specs.Resent as resending
 use Rattle.sctp_tx.specs.Sending as fragments
 use Rattle.sctp_tx.specs.Sending.{send}
-use Rattle.sctp_association.specs.Association.{Tcb, Phase, Context, Standing, with_context, Counts}
+use Rattle.sctp_association.specs.Association.{Tcb, Phase, Context, Counts}
 use Rattle.sctp_association.specs.Packets.{Packet, emptied, room, fits, add, has_chunks, packet_to, new_packet, say, complain, header_to, emit_if, emit, emit_chunk}
-use Rattle.sctp_association.specs.Sending.{Filling, asked, ack_if, goes_along, with_ack, forward_added_if, forward_if, tested, forward_tested, tested_if, with_forward, filled, with_data, filled_as, emitted, Turned, turned_if, turned, go_on, burst, Sent, sent, sent_by, is_alone, open_with, send_with, send_buffered, send_in, cookie_if, send_cookie, fast_most, fast_packet, fast_if, send_lost}
-use Rattle.sctp_association_laws.specs.Mapped.{map_event, map_told, map_context, map_standing}
-use Rattle.sctp_association_laws.proofs.ToldMapsLemmas.{map_step, map_fragments, maps_tell, maps_expire, maps_fragments_sent}
+use Rattle.sctp_association.specs.Sending.{Filling, asked, ack_if, goes_along, with_ack, forward_added_if, forward_if, tested, forward_tested, tested_if, with_forward, filled, with_data, filled_as, emitted, Turned, turned_if, turned, go_on, burst, Sent, sent, sent_by, is_alone, open_with, send_with, send_buffered, send_in, cookie_if, send_cookie, fast_packet, fast_if, send_lost}
+use Rattle.sctp_association_laws.specs.Mapped.{map_event, map_context, map_standing}
+use Rattle.sctp_association_laws.proofs.ToldMapsLemmas.{maps_tell, maps_expire, maps_fragments_sent}
 
 -- ---- what holds a context
 

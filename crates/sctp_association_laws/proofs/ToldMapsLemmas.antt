@@ -2,7 +2,6 @@
 -- on what was told.
 use Rattle.std.proofs.Common.{◌≡◌, ℕ, zero, suc, ◌+◌, ◌-◌, ◌&&◌, Bool, true, false, cond, not, ◌||◌, nat_lt, Option, Some, None, unwrap_or, option_map, List, [], ◌∷◌, ◌++◌, length, take, map, slice_get, is_some, refl, sym, ap, ◌∙◌}
 use Rattle.std.proofs.lemmas.List.{map-append}
-use Rattle.sctp_packet.specs.Chunk.{FragmentTree}
 use Rattle.sctp_packet.specs.declared.sack.GapAckBlock.{GapAckBlock}
 use Rattle.sctp_state.specs.declared.api.GivenUpCause.TheVariants.{Lifetime, Retransmissions}
 use Rattle.sctp_state.specs.Events.{Event, OnBufferedAmountLow, OnTotalBufferedAmountLow, GivenUp, Told, tell, tell_all, give_up, expiry}
@@ -14,7 +13,7 @@ use Rattle.sctp_outstanding.specs.Sack.{report, reports, leaving, staying, acked
 use Rattle.sctp_outstanding.specs.Sack as sack
 use Rattle.sctp_state.specs.Thresholds.{crosses}
 use Rattle.sctp_send_queue.specs.Queue.{Queued, Stream, Streams, Queue, stream, watched_amount, watched_total}
-use Rattle.sctp_send_queue.specs.Produced.{Produced, Turn, is_stale, dropped, when, fully_sent, production, told_made, told_of, streams_after, streams_without_stale, advanced, next_fragment, turn_from, turn, next_stream, idle, produce_within, produce}
+use Rattle.sctp_send_queue.specs.Produced.{Produced, Turn, is_stale, dropped, when, fully_sent, production, told_made, streams_after, streams_without_stale, advanced, next_fragment, turn_from, turn, next_stream, idle, produce_within, produce}
 use Rattle.sctp_send_queue.specs.Settings.{Changed, set_low_threshold, with_threshold, front_discarded, streams_discarded, discard_from, discard}
 use Rattle.sctp_tx.specs.Retransmission.{Sender, step_of, heard_by, sender_if, told_if}
 use Rattle.sctp_tx.specs.Windows.{is_open}
