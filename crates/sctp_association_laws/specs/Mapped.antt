@@ -1,0 +1,68 @@
+-- Ends whose packets are mapped, and the law that each call commutes with it.
+use Rattle.std.specs.Prelude.{◌≡◌, ℕ, Bool, List, map}
+use Rattle.sctp_packet.specs.Chunk.{ChunkTree}
+use Rattle.sctp_packet.specs.Packet.{HeaderTree}
+use Rattle.sctp_state.specs.Events.{Event, SendPacket, OnConnected, OnClosed, OnConnectionRestarted, OnAborted, OnError, OnBufferedAmountLow, OnTotalBufferedAmountLow, OnStreamsResetFailed, OnStreamsResetPerformed, OnIncomingStreamReset, OnLifecycleMessageFullySent, OnLifecycleMessageMaybeExpired, OnLifecycleMessageExpired, OnLifecycleMessageDelivered, OnLifecycleEnd, Told}
+use Rattle.sctp_association.specs.Association.{Context, Standing, Endpoint}
+use Rattle.sctp_association.specs.Laws.{Call, called}
+use Rattle.sctp_association.specs.Wire.{written}
+
+-- ---- packets are mapped
+
+abbrev pub map_event : {P Q : Type 0} → (P → Q) → Event P → Event Q
+map_event f (SendPacket p) = SendPacket (f p)
+map_event f OnConnected = OnConnected
+map_event f OnClosed = OnClosed
+map_event f OnConnectionRestarted = OnConnectionRestarted
+map_event f (OnAborted kind text) = OnAborted kind text
+map_event f (OnError kind text) = OnError kind text
+map_event f (OnBufferedAmountLow id) = OnBufferedAmountLow id
+map_event f OnTotalBufferedAmountLow = OnTotalBufferedAmountLow
+map_event f (OnStreamsResetFailed ids) = OnStreamsResetFailed ids
+map_event f (OnStreamsResetPerformed ids) = OnStreamsResetPerformed ids
+map_event f (OnIncomingStreamReset ids) = OnIncomingStreamReset ids
+map_event f (OnLifecycleMessageFullySent id) = OnLifecycleMessageFullySent id
+map_event f (OnLifecycleMessageMaybeExpired id) = OnLifecycleMessageMaybeExpired id
+map_event f (OnLifecycleMessageExpired id) = OnLifecycleMessageExpired id
+map_event f (OnLifecycleMessageDelivered id) = OnLifecycleMessageDelivered id
+map_event f (OnLifecycleEnd id) = OnLifecycleEnd id
+
+-- records of messages given up have no packets
+abbrev pub map_told : {P Q : Type 0} → (P → Q) → Told P → Told Q
+map_told f t = record { events = map (map_event f) t.events; gone = t.gone }
+
+abbrev pub map_context : {P Q : Type 0} → (P → Q) → Context P → Context Q
+map_context f c = record {
+  options = c.options;
+  now = c.now;
+  queue = c.queue;
+  forward_from = c.forward_from;
+  errors = c.errors;
+  counts = c.counts;
+  peer = c.peer;
+  told = map_told f c.told;
+  pack = λ header is_summed chunks. f (c.pack header is_summed chunks);
+}
+
+abbrev pub map_standing : {P Q : Type 0} → (P → Q) → Standing P → Standing Q
+map_standing f s = record { state = s.state; context = map_context f s.context }
+
+abbrev pub map_end : {P Q : Type 0} → (P → Q) → Endpoint P → Endpoint Q
+map_end f s = record { standing = map_standing f s.standing; words = s.words }
+
+-- ---- packets as lists of chunks
+
+pub record Carried : Type 0 where
+  pub header : HeaderTree
+  pub is_summed : Bool
+  pub chunks : List ChunkTree
+
+abbrev pub as_written : (word_of : List ℕ → ℕ) → Carried → List ℕ
+as_written word_of o = written word_of o.header o.is_summed o.chunks
+
+-- ---- the law: an end whose packets are bytes does what the end with their chunks does
+
+abbrev pub BytesAreWrittenChunks : Type 0
+BytesAreWrittenChunks =
+    (word_of : List ℕ → ℕ) (call : Call) (s : Endpoint Carried)
+    → called call (map_end (as_written word_of) s) ≡ map_end (as_written word_of) (called call s)
