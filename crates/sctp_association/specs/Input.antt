@@ -62,18 +62,10 @@ is_single_init (init_chunk i ∷ []) = true
 is_single_init chunks = false
 
 -- before the association stands, a SHUTDOWN ACK is let through under any tag
-abbrev pub is_early_phase : Phase → Bool
-is_early_phase (CookieEchoed t1 cookie) = true
-is_early_phase Established = false
-is_early_phase ShutdownPending = false
-is_early_phase (ShutdownSent t2) = false
-is_early_phase ShutdownReceived = false
-is_early_phase (ShutdownAckSent t2) = false
-
 abbrev pub is_early : State → Bool
 is_early Closed = true
 is_early (CookieWait tag first t1) = true
-is_early (Open phase t) = is_early_phase phase
+is_early (Open phase t) = is_alone phase
 
 -- eight hex digits
 abbrev pub eight_digits : ℕ → List ℕ
