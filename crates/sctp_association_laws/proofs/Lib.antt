@@ -6,3 +6,4 @@ pub mod TimeMapsLemmas
 pub mod CallMapsLemmas
 pub mod InputMapsLemmas
 pub mod MappedLemmas
+pub mod OpeningRunLemmas
