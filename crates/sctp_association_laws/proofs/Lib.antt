@@ -7,3 +7,11 @@ pub mod CallMapsLemmas
 pub mod InputMapsLemmas
 pub mod MappedLemmas
 pub mod OpeningRunLemmas
+pub mod QueueRunLemmas
+pub mod IdleRunLemmas
+pub mod SendRunLemmas
+pub mod TakeRunLemmas
+pub mod RestRunLemmas
+pub mod FirstRunLemmas
+pub mod HeardBackLemmas
+pub mod RunPacketsLemmas

@@ -1,5 +1,5 @@
 -- The opening of an association, packet by packet.
-use Rattle.std.proofs.Common.{◌≡◌, ℕ, Option, Some, None, ◌^◌, ◌<◌, ◌==◌, Bool, true, false, List, [], ◌∷◌, refl, ap, ◌∙◌, arith}
+use Rattle.std.proofs.Common.{◌≡◌, ℕ, Option, None, ◌^◌, ◌<◌, ◌==◌, Bool, true, false, List, [], ◌∷◌, refl, ap, ◌∙◌, arith}
 use Rattle.std.specs.Prelude.{Ok, Result}
 use Rattle.std.proofs.lemmas.Bool.Decides.{nat_tests}
 use Rattle.rand_core.specs.Stream.{Stream, next_u32, next_u64}
@@ -13,9 +13,9 @@ use Rattle.sctp_state.specs.Capabilities.{agreed}
 use Rattle.sctp_state.specs.Cookie.{Cookie, CookieFits, cookie_bytes, capability_bytes, read_cookie}
 use Rattle.sctp_state.specs.declared.state_cookie.StateCookieError.{StateCookieError}
 use Rattle.sctp_state.proofs.CookieLemmas.{read_cookie-bytes}
-use Rattle.sctp_state.specs.Events.{Event, Told, silent, OnConnected}
+use Rattle.sctp_state.specs.Events.{Event, OnConnected}
 use Rattle.sctp_state.specs.declared.api.SctpImplementation.TheVariants.{DcsctpRs}
-use Rattle.sctp_association.specs.Association.{Identity, Tcb, tcb, State, CookieEchoed, Established, Closed, CookieWait, Open, Context, Standing, Endpoint, context, fresh, where_open}
+use Rattle.sctp_association.specs.Association.{Identity, Tcb, tcb, State, CookieEchoed, Established, Closed, CookieWait, Open, Context, Endpoint, context, where_open}
 use Rattle.sctp_association.specs.Opening.{t1_init, t1_cookie, cookie_for, init_ack_of, new_if, on_verdict, on_read_cookie}
 use Rattle.sctp_association.specs.Input.{my_tag, abort_flag, complete_flag, has_shutdown_ack, begins_with_cookie, refusal, taken_if, counts, ended, on_standing}
 use Rattle.sctp_association.specs.Socket.{association_in}
@@ -153,7 +153,7 @@ module _ {P : Type 0} (pack : Packing P) where
   pub opens : (a b : Stream) → opening pack a b ≡ telling (OnConnected ∷ []) (opened_a a b)
   opens a b = ap (λ (s : Endpoint P). given (cookie_ack_packet a) (quiet s)) (echoes a b) ∙ hears_cookie_ack a b
 
-  told_by : (s t : Endpoint P) (events : List (Event P)) → s ≡ telling events t → Tells s events
+  pub told_by : (s t : Endpoint P) (events : List (Event P)) → s ≡ telling events t → Tells s events
   told_by s t events e = ap (λ (x : Endpoint P). x.standing.context.told) e
 
   pub it_opens : (a b : Stream) → Opens pack a b

@@ -1,21 +1,22 @@
 -- The first run, by the table of steps: two ends with default options connect, a message of 1 to 1,000 bytes crosses, and
 -- its sender is at rest. So it goes for all words that are drawn, and whatever packets are.
-use Rattle.std.specs.Prelude.{◌≡◌, ℕ, ◌+◌, ◌-◌, ◌<◌, ◌≤◌, ◌^◌, Bool, true, false, Option, Some, None, List, [], ◌∷◌, ◌++◌, length}
+use Rattle.std.specs.Prelude.{◌≡◌, ℕ, ◌-◌, ◌<◌, ◌≤◌, ◌^◌, true, false, Option, Some, None, List, [], ◌∷◌, ◌++◌, length}
 use Rattle.rand_core.specs.Stream.{Stream, next_u32}
 use Rattle.sctp_serial.specs.Messages.{Message}
 use Rattle.sctp_packet.specs.Chunk.{ChunkTree, FragmentTree, InitTree, init_chunk, init_ack_chunk, data_chunk, sack_chunk, cookie_echo_chunk, cookie_ack_chunk}
 use Rattle.sctp_state.specs.Options.{SendOptions, defaults}
 use Rattle.sctp_state.specs.Capabilities.{announced}
-use Rattle.sctp_state.specs.Cookie.{Cookie, cookie_bytes}
-use Rattle.sctp_state.specs.Events.{Event, SendPacket, OnConnected, OnBufferedAmountLow, OnLifecycleMessageFullySent, OnLifecycleMessageDelivered, OnLifecycleEnd, Told, silent}
+use Rattle.sctp_state.specs.Cookie.{cookie_bytes}
+use Rattle.sctp_state.specs.Events.{Event, SendPacket, OnConnected, OnBufferedAmountLow, OnLifecycleMessageFullySent, OnLifecycleMessageDelivered, OnLifecycleEnd, silent}
 use Rattle.sctp_association.specs.Association.{Endpoint, fresh}
 use Rattle.sctp_association.specs.Packets.{header_to}
 use Rattle.sctp_association.specs.Opening.{tsn_from, tag_from, init_of, cookie_for, init_ack_of, connect}
 use Rattle.sctp_association.specs.Calls.{send, ready_in}
 use Rattle.sctp_association.specs.Input.{on_packet, on_standing}
-use Rattle.sctp_association.specs.Socket.{Association, association_in, is_at_rest}
+use Rattle.sctp_association.specs.Socket.{Association, association_in, is_at_rest, Hears}
+use Rattle.sctp_association.specs.Wire.{written}
 use Rattle.sctp_association.specs.Laws.{Packing}
-use Rattle.sctp_association_laws.specs.Mapped.{Carried}
+use Rattle.sctp_association_laws.specs.Mapped.{Carried, as_written}
 
 -- ---- what an end draws as it opens an association
 
@@ -134,11 +135,6 @@ pub record IsSmall (m : Message) : Type 0 where
   pub stream : m.stream < 2 ^ 16
   pub ppid : m.ppid < 2 ^ 32
 
--- without a lifetime, and sent again as often as it takes
-pub record IsReliable (o : SendOptions) : Type 0 where
-  pub lifetime : o.lifetime ≡ None
-  pub retransmissions : o.max_retransmissions ≡ None
-
 abbrev pub association : (mine peer : Stream) → Association
 association mine peer = record {
   my_tag = tag_of mine;
@@ -147,7 +143,7 @@ association mine peer = record {
   peer_initial_tsn = first_of peer;
 }
 
--- four packets open the association: each end is told so once, and what the two hold is crossed
+-- Four packets open the association: each end is told so once, and what the two hold is crossed.
 pub record Opens {P : Type 0} (pack : Packing P) (a b : Stream) : Type 0 where
   pub asked : Tells (asking pack a b) (packed pack (init_packet a) ∷ [])
   pub answered : Tells (answering pack a b) (packed pack (init_ack_packet a b) ∷ [])
@@ -157,13 +153,42 @@ pub record Opens {P : Type 0} (pack : Packing P) (a b : Stream) : Type 0 where
   pub held_by_a : association_in (opening pack a b).standing.state ≡ Some (association a b)
   pub held_by_b : association_in (accepting pack a b).standing.state ≡ Some (association b a)
 
--- a message crosses in one packet, and is ready: it, and nothing else
+-- A message crosses in one packet, is acknowledged in one, and is ready: it, and nothing else.
 pub record Crosses {P : Type 0} (pack : Packing P) (a b : Stream) (m : Message) (o : SendOptions) : Type 0 where
   pub sent : Tells (sending pack a b m o) (OnBufferedAmountLow m.stream ∷ (fully_sent o.lifecycle_id ++ packed pack (data_packet a b m o) ∷ []))
   pub came : Tells (taking pack a b m o) (packed pack (sack_packet a m) ∷ [])
+  pub nothing_before : ready_in (accepting pack a b).standing.state ≡ []
   pub ready : ready_in (taking pack a b m o).standing.state ≡ m ∷ []
 
--- its acknowledgement leaves the sender at rest
+-- The acknowledgement leaves the sender at rest.
 pub record Rests {P : Type 0} (pack : Packing P) (a b : Stream) (m : Message) (o : SendOptions) : Type 0 where
   pub told : Tells (resting pack a b m o) (delivered o.lifecycle_id)
   pub at_rest : is_at_rest (resting pack a b m o).standing.state (resting pack a b m o).standing.context.queue ≡ true
+  pub nothing_ready : ready_in (resting pack a b m o).standing.state ≡ []
+
+-- An end that hears the bytes of this packet is the one after it, and no other.
+abbrev pub Leads : (word_of : List ℕ → ℕ) → Carried → (before after : Endpoint (List ℕ)) → Type 0
+Leads word_of p before after = (t : Endpoint (List ℕ)) → Hears word_of (as_written word_of p) before t → t ≡ after
+
+-- In bytes each packet of the run leads from end to end.
+pub record LeadsOn (word_of : List ℕ → ℕ) (a b : Stream) (m : Message) (o : SendOptions) : Type 0 where
+  pub init : Leads word_of (init_packet a) (fresh defaults (written word_of) b) (answering (written word_of) a b)
+  pub init_ack : Leads word_of (init_ack_packet a b) (quiet (asking (written word_of) a b)) (echoing (written word_of) a b)
+  pub cookie_echo : Leads word_of (cookie_echo_packet a b) (quiet (answering (written word_of) a b)) (accepting (written word_of) a b)
+  pub cookie_ack : Leads word_of (cookie_ack_packet a) (quiet (echoing (written word_of) a b)) (opening (written word_of) a b)
+  pub message : Leads word_of (data_packet a b m o) (quiet (accepting (written word_of) a b)) (taking (written word_of) a b m o)
+  pub sack : Leads word_of (sack_packet a m) (quiet (sending (written word_of) a b m o)) (resting (written word_of) a b m o)
+
+-- ---- for all words, messages and options of sending
+
+abbrev pub FirstRunOpens : Type 0
+FirstRunOpens = (pack : Packing (List ℕ)) (a b : Stream) → Opens pack a b
+
+abbrev pub FirstRunCrosses : Type 0
+FirstRunCrosses = (pack : Packing (List ℕ)) (a b : Stream) (m : Message) (o : SendOptions) → IsSmall m → Crosses pack a b m o
+
+abbrev pub FirstRunRests : Type 0
+FirstRunRests = (pack : Packing (List ℕ)) (a b : Stream) (m : Message) (o : SendOptions) → IsSmall m → Rests pack a b m o
+
+abbrev pub FirstRunInBytes : Type 0
+FirstRunInBytes = (word_of : List ℕ → ℕ) (a b : Stream) (m : Message) (o : SendOptions) → IsSmall m → LeadsOn word_of a b m o
