@@ -1,8 +1,9 @@
 -- The opening of an association, packet by packet.
-use Rattle.std.proofs.Common.{◌≡◌, ℕ, Option, None, ◌^◌, ◌<◌, ◌==◌, Bool, true, false, List, [], ◌∷◌, refl, ap, ◌∙◌, arith}
+use Rattle.std.proofs.Common.{◌≡◌, ℕ, Option, Some, None, ◌^◌, ◌<◌, ◌==◌, Bool, true, false, List, [], ◌∷◌, refl, ap, ◌∙◌, arith}
 use Rattle.std.specs.Prelude.{Ok, Result}
 use Rattle.std.proofs.lemmas.Bool.Decides.{nat_tests}
 use Rattle.rand_core.specs.Stream.{Stream, next_u32, next_u64}
+use Rattle.sctp_serial.specs.Messages.{Message}
 use Rattle.sctp_wire.specs.Fields.{be16, be32, be64}
 use Rattle.sctp_wire.specs.Serialize.{padded_item, inner_items}
 use Rattle.sctp_wire.specs.Parameter.{parameter_value}
@@ -17,10 +18,11 @@ use Rattle.sctp_state.specs.Events.{Event, OnConnected}
 use Rattle.sctp_state.specs.declared.api.SctpImplementation.TheVariants.{DcsctpRs}
 use Rattle.sctp_association.specs.Association.{Identity, Tcb, tcb, State, CookieEchoed, Established, Closed, CookieWait, Open, Context, Endpoint, context, where_open}
 use Rattle.sctp_association.specs.Opening.{t1_init, t1_cookie, cookie_for, init_ack_of, new_if, on_verdict, on_read_cookie}
+use Rattle.sctp_association.specs.Calls.{ready_in}
 use Rattle.sctp_association.specs.Input.{my_tag, abort_flag, complete_flag, has_shutdown_ack, begins_with_cookie, refusal, taken_if, counts, ended, on_standing}
-use Rattle.sctp_association.specs.Socket.{association_in}
+use Rattle.sctp_association.specs.Socket.{Association, association_in}
 use Rattle.sctp_association.specs.Laws.{Packing}
-use Rattle.sctp_association_laws.specs.FirstRun.{first_of, tag_of, init_tree, init_packet, init_ack_packet, cookie_echo_packet, cookie_ack_packet, given, quiet, packed, asking, answering, echoing, accepting, opening, Tells, Opens}
+use Rattle.sctp_association_laws.specs.FirstRun.{first_of, tag_of, init_tree, init_packet, init_ack_packet, cookie_echo_packet, cookie_ack_packet, given, quiet, packed, asking, answering, echoing, accepting, opening, association, Shows, Opens}
 
 -- ---- the ends, by their parts
 
@@ -153,16 +155,19 @@ module _ {P : Type 0} (pack : Packing P) where
   pub opens : (a b : Stream) → opening pack a b ≡ telling (OnConnected ∷ []) (opened_a a b)
   opens a b = ap (λ (s : Endpoint P). given (cookie_ack_packet a) (quiet s)) (echoes a b) ∙ hears_cookie_ack a b
 
-  pub told_by : (s t : Endpoint P) (events : List (Event P)) → s ≡ telling events t → Tells s events
-  told_by s t events e = ap (λ (x : Endpoint P). x.standing.context.told) e
+  pub shows_by : (s t : Endpoint P) (events : List (Event P)) (held : Option Association) (ready : List Message) → s ≡ telling events t
+      → association_in t.standing.state ≡ held → ready_in t.standing.state ≡ ready → Shows s events held ready
+  shows_by s t events held ready e h r = record {
+    tells = ap (λ (x : Endpoint P). x.standing.context.told) e;
+    holds = ap (λ (x : Endpoint P). association_in x.standing.state) e ∙ h;
+    has = ap (λ (x : Endpoint P). ready_in x.standing.state) e ∙ r;
+  }
 
   pub it_opens : (a b : Stream) → Opens pack a b
   it_opens a b = record {
-    asked = told_by (asking pack a b) (waiting a) _ (asks a b);
-    answered = told_by (answering pack a b) (answered b) _ (answers a b);
-    echoed = told_by (echoing pack a b) (echoed a b) _ (echoes a b);
-    accepted = told_by (accepting pack a b) (opened_b a b) _ (accepts a b);
-    opened = told_by (opening pack a b) (opened_a a b) _ (opens a b);
-    held_by_a = ap (λ (x : Endpoint P). association_in x.standing.state) (opens a b);
-    held_by_b = ap (λ (x : Endpoint P). association_in x.standing.state) (accepts a b);
+    asked = shows_by (asking pack a b) (waiting a) _ None [] (asks a b) refl refl;
+    answered = shows_by (answering pack a b) (answered b) _ None [] (answers a b) refl refl;
+    echoed = shows_by (echoing pack a b) (echoed a b) _ (Some (association a b)) [] (echoes a b) refl refl;
+    accepted = shows_by (accepting pack a b) (opened_b a b) _ (Some (association b a)) [] (accepts a b) refl refl;
+    opened = shows_by (opening pack a b) (opened_a a b) _ (Some (association a b)) [] (opens a b) refl refl;
   }

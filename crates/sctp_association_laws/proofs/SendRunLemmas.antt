@@ -76,18 +76,19 @@ data_fits tsn is_summed tag f few =
     ∙ ap (λ (b : Bool). (b && true) && nat_le (length (chunk_bytes (data_chunk tsn false f))) (room p)) (short_length (length f.payload) few)
     ∙ has_room (length (chunk_bytes (data_chunk tsn false f))) (room p) (omega (arith, long, few, length_none))
 
-module _ {P : Type 0} (pack : Packing P) (a b : rng.Stream) (m : Message) (o : SendOptions) where
-  -- ---- the queue takes it
+-- the queue takes it
+pub accepts_message : {P : Type 0} (pack : Packing P) (m : Message) → IsSmall m → refusal m Connected (context_a pack 2 2) ≡ None
+accepts_message pack m small = simp (not_empty (length m.payload) small.some, not_large (length m.payload) small.few) refl
 
-  accepting : IsSmall m → refusal m Connected (context_a pack 2 2) ≡ None
-  accepting small = simp (not_empty (length m.payload) small.some, not_large (length m.payload) small.few) refl
+module _ {P : Type 0} (pack : Packing P) (a b : rng.Stream) (m : Message) (o : SendOptions) where
+  -- ---- queued
 
   abbrev holding_context : Queue → Context P
   holding_context q = record (context_a pack 2 2) { queue = q; counts = record { rx_packets = 2; tx_packets = 2; tx_messages = 1 } }
 
   offers : IsSmall m → send m o (opened_a pack a b).standing ≡ where_open send_in (with_context (opened_a pack a b).standing (holding_context (holding m o)))
   offers small =
-      ap (λ (r : Option SendError). sent_if r (with_context (opened_a pack a b).standing (offered r m o (context_a pack 2 2)))) (accepting small)
+      ap (λ (r : Option SendError). sent_if r (with_context (opened_a pack a b).standing (offered r m o (context_a pack 2 2)))) (accepts_message pack m small)
       ∙ ap (λ (q : Queue). where_open send_in (with_context (opened_a pack a b).standing (holding_context q))) (queues m o small.some)
 
   -- ---- its fragment

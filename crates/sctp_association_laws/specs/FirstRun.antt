@@ -11,7 +11,7 @@ use Rattle.sctp_state.specs.Events.{Event, SendPacket, OnConnected, OnBufferedAm
 use Rattle.sctp_association.specs.Association.{Endpoint, fresh}
 use Rattle.sctp_association.specs.Packets.{header_to}
 use Rattle.sctp_association.specs.Opening.{tsn_from, tag_from, init_of, cookie_for, init_ack_of, connect}
-use Rattle.sctp_association.specs.Calls.{send, ready_in}
+use Rattle.sctp_association.specs.Calls.{refusal_of, send, ready_in}
 use Rattle.sctp_association.specs.Input.{on_packet, on_standing}
 use Rattle.sctp_association.specs.Socket.{Association, association_in, is_at_rest, Hears}
 use Rattle.sctp_association.specs.Wire.{written}
@@ -114,10 +114,6 @@ module _ {P : Type 0} (pack : Packing P) (a b : Stream) where
 abbrev pub packed : {P : Type 0} → Packing P → Carried → Event P
 packed pack p = SendPacket (pack p.header p.is_summed p.chunks)
 
--- these events, in this order, and nothing was given up
-abbrev pub Tells : {P : Type 0} → Endpoint P → List (Event P) → Type 0
-Tells s events = s.standing.context.told ≡ record { events = events; gone = [] }
-
 abbrev pub fully_sent : {P : Type 0} → Option ℕ → List (Event P)
 fully_sent None = []
 fully_sent (Some id) = OnLifecycleMessageFullySent id ∷ []
@@ -143,28 +139,31 @@ association mine peer = record {
   peer_initial_tsn = first_of peer;
 }
 
+-- An end has told these events, in this order, gave nothing up, holds this association, and has these messages ready.
+pub record Shows {P : Type 0} (s : Endpoint P) (events : List (Event P)) (held : Option Association) (ready : List Message) : Type 0 where
+  pub tells : s.standing.context.told ≡ record { events = events; gone = [] }
+  pub holds : association_in s.standing.state ≡ held
+  pub has : ready_in s.standing.state ≡ ready
+
 -- Four packets open the association: each end is told so once, and what the two hold is crossed.
 pub record Opens {P : Type 0} (pack : Packing P) (a b : Stream) : Type 0 where
-  pub asked : Tells (asking pack a b) (packed pack (init_packet a) ∷ [])
-  pub answered : Tells (answering pack a b) (packed pack (init_ack_packet a b) ∷ [])
-  pub echoed : Tells (echoing pack a b) (packed pack (cookie_echo_packet a b) ∷ [])
-  pub accepted : Tells (accepting pack a b) (OnConnected ∷ packed pack (cookie_ack_packet a) ∷ [])
-  pub opened : Tells (opening pack a b) (OnConnected ∷ [])
-  pub held_by_a : association_in (opening pack a b).standing.state ≡ Some (association a b)
-  pub held_by_b : association_in (accepting pack a b).standing.state ≡ Some (association b a)
+  pub asked : Shows (asking pack a b) (packed pack (init_packet a) ∷ []) None []
+  pub answered : Shows (answering pack a b) (packed pack (init_ack_packet a b) ∷ []) None []
+  pub echoed : Shows (echoing pack a b) (packed pack (cookie_echo_packet a b) ∷ []) (Some (association a b)) []
+  pub accepted : Shows (accepting pack a b) (OnConnected ∷ packed pack (cookie_ack_packet a) ∷ []) (Some (association b a)) []
+  pub opened : Shows (opening pack a b) (OnConnected ∷ []) (Some (association a b)) []
 
--- A message crosses in one packet, is acknowledged in one, and is ready: it, and nothing else.
+-- A message is accepted, crosses in one packet, and is ready: it, and nothing else. One packet acknowledges it.
 pub record Crosses {P : Type 0} (pack : Packing P) (a b : Stream) (m : Message) (o : SendOptions) : Type 0 where
-  pub sent : Tells (sending pack a b m o) (OnBufferedAmountLow m.stream ∷ (fully_sent o.lifecycle_id ++ packed pack (data_packet a b m o) ∷ []))
-  pub came : Tells (taking pack a b m o) (packed pack (sack_packet a m) ∷ [])
-  pub nothing_before : ready_in (accepting pack a b).standing.state ≡ []
-  pub ready : ready_in (taking pack a b m o).standing.state ≡ m ∷ []
+  pub accepted : refusal_of m (quiet (opening pack a b)).standing ≡ None
+  pub sent : Shows (sending pack a b m o) (OnBufferedAmountLow m.stream ∷ (fully_sent o.lifecycle_id ++ packed pack (data_packet a b m o) ∷ []))
+      (Some (association a b)) []
+  pub came : Shows (taking pack a b m o) (packed pack (sack_packet a m) ∷ []) (Some (association b a)) (m ∷ [])
 
 -- The acknowledgement leaves the sender at rest.
 pub record Rests {P : Type 0} (pack : Packing P) (a b : Stream) (m : Message) (o : SendOptions) : Type 0 where
-  pub told : Tells (resting pack a b m o) (delivered o.lifecycle_id)
+  pub heard : Shows (resting pack a b m o) (delivered o.lifecycle_id) (Some (association a b)) []
   pub at_rest : is_at_rest (resting pack a b m o).standing.state (resting pack a b m o).standing.context.queue ≡ true
-  pub nothing_ready : ready_in (resting pack a b m o).standing.state ≡ []
 
 -- An end that hears the bytes of this packet is the one after it, and no other.
 abbrev pub Leads : (word_of : List ℕ → ℕ) → Carried → (before after : Endpoint (List ℕ)) → Type 0

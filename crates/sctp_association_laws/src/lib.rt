@@ -1,4 +1,4 @@
-//! Laws of the association's table of steps that hold for packets of every type.
+//! Laws of the association's table of steps: of packets of every type, of packets as bytes, and of the first run.
 #![tactic(auto)]
 
 ghost use Rattle.sctp_association_laws.specs.FirstRun.{FirstRunCrosses, FirstRunInBytes, FirstRunOpens, FirstRunRests};
