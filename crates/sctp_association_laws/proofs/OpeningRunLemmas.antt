@@ -90,14 +90,18 @@ module _ {P : Type 0} (pack : Packing P) where
   abbrev pub block : (mine peer : Stream) → (a_rwnd : ℕ) → Tcb
   block mine peer a_rwnd = tcb defaults (identity_of mine peer) a_rwnd (agreed defaults defaults)
 
-  abbrev pub context_a : (rx tx : ℕ) → Context P
-  context_a rx tx = record (counted pack rx tx) { peer = DcsctpRs }
+  -- with the association open
+  abbrev pub open_a : (rx tx : ℕ) → Context P
+  open_a rx tx = record (counted pack rx tx) { peer = DcsctpRs }
+
+  abbrev pub open_b : (rx tx : ℕ) → Context P
+  open_b rx tx = counted pack rx tx
 
   abbrev pub echoed : (a b : Stream) → Endpoint P
   echoed a b = record {
     standing = record {
       state = Open (CookieEchoed (t1_cookie (context defaults pack)) (cookie_bytes (cookie_of a b))) (block a b 5242880);
-      context = context_a 1 2;
+      context = record (counted pack 1 2) { peer = DcsctpRs };
     };
     words = (next_u64 (drawn a)).1;
   }
@@ -127,7 +131,7 @@ module _ {P : Type 0} (pack : Packing P) where
 
   abbrev pub opened_b : (a b : Stream) → Endpoint P
   opened_b a b = record {
-    standing = record { state = Open Established (block b a 2000000); context = counted pack 2 2 };
+    standing = record { state = Open Established (block b a 2000000); context = open_b 2 2 };
     words = (next_u64 (drawn b)).1;
   }
 
@@ -142,7 +146,7 @@ module _ {P : Type 0} (pack : Packing P) where
 
   abbrev pub opened_a : (a b : Stream) → Endpoint P
   opened_a a b = record {
-    standing = record { state = Open Established (block a b 5242880); context = context_a 2 2 };
+    standing = record { state = Open Established (block a b 5242880); context = open_a 2 2 };
     words = (next_u64 (drawn a)).1;
   }
 

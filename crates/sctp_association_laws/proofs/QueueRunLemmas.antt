@@ -69,10 +69,20 @@ module _ (m : Message) (o : SendOptions) where
     lifecycle = o.lifecycle_id;
   }
 
-  -- the stream has taken a number
+  -- the stream has taken its number
+  abbrev numbered : Stream
+  numbered = took waiting_message (stream_with [])
+
+  abbrev after_it : Stream
+  after_it = record (stream_with []) {
+    next_ssn = numbered.next_ssn;
+    next_ordered_mid = numbered.next_ordered_mid;
+    next_unordered_mid = numbered.next_unordered_mid;
+  }
+
   abbrev pub emptied : Queue
   emptied = record (queue defaults) {
-    streams = record (no_streams defaults) { entries = (m.stream, record (took waiting_message (stream_with [])) { messages = [] }) ∷ [] };
+    streams = record (no_streams defaults) { entries = (m.stream, after_it) ∷ [] };
     scheduler = record (scheduler 1159) { virtual_time = 1 };
     next_number = 1;
   }

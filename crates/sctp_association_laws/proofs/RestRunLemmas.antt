@@ -4,6 +4,7 @@ use Rattle.rand_core.specs.Stream.{next_u64}
 use Rattle.rand_core.specs.Stream as rng
 use Rattle.sctp_serial.specs.Messages.{Message}
 use Rattle.sctp_packet.specs.Chunk.{SackTree, sack_chunk}
+use Rattle.sctp_packet.specs.Written.{chunks_bytes}
 use Rattle.sctp_state.specs.Options.{SendOptions, defaults}
 use Rattle.sctp_state.specs.Errors.{ErrorCounter, no_errors}
 use Rattle.sctp_state.specs.Events.{silent}
@@ -17,7 +18,7 @@ use Rattle.sctp_association.specs.Closing.{onward}
 use Rattle.sctp_association.specs.Input.{counts, ended, taken_if}
 use Rattle.sctp_association.specs.Laws.{Packing}
 use Rattle.sctp_association_laws.specs.FirstRun.{first_of, tag_of, sack_packet, delivered, given, quiet, resting, IsSmall}
-use Rattle.sctp_association_laws.proofs.OpeningRunLemmas.{telling, first_small, tag_some, own_taken, drawn, context_a}
+use Rattle.sctp_association_laws.proofs.OpeningRunLemmas.{telling, first_small, tag_some, own_taken, drawn, open_a}
 use Rattle.sctp_association_laws.proofs.QueueRunLemmas.{emptied}
 use Rattle.sctp_association_laws.proofs.IdleRunLemmas.{data_idle, none_kept}
 use Rattle.sctp_association_laws.proofs.SendRunLemmas.{sent_tcb, sent_end, sends}
@@ -43,7 +44,7 @@ module _ {P : Type 0} (pack : Packing P) (a b : rng.Stream) (m : Message) (lifet
     tcb = sent_tcb pack a b m o
 
     abbrev heard_context : Context P
-    heard_context = record (context_a pack 3 3) { queue = emptied m o; counts = record { rx_packets = 3; tx_packets = 3; tx_messages = 1 } }
+    heard_context = record (open_a pack 3 3) { queue = emptied m o; counts = record { rx_packets = 3; tx_packets = 3; tx_messages = 1 } }
 
     abbrev acked_sender : Sender
     acked_sender = heard {P = P} 0 4294967296 window [] tcb.sender silent
@@ -62,6 +63,7 @@ module _ {P : Type 0} (pack : Packing P) (a b : rng.Stream) (m : Message) (lifet
 
     bursts : burst 4 true false (record { packet = new_packet defaults rested_tcb; tcb = rested_tcb; context = told_context })
         ≡ record { packet = new_packet defaults rested_tcb; tcb = rested_tcb; context = told_context }
+    unfolding chunks_bytes
     bursts =
         ap (λ (y : Filling P). rest y)
         (data_idle (emptied m o).streams 1 1159 1 told_context.told (first_of a) 4294967296 [] rested_tcb.sender.windows rested_tcb.sender.t3

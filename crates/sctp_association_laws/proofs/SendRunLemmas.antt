@@ -32,7 +32,7 @@ use Rattle.sctp_association.specs.Calls.{refusal, offered, sent_if, send}
 use Rattle.sctp_association.specs.Input.{on_standing}
 use Rattle.sctp_association.specs.Laws.{Packing}
 use Rattle.sctp_association_laws.specs.FirstRun.{first_of, tag_of, fragment, fully_sent, data_packet, packed, quiet, sending, IsSmall}
-use Rattle.sctp_association_laws.proofs.OpeningRunLemmas.{telling, first_small, drawn, block, context_a, opened_a, opens}
+use Rattle.sctp_association_laws.proofs.OpeningRunLemmas.{telling, first_small, drawn, block, open_a, opened_a, opens}
 use Rattle.sctp_association_laws.proofs.QueueRunLemmas.{holding, emptied, queues, produces}
 use Rattle.sctp_association_laws.proofs.IdleRunLemmas.{fill_idle, burst_ends}
 
@@ -77,18 +77,18 @@ data_fits tsn is_summed tag f few =
     ∙ has_room (length (chunk_bytes (data_chunk tsn false f))) (room p) (omega (arith, long, few, length_none))
 
 -- the queue takes it
-pub accepts_message : {P : Type 0} (pack : Packing P) (m : Message) → IsSmall m → refusal m Connected (context_a pack 2 2) ≡ None
+pub accepts_message : {P : Type 0} (pack : Packing P) (m : Message) → IsSmall m → refusal m Connected (open_a pack 2 2) ≡ None
 accepts_message pack m small = simp (not_empty (length m.payload) small.some, not_large (length m.payload) small.few) refl
 
 module _ {P : Type 0} (pack : Packing P) (a b : rng.Stream) (m : Message) (o : SendOptions) where
   -- ---- queued
 
   abbrev holding_context : Queue → Context P
-  holding_context q = record (context_a pack 2 2) { queue = q; counts = record { rx_packets = 2; tx_packets = 2; tx_messages = 1 } }
+  holding_context q = record (open_a pack 2 2) { queue = q; counts = record { rx_packets = 2; tx_packets = 2; tx_messages = 1 } }
 
   offers : IsSmall m → send m o (opened_a pack a b).standing ≡ where_open send_in (with_context (opened_a pack a b).standing (holding_context (holding m o)))
   offers small =
-      ap (λ (r : Option SendError). sent_if r (with_context (opened_a pack a b).standing (offered r m o (context_a pack 2 2)))) (accepts_message pack m small)
+      ap (λ (r : Option SendError). sent_if r (with_context (opened_a pack a b).standing (offered r m o (open_a pack 2 2)))) (accepts_message pack m small)
       ∙ ap (λ (q : Queue). where_open send_in (with_context (opened_a pack a b).standing (holding_context q))) (queues m o small.some)
 
   -- ---- its fragment
@@ -163,7 +163,7 @@ module _ {P : Type 0} (pack : Packing P) (a b : rng.Stream) (m : Message) (o : S
   sent_end = record {
     standing = record {
       state = Open Established sent_tcb;
-      context = record (context_a pack 2 3) { queue = emptied m o; counts = record { rx_packets = 2; tx_packets = 3; tx_messages = 1 } };
+      context = record (open_a pack 2 3) { queue = emptied m o; counts = record { rx_packets = 2; tx_packets = 3; tx_messages = 1 } };
     };
     words = (next_u64 (drawn a)).1;
   }

@@ -24,7 +24,7 @@ use Rattle.sctp_association.specs.Input as input
 use Rattle.sctp_association.specs.Input.{counts, ended, on_standing}
 use Rattle.sctp_association.specs.Laws.{Packing}
 use Rattle.sctp_association_laws.specs.FirstRun.{first_of, tag_of, fragment, data_packet, sack_packet, packed, given, quiet, taking, IsSmall}
-use Rattle.sctp_association_laws.proofs.OpeningRunLemmas.{telling, counted, first_small, tag_some, own_taken, drawn, block, opened_b, accepts}
+use Rattle.sctp_association_laws.proofs.OpeningRunLemmas.{telling, open_b, first_small, tag_some, own_taken, drawn, block, opened_b, accepts}
 use Rattle.sctp_association_laws.proofs.QueueRunLemmas.{not_below_itself, is_itself}
 use Rattle.sctp_association_laws.proofs.SendRunLemmas.{not_empty, first_written}
 
@@ -71,7 +71,7 @@ module _ {P : Type 0} (pack : Packing P) (a b : rng.Stream) (m : Message) (o : S
   first = first_of a
 
   abbrev heard_context : Context P
-  heard_context = counted pack 3 2
+  heard_context = open_b pack 3 2
 
   abbrev tracker_with : Tracker → DataTracker
   tracker_with t = record { first = first; tracker = t }
@@ -117,7 +117,7 @@ module _ {P : Type 0} (pack : Packing P) (a b : rng.Stream) (m : Message) (o : S
   acked_with chunk = open_with Established (send_with false (add chunk (new_packet defaults filled_tcb)) acked_tcb heard_context)
 
   abbrev pub taken_end : Endpoint P
-  taken_end = record { standing = record { state = Open Established acked_tcb; context = counted pack 3 3 }; words = (next_u64 (drawn b)).1 }
+  taken_end = record { standing = record { state = Open Established acked_tcb; context = open_b pack 3 3 }; words = (next_u64 (drawn b)).1 }
 
   acknowledges : ended Established filled_tcb heard_context ≡ (telling (packed pack (sack_packet a m) ∷ []) taken_end).standing
   unfolding be16 be32 padded_item chunk_bytes chunks_bytes chunk_value sack_value
