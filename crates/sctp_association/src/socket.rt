@@ -86,6 +86,13 @@ impl<R: Rng, C: Checksum> Socket<R, C> {
         self.state.my_verification_tag()
     }
 
+    /// The moment that was told last.
+    pub fn clock(&self) -> SocketTime
+        ensures { result ≡ self.now.context.clock }
+    {
+        self.context.clock
+    }
+
     /// Takes the record of the message that was given up first.
     pub fn next_given_up(&mut self) -> Option<GivenUp>
         ensures first { option_map given_up_of result ≡ first_of self.old.context.told.gone }

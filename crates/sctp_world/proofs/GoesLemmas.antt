@@ -2,16 +2,16 @@
 use Rattle.std.proofs.Common.{◌≡◌, ℕ, true, Some, None, List, [], ◌∷◌, ◌++◌, refl, sym, ap, subst, ◌∙◌}
 use Rattle.std.specs.Prelude.{slice_get}
 use Rattle.rand_core.specs.Stream.{Stream}
-use Rattle.sctp_state.specs.declared.api.options.SendOptions.{SendOptions}
+use Rattle.sctp_serial.specs.Messages.{Message}
+use Rattle.sctp_state.specs.Options.{SendOptions, defaults}
+use Rattle.sctp_association_laws.specs.FirstRun.{IsSmall}
 use Rattle.sctp_world.specs.declared.world.WorldError.{WorldError}
 use Rattle.sctp_world.specs.declared.world.WorldError.TheVariants as errors
-use Rattle.sctp_world.specs.Association.{Message, Endpoint}
-use Rattle.sctp_world.specs.Judge.{A, B, Connected}
-use Rattle.sctp_world.specs.World.{Action, CallOf, Give, Connect, Send, World, Happens, Runs, Lacks, RunsUpToLack, recorded, is_at_rest, fresh_world}
-use Rattle.sctp_world.specs.FirstRun.{opening, crossing, acknowledging, IsSmall, IsFresh, IsOpen, HasCrossed}
-use Rattle.sctp_world.proofs.OpeningLemmas.{connects}
-use Rattle.sctp_world.proofs.FirstRunLemmas.{opens, first, second, third, fourth, opened, to_second, to_third, to_fourth, to_opened}
-use Rattle.sctp_world.proofs.CrossingLemmas.{crosses, comes_to_rest, packets_sent, packet, sent_world, taken_world, to_sent, to_taken}
+use Rattle.sctp_world.specs.Judge.{A, B, Connect, Send}
+use Rattle.sctp_world.specs.World.{Action, CallOf, Give, World, Happens, Runs, Lacks, RunsUpToLack, is_at_rest, fresh_world}
+use Rattle.sctp_world.specs.FirstRun.{opening, crossing, acknowledging, IsFresh, IsOpen, HasCrossed}
+use Rattle.sctp_world.proofs.FirstRunLemmas.{it_opens, first, second, third, fourth, opened, to_first, to_second, to_third, to_fourth, to_opened}
+use Rattle.sctp_world.proofs.CrossingLemmas.{it_crosses, comes_to_rest, packets_sent, packet, sent_world, taken_world, to_sent, to_taken}
 
 -- each event finds its packet, whatever came of those before
 abbrev Goes : List Action → World → Type 0
@@ -31,40 +31,41 @@ lastly action w there = (there, λ u happens. tt)
 there : (p : List ℕ) → Some p ≡ None → ⊥
 there p e = cc
 
-goes_all : (a b : Stream) (f : List ℕ → ℕ) (m : Message) (options : SendOptions) → IsSmall m → Goes (opening ++ (crossing m options ++ acknowledging)) (fresh_world a b f f)
-goes_all a b f m options small =
-    let sent = sent_world a b f m options options.unordered options.lifecycle_id None true in
-    let taken = taken_world a b f m options options.unordered options.lifecycle_id true in
-    let sending : List Action = CallOf A (Send m options) ∷ Give 2 B ∷ acknowledging in
+goes_all : (a b : Stream) (f : List ℕ → ℕ) (m : Message) (o : SendOptions) → IsSmall m → Goes (opening ++ (crossing m o ++ acknowledging)) (fresh_world defaults defaults a b f f)
+goes_all a b f m o small =
+    let sent = sent_world a b f m o None true in
+    let taken = taken_world a b f m o true in
+    let start = fresh_world defaults defaults a b f f in
+    let sending : List Action = CallOf A (Send m o) ∷ Give 2 B ∷ acknowledging in
     let last : List Action = Give 1 A ∷ sending in
     let third_on : List Action = Give 1 B ∷ last in
     let second_on : List Action = Give 0 A ∷ third_on in
-    onward (CallOf A Connect) (Give 0 B ∷ second_on) (fresh_world a b f f) (first a b f) (λ l. l) (λ u e. e ∙ ap (λ (s : Endpoint). recorded A (Connected A 0) s (fresh_world a b f f)) (connects a f))
+    onward (CallOf A Connect) (Give 0 B ∷ second_on) start (first a b f) (λ l. l) (to_first a b f)
     (onward (Give 0 B) second_on (first a b f) (second a b f) (there _) (to_second a b f)
     (onward (Give 0 A) third_on (second a b f) (third a b f) (there _) (to_third a b f)
     (onward (Give 1 B) last (third a b f) (fourth a b f) (there _) (to_fourth a b f)
     (onward (Give 1 A) sending (fourth a b f) (opened a b f) (there _) (to_opened a b f)
-    (onward (CallOf A (Send m options)) (Give 2 B ∷ acknowledging) (opened a b f) sent (λ l. l) (λ u e. to_sent a b f m options options.unordered options.lifecycle_id u small e)
+    (onward (CallOf A (Send m o)) (Give 2 B ∷ acknowledging) (opened a b f) sent (λ l. l) (λ u e. to_sent a b f m o small u e)
     (onward (Give 2 B) acknowledging sent taken
-    (λ l. there _ (sym (ap (λ (ps : List (List ℕ)). slice_get ps 0) (packets_sent options.lifecycle_id (packet a b f m options options.unordered options.lifecycle_id))) ∙ l))
-    (λ u g. to_taken a b f m options options.unordered options.lifecycle_id u small g)
+    (λ l. there _ (sym (ap (λ (ps : List (List ℕ)). slice_get ps 0) (packets_sent o.lifecycle_id (packet a b f m o))) ∙ l))
+    (λ u g. to_taken a b f m o small u g)
     (lastly (Give 2 A) taken (there _))))))))
 
 pub only_memory : (all : List Action) (w v : World) (e : WorldError) → (e ≡ errors.NoSuchPacket → RunsUpToLack all w v)
-    → (m : Message) (options : SendOptions) → IsSmall m → IsFresh w → all ≡ opening ++ (crossing m options ++ acknowledging) → e ≡ errors.Memory
-only_memory all w v errors.Memory lacks m options small fresh is = refl
-only_memory all w v errors.NoSuchPacket lacks m options small fresh is =
+    → (m : Message) (o : SendOptions) → IsSmall m → IsFresh w → all ≡ opening ++ (crossing m o ++ acknowledging) → e ≡ errors.Memory
+only_memory all w v errors.Memory lacks m o small fresh is = refl
+only_memory all w v errors.NoSuchPacket lacks m o small fresh is =
     let l = lacks refl in
     absurd (never_lacks l.before l.action l.rest w v
-    (subst (λ (actions : List Action). Goes actions w) (sym is ∙ l.split) (subst (Goes (opening ++ (crossing m options ++ acknowledging))) (sym fresh.is) (goes_all fresh.a fresh.b fresh.word_of m options small)))
+    (subst (λ (actions : List Action). Goes actions w) (sym is ∙ l.split) (subst (Goes (opening ++ (crossing m o ++ acknowledging))) (sym fresh.is) (goes_all fresh.a fresh.b fresh.word_of m o small)))
     l.runs l.lacks)
 
 pub opens_by : (all : List Action) (w v : World) → Runs all w v → IsFresh w → all ≡ opening → IsOpen v
-opens_by all w v runs fresh is = opens w v fresh (subst (λ (actions : List Action). Runs actions w v) is runs)
+opens_by all w v runs fresh is = it_opens w v fresh (subst (λ (actions : List Action). Runs actions w v) is runs)
 
-pub crosses_by : (all : List Action) (w v : World) → Runs all w v → (m : Message) (options : SendOptions) → IsSmall m → IsFresh w → all ≡ opening ++ crossing m options → HasCrossed m v
-crosses_by all w v runs m options small fresh is = crosses m options w v small fresh (subst (λ (actions : List Action). Runs actions w v) is runs)
+pub crosses_by : (all : List Action) (w v : World) → Runs all w v → (m : Message) (o : SendOptions) → IsSmall m → IsFresh w → all ≡ opening ++ crossing m o → HasCrossed m v
+crosses_by all w v runs m o small fresh is = it_crosses m o w v small fresh (subst (λ (actions : List Action). Runs actions w v) is runs)
 
-pub rests_by : (all : List Action) (w v : World) → Runs all w v → (m : Message) (options : SendOptions) → IsSmall m → IsFresh w
-    → all ≡ opening ++ (crossing m options ++ acknowledging) → is_at_rest A v ≡ true
-rests_by all w v runs m options small fresh is = comes_to_rest m options w v small fresh (subst (λ (actions : List Action). Runs actions w v) is runs)
+pub rests_by : (all : List Action) (w v : World) → Runs all w v → (m : Message) (o : SendOptions) → IsSmall m → IsFresh w
+    → all ≡ opening ++ (crossing m o ++ acknowledging) → is_at_rest A v ≡ true
+rests_by all w v runs m o small fresh is = comes_to_rest m o w v small fresh (subst (λ (actions : List Action). Runs actions w v) is runs)

@@ -195,3 +195,8 @@ module _ (reader_old reader : Option (List ℕ)) (line : List ℕ) (count turns 
     pub stopped_at_end : (new : Option (List ℕ)) (n : ℕ) → n ≡ count + 1 → IsNoCommand line → Appends mid new (refusal_text (count + 1))
         → IfSome reader_old (λ input. (text : List ℕ) × StopsAt (lines_of input) n w text × Appends old new (text ++ refusal_text n))
     stopped_at_end new n number no_command told = stopped_end_at new reader_old n refl number no_command told
+
+-- before the first line nothing ran
+pub nothing_ran : (reader old : Option (List ℕ)) (w : World) → IfSome reader (λ input. (text : List ℕ) × RunsFront (lines_of input) w text × Appends old old text)
+nothing_ran None old w = tt
+nothing_ran (Some input) old w = ([], record { before = []; after = lines_of input; left = w; split = refl; runs = (refl, refl) }, Appends-nil old)

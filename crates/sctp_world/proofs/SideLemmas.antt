@@ -1,36 +1,62 @@
--- What an end makes of a packet, and what the log has of it.
-use Rattle.std.proofs.Common.{◌≡◌, ℕ, Option, List, ◌∷◌, ◌++◌, length, sym, ap, subst, ◌∙◌}
+-- What an end makes of bytes, and what the log has of it.
+use Rattle.std.proofs.Common.{◌≡◌, ℕ, Bool, true, false, Option, None, Some, List, [], ◌∷◌, ◌++◌, length, refl, sym, ap, subst, ◌∙◌}
 use Rattle.rand_core.specs.Stream.{Stream}
-use Rattle.sctp_world.specs.Input.{Hears}
-use Rattle.sctp_world.specs.Judge.{End, Entry, Given, Association, association_in}
-use Rattle.sctp_world.specs.World.{Told, settled, news}
-use Rattle.sctp_world.specs.SocketView.{SocketValue, endpoint_of}
+use Rattle.sctp_association.specs.Association.{Endpoint}
+use Rattle.sctp_association.specs.Calls.{ready_in}
+use Rattle.sctp_association.specs.Socket.{SocketValue, Association, Hears, Judges, association_in, endpoint}
+use Rattle.sctp_world.specs.Judge.{End, Entry, Foreign}
+use Rattle.sctp_world.specs.World.{Told, ComesTo, IsJudged, settled, news, clock}
+use Rattle.sctp_world.specs.World as comes
 use Rattle.sctp_world.specs.WorldView.{SideValue, side_in}
 
-told_there : {R C : Type 0} (stream : R → Stream) (word_of : C → List ℕ → ℕ) (v new : SideValue R C) (x : End) (packet : ℕ) (bytes : List ℕ) (s : SocketValue R C)
+told_there : {R C : Type 0} (stream : R → Stream) (word_of : C → List ℕ → ℕ) (v new : SideValue R C) (x : End) (first : Entry) (bytes : List ℕ) (s : SocketValue R C)
     (log longer : List Entry) (ready : ℕ) (held : Option Association)
-    → Hears bytes (endpoint_of stream word_of v.socket) (endpoint_of stream word_of s)
-    → held ≡ association_in v.socket.core.phase v.socket.identity → ready ≡ length v.socket.core.ready
-    → side_in stream word_of new ≡ settled (side_in stream word_of (record v { socket = s })) (endpoint_of stream word_of s)
-    → longer ≡ log ++ Given x 0 packet ∷ news x (length v.packets) ready held (endpoint_of stream word_of s)
-    → Told x packet bytes (side_in stream word_of v) (side_in stream word_of new) log longer
-told_there stream word_of v new x packet bytes s log longer ready held hears a r side logged = record {
-  after = endpoint_of stream word_of s;
-  hears = hears;
+    → Hears (word_of v.socket.context.checksum) bytes (endpoint stream word_of v.socket) (endpoint stream word_of s)
+    → held ≡ association_in v.socket.state → ready ≡ length (ready_in v.socket.state)
+    → side_in stream word_of new ≡ settled (side_in stream word_of (record v { socket = s })) (endpoint stream word_of s)
+    → longer ≡ log ++ first ∷ news x (length v.packets) ready held (endpoint stream word_of s)
+    → Told x first bytes (side_in stream word_of v) (side_in stream word_of new) log longer
+told_there stream word_of v new x first bytes s log longer ready held hears a r side logged = record {
+  after = endpoint stream word_of s;
+  takes = record { word_of = word_of v.socket.context.checksum; own = refl; hears = hears };
   side = side;
   logged = logged
-      ∙ ap (λ (k : ℕ). log ++ Given x 0 packet ∷ news x (length v.packets) k held (endpoint_of stream word_of s)) r
-      ∙ ap (λ (h : Option Association). log ++ Given x 0 packet ∷ news x (length v.packets) (length v.socket.core.ready) h (endpoint_of stream word_of s)) a;
+      ∙ ap (λ (k : ℕ). log ++ first ∷ news x (length v.packets) k held (endpoint stream word_of s)) r
+      ∙ ap (λ (h : Option Association). log ++ first ∷ news x (length v.packets) (length (ready_in v.socket.state)) h (endpoint stream word_of s)) a;
 }
 
-pub told_as : {R C : Type 0} (stream : R → Stream) (word_of : C → List ℕ → ℕ) (v now new : SideValue R C) → v ≡ now → (x : End) (packet : ℕ) (bytes : List ℕ) (s : SocketValue R C)
+pub told_as : {R C : Type 0} (stream : R → Stream) (word_of : C → List ℕ → ℕ) (v now new : SideValue R C) → v ≡ now → (x : End) (first : Entry) (bytes : List ℕ) (s : SocketValue R C)
     (log longer : List Entry) (ready : ℕ) (held : Option Association)
-    → Hears bytes (endpoint_of stream word_of v.socket) (endpoint_of stream word_of s)
-    → held ≡ association_in now.socket.core.phase now.socket.identity → ready ≡ length now.socket.core.ready
-    → side_in stream word_of new ≡ settled (side_in stream word_of (record v { socket = s })) (endpoint_of stream word_of s)
-    → longer ≡ log ++ Given x 0 packet ∷ news x (length v.packets) ready held (endpoint_of stream word_of s)
-    → Told x packet bytes (side_in stream word_of now) (side_in stream word_of new) log longer
-told_as stream word_of v now new is x packet bytes s log longer ready held hears a r side logged =
-    subst (λ (w : SideValue _ _). Told x packet bytes (side_in stream word_of w) (side_in stream word_of new) log longer) is
-    (told_there stream word_of v new x packet bytes s log longer ready held hears
-    (a ∙ ap (λ (w : SideValue _ _). association_in w.socket.core.phase w.socket.identity) (sym is)) (r ∙ ap (λ (w : SideValue _ _). length w.socket.core.ready) (sym is)) side logged)
+    → Hears (word_of v.socket.context.checksum) bytes (endpoint stream word_of v.socket) (endpoint stream word_of s)
+    → held ≡ association_in now.socket.state → ready ≡ length (ready_in now.socket.state)
+    → side_in stream word_of new ≡ settled (side_in stream word_of (record v { socket = s })) (endpoint stream word_of s)
+    → longer ≡ log ++ first ∷ news x (length v.packets) ready held (endpoint stream word_of s)
+    → Told x first bytes (side_in stream word_of now) (side_in stream word_of new) log longer
+told_as stream word_of v now new is x first bytes s log longer ready held hears a r side logged =
+    subst (λ (w : SideValue _ _). Told x first bytes (side_in stream word_of w) (side_in stream word_of new) log longer) is
+    (told_there stream word_of v new x first bytes s log longer ready held hears
+    (a ∙ ap (λ (w : SideValue _ _). association_in w.socket.state) (sym is)) (r ∙ ap (λ (w : SideValue _ _). length (ready_in w.socket.state)) (sym is)) side logged)
+
+-- ---- bytes from elsewhere
+
+judged_as : {R C : Type 0} (stream : R → Stream) (word_of : C → List ℕ → ℕ) (s : SocketValue R C) (bytes : List ℕ) (answer refused : Bool)
+    → Judges (word_of s.context.checksum) bytes s.context.options s.state answer → answer ≡ refused → IsJudged bytes (endpoint stream word_of s) refused
+judged_as stream word_of s bytes answer refused j is = record {
+  word_of = word_of s.context.checksum;
+  own = refl;
+  judges = subst (λ (b : Bool). Judges (word_of s.context.checksum) bytes s.context.options s.state b) is j;
+}
+
+pub came : {R C : Type 0} (stream : R → Stream) (word_of : C → List ℕ → ℕ) (v now new : SideValue R C) → v ≡ now → (x : End) (bytes : List ℕ) (log longer : List Entry) (answer : Bool)
+    → Judges (word_of v.socket.context.checksum) bytes v.socket.context.options v.socket.state answer → answer ≡ true
+    → Told x (Foreign x (clock (side_in stream word_of now).socket) (Some bytes)) bytes (side_in stream word_of now) (side_in stream word_of new) log longer
+    → ComesTo x bytes (side_in stream word_of now) (side_in stream word_of new) log longer
+came stream word_of v now new is x bytes log longer answer j refused t =
+    comes.told (subst (λ (w : SideValue _ _). IsJudged bytes (side_in stream word_of w).socket true) is (judged_as stream word_of v.socket bytes answer true j refused)) t
+
+pub passed : {R C : Type 0} (stream : R → Stream) (word_of : C → List ℕ → ℕ) (v now : SideValue R C) → v ≡ now → (x : End) (bytes : List ℕ) (log longer : List Entry) (answer : Bool)
+    → Judges (word_of v.socket.context.checksum) bytes v.socket.context.options v.socket.state answer → answer ≡ false
+    → longer ≡ log ++ Foreign x (clock (side_in stream word_of now).socket) None ∷ []
+    → ComesTo x bytes (side_in stream word_of now) (side_in stream word_of now) log longer
+passed stream word_of v now is x bytes log longer answer j taken l =
+    comes.skipped (subst (λ (w : SideValue _ _). IsJudged bytes (side_in stream word_of w).socket false) is (judged_as stream word_of v.socket bytes answer false j taken)) refl l

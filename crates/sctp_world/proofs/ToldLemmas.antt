@@ -2,11 +2,11 @@
 use Rattle.std.specs.Prelude.{slice_get}
 use Rattle.std.proofs.Common.{◌≡◌, ℕ, zero, suc, ◌+◌, ◌≤◌, ◌<◌, Option, Some, None, List, [], ◌∷◌, ◌++◌, length, map, drop, refl, sym, ap, ◌∙◌, append_assoc, arith}
 use Rattle.std.proofs.lemmas.List.{append-nil, drop_all}
-use Rattle.sctp_state.specs.Events.{Event, SendPacket, OnConnected, OnClosed, OnConnectionRestarted, OnAborted, OnError, OnBufferedAmountLow, OnTotalBufferedAmountLow, OnStreamsResetFailed, OnStreamsResetPerformed, OnIncomingStreamReset, OnLifecycleMessageFullySent, OnLifecycleMessageMaybeExpired, OnLifecycleMessageExpired, OnLifecycleMessageDelivered, OnLifecycleEnd, first_of}
-use Rattle.sctp_world.specs.Association.{Message}
+use Rattle.sctp_state.specs.Events.{Event, SendPacket, OnConnected, OnClosed, OnConnectionRestarted, OnAborted, OnError, OnBufferedAmountLow, OnTotalBufferedAmountLow, OnStreamsResetFailed, OnStreamsResetPerformed, OnIncomingStreamReset, OnLifecycleMessageFullySent, OnLifecycleMessageMaybeExpired, OnLifecycleMessageExpired, OnLifecycleMessageDelivered, OnLifecycleEnd, GivenUp, first_of}
+use Rattle.sctp_serial.specs.Messages.{Message}
 use Rattle.sctp_world.specs.WorldView.{ready_entry}
-use Rattle.sctp_world.specs.Judge.{End, Entry, Happened, BecameReady}
-use Rattle.sctp_world.specs.World.{packets_in, told_entries}
+use Rattle.sctp_world.specs.Judge.{End, Entry, Happened, GaveUp, BecameReady}
+use Rattle.sctp_world.specs.World.{packets_in, told_entries, gone_entries}
 
 packets_step : (e : Event (List ℕ)) (es : List (Event (List ℕ))) → packets_in (e ∷ es) ≡ packets_in (e ∷ []) ++ packets_in es
 packets_step (SendPacket bytes) es = refl
@@ -71,6 +71,14 @@ told_taken x m n e events rest old new first r c l =
     ∙ ap (λ (k : List Entry). old ++ k)
     (ap (λ (k : ℕ). told_entries x m (e ∷ []) ++ told_entries x k rest) c ∙ sym (told_step x m e rest)
     ∙ ap (λ (es : List (Event (List ℕ))). told_entries x m (e ∷ es)) r ∙ ap (told_entries x m) (sym (first_and_rest events e first)))
+
+-- ---- messages that were given up
+
+pub gone_taken : (x : End) (g : GivenUp) (gone rest : List GivenUp) (old new : List Entry) → Some g ≡ first_of gone → rest ≡ drop 1 gone
+    → new ≡ old ++ GaveUp x g ∷ [] → new ++ gone_entries x rest ≡ old ++ gone_entries x gone
+gone_taken x g gone rest old new first r l =
+    ap (λ (k : List Entry). k ++ gone_entries x rest) l ∙ append_assoc old (GaveUp x g ∷ []) (gone_entries x rest)
+    ∙ ap (λ (gs : List GivenUp). old ++ GaveUp x g ∷ gone_entries x gs) r ∙ ap (λ (gs : List GivenUp). old ++ gone_entries x gs) (sym (first_and_rest gone g first))
 
 -- ---- messages that are ready
 

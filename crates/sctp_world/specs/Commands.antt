@@ -1,13 +1,14 @@
 -- What a line asks for, and how its words spell it.
-use Rattle.std.specs.Prelude.{◌≡◌, ◌≢◌, ℕ, ◌<◌, ◌≤◌, ◌^◌, ◌==◌, false, true, Option, Some, None, List, [], ◌∷◌, length, Ok, codes}
+use Rattle.std.specs.Prelude.{◌≡◌, ◌≢◌, ℕ, ◌*◌, ◌<◌, ◌≤◌, ◌^◌, ◌==◌, Bool, false, true, Option, Some, None, List, [], ◌∷◌, length, Ok, codes}
 use Rattle.std.specs.Char.{is_ascii_digit}
+use Rattle.std.specs.Option.{option_map}
 use Rattle.std.specs.List.{slice_split, list_all}
 use Rattle.std.specs.Str.Parse.{digits_value}
 use Rattle.hex.specs.Hex.{decode_of}
-use Rattle.sctp_state.specs.declared.api.options.SendOptions.{SendOptions}
-use Rattle.sctp_world.specs.Association.{Message}
-use Rattle.sctp_world.specs.Judge.{End, A, B}
-use Rattle.sctp_world.specs.World.{Connect, Send, Receive, Action, CallOf, Give, other}
+use Rattle.sctp_serial.specs.Messages.{Message}
+use Rattle.sctp_state.specs.Options.{SendOptions}
+use Rattle.sctp_world.specs.Judge.{End, A, B, Connect, Shutdown, Close, Send, SendMany, Receive, SetPriority, SetMaxMessageSize, SetLowThreshold}
+use Rattle.sctp_world.specs.World.{Action, CallOf, Give, GiveForeign, TellTime, other}
 
 -- ---- lines and words
 
@@ -38,22 +39,50 @@ pub record IsHex (word bytes : List ℕ) : Type 0 where
 
 -- ---- commands
 
--- what the bytes of a packet say; an event of the world; the packet of this number that an end sent
+-- what the bytes of a packet say; an event of the world; a moment that both ends are told, in nanoseconds; the packet of
+-- this number that an end sent
 pub data Asked : Type 0 where
   probe_of : List ℕ → Asked
   happens : Action → Asked
+  passes : (now : ℕ) → Asked
   shown : End → (packet : ℕ) → Asked
 
--- the last words of `send`: none, or `id N` with N above 0
-abbrev pub IsLifecycle : List (List ℕ) → Option ℕ → Type 0
-IsLifecycle words None = words ≡ []
-IsLifecycle words (Some id) = (number : List ℕ) × (words ≡ codes "id" ∷ number ∷ []) × IsNumber number id × (0 < id) × (id < 2 ^ 64)
+-- the word, or words that don't begin with it
+abbrev pub IsFlag : (name : List ℕ) → (words rest : List (List ℕ)) → Bool → Type 0
+IsFlag name words rest true = words ≡ name ∷ rest
+IsFlag name words rest false = (words ≡ rest) × ((more : List (List ℕ)) → words ≢ name ∷ more)
 
--- ordered and reliable
-abbrev pub plain_with : Option ℕ → SendOptions
-plain_with id = record { unordered = false; lifetime = None; max_retransmissions = None; lifecycle_id = id }
+-- the word and a number, or words that don't begin with it
+abbrev pub IsNamed : (name : List ℕ) → (words rest : List (List ℕ)) → Option ℕ → Type 0
+IsNamed name words rest None = (words ≡ rest) × ((more : List (List ℕ)) → words ≢ name ∷ more)
+IsNamed name words rest (Some n) = (number : List ℕ) × (words ≡ name ∷ number ∷ rest) × IsNumber number n × (n < 2 ^ 64)
 
--- `send X S P HEX [id N]`
+abbrev pub nanoseconds : (milliseconds : ℕ) → ℕ
+nanoseconds n = n * 1000000
+
+-- `[id N]`, with N above 0
+abbrev pub SpellsId : List (List ℕ) → (id : Option ℕ) → Type 0
+SpellsId words id = IsNamed (codes "id") words [] id × (id ≢ Some 0)
+
+-- `[rtx N] [id N]`, the first below 2^16
+abbrev pub SpellsLimit : List (List ℕ) → (limit id : Option ℕ) → Type 0
+SpellsLimit words limit id =
+    (rest : List (List ℕ)) × IsNamed (codes "rtx") words rest limit × ((n : ℕ) → limit ≡ Some n → n < 2 ^ 16) × SpellsId rest id
+
+-- `[life MS] [rtx N] [id N]`
+abbrev pub SpellsLife : List (List ℕ) → (milliseconds limit id : Option ℕ) → Type 0
+SpellsLife words milliseconds limit id =
+    (rest : List (List ℕ)) × IsNamed (codes "life") words rest milliseconds × SpellsLimit rest limit id
+
+-- the last words of `send`: `[unordered] [life MS] [rtx N] [id N]`
+pub record SpellsOptions (words : List (List ℕ)) (options : SendOptions) : Type 0 where
+  pub rest : List (List ℕ)
+  pub order : IsFlag (codes "unordered") words rest options.unordered
+  pub milliseconds : Option ℕ
+  pub lifetime : options.lifetime ≡ option_map nanoseconds milliseconds
+  pub others : SpellsLife rest milliseconds options.max_retransmissions options.lifecycle_id
+
+-- `send X S P HEX`, and the options
 pub record SpellsSend (words : List (List ℕ)) (x : End) (m : Message) (options : SendOptions) : Type 0 where
   pub stream : List ℕ
   pub ppid : List ℕ
@@ -65,18 +94,28 @@ pub record SpellsSend (words : List (List ℕ)) (x : End) (m : Message) (options
   pub ppid_is : IsNumber ppid m.ppid
   pub ppid_fits : m.ppid < 2 ^ 32
   pub payload_is : IsHex payload m.payload
-  pub lifecycle : Option ℕ
-  pub lifecycle_is : IsLifecycle rest lifecycle
-  pub options_are : options ≡ plain_with lifecycle
+  pub options_are : SpellsOptions rest options
 
--- `probe HEX`, `connect X`, `send ..`, `recv X`, `give X K Y`, `show X K`; Y is the other end
+-- `probe HEX`, `connect X`, `shutdown X`, `close X`, `send ..`, `recv X`, `give X K Y`, `foreign X HEX`, `time MS`, `show X K`;
+-- Y is the other end
 abbrev pub SpellsWords : List (List ℕ) → Asked → Type 0
 SpellsWords words (probe_of bytes) = (hex : List ℕ) × (words ≡ codes "probe" ∷ hex ∷ []) × IsHex hex bytes
 SpellsWords words (happens (CallOf x Connect)) = words ≡ codes "connect" ∷ end_name x ∷ []
+SpellsWords words (happens (CallOf x Shutdown)) = words ≡ codes "shutdown" ∷ end_name x ∷ []
+SpellsWords words (happens (CallOf x Close)) = words ≡ codes "close" ∷ end_name x ∷ []
 SpellsWords words (happens (CallOf x (Send m options))) = SpellsSend words x m options
 SpellsWords words (happens (CallOf x Receive)) = words ≡ codes "recv" ∷ end_name x ∷ []
+SpellsWords words (happens (CallOf x (SendMany ms options))) = ⊥
+SpellsWords words (happens (CallOf x (SetPriority stream priority))) = ⊥
+SpellsWords words (happens (CallOf x (SetMaxMessageSize bytes))) = ⊥
+SpellsWords words (happens (CallOf x (SetLowThreshold stream bytes))) = ⊥
 SpellsWords words (happens (Give packet x)) =
     (number : List ℕ) × (words ≡ codes "give" ∷ end_name (other x) ∷ number ∷ end_name x ∷ []) × IsNumber number packet × (packet < 2 ^ 64)
+SpellsWords words (happens (GiveForeign x bytes)) = (hex : List ℕ) × (words ≡ codes "foreign" ∷ end_name x ∷ hex ∷ []) × IsHex hex bytes
+SpellsWords words (happens (TellTime x now)) = ⊥
+SpellsWords words (passes now) =
+    (number : List ℕ) × (milliseconds : ℕ) × (words ≡ codes "time" ∷ number ∷ []) × IsNumber number milliseconds × (milliseconds < 2 ^ 64)
+    × (now ≡ nanoseconds milliseconds)
 SpellsWords words (shown x packet) = (number : List ℕ) × (words ≡ codes "show" ∷ end_name x ∷ number ∷ []) × IsNumber number packet × (packet < 2 ^ 64)
 
 -- the line spells the command

@@ -1,10 +1,11 @@
 -- The first run: two ends connect, one message crosses, and its sender is at rest.
-use Rattle.std.specs.Prelude.{◌≡◌, ℕ, ◌<◌, ◌≤◌, ◌^◌, Some, List, [], ◌∷◌, length}
+use Rattle.std.specs.Prelude.{◌≡◌, ℕ, Some, List, [], ◌∷◌}
 use Rattle.rand_core.specs.Stream.{Stream}
-use Rattle.sctp_state.specs.declared.api.options.SendOptions.{SendOptions}
-use Rattle.sctp_world.specs.Association.{Message}
-use Rattle.sctp_world.specs.Judge.{A, B, Association, crossed, times_connected, held, accepted, ready}
-use Rattle.sctp_world.specs.World.{Action, CallOf, Give, Connect, Send, World, fresh_world}
+use Rattle.sctp_serial.specs.Messages.{Message}
+use Rattle.sctp_state.specs.Options.{SendOptions, defaults}
+use Rattle.sctp_association.specs.Socket.{Association}
+use Rattle.sctp_world.specs.Judge.{A, B, crossed, times_connected, held, accepted, ready, Connect, Send}
+use Rattle.sctp_world.specs.World.{Action, CallOf, Give, World, fresh_world}
 
 -- INIT, INIT ACK, COOKIE ECHO and COOKIE ACK are given, each once
 abbrev pub opening : List Action
@@ -18,19 +19,12 @@ crossing m options = CallOf A (Send m options) ∷ Give 2 B ∷ []
 abbrev pub acknowledging : List Action
 acknowledging = Give 2 A ∷ []
 
--- two ends that did nothing yet, with one checksum function
+-- two ends with default options and one checksum function that did nothing yet
 pub record IsFresh (w : World) : Type 0 where
   pub a : Stream
   pub b : Stream
   pub word_of : List ℕ → ℕ
-  pub is : w ≡ fresh_world a b word_of word_of
-
--- a message of 1 to 1,000 bytes, with numbers that fit their types
-pub record IsSmall (m : Message) : Type 0 where
-  pub some : 0 < length m.payload
-  pub few : length m.payload ≤ 1000
-  pub stream : m.stream < 2 ^ 16
-  pub ppid : m.ppid < 2 ^ 32
+  pub is : w ≡ fresh_world defaults defaults a b word_of word_of
 
 -- each end was told once that it is connected, and the associations that they hold are crossed
 pub record IsOpen (w : World) : Type 0 where

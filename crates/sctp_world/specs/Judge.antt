@@ -1,22 +1,17 @@
 -- What a judge sees of two ends: the log, and what is read off it alone.
-use Rattle.std.specs.Prelude.{ℕ, ◌==◌, ◌&&◌, Bool, true, false, Option, Some, None, List, [], ◌∷◌, length}
-use Rattle.std.specs.List.{flat_map}
+use Rattle.std.specs.Prelude.{ℕ, ◌+◌, ◌==◌, ◌&&◌, Bool, true, false, Option, Some, None, List, [], ◌∷◌, length}
+use Rattle.std.specs.List.{flat_map, list_any}
+use Rattle.sctp_serial.specs.Messages.{Message}
 use Rattle.sctp_state.specs.declared.api.errors.SendError.{SendError}
-use Rattle.sctp_state.specs.declared.api.options.SendOptions.{SendOptions}
+use Rattle.sctp_state.specs.Options.{SendOptions}
 use Rattle.sctp_state.specs.Events.{Event, OnConnected, GivenUp}
-use Rattle.sctp_world.specs.Association.{Message, Phase, Closed, CookieWait, CookieEchoed, Established, Identity}
+use Rattle.sctp_association.specs.Socket.{Association}
 
 pub data End : Type 0 where
   A : End
   B : End
 
 -- ---- associations: own tag and first TSN, and the peer's
-
-pub record Association : Type 0 where
-  pub my_tag : ℕ
-  pub my_initial_tsn : ℕ
-  pub peer_tag : ℕ
-  pub peer_initial_tsn : ℕ
 
 -- the halves exchanged
 abbrev pub crossed : Association → Association
@@ -26,16 +21,6 @@ crossed a = record {
   peer_tag = a.my_tag;
   peer_initial_tsn = a.my_initial_tsn;
 }
-
-abbrev pub association_of : Identity → Association
-association_of i = record { my_tag = i.my_tag; my_initial_tsn = i.my_first; peer_tag = i.peer_tag; peer_initial_tsn = i.peer_first }
-
--- there is one where there is a control block
-abbrev pub association_in : Phase → Identity → Option Association
-association_in Closed i = None
-association_in CookieWait i = None
-association_in CookieEchoed i = Some (association_of i)
-association_in Established i = Some (association_of i)
 
 abbrev pub same_numbers : Association → Association → Bool
 same_numbers a b =
@@ -47,14 +32,33 @@ same_association None (Some b) = false
 same_association (Some a) None = false
 same_association (Some a) (Some b) = same_numbers a b
 
--- ---- the log: for each event the call or packet, with the end's clock; an association that changed; what was told, in
--- order, each packet by its number; what became ready
+-- ---- calls and their answers
+
+pub data Call : Type 0 where
+  Connect : Call
+  Shutdown : Call
+  Close : Call
+  Send : Message → SendOptions → Call
+  SendMany : List Message → SendOptions → Call
+  Receive : Call
+  SetPriority : (stream priority : ℕ) → Call
+  SetMaxMessageSize : (bytes : ℕ) → Call
+  SetLowThreshold : (stream bytes : ℕ) → Call
+
+pub data Answer : Type 0 where
+  Done : Answer
+  Sent : (refused : Option SendError) → Answer
+  SentMany : (refused : List (ℕ × SendError)) → Answer  -- by their places
+  Received : Option Message → Answer
+
+-- ---- the log: for each event the call, packet or moment, with the end's clock; an association that changed;
+-- what was told, in order, each packet by its number; what was given up; what became ready
 
 pub data Entry : Type 0 where
-  Connected : End → (clock : ℕ) → Entry
-  Sent : End → (clock : ℕ) → Message → SendOptions → Option SendError → Entry
-  HandedOut : End → (clock : ℕ) → Option Message → Entry
+  Called : End → (clock : ℕ) → Call → Answer → Entry
   Given : End → (clock : ℕ) → (packet : ℕ) → Entry
+  Foreign : End → (clock : ℕ) → Option (List ℕ) → Entry  -- bytes from elsewhere, or none where they were skipped
+  Timed : End → (clock : ℕ) → (now : ℕ) → Entry
   Associated : End → Option Association → Entry
   Emitted : End → (packet : ℕ) → Entry
   Happened : End → Event (List ℕ) → Entry
@@ -73,11 +77,29 @@ abbrev pub none_unless : {X : Type 0} → Bool → X → List X
 none_unless true x = x ∷ []
 none_unless false x = []
 
+abbrev pub some_unless : {X : Type 0} → Bool → X → List X → List X
+some_unless true x xs = xs
+some_unless false x xs = x ∷ xs
+
+abbrev pub all_unless : {X : Type 0} → Bool → List X → List X
+all_unless true xs = xs
+all_unless false xs = []
+
+-- those of a batch that weren't refused
+abbrev pub unrefused : (place : ℕ) → List Message → List (ℕ × SendError) → List Message
+unrefused place [] refused = []
+unrefused place (m ∷ ms) refused = some_unless (list_any (λ r. r.0 == place) refused) m (unrefused (place + 1) ms refused)
+
+abbrev pub accepted_in : Call → Answer → List Message
+accepted_in (Send m options) (Sent None) = m ∷ []
+accepted_in (SendMany ms options) (SentMany refused) = unrefused 0 ms refused
+accepted_in call answer = []
+
 abbrev pub accepted_by : End → Entry → List Message
-accepted_by x (Sent y clock m options None) = none_unless (same_end x y) m
+accepted_by x (Called y clock call answer) = all_unless (same_end x y) (accepted_in call answer)
 accepted_by x entry = []
 
--- the messages that this end's `send` accepted, by their places
+-- the messages that this end accepted, by their places
 abbrev pub accepted : End → List Entry → List Message
 accepted x log = flat_map (accepted_by x) log
 
@@ -89,13 +111,25 @@ ready_by x entry = []
 abbrev pub ready : End → List Entry → List Message
 ready x log = flat_map (ready_by x) log
 
+abbrev pub handed_out_in : Answer → List Message
+handed_out_in (Received (Some m)) = m ∷ []
+handed_out_in answer = []
+
 abbrev pub handed_out_by : End → Entry → List Message
-handed_out_by x (HandedOut y clock (Some m)) = none_unless (same_end x y) m
+handed_out_by x (Called y clock call answer) = all_unless (same_end x y) (handed_out_in answer)
 handed_out_by x entry = []
 
 -- those that it handed out
 abbrev pub handed_out : End → List Entry → List Message
 handed_out x log = flat_map (handed_out_by x) log
+
+abbrev pub given_up_by : End → Entry → List GivenUp
+given_up_by x (GaveUp y g) = none_unless (same_end x y) g
+given_up_by x entry = []
+
+-- what it gave up
+abbrev pub given_up : End → List Entry → List GivenUp
+given_up x log = flat_map (given_up_by x) log
 
 abbrev pub connected_by : End → Entry → List End
 connected_by x (Happened y OnConnected) = none_unless (same_end x y) y

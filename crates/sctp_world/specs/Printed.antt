@@ -10,8 +10,8 @@ use Rattle.sctp_state.specs.declared.api.GivenUpCause.TheVariants as causes
 use Rattle.sctp_state.specs.declared.api.errors.SendError.{SendError}
 use Rattle.sctp_state.specs.declared.api.errors.SendError.TheVariants as refusals
 use Rattle.sctp_state.specs.Events.{Event, SendPacket, OnConnected, OnClosed, OnConnectionRestarted, OnAborted, OnError, OnBufferedAmountLow, OnTotalBufferedAmountLow, OnStreamsResetFailed, OnStreamsResetPerformed, OnIncomingStreamReset, OnLifecycleMessageFullySent, OnLifecycleMessageMaybeExpired, OnLifecycleMessageExpired, OnLifecycleMessageDelivered, OnLifecycleEnd}
-use Rattle.sctp_world.specs.Association.{Message}
-use Rattle.sctp_world.specs.Judge.{End, Entry, Connected, Sent, HandedOut, Given, Associated, Emitted, Happened, GaveUp, BecameReady}
+use Rattle.sctp_serial.specs.Messages.{Message}
+use Rattle.sctp_world.specs.Judge.{End, Answer, Done, Sent, SentMany, Received, Entry, Called, Given, Foreign, Timed, Associated, Emitted, Happened, GaveUp, BecameReady}
 use Rattle.sctp_world.specs.Commands.{end_name}
 use Rattle.sctp_world.specs.World.{World, side_of}
 
@@ -116,14 +116,24 @@ abbrev pub size_of : Option (List ℕ) → ℕ
 size_of None = 0
 size_of (Some bytes) = length bytes
 
--- Packets, events, refusals, messages that were handed out, and those given up; nothing of any other entry.
+abbrev pub foreign_line : List ℕ
+foreign_line = codes "foreign skipped" ++ (10 ∷ [])
+
+abbrev pub answer_text : End → Answer → List ℕ
+answer_text x Done = []
+answer_text x (Sent None) = []
+answer_text x (Sent (Some e)) = refusal_line x (refusal_name e)
+answer_text x (SentMany refused) = []
+answer_text x (Received None) = none_line x
+answer_text x (Received (Some m)) = message_line x m
+
+-- Answers, bytes that were skipped, packets, events, and messages given up; nothing of any other entry.
 abbrev pub entry_text : World → Entry → List ℕ
-entry_text w (Connected x clock) = []
-entry_text w (Sent x clock m options None) = []
-entry_text w (Sent x clock m options (Some e)) = refusal_line x (refusal_name e)
-entry_text w (HandedOut x clock None) = none_line x
-entry_text w (HandedOut x clock (Some m)) = message_line x m
+entry_text w (Called x clock call answer) = answer_text x answer
 entry_text w (Given x clock packet) = []
+entry_text w (Foreign x clock None) = foreign_line
+entry_text w (Foreign x clock (Some bytes)) = []
+entry_text w (Timed x clock now) = []
 entry_text w (Associated x a) = []
 entry_text w (Emitted x number) = packet_line x number (size_of (slice_get (side_of x w).packets number))
 entry_text w (Happened x event) = event_line x (event_name event) (event_words event)

@@ -1,18 +1,20 @@
 //! The commands of a script, and how a line spells them.
 
-ghost use Rattle.std.specs.Prelude.{◌≡◌, ◌≢◌, ℕ, ◌<◌, ◌^◌, List, [], ◌∷◌, map, true, false, codes, IfOk, IfSome, IfNone, Option};
+ghost use Rattle.std.specs.Prelude.{◌≡◌, ◌≢◌, ℕ, ◌<◌, ◌^◌, List, [], ◌∷◌, map, true, false, codes, IfOk, IfSome, IfNone, Option, Some};
 ghost use Rattle.std.specs.Char.{is_ascii_digit};
 ghost use Rattle.std.specs.List.{list_all};
-ghost use Rattle.sctp_world.specs.Commands.{Asked, Spells, SpellsNone, SpellsWords, IsNumber, IsHex, IsLifecycle, plain_with, words_of, end_name};
+ghost use Rattle.sctp_state.specs.Options.{SendOptions as Sending, send_options_of};
+ghost use Rattle.sctp_world.specs.Commands.{Asked, Spells, SpellsNone, SpellsWords, IsNumber, IsHex, IsFlag, IsNamed, SpellsId, SpellsLimit, SpellsLife, SpellsOptions, words_of, end_name};
 ghost use Rattle.sctp_world.specs.Judge.{End as tree};
 ghost use Rattle.sctp_world.specs.WorldView.{end_tree};
 ghost use Rattle.sctp_world.specs.CommandView.{command_of};
 
 use crate::world::{Call, End, Event};
 use hex::FromHexError;
-use sctp_serial::{LifecycleId, Message, PpId, StreamId};
+use sctp_serial::{LifecycleId, Message, PpId, SocketTime, StreamId};
 use sctp_state::SendOptions;
 use std::alloc::{AllocError, Global};
+use std::time::Duration;
 
 /// A longer line is no command (bytes, without the newline).
 const MAX_LINE: usize = 1048576;
@@ -22,8 +24,11 @@ const MAX_LINE: usize = 1048576;
 pub enum Command {
     /// `probe HEX`: what the bytes of a packet say.
     Probe(Vec<u8>),
-    /// `connect X`, `send X S P HEX [id N]`, `recv X`, `give X K Y`: an event of the world.
+    /// `connect X`, `shutdown X`, `close X`, `send X S P HEX ..`, `recv X`, `give X K Y`, `foreign X HEX`: an event of the
+    /// world.
     Event(Event),
+    /// `time MS`: both ends are told the moment.
+    Time(SocketTime),
     /// `show X K`: the packet of this number, from 0 on, that the end sent.
     Show(End, usize),
 }
@@ -57,12 +62,20 @@ fn parse_words(alloc: Global, words: &[&[u8]]) -> Result<Option<Command>, AllocE
         parse_probe(alloc, rest)
     } else if is_word(name, b"connect") {
         Ok(parse_connect(rest))
+    } else if is_word(name, b"shutdown") {
+        Ok(parse_shutdown(rest))
+    } else if is_word(name, b"close") {
+        Ok(parse_close(rest))
+    } else if is_word(name, b"foreign") {
+        parse_foreign(alloc, rest)
     } else if is_word(name, b"send") {
         parse_send(alloc, rest)
     } else if is_word(name, b"recv") {
         Ok(parse_recv(rest))
     } else if is_word(name, b"give") {
         Ok(parse_give(rest))
+    } else if is_word(name, b"time") {
+        Ok(parse_time(rest))
     } else if is_word(name, b"show") {
         Ok(parse_show(rest))
     } else {
@@ -96,6 +109,45 @@ fn parse_connect(rest: &[&[u8]]) -> Option<Command>
 }
 
 /// `X`
+fn parse_shutdown(rest: &[&[u8]]) -> Option<Command>
+    ensures command { IfSome result (λ command. SpellsWords (codes "shutdown" ∷ map (λ word. word.now) rest.now) (command_of command)) }
+    ensures none { IfNone result ((asked : Asked) → SpellsWords (codes "shutdown" ∷ map (λ word. word.now) rest.now) asked → ⊥) }
+{
+    let [end] = rest else {
+        return None;
+    };
+    Some(Command::Event(Event::Call(end_of(end)?, Call::Shutdown)))
+}
+
+/// `X`
+fn parse_close(rest: &[&[u8]]) -> Option<Command>
+    ensures command { IfSome result (λ command. SpellsWords (codes "close" ∷ map (λ word. word.now) rest.now) (command_of command)) }
+    ensures none { IfNone result ((asked : Asked) → SpellsWords (codes "close" ∷ map (λ word. word.now) rest.now) asked → ⊥) }
+{
+    let [end] = rest else {
+        return None;
+    };
+    Some(Command::Event(Event::Call(end_of(end)?, Call::Close)))
+}
+
+/// `X HEX`
+fn parse_foreign(alloc: Global, rest: &[&[u8]]) -> Result<Option<Command>, AllocError>
+    ensures command { IfOk result (λ found. IfSome found (λ command. SpellsWords (codes "foreign" ∷ map (λ word. word.now) rest.now) (command_of command))) }
+    ensures none { IfOk result (λ found. IfNone found ((asked : Asked) → SpellsWords (codes "foreign" ∷ map (λ word. word.now) rest.now) asked → ⊥)) }
+{
+    let [end, digits] = rest else {
+        return Ok(None);
+    };
+    let Some(end) = end_of(end) else {
+        return Ok(None);
+    };
+    let Some(bytes) = bytes_of(alloc, digits)? else {
+        return Ok(None);
+    };
+    Ok(Some(Command::Event(Event::Foreign(end, bytes))))
+}
+
+/// `X`
 fn parse_recv(rest: &[&[u8]]) -> Option<Command>
     ensures command { IfSome result (λ command. SpellsWords (codes "recv" ∷ map (λ word. word.now) rest.now) (command_of command)) }
     ensures none { IfNone result ((asked : Asked) → SpellsWords (codes "recv" ∷ map (λ word. word.now) rest.now) asked → ⊥) }
@@ -122,6 +174,18 @@ fn parse_give(rest: &[&[u8]]) -> Option<Command>
     Some(Command::Event(Event::Give(usize::try_from(number).ok()?, end)))
 }
 
+/// `MS`
+fn parse_time(rest: &[&[u8]]) -> Option<Command>
+    ensures command { IfSome result (λ command. SpellsWords (codes "time" ∷ map (λ word. word.now) rest.now) (command_of command)) }
+    ensures none { IfNone result ((asked : Asked) → SpellsWords (codes "time" ∷ map (λ word. word.now) rest.now) asked → ⊥) }
+{
+    let [number] = rest else {
+        return None;
+    };
+    let milliseconds = number_of(number)?;
+    Some(Command::Time(SocketTime::zero() + Duration::from_millis(milliseconds)))
+}
+
 /// `X K`
 fn parse_show(rest: &[&[u8]]) -> Option<Command>
     ensures command { IfSome result (λ command. SpellsWords (codes "show" ∷ map (λ word. word.now) rest.now) (command_of command)) }
@@ -135,7 +199,7 @@ fn parse_show(rest: &[&[u8]]) -> Option<Command>
     Some(Command::Show(end, usize::try_from(number).ok()?))
 }
 
-/// `X S P HEX [id N]`
+/// `X S P HEX [unordered] [life MS] [rtx N] [id N]`
 fn parse_send(alloc: Global, rest: &[&[u8]]) -> Result<Option<Command>, AllocError>
     ensures command { IfOk result (λ found. IfSome found (λ command. SpellsWords (codes "send" ∷ map (λ word. word.now) rest.now) (command_of command))) }
     ensures none { IfOk result (λ found. IfNone found ((asked : Asked) → SpellsWords (codes "send" ∷ map (λ word. word.now) rest.now) asked → ⊥)) }
@@ -143,6 +207,22 @@ fn parse_send(alloc: Global, rest: &[&[u8]]) -> Result<Option<Command>, AllocErr
     let [end, stream, ppid, payload, options @ ..] = rest else {
         return Ok(None);
     };
+    send_of(alloc, end, stream, ppid, payload, options)
+}
+
+fn send_of(
+    alloc: Global,
+    end: &[u8],
+    stream: &[u8],
+    ppid: &[u8],
+    payload: &[u8],
+    options: &[&[u8]],
+) -> Result<Option<Command>, AllocError>
+    ensures command { IfOk result (λ found. IfSome found (λ command. SpellsWords
+        (codes "send" ∷ end.now ∷ stream.now ∷ ppid.now ∷ payload.now ∷ map (λ word. word.now) options.now) (command_of command))) }
+    ensures none { IfOk result (λ found. IfNone found ((asked : Asked)
+        → SpellsWords (codes "send" ∷ end.now ∷ stream.now ∷ ppid.now ∷ payload.now ∷ map (λ word. word.now) options.now) asked → ⊥)) }
+{
     let Some(end) = end_of(end) else {
         return Ok(None);
     };
@@ -162,22 +242,113 @@ fn parse_send(alloc: Global, rest: &[&[u8]]) -> Result<Option<Command>, AllocErr
     Ok(Some(Command::Event(Event::Call(end, Call::Send(message, options)))))
 }
 
-/// `[id N]`
+/// `[unordered] [life MS] [rtx N] [id N]`
 fn options_of(words: &[&[u8]]) -> Option<SendOptions>
-    ensures some { IfSome result (λ options. (options ≡ plain_with options.lifecycle_id) × IsLifecycle (map (λ word. word.now) words.now) options.lifecycle_id) }
-    ensures none { IfNone result ((id : Option ℕ) → IsLifecycle (map (λ word. word.now) words.now) id → ⊥) }
+    ensures some { IfSome result (λ options. SpellsOptions (map (λ word. word.now) words.now) (send_options_of options)) }
+    ensures none { IfNone result ((options : Sending) → SpellsOptions (map (λ word. word.now) words.now) options → ⊥) }
+{
+    let (unordered, words) = flag_of(b"unordered", words);
+    let (milliseconds, max_retransmissions, lifecycle_id) = life_of(words)?;
+    let lifetime = match milliseconds {
+        Some(milliseconds) => Some(Duration::from_millis(milliseconds)),
+        None => None,
+    };
+    Some(SendOptions {
+        unordered,
+        lifetime,
+        max_retransmissions,
+        lifecycle_id,
+    })
+}
+
+/// `[life MS] [rtx N] [id N]`
+fn life_of(words: &[&[u8]]) -> Option<(Option<u64>, Option<u16>, Option<LifecycleId>)>
+    ensures some { IfSome result (λ found. SpellsLife (map (λ word. word.now) words.now) found.0 found.1 found.2) }
+    ensures none { IfNone result ((life limit id : Option ℕ) → SpellsLife (map (λ word. word.now) words.now) life limit id → ⊥) }
+{
+    let (life, words) = named_number_of(b"life", words)?;
+    let (limit, id) = limit_of(words)?;
+    Some((life, limit, id))
+}
+
+/// `[rtx N] [id N]`
+fn limit_of(words: &[&[u8]]) -> Option<(Option<u16>, Option<LifecycleId>)>
+    ensures some { IfSome result (λ found. SpellsLimit (map (λ word. word.now) words.now) found.0 found.1) }
+    ensures none { IfNone result ((limit id : Option ℕ) → SpellsLimit (map (λ word. word.now) words.now) limit id → ⊥) }
+{
+    let (limit, words) = named_short_of(b"rtx", words)?;
+    let id = id_of(words)?;
+    Some((limit, id))
+}
+
+/// `[id N]`
+fn id_of(words: &[&[u8]]) -> Option<Option<LifecycleId>>
+    ensures some { IfSome result (λ id. SpellsId (map (λ word. word.now) words.now) id) }
+    ensures none { IfNone result ((id : Option ℕ) → SpellsId (map (λ word. word.now) words.now) id → ⊥) }
+{
+    let (id, rest) = named_number_of(b"id", words)?;
+    if !rest.is_empty() {
+        return None;
+    }
+    lifecycle_of(id)
+}
+
+/// The same as `named_number_of`, for numbers of 16 bits.
+fn named_short_of<'a, 'b>(
+    name: &[u8],
+    words: &'a [&'b [u8]],
+) -> Option<(Option<u16>, &'a [&'b [u8]])>
+    ensures some { IfSome result (λ found. IsNamed name.now (map (λ word. word.now) words.now) (map (λ word. word.now) found.1.now) found.0
+        × ((k : ℕ) → found.0 ≡ Some k → k < 2 ^ 16)) }
+    ensures none { IfNone result ((rest : List (List ℕ)) (n : Option ℕ) → IsNamed name.now (map (λ word. word.now) words.now) rest n
+        → ((k : ℕ) → n ≡ Some k → k < 2 ^ 16) → ⊥) }
+{
+    let (number, rest) = named_number_of(name, words)?;
+    match number {
+        Some(number) => Some((Some(u16::try_from(number).ok()?), rest)),
+        None => Some((None, rest)),
+    }
+}
+
+/// A number above 0, or none.
+fn lifecycle_of(number: Option<u64>) -> Option<Option<LifecycleId>>
+    ensures some { IfSome result (λ id. (id ≡ number) × (number ≢ Some 0)) }
+    ensures none { IfNone result (number ≡ Some 0) }
+{
+    match number {
+        Some(number) => Some(Some(LifecycleId::new(number)?)),
+        None => Some(None),
+    }
+}
+
+/// Whether the words begin with this one, and what stands behind it.
+fn flag_of<'a, 'b>(name: &[u8], words: &'a [&'b [u8]]) -> (bool, &'a [&'b [u8]])
+    ensures { IsFlag name.now (map (λ word. word.now) words.now) (map (λ word. word.now) result.1.now) result.0 }
 {
     match words {
-        [] => Some(SendOptions::default()),
-        [name, number] if is_word(name, b"id") => {
-            let lifecycle_id = LifecycleId::new(number_of(number)?)?;
-            Some(SendOptions {
-                lifecycle_id: Some(lifecycle_id),
-                ..SendOptions::default()
-            })
-        }
-        _ => None,
+        [first, rest @ ..] if is_word(first, name) => (true, rest),
+        _ => (false, words),
     }
+}
+
+/// The number behind this word, where the words begin with it, and what stands behind. `None` where no number does.
+fn named_number_of<'a, 'b>(
+    name: &[u8],
+    words: &'a [&'b [u8]],
+) -> Option<(Option<u64>, &'a [&'b [u8]])>
+    ensures some { IfSome result (λ found. IsNamed name.now (map (λ word. word.now) words.now) (map (λ word. word.now) found.1.now) found.0) }
+    ensures none { IfNone result ((rest : List (List ℕ)) (n : Option ℕ) → IsNamed name.now (map (λ word. word.now) words.now) rest n → ⊥) }
+{
+    let [first, others @ ..] = words else {
+        return Some((None, words));
+    };
+    if !is_word(first, name) {
+        return Some((None, words));
+    }
+    let [number, rest @ ..] = others else {
+        return None;
+    };
+    Some((Some(number_of(number)?), rest))
 }
 
 // ---- single words

@@ -10,12 +10,10 @@ mod command;
 mod printing;
 mod probing;
 mod script;
-mod socket;
 mod world;
 
 pub use answer::{Probe, ProbeError};
 pub use checksum::ByteSum;
 pub use probing::{one_answer, probe};
 pub use script::{ScriptFault, run_script};
-pub use socket::Association;
-pub use world::{Call, End, Entry, Event, World, WorldError};
+pub use world::{Answer, Call, End, Entry, Event, World, WorldError};

@@ -4,11 +4,11 @@ ghost use Rattle.std.specs.Prelude.{◌≡◌, ◌++◌, map, slice_get, IfOk, s
 ghost use Rattle.std.specs.List.{flat_map};
 ghost use Rattle.sctp_state.specs.Events.{event_of, numbers_of};
 ghost use Rattle.sctp_world.specs.World.{side_of};
-ghost use Rattle.sctp_world.specs.Printed.{size_of, kind_name, event_name, event_words, refusal_name, refusal_line, message_line, none_line, given_up_line, bytes_line, packet_line, event_line, number_word, cause_words, entry_text, news_text, packet_text};
-ghost use Rattle.sctp_world.specs.SocketView.{message_tree};
-ghost use Rattle.sctp_world.specs.WorldView.{end_tree, entry_tree, world_of};
+ghost use Rattle.sctp_world.specs.Printed.{size_of, kind_name, event_name, event_words, refusal_name, refusal_line, message_line, none_line, given_up_line, bytes_line, packet_line, event_line, number_word, cause_words, answer_text, entry_text, news_text, packet_text};
+ghost use Rattle.sctp_serial.specs.Messages.{message_of};
+ghost use Rattle.sctp_world.specs.WorldView.{answer_tree, end_tree, entry_tree, world_of};
 
-use crate::world::{End, Entry, World};
+use crate::world::{Answer, End, Entry, World};
 use rand_core::Rng;
 use sctp_serial::{Message, StreamId};
 use sctp_state::{ErrorKind, GivenUp, GivenUpCause, SendError, SocketEvent};
@@ -80,10 +80,20 @@ fn entry_text<R: Rng, C: Checksum>(
             format!(in alloc; "{end} packet {number} {size}\n")
         }
         Entry::Event(end, event) => event_text(alloc, *end, event),
-        Entry::Send(end, _, _, _, Some(error)) => refusal_text(alloc, *end, error),
-        Entry::Receive(end, _, Some(message)) => message_text(alloc, *end, message),
-        Entry::Receive(end, _, None) => format!(in alloc; "{end} none\n"),
+        Entry::Call(end, _, _, answer) => answer_text(alloc, *end, answer),
+        Entry::Foreign(_, _, None) => format!(in alloc; "foreign skipped\n"),
         Entry::GivenUp(end, record) => given_up_text(alloc, *end, *record),
+        _ => Ok(String::new(alloc)),
+    }
+}
+
+fn answer_text(alloc: Global, end: End, answer: &Answer) -> Result<String, AllocError>
+    ensures { IfOk result (λ text. string_bytes text ≡ answer_text (end_tree end) (answer_tree answer.now)) }
+{
+    match answer {
+        Answer::Sent(Some(refusal)) => refusal_text(alloc, end, refusal),
+        Answer::Received(Some(message)) => message_text(alloc, end, message),
+        Answer::Received(None) => format!(in alloc; "{end} none\n"),
         _ => Ok(String::new(alloc)),
     }
 }
@@ -105,7 +115,7 @@ fn refusal_text(alloc: Global, end: End, error: &SendError) -> Result<String, Al
 }
 
 fn message_text(alloc: Global, end: End, message: &Message) -> Result<String, AllocError>
-    ensures { IfOk result (λ text. string_bytes text ≡ message_line (end_tree end) (message_tree message.now)) }
+    ensures { IfOk result (λ text. string_bytes text ≡ message_line (end_tree end) (message_of message.now)) }
 {
     let stream = message.stream_id;
     let ppid = message.ppid;

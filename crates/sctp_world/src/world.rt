@@ -1,20 +1,21 @@
 //! Two ends and all packets between them.
 
 ghost use Rattle.std.specs.Prelude.{◌≡◌, List, ℕ, Bool, true, false, Some, None, [], ◌∷◌, ◌++◌, length, map, option_map, slice_get, IfOk, IfErr, OnOk, Ok, Err};
-ghost use Rattle.sctp_state.specs.Options.{options_of, defaults};
+ghost use Rattle.sctp_serial.specs.Messages.{Message};
+ghost use Rattle.sctp_state.specs.Options.{IsValid, SendOptions, options_of, defaults};
+ghost use Rattle.sctp_association.specs.Socket.{endpoint};
 ghost use Rattle.sctp_world.specs.declared.world.WorldError.TheVariants.{Memory as no_memory};
-ghost use Rattle.sctp_world.specs.World.{Happens, Runs, Lacks, RunsUpToLack, AreShort, fresh_world, side_of, is_at_rest, Told, after_call, call_entry, settled, news_of};
-ghost use Rattle.sctp_world.specs.FirstRun.{opening, crossing, acknowledging, IsSmall, IsFresh, IsOpen, HasCrossed};
-ghost use Rattle.sctp_world.specs.Association.{Message};
-ghost use Rattle.sctp_world.specs.Judge.{A};
-ghost use Rattle.sctp_state.specs.declared.api.options.SendOptions.{SendOptions};
-ghost use Rattle.sctp_world.specs.SocketView.{endpoint_of, message_tree};
+ghost use Rattle.sctp_world.specs.World.{Happens, Runs, Lacks, RunsUpToLack, AreShort, fresh_world, side_of, is_at_rest, Told, ComesTo, after_call, after_time, call_entry, time_entry, clock, settled, news_of};
+ghost use Rattle.sctp_association_laws.specs.FirstRun.{IsSmall};
+ghost use Rattle.sctp_world.specs.FirstRun.{opening, crossing, acknowledging, IsFresh, IsOpen, HasCrossed};
+ghost use Rattle.sctp_world.specs.Judge.{A, Given};
 ghost use Rattle.sctp_world.specs.WorldView.{action_of, call_tree, end_tree, entry_tree, side_in, world_of};
 
+mod calling;
 mod log;
 mod side;
 
-pub use log::{Call, End, Entry, Event};
+pub use log::{Answer, Call, End, Entry, Event};
 use rand_core::Rng;
 use sctp_state::{CallError, Options};
 use sctp_wire::Checksum;
@@ -69,8 +70,8 @@ impl<R: Rng, C: Checksum> Model for World<R, C> {
     ghost view = { λ w. record { a = w.a; b = w.b; log = map entry_tree w.log.items; has_failed = w.has_failed } };
 }
 
-impl<R: Rng, C: Checksum> World<R, C> {
-    /// Two closed ends. Both have the default options.
+impl<R: Rng + Drop, C: Checksum + Drop> World<R, C> {
+    /// Two closed ends. Each has its own options, its generator and its checksum function.
     pub fn new(
         alloc: Global,
         options_a: &Options,
@@ -80,22 +81,23 @@ impl<R: Rng, C: Checksum> World<R, C> {
         checksum_a: C,
         checksum_b: C,
     ) -> Result<World<R, C>, CallError>
-        requires a { options_of options_a.now ≡ defaults }
-        requires b { options_of options_b.now ≡ defaults }
+        requires a { IsValid (options_of options_a.now) }
+        requires b { IsValid (options_of options_b.now) }
         ensures world { IfOk result (λ w. world_of R.stream C.word_of w
-            ≡ fresh_world (R.stream rng_a) (R.stream rng_b) (C.word_of checksum_a) (C.word_of checksum_b)) }
+            ≡ fresh_world (options_of options_a.now) (options_of options_b.now) (R.stream rng_a) (R.stream rng_b) (C.word_of checksum_a) (C.word_of checksum_b)) }
         ensures works { IfOk result (λ w. w.has_failed ≡ false) }
-        ensures short { IfOk result (λ w. AreShort (world_of R.stream C.word_of w)) }
     {
         Ok(World {
             alloc,
-            a: Side::new(alloc, rng_a, checksum_a),
-            b: Side::new(alloc, rng_b, checksum_b),
+            a: Side::new(alloc, "a", options_a, rng_a, checksum_a)?,
+            b: Side::new(alloc, "b", options_b, rng_b, checksum_b)?,
             log: Vec::new(alloc),
             has_failed: false,
         })
     }
+}
 
+impl<R: Rng, C: Checksum> World<R, C> {
     /// The packet of this number, from 0 on, that the end sent.
     pub fn packet(&self, end: End, number: usize) -> Option<&[u8]>
         ensures { option_map (λ bytes. bytes.now) result
@@ -124,7 +126,7 @@ impl<R: Rng, C: Checksum> World<R, C> {
         }
     }
 
-    /// Makes one event happen. Each packet that it makes an end send has at most 1,191 bytes. A world that has failed answers `Memory`.
+    /// Makes one event happen. Each packet that it makes an end send has at most the bytes of its `mtu`. A world that has failed answers `Memory`.
     pub fn step(&mut self, event: &Event) -> Result<(), WorldError>
         ensures ok { OnOk result (Happens (action_of event.now) (world_of R.stream C.word_of self.old) (world_of R.stream C.word_of self.new)) }
         ensures works { OnOk result ((self.old.has_failed ≡ false) × (self.new.has_failed ≡ false)) }
@@ -132,7 +134,8 @@ impl<R: Rng, C: Checksum> World<R, C> {
         ensures same { IfErr result (λ e. e ≡ WorldError.NoSuchPacket → self.new ≡ self.old) }
         ensures memory { IfErr result (λ e. e ≡ WorldError.Memory → self.new.has_failed ≡ true) }
         ensures failed { self.old.has_failed ≡ true → result ≡ Err WorldError.Memory }
-        ensures short { OnOk result (AreShort (world_of R.stream C.word_of self.old) → AreShort (world_of R.stream C.word_of self.new)) }
+        ensures short { OnOk result ((mtu_a mtu_b : ℕ) → AreShort mtu_a mtu_b (world_of R.stream C.word_of self.old)
+            → AreShort mtu_a mtu_b (world_of R.stream C.word_of self.new)) }
     {
         if self.has_failed {
             return Err(WorldError::Memory);
@@ -151,20 +154,12 @@ impl<R: Rng, C: Checksum> World<R, C> {
         ensures failed { self.new.has_failed ≡ self.old.has_failed }
     {
         match event {
-            Event::Call(End::A, call) => Ok(call_side(
-                self.alloc,
-                End::A,
-                call,
-                &mut self.a,
-                &mut self.log,
-            )?),
-            Event::Call(End::B, call) => Ok(call_side(
-                self.alloc,
-                End::B,
-                call,
-                &mut self.b,
-                &mut self.log,
-            )?),
+            Event::Call(End::A, call) => {
+                Ok(self.a.call(self.alloc, End::A, call, &mut self.log)?)
+            }
+            Event::Call(End::B, call) => {
+                Ok(self.b.call(self.alloc, End::B, call, &mut self.log)?)
+            }
             Event::Give(number, End::A) => give(
                 self.alloc,
                 End::A,
@@ -181,6 +176,18 @@ impl<R: Rng, C: Checksum> World<R, C> {
                 &self.a,
                 &mut self.log,
             ),
+            Event::Foreign(End::A, bytes) => {
+                Ok(self.a.come(self.alloc, End::A, bytes, &mut self.log)?)
+            }
+            Event::Foreign(End::B, bytes) => {
+                Ok(self.b.come(self.alloc, End::B, bytes, &mut self.log)?)
+            }
+            Event::Time(End::A, now) => {
+                Ok(self.a.tell_time(self.alloc, End::A, *now, &mut self.log)?)
+            }
+            Event::Time(End::B, now) => {
+                Ok(self.b.tell_time(self.alloc, End::B, *now, &mut self.log)?)
+            }
         }
     }
 
@@ -190,7 +197,8 @@ impl<R: Rng, C: Checksum> World<R, C> {
         ensures lacks { IfErr result (λ e. e ≡ WorldError.NoSuchPacket
             → RunsUpToLack (map action_of events.now) (world_of R.stream C.word_of self.old) (world_of R.stream C.word_of self.new)) }
         ensures memory { IfErr result (λ e. e ≡ WorldError.Memory → self.new.has_failed ≡ true) }
-        ensures short { OnOk result (AreShort (world_of R.stream C.word_of self.old) → AreShort (world_of R.stream C.word_of self.new)) }
+        ensures short { OnOk result ((mtu_a mtu_b : ℕ) → AreShort mtu_a mtu_b (world_of R.stream C.word_of self.old)
+            → AreShort mtu_a mtu_b (world_of R.stream C.word_of self.new)) }
 
         ensures opens { OnOk result (IsFresh (world_of R.stream C.word_of self.old) → map action_of events.now ≡ opening
             → IsOpen (world_of R.stream C.word_of self.new)) }
@@ -217,27 +225,6 @@ impl<R: Rng, C: Checksum> World<R, C> {
     }
 }
 
-/// Calls an end.
-fn call_side<R: Rng, C: Checksum>(
-    alloc: Global,
-    end: End,
-    call: &Call,
-    side: &mut Side<R, C>,
-    log: &mut Vec<Entry>,
-) -> Result<(), AllocError>
-    ensures side { OnOk result (side_in R.stream C.word_of side.new
-        ≡ settled (side_in R.stream C.word_of side.old) (after_call (call_tree call.now) (endpoint_of R.stream C.word_of side.old.socket))) }
-    ensures log { OnOk result (map entry_tree log.new.items ≡ map entry_tree log.old.items
-        ++ call_entry (end_tree end) (call_tree call.now) (endpoint_of R.stream C.word_of side.old.socket)
-        ∷ news_of (end_tree end) (side_in R.stream C.word_of side.old) (after_call (call_tree call.now) (endpoint_of R.stream C.word_of side.old.socket))) }
-{
-    match call {
-        Call::Connect => side.connect(alloc, end, log),
-        Call::Send(message, options) => side.send(alloc, end, message, *options, log),
-        Call::Receive => side.receive(alloc, end, log),
-    }
-}
-
 /// Gives an end the packet of this number of the other one.
 fn give<R: Rng, C: Checksum>(
     alloc: Global,
@@ -248,7 +235,7 @@ fn give<R: Rng, C: Checksum>(
     log: &mut Vec<Entry>,
 ) -> Result<(), WorldError>
     ensures ok { OnOk result ((bytes : List ℕ) × (slice_get from.now.packets number ≡ Some bytes)
-        × Told (end_tree end) number bytes (side_in R.stream C.word_of to.old) (side_in R.stream C.word_of to.new) (map entry_tree log.old.items) (map entry_tree log.new.items)) }
+        × Told (end_tree end) (Given (end_tree end) (clock (side_in R.stream C.word_of to.old).socket) number) bytes (side_in R.stream C.word_of to.old) (side_in R.stream C.word_of to.new) (map entry_tree log.old.items) (map entry_tree log.new.items)) }
     ensures lacks { IfErr result (λ e. e ≡ WorldError.NoSuchPacket → slice_get from.now.packets number ≡ None) }
     ensures side { IfErr result (λ e. e ≡ WorldError.NoSuchPacket → to.new ≡ to.old) }
     ensures log { IfErr result (λ e. e ≡ WorldError.NoSuchPacket → log.new ≡ log.old) }

@@ -1,12 +1,12 @@
 //! What happens in a world, and what a judge sees of it.
 
-ghost use Rattle.std.specs.Prelude.{◌≡◌, ℕ, [], ◌∷◌, IfOk, Some};
+ghost use Rattle.std.specs.Prelude.{◌≡◌, ◌++◌, ℕ, [], ◌∷◌, map, IfOk, OnOk, Some};
+ghost use Rattle.sctp_serial.specs.Messages.{message_of};
 ghost use Rattle.sctp_world.specs.Commands.{end_name};
-ghost use Rattle.sctp_world.specs.SocketView.{message_tree};
-ghost use Rattle.sctp_world.specs.WorldView.{end_tree};
+ghost use Rattle.sctp_world.specs.WorldView.{call_tree, end_tree};
 
-use crate::socket::Association;
-use sctp_serial::{Message, SocketTime};
+use sctp_association::Association;
+use sctp_serial::{Message, SocketTime, StreamId};
 use sctp_state::{GivenUp, SendError, SendOptions, SocketEvent};
 use std::alloc::{AllocError, Global};
 use std::fmt;
@@ -33,9 +33,29 @@ impl fmt::Display for End {
 #[derive(Debug, Drop)]
 pub enum Call {
     Connect,
+    Shutdown,
+    Close,
     Send(Message, SendOptions),
+    SendMany(Vec<Message>, SendOptions),
     /// Takes the next message that is ready.
     Receive,
+    SetPriority(StreamId, u16),
+    /// The most bytes of a message's payload.
+    SetMaxMessageSize(u32),
+    /// The amount in bytes at which a stream is low.
+    SetLowThreshold(StreamId, usize),
+}
+
+/// What a call answered.
+#[derive(Debug, Drop)]
+pub enum Answer {
+    Done,
+    /// Why the message was refused, where it was.
+    Sent(Option<SendError>),
+    /// The messages that were refused, by their places.
+    SentMany(Vec<(usize, SendError)>),
+    /// The message that was handed out, where one was ready.
+    Received(Option<Message>),
 }
 
 /// What may happen next.
@@ -44,18 +64,22 @@ pub enum Event {
     Call(End, Call),
     /// The packet of this number that the other end sent, from 0 on, is given to this end.
     Give(usize, End),
+    /// Bytes from elsewhere come to an end. Those that it wouldn't refuse are skipped.
+    Foreign(End, Vec<u8>),
+    /// The end is told the time.
+    Time(End, SocketTime),
 }
 
-/// An entry of the log. Moments are the clock of the end at the time.
+/// An entry of the log. Its first moment is the clock of the end.
 #[derive(Debug, Drop)]
 pub enum Entry {
-    Connect(End, SocketTime),
-    /// The message that was to be sent, and why it was refused where it was.
-    Send(End, SocketTime, Message, SendOptions, Option<SendError>),
-    /// The message that was handed out, where one was ready.
-    Receive(End, SocketTime, Option<Message>),
+    Call(End, SocketTime, Call, Answer),
     /// The packet of this number of the other end came.
     Give(End, SocketTime, usize),
+    /// The bytes from elsewhere that came, or none where they were skipped.
+    Foreign(End, SocketTime, Option<Vec<u8>>),
+    /// The moment that the end was told.
+    Time(End, SocketTime, SocketTime),
     /// The end's association is now this one.
     Association(End, Option<Association>),
     /// The end sent its packet of this number.
@@ -69,8 +93,36 @@ pub enum Entry {
 }
 
 pub fn copy_of(alloc: Global, message: &Message) -> Result<Message, AllocError>
-    ensures { IfOk result (λ copy. message_tree copy ≡ message_tree message.now) }
+    ensures { IfOk result (λ copy. message_of copy ≡ message_of message.now) }
 {
     let payload = Vec::from_slice(alloc, &message.payload)?;
     Ok(Message::new(message.stream_id, message.ppid, payload))
+}
+
+pub fn copies_of(alloc: Global, messages: &[Message]) -> Result<Vec<Message>, AllocError>
+    ensures { IfOk result (λ copies. map message_of copies.items ≡ map message_of messages.now) }
+{
+    let mut copies = Vec::new(alloc);
+    for message in messages {
+        copies.push(copy_of(alloc, message)?)?;
+    }
+    Ok(copies)
+}
+
+pub fn copy_of_call(alloc: Global, call: &Call) -> Result<Call, AllocError>
+    ensures { IfOk result (λ copy. call_tree copy ≡ call_tree call.now) }
+{
+    Ok(match call {
+        Call::Connect => Call::Connect,
+        Call::Shutdown => Call::Shutdown,
+        Call::Close => Call::Close,
+        Call::Send(message, options) => Call::Send(copy_of(alloc, message)?, *options),
+        Call::SendMany(messages, options) => {
+            Call::SendMany(copies_of(alloc, messages)?, *options)
+        }
+        Call::Receive => Call::Receive,
+        Call::SetPriority(stream, priority) => Call::SetPriority(*stream, *priority),
+        Call::SetMaxMessageSize(bytes) => Call::SetMaxMessageSize(*bytes),
+        Call::SetLowThreshold(stream, bytes) => Call::SetLowThreshold(*stream, *bytes),
+    })
 }

@@ -6,7 +6,8 @@ use Rattle.sctp_world.proofs.MtuLemmas.{runs_short}
 use Rattle.sctp_world.proofs.world.World.run.Goals as goal
 
 pub returns-clause-short : goal.returns-clause-short
-returns-clause-short g c = on_ok_weaker c.run_each.result (λ runs. runs_short (map action_of c.args.events.now) _ _ runs) c.run_each.ensures.ok
+returns-clause-short g c =
+    on_ok_weaker c.run_each.result (λ runs mtu_a mtu_b short. runs_short mtu_a mtu_b (map action_of c.args.events.now) _ _ runs short) c.run_each.ensures.ok
 
 pub returns-clause-opens : goal.returns-clause-opens
 returns-clause-opens g c = on_ok_weaker c.run_each.result (λ runs. opens_by (map action_of c.args.events.now) _ _ runs) c.run_each.ensures.ok

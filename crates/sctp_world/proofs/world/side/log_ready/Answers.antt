@@ -1,4 +1,5 @@
 use Rattle.std.proofs.Common.{arith}
+use Rattle.sctp_association.specs.Calls.{ready_in}
 use Rattle.sctp_world.specs.WorldView.{end_tree}
 use Rattle.sctp_world.proofs.ToldLemmas.{message_logged}
 use Rattle.sctp_world.proofs.world.side.log_ready.Goals as goal
@@ -6,6 +7,6 @@ use Rattle.sctp_world.proofs.world.side.log_ready.Goals as goal
 pub loop-place-preserved : goal.loop-place-preserved
 loop-place-preserved g c = record {
   end = c.loop-place.invariant.end;
-  log = message_logged (end_tree c.args.end) c.args.socket.now.core.ready c.loop-place.place _ _ _ (omega (arith, c.loop-place-test.true, c.loop-place.invariant.end))
+  log = message_logged (end_tree c.args.end) (ready_in c.args.socket.now.state) c.loop-place.place _ _ _ (omega (arith, c.loop-place-test.true, c.loop-place.invariant.end))
       c.in_ok-log_message.ensures c.loop-place.invariant.log;
 }
