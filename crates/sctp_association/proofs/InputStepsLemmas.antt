@@ -1,12 +1,13 @@
 -- What the rows of packets tell.
-use Rattle.std.proofs.Common.{ℕ, ◌+◌, Bool, true, false, Option, Some, None, List, [], ◌∷◌, ◌++◌, codes, refl}
+use Rattle.std.proofs.Common.{ℕ, ◌+◌, ◌==◌, Bool, true, false, Option, Some, None, List, [], ◌∷◌, ◌++◌, length, codes, refl}
 use Rattle.sctp_packet.specs.Chunk.{ChunkTree, data_chunk, init_chunk, init_ack_chunk, sack_chunk, heartbeat_request_chunk, heartbeat_ack_chunk, abort_chunk, shutdown_chunk, shutdown_ack_chunk, error_chunk, cookie_echo_chunk, cookie_ack_chunk, shutdown_complete_chunk, idata_chunk, re_config_chunk, forward_tsn_chunk, i_forward_tsn_chunk, unknown_chunk}
 use Rattle.sctp_packet.specs.Packet.{PacketTree}
 use Rattle.sctp_wire.specs.Parameter.{ParameterTree}
 use Rattle.sctp_packet.specs.ChunkText.{chunk_text}
 use Rattle.sctp_state.specs.declared.api.ErrorKind.TheVariants.{ParseFailed}
 use Rattle.sctp_rx.specs.Tracker.{is_ack_due}
-use Rattle.sctp_association.specs.Association.{Tcb, Phase, CookieEchoed, Established, ShutdownPending, ShutdownSent, ShutdownReceived, ShutdownAckSent, State, Closed, CookieWait, Open, Context, Standing, Endpoint, where_open}
+use Rattle.sctp_association.specs.Association.{Tcb, Phase, CookieEchoed, Established, ShutdownPending, ShutdownSent, ShutdownReceived, ShutdownAckSent, State, Closed, CookieWait, Open, Context, Standing, Endpoint, in_context, where_open}
+use Rattle.sctp_association.specs.Heartbeats.{info_in, answered_if, is_last, no_info, answered_by, answered, on_heartbeat_ack}
 use Rattle.sctp_association.specs.Packets.{Packet, add, new_packet}
 use Rattle.sctp_association.specs.Sending.{asked, acknowledged, selective_ack, is_alone}
 use Rattle.sctp_association.specs.Closing.{violated, on_abort, on_error, on_shutdown, on_shutdown_complete}
@@ -44,6 +45,24 @@ module _ {P : Type 0} where
   steps_heartbeat : (parameters : List ParameterTree) → OpenSteps (on_heartbeat {P = P} parameters)
   steps_heartbeat parameters phase t c = goes_emit_chunk (heartbeat_ack_chunk parameters) t c
 
+  goes_acked_if : (b : Bool) (c : Context P) → Goes 0 c (answered_if b c)
+  goes_acked_if true c = goes_silent c (answered_if true c) refl refl refl
+  goes_acked_if false c = goes_same c
+
+  goes_no_info : (c : Context P) → Goes 0 c (no_info c)
+  goes_no_info c = goes_complained ParseFailed (codes "Failed to parse HEARTBEAT-ACK; Invalid info parameter") c
+
+  goes_acked_by : (b : Bool) (info : List ℕ) (c : Context P) → Goes 0 c (answered_by b info c)
+  goes_acked_by true info c = goes_acked_if (is_last info c) c
+  goes_acked_by false info c = goes_no_info c
+
+  goes_acked : (o : Option (List ℕ)) (c : Context P) → Goes 0 c (answered o c)
+  goes_acked None c = goes_no_info c
+  goes_acked (Some info) c = goes_acked_by (length info == 4) info c
+
+  steps_heartbeat_ack : (parameters : List ParameterTree) (s : Standing P) → Steps s (in_context (on_heartbeat_ack parameters) s)
+  steps_heartbeat_ack parameters s = steps_context s (on_heartbeat_ack parameters s.context) (goes_acked (info_in parameters) s.context)
+
   steps_chunk : (tag : ℕ) (chunk : ChunkTree) (s : Endpoint P) → EndSteps s (on_chunk tag chunk s)
   steps_chunk tag (data_chunk tsn immediate f) s = steps_data tsn immediate f s.standing
   steps_chunk tag (idata_chunk tsn immediate f) s = steps_data tsn immediate f s.standing
@@ -58,7 +77,7 @@ module _ {P : Type 0} where
   steps_chunk tag (i_forward_tsn_chunk tsn skipped) s = steps_forward tsn skipped s.standing
   steps_chunk tag (unknown_chunk typ flags value) s = steps_unknown typ flags value s.standing
   steps_chunk tag (heartbeat_request_chunk parameters) s = steps_where_open (on_heartbeat parameters) s.standing (steps_heartbeat parameters)
-  steps_chunk tag (heartbeat_ack_chunk parameters) s = steps_same s.standing
+  steps_chunk tag (heartbeat_ack_chunk parameters) s = steps_heartbeat_ack parameters s.standing
   steps_chunk tag (shutdown_chunk tsn) s = steps_where_open on_shutdown s.standing steps_shut_by_peer
   steps_chunk tag shutdown_ack_chunk s = steps_shutdown_ack tag s.standing
   steps_chunk tag (shutdown_complete_chunk reflected) s = steps_where_open on_shutdown_complete s.standing steps_shutdown_complete

@@ -15,3 +15,4 @@ pub mod CallStepsLemmas
 pub mod InputStepsLemmas
 pub mod LawsLemmas
 pub mod EndingLemmas
+pub mod MomentsLemmas

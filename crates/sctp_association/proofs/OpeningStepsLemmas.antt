@@ -10,7 +10,7 @@ use Rattle.sctp_state.specs.Events.{OnConnected, OnConnectionRestarted, OnAborte
 use Rattle.sctp_association.specs.Association.{Identity, Tcb, tcb, Phase, CookieEchoed, Established, ShutdownPending, ShutdownSent, ShutdownReceived, ShutdownAckSent, State, Closed, CookieWait, Open, Context, Standing, Endpoint}
 use Rattle.sctp_association.specs.Packets.{Packet, add, packet_to, new_packet, rounded, say, complain, emit}
 use Rattle.sctp_association.specs.Closing.{send_shutdown_ack}
-use Rattle.sctp_association.specs.Opening.{tsn_from, tag_from, word, drew_word, long_word, init_of, send_init, connect_in, connect, agreed_by, init_ack_of, answer, answers, answers_new, next_first, answers_again, on_init_open, on_init_in, on_init, cookie_in, maker, without_cookie, queue_anew, echo, names, echoed, on_init_ack_in, on_init_ack, established, on_cookie_ack, Verdict, EstablishNew, RestartDetected, SimultaneousInit, MaintainExisting, Discard, InvalidTag, judged, cookie_ack, queue_for, tcb_by, anew, establishes, kept, keep, too_late, restarts, restarts_in, restart, complains, on_verdict, on_read_cookie, on_cookie_echo}
+use Rattle.sctp_association.specs.Opening.{tsn_from, tag_from, word, drew_word, long_word, init_of, send_init, connect_in, connect, agreed_by, init_ack_of, answer, answers, answers_new, next_first, answers_again, on_init_open, on_init_in, on_init, cookie_in, maker, without_cookie, queue_anew, echo, names, echoed, on_init_ack_in, on_init_ack, connected, established, on_cookie_ack, Verdict, EstablishNew, RestartDetected, SimultaneousInit, MaintainExisting, Discard, InvalidTag, judged, cookie_ack, queue_for, tcb_by, anew, establishes, kept, keep, too_late, restarts, restarts_in, restart, complains, on_verdict, on_read_cookie, on_cookie_echo}
 use Rattle.sctp_association.specs.Laws.{ends}
 use Rattle.sctp_association.proofs.StepsLemmas.{most_bytes, Goes, Steps, EndSteps}
 use Rattle.sctp_association.proofs.GoesLemmas.{IsSmall, small_empty, small_add, small_new, small_whole, rounded_le, goes_silent, goes_same, goes_then, goes_said, goes_complained, goes_emit}
@@ -107,12 +107,12 @@ module _ {P : Type 0} where
 
   -- ---- COOKIE ACK
 
-  goes_connected : (c : Context P) → Goes 0 c (say OnConnected c)
-  goes_connected c = goes_said 0 c (say OnConnected c) OnConnected refl refl refl tt refl
+  goes_connected : (c : Context P) → Goes 0 c (connected c)
+  goes_connected c = goes_said 0 c (connected c) OnConnected refl refl refl tt refl
 
   goes_established : (t : Tcb) (c : Context P) → Goes 0 c (established t c).context
   goes_established t c =
-      let d : Context P = say OnConnected c in
+      let d : Context P = connected c in
       goes_then 0 c d (established t c).context (goes_connected c) (goes_send_buffered d false t)
 
   pub steps_cookie_ack : OpenSteps (on_cookie_ack {P = P})
@@ -133,7 +133,7 @@ module _ {P : Type 0} where
   goes_anew : (resets : Bool) (k : Cookie) (tie : ℕ) (c : Context P) → Goes 0 c (anew resets k tie c).context
   goes_anew resets k tie c =
       let d : Context P = record c { queue = queue_for resets (negotiated c.options k.peer_capabilities).message_interleaving c.queue } in
-      let e : Context P = say OnConnected d in
+      let e : Context P = connected d in
       goes_then 0 c d (anew resets k tie c).context (goes_silent c d refl refl refl)
       (goes_then 0 d e (anew resets k tie c).context (goes_connected d) (goes_cookie_ack k.peer_tag (tcb_by c.options k tie) e))
 
@@ -144,7 +144,7 @@ module _ {P : Type 0} where
 
   steps_kept : (k : Cookie) → OpenSteps (kept {P = P} k)
   steps_kept k (CookieEchoed t1 cookie) t c =
-      let d : Context P = say OnConnected c in
+      let d : Context P = connected c in
       goes_then 0 c d (cookie_ack k.peer_tag t d).context (goes_connected c) (goes_cookie_ack k.peer_tag t d)
   steps_kept k Established t c = goes_cookie_ack k.peer_tag t c
   steps_kept k ShutdownPending t c = goes_cookie_ack k.peer_tag t c

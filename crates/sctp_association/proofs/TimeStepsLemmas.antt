@@ -7,11 +7,12 @@ use Rattle.sctp_state.specs.Events.{OnAborted}
 use Rattle.sctp_association.specs.Association.{Tcb, Phase, CookieEchoed, Established, ShutdownPending, ShutdownSent, ShutdownReceived, ShutdownAckSent, State, Closed, CookieWait, Open, Context, Standing}
 use Rattle.sctp_association.specs.Sending.{Sent, send_cookie}
 use Rattle.sctp_association.specs.Closing.{send_shutdown, send_shutdown_ack}
-use Rattle.sctp_association.specs.Time.{Ticking, tick_ack, t3_if, ticking, ticked, Left, standing_if, standing_left, ended_if, ended, ended_or_sent, goes_on, settled_if, settled, t2_expired, t2_if, tick_t2, waits_if, echoed_again, t1_expired, t1_if, tick_cookie, Waited, waiting_if, init_expired, init_if, tick_init, tick_open, tick_in, advance_if, advance}
+use Rattle.sctp_association.specs.Heartbeats.{counted_on, heartbeat, beat_if, unanswered_if}
+use Rattle.sctp_association.specs.Time.{Ticking, tick_ack, t3_if, tick_t3, tick_interval, ticking, ticked, Left, standing_if, standing_left, ended_if, ended, ended_or_sent, goes_on, settled_if, settled, t2_expired, t2_if, tick_t2, waits_if, echoed_again, t1_expired, t1_if, tick_cookie, Waited, waiting_if, init_expired, init_if, tick_init, tick_open, tick_in, advance_if, advance}
 use Rattle.sctp_association.specs.Laws.{ends}
 use Rattle.sctp_association.proofs.StepsLemmas.{most_bytes, Goes, Steps}
 use Rattle.sctp_association.proofs.TellsLemmas.{tells_nack_all}
-use Rattle.sctp_association.proofs.GoesLemmas.{goes_by, goes_silent, goes_same, goes_then, goes_said}
+use Rattle.sctp_association.proofs.GoesLemmas.{goes_by, goes_silent, goes_same, goes_then, goes_said, goes_emit_chunk}
 use Rattle.sctp_association.proofs.SendingStepsLemmas.{goes_send_buffered, goes_send_cookie}
 use Rattle.sctp_association.proofs.RowStepsLemmas.{StepsFrom, steps_same, goes_too_many, goes_send_shutdown, goes_send_shutdown_ack}
 use Rattle.sctp_association.proofs.OpeningStepsLemmas.{goes_send_init}
@@ -34,10 +35,25 @@ module _ {P : Type 0} where
       goes_by 0 x.context (t3_if true x).context refl refl (tells_nack_all x.context.pack (most_bytes x.context) x.tcb.sender.outstanding.items x.context.told)
   goes_t3_if false x = goes_same x.context
 
+  goes_beat_if : (b : Bool) (t : Tcb) (c : Context P) → Goes 0 c (beat_if b t c)
+  goes_beat_if true t c =
+      let d : Context P = counted_on c in
+      goes_then 0 c d (beat_if true t c) (goes_silent c d refl refl refl) (goes_emit_chunk (heartbeat d.heartbeats.counter) t d)
+  goes_beat_if false t c = goes_same c
+
+  goes_unanswered_if : (b : Bool) (c : Context P) → Goes 0 c (unanswered_if b c)
+  goes_unanswered_if true c = goes_silent c (unanswered_if true c) refl refl refl
+  goes_unanswered_if false c = goes_same c
+
   goes_ticked : (t : Tcb) (c : Context P) → Goes 0 c (ticked t c).context
+  unfolding ticked
   goes_ticked t c =
       let x : Ticking P = tick_ack (ticking t c) in
-      goes_t3_if (is_due x.context.now x.tcb.sender.t3) x
+      let y : Ticking P = tick_t3 x in
+      let z : Ticking P = tick_interval y in
+      goes_then 0 c y.context (ticked t c).context (goes_t3_if (is_due x.context.now x.tcb.sender.t3) x)
+      (goes_then 0 y.context z.context (ticked t c).context (goes_beat_if (is_due y.context.now y.context.heartbeats.interval) y.tcb y.context)
+      (goes_unanswered_if (is_due z.context.now z.context.heartbeats.timeout) z.context))
 
   steps_if : (b : Bool) (phase new : Phase) (t u : Tcb) (c d : Context P) → Goes (once b) c d → StepsFrom (Open phase t) c (standing_if b new u d)
   steps_if true phase new t u c d g = g
@@ -76,17 +92,17 @@ module _ {P : Type 0} where
   leaves_t2_expired true again h t c = leaves_then c (again t c) (goes_on t (again t c)) (h t c) (leaves_on t (again t c))
   leaves_t2_expired false again h t c = goes_too_many t c
 
-  leaves_t2_if : (b : Bool) (again : Tcb → Context P → Context P) → Again again → (t2 : Timer) (c : Context P) (x : Ticking P) → Goes 0 c x.context
-      → Leaves c (t2_if b again t2 x)
-  leaves_t2_if true again h t2 c x g =
-      let is_running_on : Bool = is_running (expire x.context.now t2) in
+  leaves_t2_if : (b : Bool) (now : ℕ) (again : Tcb → Context P → Context P) → Again again → (t2 : Timer) (c : Context P) (x : Ticking P) → Goes 0 c x.context
+      → Leaves c (t2_if b now again t2 x)
+  leaves_t2_if true now again h t2 c x g =
+      let is_running_on : Bool = is_running (expire now t2) in
       leaves_then c x.context (t2_expired is_running_on again x.tcb x.context) g (leaves_t2_expired is_running_on again h x.tcb x.context)
-  leaves_t2_if false again h t2 c x g = leaves_settled c x g
+  leaves_t2_if false now again h t2 c x g = leaves_settled c x g
 
-  leaves_t2 : (again : Tcb → Context P → Context P) → Again again → (t2 : Timer) (t : Tcb) (c : Context P) → Leaves c (tick_t2 again t2 (ticked t c))
+  leaves_t2 : (again : Tcb → Context P → Context P) → Again again → (t2 : Timer) (t : Tcb) (c : Context P) → Leaves c (tick_t2 c.now again t2 (ticked t c))
   leaves_t2 again h t2 t c =
       let x : Ticking P = ticked t c in
-      leaves_t2_if (is_due x.context.now t2) again h t2 c x (goes_ticked t c)
+      leaves_t2_if (is_due c.now t2) c.now again h t2 c x (goes_ticked t c)
 
   -- ---- T1-cookie
 
@@ -132,10 +148,10 @@ module _ {P : Type 0} where
   steps_tick_open Established t c = steps_left Established Established t c (settled (ticked t c)) (leaves_settled c (ticked t c) (goes_ticked t c))
   steps_tick_open ShutdownPending t c = steps_left ShutdownPending ShutdownPending t c (settled (ticked t c)) (leaves_settled c (ticked t c) (goes_ticked t c))
   steps_tick_open (ShutdownSent t2) t c =
-      steps_left (ShutdownSent t2) (ShutdownSent (expire c.now t2)) t c (tick_t2 send_shutdown t2 (ticked t c)) (leaves_t2 send_shutdown goes_send_shutdown t2 t c)
+      steps_left (ShutdownSent t2) (ShutdownSent (expire c.now t2)) t c (tick_t2 c.now send_shutdown t2 (ticked t c)) (leaves_t2 send_shutdown goes_send_shutdown t2 t c)
   steps_tick_open ShutdownReceived t c = steps_left ShutdownReceived ShutdownReceived t c (settled (ticked t c)) (leaves_settled c (ticked t c) (goes_ticked t c))
   steps_tick_open (ShutdownAckSent t2) t c =
-      steps_left (ShutdownAckSent t2) (ShutdownAckSent (expire c.now t2)) t c (tick_t2 send_shutdown_ack t2 (ticked t c))
+      steps_left (ShutdownAckSent t2) (ShutdownAckSent (expire c.now t2)) t c (tick_t2 c.now send_shutdown_ack t2 (ticked t c))
       (leaves_t2 send_shutdown_ack goes_send_shutdown_ack t2 t c)
 
   steps_tick : (st : State) (c : Context P) → StepsFrom st c (tick_in st c)

@@ -6,8 +6,9 @@ use Rattle.sctp_packet.specs.Chunk.{ChunkTree}
 use Rattle.sctp_packet.specs.Packet.{HeaderTree}
 use Rattle.sctp_state.specs.declared.api.SctpImplementation.{SctpImplementation}
 use Rattle.sctp_state.specs.declared.api.SctpImplementation.TheVariants as implementations
+use Rattle.sctp_state.specs.declared.timer.BackoffAlgorithm.TheVariants.{Fixed, Exponential}
 use Rattle.sctp_state.specs.Options.{Options}
-use Rattle.sctp_state.specs.Timers.{Timer}
+use Rattle.sctp_state.specs.Timers.{Timer, timer}
 use Rattle.sctp_state.specs.Rtt.{Rtt, unsampled}
 use Rattle.sctp_state.specs.Errors.{ErrorCounter, no_errors}
 use Rattle.sctp_state.specs.Events.{Told, silent}
@@ -75,12 +76,27 @@ pub record Counts : Type 0 where
   pub tx_packets : ℕ
   pub tx_messages : ℕ
 
+-- own heartbeats (RFC 9260 section 8.3)
+pub record Heartbeats : Type 0 where
+  pub interval : Timer  -- until the next one, where no data is sent
+  pub timeout : Timer  -- for its answer
+  pub counter : ℕ  -- which goes along
+
+-- an interval of zero starts no timer
+abbrev pub heartbeats : Options → Heartbeats
+heartbeats o = record {
+  interval = timer o.heartbeat_interval Fixed None None;
+  timeout = timer o.rto_initial Exponential (Some 0) None;
+  counter = 0;
+}
+
 pub record Context (P : Type 0) : Type 0 where
   pub options : Options
   pub now : ℕ
   pub queue : Queue
   pub forward_from : ℕ  -- no forward point is tested or sent before
   pub errors : ErrorCounter
+  pub heartbeats : Heartbeats
   pub counts : Counts
   pub peer : SctpImplementation
   pub told : Told P  -- and not taken yet
@@ -103,6 +119,7 @@ context o pack = record {
   queue = queue o;
   forward_from = 0;
   errors = no_errors o.max_retransmissions;
+  heartbeats = heartbeats o;
   counts = record { rx_packets = 0; tx_packets = 0; tx_messages = 0 };
   peer = implementations.Unknown;
   told = silent;

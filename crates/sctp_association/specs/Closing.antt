@@ -11,11 +11,16 @@ use Rattle.sctp_state.specs.Events.{Event, OnClosed, OnAborted}
 use Rattle.sctp_rx.specs.Tracker.{written}
 use Rattle.sctp_tx.specs.Retransmission.{is_quiet}
 use Rattle.sctp_association.specs.Association.{Tcb, Phase, CookieEchoed, Established, ShutdownPending, ShutdownSent, ShutdownReceived, ShutdownAckSent, State, Closed, CookieWait, Open, Context, Standing, open_as}
+use Rattle.sctp_association.specs.Heartbeats.{silenced}
 use Rattle.sctp_association.specs.Packets.{add, packet_to, say, complain, emit, emit_chunk}
+
+-- the event that says so; no heartbeats are sent any more
+abbrev pub over : {P : Type 0} → Event P → Context P → Context P
+over e c = record (say e c) { heartbeats = silenced c.heartbeats }
 
 -- no control block any more
 abbrev pub closed : {P : Type 0} → Event P → Context P → Standing P
-closed e c = record { state = Closed; context = say e c }
+closed e c = record { state = Closed; context = over e c }
 
 -- ---- shutdown
 

@@ -15,7 +15,8 @@ use Rattle.sctp_state.specs.Rtt.{rto}
 use Rattle.sctp_state.specs.Timers.{start, set_duration}
 use Rattle.sctp_state.specs.Capabilities.{Capabilities}
 use Rattle.sctp_rx.specs.Tracker.{packet_end, is_ack_due}
-use Rattle.sctp_association.specs.Association.{Tcb, Phase, CookieEchoed, Established, ShutdownPending, ShutdownSent, ShutdownReceived, ShutdownAckSent, State, Closed, CookieWait, Open, Context, Standing, Endpoint, open_as, with_context, where_open}
+use Rattle.sctp_association.specs.Association.{Tcb, Phase, CookieEchoed, Established, ShutdownPending, ShutdownSent, ShutdownReceived, ShutdownAckSent, State, Closed, CookieWait, Open, Context, Standing, Endpoint, open_as, with_context, in_context, where_open}
+use Rattle.sctp_association.specs.Heartbeats.{on_heartbeat_ack}
 use Rattle.sctp_association.specs.Packets.{add, rounded, new_packet, complain, emit_chunk}
 use Rattle.sctp_association.specs.Sending.{asked, acknowledged, selective_ack, is_alone, open_with, send_with}
 use Rattle.sctp_association.specs.Closing.{send_shutdown, on_shutdown, on_shutdown_ack, on_shutdown_complete, violated, on_abort, on_error}
@@ -189,7 +190,7 @@ on_chunk tag (forward_tsn_chunk tsn skipped) s = on_standing (on_forward tsn ski
 on_chunk tag (i_forward_tsn_chunk tsn skipped) s = on_standing (on_forward tsn skipped) s
 on_chunk tag (unknown_chunk typ flags value) s = on_standing (on_unknown typ flags value) s
 on_chunk tag (heartbeat_request_chunk parameters) s = on_standing (where_open (on_heartbeat parameters)) s
-on_chunk tag (heartbeat_ack_chunk parameters) s = s
+on_chunk tag (heartbeat_ack_chunk parameters) s = on_standing (in_context (on_heartbeat_ack parameters)) s
 on_chunk tag (shutdown_chunk tsn) s = on_standing (where_open on_shutdown) s
 on_chunk tag shutdown_ack_chunk s = on_standing (on_shutdown_ack tag) s
 on_chunk tag (shutdown_complete_chunk reflected) s = on_standing (where_open on_shutdown_complete) s

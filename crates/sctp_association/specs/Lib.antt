@@ -1,5 +1,6 @@
 pub mod Association
 pub mod Packets
+pub mod Heartbeats
 pub mod Sending
 pub mod Closing
 pub mod Data
@@ -15,4 +16,5 @@ pub mod PacketView
 pub mod Views
 pub mod Socket
 pub mod Laws
+pub mod Moments
 pub mod Metrics

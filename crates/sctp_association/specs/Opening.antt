@@ -21,6 +21,7 @@ use Rattle.sctp_send_queue.specs.Settings.{set_mode}
 use Rattle.sctp_outstanding.specs.Items.{next_number}
 use Rattle.sctp_outstanding.specs.Items as items
 use Rattle.sctp_association.specs.Association.{Identity, Tcb, tcb, Phase, CookieEchoed, Established, ShutdownPending, ShutdownSent, ShutdownReceived, ShutdownAckSent, State, Closed, CookieWait, Open, Context, Standing, Endpoint, open_as, with_context}
+use Rattle.sctp_association.specs.Heartbeats.{beating}
 use Rattle.sctp_association.specs.Packets.{add, packet_to, new_packet, rounded, say, complain, emit}
 use Rattle.sctp_association.specs.Sending.{Sent, open_with, send_with, send_buffered, send_cookie}
 use Rattle.sctp_association.specs.Closing.{closed, send_shutdown_ack}
@@ -195,8 +196,12 @@ on_init_ack i s = on_init_ack_in s.standing.state i s
 
 -- ---- COOKIE ACK
 
+-- the user is told, and heartbeats begin
+abbrev pub connected : {P : Type 0} → Context P → Context P
+connected c = record (say OnConnected c) { heartbeats = beating c.now c.heartbeats }
+
 abbrev pub established : {P : Type 0} → Tcb → Context P → Standing P
-established t c = open_with Established (send_buffered false t (say OnConnected c))
+established t c = open_with Established (send_buffered false t (connected c))
 
 abbrev pub on_cookie_ack : {P : Type 0} → Phase → Tcb → Context P → Standing P
 on_cookie_ack (CookieEchoed t1 cookie) t c = established t c
@@ -272,13 +277,13 @@ tcb_by o k tie = tcb o (identity_of k tie) (min k.a_rwnd o.max_send_buffer_size)
 abbrev pub anew : {P : Type 0} → (resets : Bool) → Cookie → (tie : ℕ) → Context P → Standing P
 anew resets k tie c =
     open_with Established (cookie_ack k.peer_tag (tcb_by c.options k tie)
-    (say OnConnected (record c { queue = queue_for resets (negotiated c.options k.peer_capabilities).message_interleaving c.queue })))
+    (connected (record c { queue = queue_for resets (negotiated c.options k.peer_capabilities).message_interleaving c.queue })))
 
 abbrev pub establishes : {P : Type 0} → (resets : Bool) → Cookie → Context P → Endpoint P → Endpoint P
 establishes resets k c s = stands (anew resets k (long_word s) c) (drew_long_word s)
 
 abbrev pub kept : {P : Type 0} → Cookie → Phase → Tcb → Context P → Standing P
-kept k (CookieEchoed t1 cookie) t c = open_with Established (cookie_ack k.peer_tag t (say OnConnected c))
+kept k (CookieEchoed t1 cookie) t c = open_with Established (cookie_ack k.peer_tag t (connected c))
 kept k Established t c = open_with Established (cookie_ack k.peer_tag t c)
 kept k ShutdownPending t c = open_with ShutdownPending (cookie_ack k.peer_tag t c)
 kept k (ShutdownSent t2) t c = open_with (ShutdownSent t2) (cookie_ack k.peer_tag t c)

@@ -109,10 +109,24 @@ pub record Closes : Type 0 where
       size 32 ∷ Says OnClosed ∷ Says (OnAborted PeerReported (codes "USER INITIATED ABORT, reason=Close called")) ∷ []
   pub resent : then (Connect true ∷ []) (Time (999 * ms) ∷ Time (1000 * ms) ∷ []) ≡ size 44 ∷ []
 
--- ---- a shutdown, at once and behind a message
+-- ---- ends that send no data: each asks for the other
 
 abbrev pub short_message : Move
 short_message = Send true (message 1 (120 ∷ [])) plainly
+
+abbrev pub idle : List Move
+idle = opened ++ (Time (30000 * ms) ∷ [])
+
+pub record Beats : Type 0 where
+  pub asked : then opened (Time (29999 * ms) ∷ Time (30000 * ms) ∷ []) ≡ size 24 ∷ size 24 ∷ []
+  pub answered : then idle (Give 2 false ∷ Give 3 true ∷ []) ≡ size 24 ∷ []
+  pub again : then idle (Give 2 false ∷ Give 3 true ∷ Time (60000 * ms) ∷ []) ≡ size 24 ∷ size 24 ∷ size 24 ∷ []
+  pub errors : (after (idle ++ (Time (30500 * ms) ∷ []))).a.standing.context.errors.value ≡ 1
+  pub none : (after (idle ++ (Give 2 false ∷ Give 3 true ∷ Time (30500 * ms) ∷ []))).a.standing.context.errors.value ≡ 0
+  pub later : then opened (Time (20000 * ms) ∷ short_message ∷ Give 2 false ∷ Give 2 true ∷ Time (30000 * ms) ∷ []) ≡
+      Says (OnBufferedAmountLow 1) ∷ size 32 ∷ size 28 ∷ size 24 ∷ []
+
+-- ---- a shutdown, at once and behind a message
 
 pub record ShutsDown : Type 0 where
   pub told : then opened (Shutdown true ∷ Give 2 false ∷ Give 2 true ∷ Give 3 false ∷ []) ≡ size 20 ∷ size 16 ∷ size 16 ∷ Says OnClosed ∷ Says OnClosed ∷ []

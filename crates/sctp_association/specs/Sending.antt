@@ -19,6 +19,7 @@ use Rattle.sctp_tx.specs.ForwardPoints.{expired, forward_chunk}
 use Rattle.sctp_tx.specs.Sending as fragments
 use Rattle.sctp_tx.specs.Sending.{send}
 use Rattle.sctp_association.specs.Association.{Tcb, Phase, CookieEchoed, Established, ShutdownPending, ShutdownSent, ShutdownReceived, ShutdownAckSent, Context, Standing, open_as}
+use Rattle.sctp_association.specs.Heartbeats.{beating_if}
 use Rattle.sctp_association.specs.Packets.{Packet, emptied, room, fits, add, add_all, has_chunks, rounded, packet_to, new_packet, emit}
 
 -- a packet being filled, and what filling it changes
@@ -100,11 +101,16 @@ data_chunks t is_immediate chunks = map (data_chunk_of t.capabilities.message_in
 abbrev pub is_small : Options → Sender → Bool
 is_small o s = nat_lt s.windows.cwnd (o.immediate_sack_under_cwnd_mtus * o.mtu)
 
+-- data asks the peer as well: the next heartbeat is an interval away
 abbrev pub filled : {P : Type 0} → fragments.Filling P → Filling P → Filling P
 filled f x = record {
   packet = add_all (data_chunks x.tcb (is_small x.context.options f.sender) f.chunks) x.packet;
   tcb = record x.tcb { sender = f.sender };
-  context = record x.context { queue = f.queue; told = f.told };
+  context = record x.context {
+    queue = f.queue;
+    told = f.told;
+    heartbeats = beating_if (not (length f.chunks == 0)) x.context.now x.context.heartbeats;
+  };
 }
 
 abbrev pub with_data : {P : Type 0} → Filling P → Filling P

@@ -1,5 +1,5 @@
 -- Time: which timers a state looks at, and what their expiries lead to.
-use Rattle.std.specs.Prelude.{ℕ, nat_lt, min, max, Bool, true, false, List, codes}
+use Rattle.std.specs.Prelude.{ℕ, ◌||◌, nat_lt, min, max, Bool, true, false, List, codes}
 use Rattle.sctp_serial.specs.Time.{forever}
 use Rattle.sctp_state.specs.declared.api.ErrorKind.TheVariants.{TooManyRetries}
 use Rattle.sctp_state.specs.Errors.{one_error, is_exhausted}
@@ -8,11 +8,11 @@ use Rattle.sctp_state.specs.Events.{OnAborted}
 use Rattle.sctp_outstanding.specs.Losses.{Step, nack_all}
 use Rattle.sctp_rx.specs.Tracker.{ack_timeout}
 use Rattle.sctp_tx.specs.Retransmission.{timed_out_sender}
-use Rattle.sctp_association.specs.Association.{Tcb, Phase, CookieEchoed, Established, ShutdownPending, ShutdownSent, ShutdownReceived, ShutdownAckSent, State, Closed, CookieWait, Open, Context, Standing, open_as}
+use Rattle.sctp_association.specs.Association.{Tcb, Phase, CookieEchoed, Established, ShutdownPending, ShutdownSent, ShutdownReceived, ShutdownAckSent, State, Closed, CookieWait, Open, Heartbeats, Context, Standing, open_as}
+use Rattle.sctp_association.specs.Heartbeats.{beat_if, unanswered_if, expiry}
 use Rattle.sctp_association.specs.Sending.{Sent, send_buffered, send_cookie}
-use Rattle.sctp_association.specs.Closing.{send_shutdown, send_shutdown_ack, too_many}
+use Rattle.sctp_association.specs.Closing.{over, send_shutdown, send_shutdown_ack, too_many}
 use Rattle.sctp_association.specs.Opening.{send_init}
-use Rattle.sctp_association.specs.Packets.{say}
 
 -- ---- the timers of a control block, one after the other
 
@@ -43,11 +43,25 @@ t3_if false x = x
 abbrev pub tick_t3 : {P : Type 0} → Ticking P → Ticking P
 tick_t3 x = t3_if (is_due x.context.now x.tcb.sender.t3) x
 
+-- the interval of heartbeats, at which one goes out
+abbrev pub tick_interval : {P : Type 0} → Ticking P → Ticking P
+tick_interval x = record x {
+  context = beat_if (is_due x.context.now x.context.heartbeats.interval) x.tcb x.context;
+  has_expired = is_due x.context.now x.context.heartbeats.interval || x.has_expired;
+}
+
+-- the time for its answer
+abbrev pub tick_timeout : {P : Type 0} → Ticking P → Ticking P
+tick_timeout x = record x {
+  context = unanswered_if (is_due x.context.now x.context.heartbeats.timeout) x.context;
+  has_expired = is_due x.context.now x.context.heartbeats.timeout || x.has_expired;
+}
+
 abbrev pub ticking : {P : Type 0} → Tcb → Context P → Ticking P
 ticking t c = record { tcb = t; context = c; has_expired = false }
 
-abbrev pub ticked : {P : Type 0} → Tcb → Context P → Ticking P
-ticked t c = tick_t3 (tick_ack (ticking t c))
+unfoldable pub ticked : {P : Type 0} → Tcb → Context P → Ticking P
+ticked t c = tick_timeout (tick_interval (tick_t3 (tick_ack (ticking t c))))
 
 -- ---- what an expiry leads to at last: the association may have ended
 
@@ -95,12 +109,12 @@ abbrev pub t2_expired : {P : Type 0} → (is_running : Bool) → (Tcb → Contex
 t2_expired true again t c = goes_on t (again t c)
 t2_expired false again t c = left t (too_many t c).context true
 
-abbrev pub t2_if : {P : Type 0} → (is_due : Bool) → (Tcb → Context P → Context P) → Timer → Ticking P → Left P
-t2_if true again t2 x = t2_expired (is_running (expire x.context.now t2)) again x.tcb x.context
-t2_if false again t2 x = settled x
+abbrev pub t2_if : {P : Type 0} → (is_due : Bool) → (now : ℕ) → (Tcb → Context P → Context P) → Timer → Ticking P → Left P
+t2_if true now again t2 x = t2_expired (is_running (expire now t2)) again x.tcb x.context
+t2_if false now again t2 x = settled x
 
-abbrev pub tick_t2 : {P : Type 0} → (Tcb → Context P → Context P) → Timer → Ticking P → Left P
-tick_t2 again t2 x = t2_if (is_due x.context.now t2) again t2 x
+abbrev pub tick_t2 : {P : Type 0} → (now : ℕ) → (Tcb → Context P → Context P) → Timer → Ticking P → Left P
+tick_t2 now again t2 x = t2_if (is_due now t2) now again t2 x
 
 -- ---- T1-cookie (RFC 9260 section 5.1): nothing is sent but the COOKIE ECHO and its packet
 
@@ -113,7 +127,7 @@ echoed_again x = ended x.tcb x.context
 
 abbrev pub t1_expired : {P : Type 0} → (is_running : Bool) → List ℕ → Tcb → Context P → Left P
 t1_expired true cookie t c = echoed_again (send_cookie cookie t c)
-t1_expired false cookie t c = left t (say (OnAborted TooManyRetries (codes "No COOKIE_ACK received")) c) true
+t1_expired false cookie t c = left t (over (OnAborted TooManyRetries (codes "No COOKIE_ACK received")) c) true
 
 abbrev pub t1_if : {P : Type 0} → (is_due : Bool) → Timer → List ℕ → Ticking P → Left P
 t1_if true t1 cookie x = t1_expired (is_running (expire x.context.now t1)) cookie x.tcb x.context
@@ -140,7 +154,7 @@ standing_waited tag first t1 x = waiting_if x.has_ended tag first t1 x.context
 
 abbrev pub init_expired : {P : Type 0} → (is_running : Bool) → (tag first : ℕ) → Context P → Waited P
 init_expired true tag first c = waited (send_init tag first c) false
-init_expired false tag first c = waited (say (OnAborted TooManyRetries (codes "No INIT_ACK received")) c) true
+init_expired false tag first c = waited (over (OnAborted TooManyRetries (codes "No INIT_ACK received")) c) true
 
 abbrev pub init_if : {P : Type 0} → (is_due : Bool) → (tag first : ℕ) → Timer → Context P → Waited P
 init_if true tag first t1 c = init_expired (is_running (expire c.now t1)) tag first c
@@ -156,10 +170,10 @@ tick_open (CookieEchoed t1 cookie) t c =
     standing_left (CookieEchoed (expire c.now t1) cookie) (tick_cookie t1 cookie (tick_ack (ticking t c)))
 tick_open Established t c = standing_left Established (settled (ticked t c))
 tick_open ShutdownPending t c = standing_left ShutdownPending (settled (ticked t c))
-tick_open (ShutdownSent t2) t c = standing_left (ShutdownSent (expire c.now t2)) (tick_t2 send_shutdown t2 (ticked t c))
+tick_open (ShutdownSent t2) t c = standing_left (ShutdownSent (expire c.now t2)) (tick_t2 c.now send_shutdown t2 (ticked t c))
 tick_open ShutdownReceived t c = standing_left ShutdownReceived (settled (ticked t c))
 tick_open (ShutdownAckSent t2) t c =
-    standing_left (ShutdownAckSent (expire c.now t2)) (tick_t2 send_shutdown_ack t2 (ticked t c))
+    standing_left (ShutdownAckSent (expire c.now t2)) (tick_t2 c.now send_shutdown_ack t2 (ticked t c))
 
 abbrev pub tick_in : {P : Type 0} → State → Context P → Standing P
 tick_in Closed c = record { state = Closed; context = c }
@@ -179,18 +193,21 @@ advance now s = advance_if (nat_lt now s.context.now) now s
 abbrev pub tcb_expiry : Tcb → ℕ
 tcb_expiry t = min (next_expiry t.sender.t3) (next_expiry t.tracker.tracker.delay)
 
-abbrev pub phase_expiry : Phase → Tcb → ℕ
-phase_expiry (CookieEchoed t1 cookie) t = next_expiry t1
-phase_expiry Established t = tcb_expiry t
-phase_expiry ShutdownPending t = tcb_expiry t
-phase_expiry (ShutdownSent t2) t = min (next_expiry t2) (tcb_expiry t)
-phase_expiry ShutdownReceived t = tcb_expiry t
-phase_expiry (ShutdownAckSent t2) t = min (next_expiry t2) (tcb_expiry t)
+abbrev pub running_expiry : Tcb → Heartbeats → ℕ
+running_expiry t h = min (tcb_expiry t) (expiry h)
 
-abbrev pub timeout_in : State → ℕ → ℕ
-timeout_in Closed now = forever
-timeout_in (CookieWait tag first t1) now = max (next_expiry t1) now
-timeout_in (Open phase t) now = max (phase_expiry phase t) now
+abbrev pub phase_expiry : Phase → Tcb → Heartbeats → ℕ
+phase_expiry (CookieEchoed t1 cookie) t h = next_expiry t1
+phase_expiry Established t h = running_expiry t h
+phase_expiry ShutdownPending t h = running_expiry t h
+phase_expiry (ShutdownSent t2) t h = min (next_expiry t2) (running_expiry t h)
+phase_expiry ShutdownReceived t h = running_expiry t h
+phase_expiry (ShutdownAckSent t2) t h = min (next_expiry t2) (running_expiry t h)
+
+abbrev pub timeout_in : State → Heartbeats → (now : ℕ) → ℕ
+timeout_in Closed h now = forever
+timeout_in (CookieWait tag first t1) h now = max (next_expiry t1) now
+timeout_in (Open phase t) h now = max (phase_expiry phase t h) now
 
 abbrev pub poll_timeout : {P : Type 0} → Standing P → ℕ
-poll_timeout s = timeout_in s.state s.context.now
+poll_timeout s = timeout_in s.state s.context.heartbeats s.context.now

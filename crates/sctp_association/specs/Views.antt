@@ -15,7 +15,7 @@ use Rattle.sctp_association.specs.declared.state.Phase as given_phase
 use Rattle.sctp_association.specs.declared.state.Phase.TheVariants as phases
 use Rattle.sctp_association.specs.declared.state.State as given_state
 use Rattle.sctp_association.specs.declared.state.State.TheVariants as states
-use Rattle.sctp_association.specs.Association.{Identity, Tcb, Phase, CookieEchoed, Established, ShutdownPending, ShutdownSent, ShutdownReceived, ShutdownAckSent, State, Closed, CookieWait, Open, Counts, Context, Standing, Endpoint}
+use Rattle.sctp_association.specs.Association.{Identity, Tcb, Phase, CookieEchoed, Established, ShutdownPending, ShutdownSent, ShutdownReceived, ShutdownAckSent, State, Closed, CookieWait, Open, Heartbeats, Counts, Context, Standing, Endpoint}
 use Rattle.sctp_association.specs.Packets.{Packet}
 use Rattle.sctp_association.specs.Opening.{Verdict, EstablishNew, RestartDetected, SimultaneousInit, MaintainExisting, Discard, InvalidTag}
 use Rattle.sctp_association.specs.declared.cookie_echo.Verdict as given_verdict
@@ -72,6 +72,7 @@ pub record ContextValue (C : Type 0) : Type 0 where
   pub queue : Queue
   pub forward_from : ℕ
   pub errors : ErrorCounter
+  pub heartbeats : Heartbeats
   pub counts : Counts
   pub peer : SctpImplementation
   pub told : Told (List ℕ)
@@ -84,6 +85,7 @@ context_of word_of c = record {
   queue = c.queue;
   forward_from = c.forward_from;
   errors = c.errors;
+  heartbeats = c.heartbeats;
   counts = c.counts;
   peer = c.peer;
   told = c.told;

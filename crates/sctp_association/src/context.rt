@@ -13,7 +13,10 @@ use crate::outgoing_packet::OutgoingPacket;
 use crate::transmission_control_block::TransmissionControlBlock;
 use sctp_packet::Chunk;
 use sctp_serial::SocketTime;
-use sctp_state::{ErrorKind, Events, Options, SctpImplementation, SocketEvent, TxErrorCounter};
+use sctp_state::{
+    BackoffAlgorithm, ErrorKind, Events, Options, SctpImplementation, SocketEvent, Timer,
+    TxErrorCounter,
+};
 use sctp_tx::SendQueue;
 use sctp_wire::Checksum;
 use std::alloc::{AllocError, Global};
@@ -29,6 +32,12 @@ pub struct Context<C: Checksum> {
     /// No forward point is tested or sent before this moment.
     pub(crate) limit_forward_tsn_until: SocketTime,
     pub(crate) tx_error_counter: TxErrorCounter,
+    /// Until the next heartbeat, where no data is sent.
+    pub(crate) heartbeat_interval: Timer,
+    /// For the answer to the last one.
+    pub(crate) heartbeat_timeout: Timer,
+    /// The number of the last one.
+    pub(crate) heartbeat_counter: u32,
     pub(crate) rx_packets_count: usize,
     pub(crate) tx_packets_count: usize,
     pub(crate) tx_messages_count: usize,
@@ -49,6 +58,7 @@ impl<C: Checksum> Model for Context<C> {
       queue = c.send_queue;
       forward_from = c.limit_forward_tsn_until;
       errors = c.tx_error_counter;
+      heartbeats = record { interval = c.heartbeat_interval; timeout = c.heartbeat_timeout; counter = c.heartbeat_counter };
       counts = record { rx_packets = c.rx_packets_count; tx_packets = c.tx_packets_count; tx_messages = c.tx_messages_count };
       peer = c.peer_implementation;
       told = c.events;
@@ -68,6 +78,19 @@ impl<C: Checksum> Context<C> {
             alloc,
             send_queue: SendQueue::new(alloc, &options),
             tx_error_counter: TxErrorCounter::new(options.max_retransmissions),
+            heartbeat_interval: Timer::new(
+                options.heartbeat_interval,
+                BackoffAlgorithm::Fixed,
+                None,
+                None,
+            ),
+            heartbeat_timeout: Timer::new(
+                options.rto_initial,
+                BackoffAlgorithm::Exponential,
+                Some(0),
+                None,
+            ),
+            heartbeat_counter: 0,
             options,
             clock: SocketTime::zero(),
             limit_forward_tsn_until: SocketTime::zero(),

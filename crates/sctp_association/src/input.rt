@@ -11,7 +11,7 @@ ghost use Rattle.sctp_association.specs.Association.{where_open};
 ghost use Rattle.sctp_association.specs.Closing as closing;
 ghost use Rattle.sctp_association.specs.Input as table;
 ghost use Rattle.sctp_association.specs.Opening.{on_cookie_ack};
-ghost use Rattle.sctp_association.specs.Packets.{complain, say};
+ghost use Rattle.sctp_association.specs.Packets.{complain};
 ghost use Rattle.sctp_association.specs.Socket.{Hears, Judges, policy_of};
 ghost use Rattle.sctp_association.specs.Views.{context_of, endpoint_of, heard_of, misuse_text, opened_of, phase_of, standing_of, state_of, tcb_of};
 ghost use Rattle.sctp_association.specs.Wire.{word_at};
@@ -57,10 +57,10 @@ impl<C: Checksum> Context<C> {
 
     /// The association is told as aborted by the peer.
     fn tell_abort(&mut self, causes: &[ErrorCause]) -> Result<(), AllocError>
-        ensures { OnOk result (context_of C.word_of self.new ≡ say (OnAborted ErrorKind.PeerReported (closing.causes_text (map cause_tree causes.now))) (context_of C.word_of self.old)) }
+        ensures { OnOk result (context_of C.word_of self.new ≡ closing.over (OnAborted ErrorKind.PeerReported (closing.causes_text (map cause_tree causes.now))) (context_of C.word_of self.old)) }
     {
         let text = causes_text(self.alloc, causes)?;
-        self.tell(SocketEvent::OnAborted(ErrorKind::PeerReported, text))
+        self.internal_close(SocketEvent::OnAborted(ErrorKind::PeerReported, text))
     }
 
     /// An error that the peer reports.
@@ -213,7 +213,7 @@ fn handle_misuse<C: Checksum>(
     }
 }
 
-/// What a chunk does, of a packet under this tag. HEARTBEAT ACK and RE-CONFIG change nothing.
+/// What a chunk does, of a packet under this tag. RE-CONFIG changes nothing.
 fn dispatch<R: Rng, C: Checksum>(
     state: &mut State,
     context: &mut Context<C>,
@@ -247,6 +247,7 @@ fn dispatch<R: Rng, C: Checksum>(
             &c.skipped_streams,
         ),
         Chunk::HeartbeatRequest(c) => handle_heartbeat(state, context, c.parameters),
+        Chunk::HeartbeatAck(c) => context.handle_heartbeat_ack(&c.parameters),
         Chunk::Shutdown(_) => handle_shutdown_chunk(state, context),
         Chunk::ShutdownAck(_) => handle_shutdown_ack(state, context, tag),
         Chunk::ShutdownComplete(_) => handle_shutdown_complete(state, context),

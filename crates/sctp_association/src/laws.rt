@@ -1,11 +1,12 @@
 //! What the table of steps says of whole conversations, and what holds of all.
 
 ghost use Rattle.sctp_association.specs.Laws.{EachCallSendsAtMost, EachCallStaysWithin, EachCallTellsEndings, EachClosingEnds};
-ghost use Rattle.sctp_association.specs.Rows.{BothConnect, Closes, FirstConversation, Fragments, GivenUpOnce, OtherOrder, ShutsDown};
+ghost use Rattle.sctp_association.specs.Moments.{AMomentBeforeMovesTheClock, AnEarlierMomentChangesNothing};
+ghost use Rattle.sctp_association.specs.Rows.{Beats, BothConnect, Closes, FirstConversation, Fragments, GivenUpOnce, OtherOrder, ShutsDown};
 
 /// Conversations of two ends with default options go as they have to: an opening, a message that is delivered once, two
 /// that come in the other order, ends that connect at once, a message that is given up, one of three fragments, a close,
-/// and a shutdown.
+/// a shutdown, and heartbeats of idle ends.
 pub fn conversations_go()
     ensures first { FirstConversation }
     ensures order { OtherOrder }
@@ -14,6 +15,7 @@ pub fn conversations_go()
     ensures fragments { Fragments }
     ensures closes { Closes }
     ensures shuts_down { ShutsDown }
+    ensures beats { Beats }
 {}
 
 /// No call makes an end tell a packet above the mtu, by its chunks and by its bytes.
@@ -27,4 +29,12 @@ pub fn packets_are_within_the_mtu()
 pub fn an_end_closes_once()
     ensures told { EachCallTellsEndings }
     ensures closing { EachClosingEnds }
+{}
+
+/// Before the moment that `poll_timeout` names, the passing of time moves the clock alone, but while a COOKIE ECHO waits for
+/// its answer: there the delay of an acknowledgement, which isn't named, may end. An earlier moment than the clock's changes
+/// nothing.
+pub fn a_moment_before_the_timeout_moves_the_clock_alone()
+    ensures before { AMomentBeforeMovesTheClock }
+    ensures earlier { AnEarlierMomentChangesNothing }
 {}

@@ -8,6 +8,7 @@ mod cookie_echo;
 mod data;
 mod draws;
 mod handshake;
+mod heartbeats;
 mod input;
 pub mod laws;
 mod metrics;

@@ -89,6 +89,9 @@ impl<C: Checksum> Context<C> {
             &mut self.send_queue,
             &mut self.events,
         )?;
+        if !fragments.is_empty() {
+            self.restart_heartbeat_interval();
+        }
         let is_immediate = tcb.retransmission_queue.cwnd() < self.immediate_sack_cwnd();
         add_fragments(packet, tcb, is_immediate, fragments)
     }

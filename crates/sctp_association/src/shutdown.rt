@@ -152,7 +152,7 @@ impl<C: Checksum> Context<C> {
                 tag_reflected: false,
             }),
         )?;
-        self.tell(SocketEvent::OnClosed())
+        self.internal_close(SocketEvent::OnClosed())
     }
 
     /// An ABORT with one cause goes out.
@@ -180,28 +180,36 @@ impl<C: Checksum> Context<C> {
         self.events.add(event)
     }
 
-    /// The association is told as aborted.
+    /// The event that says that the association is over; no heartbeats are sent any more.
+    pub(crate) fn internal_close(&mut self, event: SocketEvent) -> Result<(), AllocError>
+        ensures { OnOk result (context_of C.word_of self.new ≡ table.over (event_of event) (context_of C.word_of self.old)) }
+    {
+        self.stop_heartbeats();
+        self.tell(event)
+    }
+
+    /// The association is over, as aborted.
     pub(crate) fn tell_aborted(&mut self, kind: ErrorKind, text: &str) -> Result<(), AllocError>
-        ensures { OnOk result (context_of C.word_of self.new ≡ say (OnAborted kind text.now) (context_of C.word_of self.old)) }
+        ensures { OnOk result (context_of C.word_of self.new ≡ table.over (OnAborted kind text.now) (context_of C.word_of self.old)) }
     {
         let text = String::from_str(self.alloc, text)?;
-        self.tell(SocketEvent::OnAborted(kind, text))
+        self.internal_close(SocketEvent::OnAborted(kind, text))
     }
 
     /// The same, since the peer doesn't answer.
     pub(crate) fn tell_no_answer(&mut self, text: &str) -> Result<(), AllocError>
-        ensures { OnOk result (context_of C.word_of self.new ≡ say (OnAborted ErrorKind.TooManyRetries text.now) (context_of C.word_of self.old)) }
+        ensures { OnOk result (context_of C.word_of self.new ≡ table.over (OnAborted ErrorKind.TooManyRetries text.now) (context_of C.word_of self.old)) }
     {
         self.tell_aborted(ErrorKind::TooManyRetries, text)
     }
 
     fn abort_by_user(&mut self, tcb: &TransmissionControlBlock) -> Result<(), AllocError>
         ensures { OnOk result (context_of C.word_of self.new
-            ≡ say OnClosed (emit_chunk (abort_chunk false (user_initiated_abort (codes "Close called") ∷ [])) (tcb_of tcb.now) (context_of C.word_of self.old))) }
+            ≡ table.over OnClosed (emit_chunk (abort_chunk false (user_initiated_abort (codes "Close called") ∷ [])) (tcb_of tcb.now) (context_of C.word_of self.old))) }
     {
         let cause = self.user_abort("Close called")?;
         self.send_abort(tcb, cause)?;
-        self.tell(SocketEvent::OnClosed())
+        self.internal_close(SocketEvent::OnClosed())
     }
 
     pub(crate) fn abort_by_retransmissions(
@@ -209,7 +217,7 @@ impl<C: Checksum> Context<C> {
         tcb: &TransmissionControlBlock,
     ) -> Result<(), AllocError>
         ensures { OnOk result (context_of C.word_of self.new
-            ≡ say (OnAborted ErrorKind.TooManyRetries (codes "Too many retransmissions"))
+            ≡ table.over (OnAborted ErrorKind.TooManyRetries (codes "Too many retransmissions"))
             (emit_chunk (abort_chunk false (user_initiated_abort (codes "Too many retransmissions") ∷ [])) (tcb_of tcb.now) (context_of C.word_of self.old))) }
     {
         let cause = self.user_abort("Too many retransmissions")?;
@@ -236,7 +244,7 @@ pub(crate) fn handle_close<C: Checksum>(
     match state {
         State::Closed => Ok(()),
         State::CookieWait(_) => {
-            context.tell(SocketEvent::OnClosed())?;
+            context.internal_close(SocketEvent::OnClosed())?;
             *state = State::Closed;
             Ok(())
         }
@@ -258,7 +266,7 @@ pub(crate) fn handle_shutdown<C: Checksum>(
     match state {
         State::Closed => Ok(()),
         State::CookieWait(_) => {
-            context.tell(SocketEvent::OnClosed())?;
+            context.internal_close(SocketEvent::OnClosed())?;
             *state = State::Closed;
             Ok(())
         }
@@ -316,7 +324,7 @@ pub(crate) fn handle_shutdown_complete<C: Checksum>(
         State::Closed => Ok(()),
         State::CookieWait(_) => Ok(()),
         State::Open(Phase::ShutdownAckSent(_), _) => {
-            context.tell(SocketEvent::OnClosed())?;
+            context.internal_close(SocketEvent::OnClosed())?;
             *state = State::Closed;
             Ok(())
         }

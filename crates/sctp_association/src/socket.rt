@@ -186,7 +186,7 @@ impl<R: Rng, C: Checksum> DcSctpSocket for Socket<R, C> {
     fn poll_timeout(&self) -> SocketTime
         ensures { result ≡ time.poll_timeout (endpoint R.stream C.word_of self.now).standing }
     {
-        self.state.poll_timeout(self.context.clock)
+        self.context.poll_timeout(&self.state)
     }
 
     fn connect(&mut self) -> Result<(), CallError>

@@ -40,11 +40,16 @@ impl<C: Checksum> Context<C> {
         Ok(has_expired)
     }
 
+    /// The timers of a control block, and those of heartbeats, one after the other. The answer is whether any expired.
+    #[tactic(auto, unfolding(crate::specs::Time::ticked))]
     fn tick_tcb(&mut self, tcb: &mut TransmissionControlBlock) -> Result<bool, AllocError>
         ensures { IfOk result (λ any. ticking_of C.word_of tcb.new self.new any ≡ table.ticked (tcb_of tcb.old) (context_of C.word_of self.old)) }
     {
         let has_expired = self.tick_ack(tcb);
-        self.tick_t3(tcb, has_expired)
+        let has_expired = self.tick_t3(tcb, has_expired)?;
+        let is_beat = self.tick_heartbeat_interval(tcb)?;
+        let is_unanswered = self.tick_heartbeat_timeout();
+        Ok(is_unanswered || is_beat || has_expired)
     }
 
     /// Too many errors end the association. The answer is whether it ended.
@@ -137,10 +142,11 @@ impl<C: Checksum> Context<C> {
     ) -> Result<bool, AllocError>
         ensures timer { OnOk result (t2_shutdown.new ≡ expire self.old.clock t2_shutdown.old) }
         ensures left { IfOk result (λ ended. left_of C.word_of tcb.new self.new ended
-            ≡ table.tick_t2 send_shutdown t2_shutdown.old (table.ticked (tcb_of tcb.old) (context_of C.word_of self.old))) }
+            ≡ table.tick_t2 self.old.clock send_shutdown t2_shutdown.old (table.ticked (tcb_of tcb.old) (context_of C.word_of self.old))) }
     {
+        let now = self.clock;
         let has_expired = self.tick_tcb(tcb)?;
-        if !t2_shutdown.expire(self.clock) {
+        if !t2_shutdown.expire(now) {
             return self.settle(tcb, has_expired);
         }
         if !t2_shutdown.is_running() {
@@ -159,10 +165,11 @@ impl<C: Checksum> Context<C> {
     ) -> Result<bool, AllocError>
         ensures timer { OnOk result (t2_shutdown.new ≡ expire self.old.clock t2_shutdown.old) }
         ensures left { IfOk result (λ ended. left_of C.word_of tcb.new self.new ended
-            ≡ table.tick_t2 send_shutdown_ack t2_shutdown.old (table.ticked (tcb_of tcb.old) (context_of C.word_of self.old))) }
+            ≡ table.tick_t2 self.old.clock send_shutdown_ack t2_shutdown.old (table.ticked (tcb_of tcb.old) (context_of C.word_of self.old))) }
     {
+        let now = self.clock;
         let has_expired = self.tick_tcb(tcb)?;
-        if !t2_shutdown.expire(self.clock) {
+        if !t2_shutdown.expire(now) {
             return self.settle(tcb, has_expired);
         }
         if !t2_shutdown.is_running() {
@@ -259,32 +266,39 @@ impl TransmissionControlBlock {
     }
 }
 
-impl Phase {
-    fn next_timeout(&self, tcb: &TransmissionControlBlock) -> SocketTime
-        ensures { result ≡ table.phase_expiry (phase_of self.now) (tcb_of tcb.now) }
+impl<C: Checksum> Context<C> {
+    /// The timers of an association that is established or is being shut down, but for T2-shutdown.
+    fn running_expiry(&self, tcb: &TransmissionControlBlock) -> SocketTime
+        ensures { result ≡ table.running_expiry (tcb_of tcb.now) self.now.heartbeats }
     {
-        match self {
+        tcb.next_timeout().min(self.heartbeat_expiry())
+    }
+
+    fn phase_expiry(&self, phase: &Phase, tcb: &TransmissionControlBlock) -> SocketTime
+        ensures { result ≡ table.phase_expiry (phase_of phase.now) (tcb_of tcb.now) self.now.heartbeats }
+    {
+        match phase {
             Phase::CookieEchoed(echoed) => echoed.t1_cookie.next_expiry(),
-            Phase::Established => tcb.next_timeout(),
-            Phase::ShutdownPending => tcb.next_timeout(),
-            Phase::ShutdownSent(t2_shutdown) => t2_shutdown.next_expiry().min(tcb.next_timeout()),
-            Phase::ShutdownReceived => tcb.next_timeout(),
+            Phase::Established => self.running_expiry(tcb),
+            Phase::ShutdownPending => self.running_expiry(tcb),
+            Phase::ShutdownSent(t2_shutdown) => {
+                t2_shutdown.next_expiry().min(self.running_expiry(tcb))
+            }
+            Phase::ShutdownReceived => self.running_expiry(tcb),
             Phase::ShutdownAckSent(t2_shutdown) => {
-                t2_shutdown.next_expiry().min(tcb.next_timeout())
+                t2_shutdown.next_expiry().min(self.running_expiry(tcb))
             }
         }
     }
-}
 
-impl State {
     /// The moment by which the time is to be told next, not before this one; the greatest one where no timer runs.
-    pub(crate) fn poll_timeout(&self, now: SocketTime) -> SocketTime
-        ensures { result ≡ table.timeout_in (state_of self.now) now }
+    pub(crate) fn poll_timeout(&self, state: &State) -> SocketTime
+        ensures { result ≡ table.poll_timeout (standing_of C.word_of state.now self.now) }
     {
-        match self {
+        match state {
             State::Closed => SocketTime::infinite_future(),
-            State::CookieWait(waiting) => waiting.t1_init.next_expiry().max(now),
-            State::Open(phase, tcb) => phase.next_timeout(tcb).max(now),
+            State::CookieWait(waiting) => waiting.t1_init.next_expiry().max(self.clock),
+            State::Open(phase, tcb) => self.phase_expiry(phase, tcb).max(self.clock),
         }
     }
 }

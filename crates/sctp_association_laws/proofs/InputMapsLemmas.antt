@@ -1,12 +1,13 @@
 -- Packets that come in.
-use Rattle.std.proofs.Common.{◌≡◌, ℕ, Bool, true, false, Option, Some, None, List, [], ◌∷◌, ◌++◌, codes, refl, ap, ◌∙◌}
+use Rattle.std.proofs.Common.{◌≡◌, ℕ, ◌==◌, Bool, true, false, Option, Some, None, List, [], ◌∷◌, ◌++◌, length, codes, refl, ap, ◌∙◌}
 use Rattle.sctp_packet.specs.Chunk.{ChunkTree, data_chunk, init_chunk, init_ack_chunk, sack_chunk, heartbeat_request_chunk, heartbeat_ack_chunk, abort_chunk, shutdown_chunk, shutdown_ack_chunk, error_chunk, cookie_echo_chunk, cookie_ack_chunk, shutdown_complete_chunk, idata_chunk, re_config_chunk, forward_tsn_chunk, i_forward_tsn_chunk, unknown_chunk}
 use Rattle.sctp_packet.specs.Packet.{PacketTree}
 use Rattle.sctp_packet.specs.ChunkText.{chunk_text}
 use Rattle.sctp_wire.specs.Parameter.{ParameterTree}
 use Rattle.sctp_state.specs.declared.api.ErrorKind.TheVariants.{ParseFailed}
 use Rattle.sctp_rx.specs.Tracker.{is_ack_due}
-use Rattle.sctp_association.specs.Association.{Tcb, Phase, CookieEchoed, Established, ShutdownPending, ShutdownSent, ShutdownReceived, ShutdownAckSent, State, Closed, CookieWait, Open, Context, Standing, Endpoint, where_open}
+use Rattle.sctp_association.specs.Association.{Tcb, Phase, CookieEchoed, Established, ShutdownPending, ShutdownSent, ShutdownReceived, ShutdownAckSent, State, Closed, CookieWait, Open, Context, Standing, Endpoint, in_context, where_open}
+use Rattle.sctp_association.specs.Heartbeats.{info_in, answered_if, is_last, no_info, answered_by, answered, on_heartbeat_ack}
 use Rattle.sctp_association.specs.Packets.{add, new_packet}
 use Rattle.sctp_association.specs.Sending.{Sent, asked, acknowledged, selective_ack, is_alone, open_with}
 use Rattle.sctp_association.specs.Closing.{send_shutdown, violated, on_abort, on_error, on_shutdown, on_shutdown_ack, on_shutdown_complete}
@@ -60,6 +61,25 @@ module _ {P Q : Type 0} (f : P → Q) where
   maps_heartbeat : (parameters : List ParameterTree) → OpenMaps f (on_heartbeat parameters) (on_heartbeat parameters)
   maps_heartbeat parameters phase t c = maps_in_state f (Open phase t) _ _ (maps_emit_chunk f (heartbeat_ack_chunk parameters) t c)
 
+  maps_acked_if : (b : Bool) (c : Context P) → answered_if b (map_context f c) ≡ map_context f (answered_if b c)
+  maps_acked_if true c = refl
+  maps_acked_if false c = refl
+
+  maps_no_info : (c : Context P) → no_info (map_context f c) ≡ map_context f (no_info c)
+  maps_no_info c = maps_complain f ParseFailed (codes "Failed to parse HEARTBEAT-ACK; Invalid info parameter") c
+
+  maps_acked_by : (b : Bool) (info : List ℕ) (c : Context P) → answered_by b info (map_context f c) ≡ map_context f (answered_by b info c)
+  maps_acked_by true info c = maps_acked_if (is_last info c) c
+  maps_acked_by false info c = maps_no_info c
+
+  maps_acked : (o : Option (List ℕ)) (c : Context P) → answered o (map_context f c) ≡ map_context f (answered o c)
+  maps_acked None c = maps_no_info c
+  maps_acked (Some info) c = maps_acked_by (length info == 4) info c
+
+  maps_heartbeat_ack : (parameters : List ParameterTree) (s : Standing P)
+      → in_context (on_heartbeat_ack parameters) (map_standing f s) ≡ map_standing f (in_context (on_heartbeat_ack parameters) s)
+  maps_heartbeat_ack parameters s = maps_in_state f s.state _ _ (maps_acked (info_in parameters) s.context)
+
   maps_chunk : (tag : ℕ) (chunk : ChunkTree) (s : Endpoint P) → on_chunk tag chunk (map_end f s) ≡ map_end f (on_chunk tag chunk s)
   maps_chunk tag (data_chunk tsn immediate g) s = maps_on_standing (on_data tsn immediate g) (on_data tsn immediate g) s (maps_data f tsn immediate g s.standing)
   maps_chunk tag (idata_chunk tsn immediate g) s = maps_on_standing (on_data tsn immediate g) (on_data tsn immediate g) s (maps_data f tsn immediate g s.standing)
@@ -74,7 +94,8 @@ module _ {P Q : Type 0} (f : P → Q) where
   maps_chunk tag (i_forward_tsn_chunk tsn skipped) s = maps_on_standing (on_forward tsn skipped) (on_forward tsn skipped) s (maps_forward f tsn skipped s.standing)
   maps_chunk tag (unknown_chunk typ flags value) s = maps_on_standing (on_unknown typ flags value) (on_unknown typ flags value) s (maps_on_unknown typ flags value s.standing)
   maps_chunk tag (heartbeat_request_chunk parameters) s = maps_on_open (on_heartbeat parameters) (on_heartbeat parameters) s (maps_heartbeat parameters)
-  maps_chunk tag (heartbeat_ack_chunk parameters) s = refl
+  maps_chunk tag (heartbeat_ack_chunk parameters) s =
+      maps_on_standing (in_context (on_heartbeat_ack parameters)) (in_context (on_heartbeat_ack parameters)) s (maps_heartbeat_ack parameters s.standing)
   maps_chunk tag (shutdown_chunk tsn) s = maps_on_open on_shutdown on_shutdown s (maps_on_shutdown f)
   maps_chunk tag shutdown_ack_chunk s = maps_on_standing (on_shutdown_ack tag) (on_shutdown_ack tag) s (maps_shutdown_ack f tag s.standing)
   maps_chunk tag (shutdown_complete_chunk reflected) s = maps_on_open on_shutdown_complete on_shutdown_complete s (maps_shutdown_complete f)

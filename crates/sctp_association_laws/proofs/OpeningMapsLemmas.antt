@@ -8,13 +8,14 @@ use Rattle.sctp_state.specs.Capabilities.{announced, negotiated, zero_checksum_e
 use Rattle.sctp_state.specs.Cookie.{Cookie, read_cookie, refusal_text}
 use Rattle.sctp_state.specs.Events.{OnConnected, OnConnectionRestarted, OnAborted}
 use Rattle.sctp_association.specs.Association.{Identity, Tcb, tcb, Phase, CookieEchoed, Established, ShutdownPending, ShutdownSent, ShutdownReceived, ShutdownAckSent, State, Closed, CookieWait, Open, Context, Standing, Endpoint, with_context}
+use Rattle.sctp_association.specs.Heartbeats.{beating}
 use Rattle.sctp_association.specs.Packets.{Packet, add, packet_to, new_packet, rounded, say, complain, emit}
 use Rattle.sctp_association.specs.Sending.{Sent, open_with, send_buffered}
 use Rattle.sctp_association.specs.Closing.{send_shutdown_ack}
-use Rattle.sctp_association.specs.Opening.{tsn_from, tag_from, word, drew_word, long_word, drew_long_word, stands, init_of, send_init, t1_init, waiting, connect_in, connect, agreed_by, init_ack_of, answer, answers, answers_new, next_first, answers_again, on_init_open, on_init_in, on_init, cookie_in, maker, without_cookie, queue_anew, t1_cookie, echo, names, echoed, on_init_ack_in, on_init_ack, established, on_cookie_ack, Verdict, EstablishNew, RestartDetected, SimultaneousInit, MaintainExisting, Discard, InvalidTag, judged, cookie_ack, queue_for, tcb_by, anew, establishes, kept, keep, too_late, restarts, restarts_in, restart, complains, on_verdict, on_read_cookie, on_cookie_echo}
+use Rattle.sctp_association.specs.Opening.{tsn_from, tag_from, word, drew_word, long_word, drew_long_word, stands, init_of, send_init, t1_init, waiting, connect_in, connect, agreed_by, init_ack_of, answer, answers, answers_new, next_first, answers_again, on_init_open, on_init_in, on_init, cookie_in, maker, without_cookie, queue_anew, t1_cookie, echo, names, echoed, on_init_ack_in, on_init_ack, connected, established, on_cookie_ack, Verdict, EstablishNew, RestartDetected, SimultaneousInit, MaintainExisting, Discard, InvalidTag, judged, cookie_ack, queue_for, tcb_by, anew, establishes, kept, keep, too_late, restarts, restarts_in, restart, complains, on_verdict, on_read_cookie, on_cookie_echo}
 use Rattle.sctp_association_laws.specs.Mapped.{map_context, map_standing, map_end}
 use Rattle.sctp_association_laws.proofs.SendingMapsLemmas.{map_sent, maps_say, maps_complain, maps_emit, maps_send_with, maps_send_buffered, maps_send_cookie}
-use Rattle.sctp_association_laws.proofs.RowMapsLemmas.{standing_in, OpenMaps, maps_in_state, maps_closed_by, maps_send_shutdown_ack}
+use Rattle.sctp_association_laws.proofs.RowMapsLemmas.{standing_in, beating_as, OpenMaps, maps_in_state, maps_closed_by, maps_send_shutdown_ack}
 
 -- an end in a state
 abbrev end_in : {P : Type 0} → State → Endpoint P → Endpoint P
@@ -117,13 +118,13 @@ module _ {P Q : Type 0} (f : P → Q) where
 
   -- ---- COOKIE ACK
 
-  maps_connected : (c : Context P) → say OnConnected (map_context f c) ≡ map_context f (say OnConnected c)
-  maps_connected c = maps_say f OnConnected c
+  maps_connected : (c : Context P) → connected (map_context f c) ≡ map_context f (connected c)
+  maps_connected c = ap (λ (d : Context Q). beating_as d (beating c.now c.heartbeats)) (maps_say f OnConnected c)
 
   maps_established : (t : Tcb) (c : Context P) → established t (map_context f c) ≡ map_standing f (established t c)
   maps_established t c =
       ap (λ (d : Context Q). open_with Established (send_buffered false t d)) (maps_connected c)
-      ∙ maps_open_with Established _ _ (maps_send_buffered f false t (say OnConnected c))
+      ∙ maps_open_with Established _ _ (maps_send_buffered f false t (connected c))
 
   pub maps_cookie_ack : OpenMaps f on_cookie_ack on_cookie_ack
   maps_cookie_ack (CookieEchoed t1 cookie) t c = maps_established t c
@@ -146,9 +147,9 @@ module _ {P Q : Type 0} (f : P → Q) where
 
   -- behind what says that it is connected
   maps_acked_connected : (peer_tag : ℕ) (t : Tcb) (c : Context P)
-      → open_with Established (cookie_ack peer_tag t (say OnConnected (map_context f c))) ≡ map_standing f (open_with Established (cookie_ack peer_tag t (say OnConnected c)))
+      → open_with Established (cookie_ack peer_tag t (connected (map_context f c))) ≡ map_standing f (open_with Established (cookie_ack peer_tag t (connected c)))
   maps_acked_connected peer_tag t c =
-      ap (λ (d : Context Q). open_with Established (cookie_ack peer_tag t d)) (maps_connected c) ∙ maps_acked_in Established peer_tag t (say OnConnected c)
+      ap (λ (d : Context Q). open_with Established (cookie_ack peer_tag t d)) (maps_connected c) ∙ maps_acked_in Established peer_tag t (connected c)
 
   maps_anew : (resets : Bool) (k : Cookie) (tie : ℕ) (c : Context P) → anew resets k tie (map_context f c) ≡ map_standing f (anew resets k tie c)
   maps_anew resets k tie c =

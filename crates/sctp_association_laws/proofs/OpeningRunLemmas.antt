@@ -21,6 +21,8 @@ use Rattle.sctp_association.specs.Opening.{t1_init, t1_cookie, cookie_for, init_
 use Rattle.sctp_association.specs.Calls.{ready_in}
 use Rattle.sctp_association.specs.Input.{my_tag, abort_flag, complete_flag, has_shutdown_ack, begins_with_cookie, refusal, taken_if, counts, ended, on_standing}
 use Rattle.sctp_association.specs.Socket.{Association, association_in}
+use Rattle.sctp_association.specs.Association.{heartbeats}
+use Rattle.sctp_association.specs.Heartbeats.{beating}
 use Rattle.sctp_association.specs.Laws.{Packing}
 use Rattle.sctp_association_laws.specs.FirstRun.{first_of, tag_of, init_tree, init_packet, init_ack_packet, cookie_echo_packet, cookie_ack_packet, given, quiet, packed, asking, answering, echoing, accepting, opening, association, Shows, Opens}
 
@@ -92,10 +94,10 @@ module _ {P : Type 0} (pack : Packing P) where
 
   -- with the association open
   abbrev pub open_a : (rx tx : ℕ) → Context P
-  open_a rx tx = record (counted pack rx tx) { peer = DcsctpRs }
+  open_a rx tx = record (counted pack rx tx) { peer = DcsctpRs; heartbeats = beating 0 (heartbeats defaults) }
 
   abbrev pub open_b : (rx tx : ℕ) → Context P
-  open_b rx tx = counted pack rx tx
+  open_b rx tx = record (counted pack rx tx) { heartbeats = beating 0 (heartbeats defaults) }
 
   abbrev pub echoed : (a b : Stream) → Endpoint P
   echoed a b = record {

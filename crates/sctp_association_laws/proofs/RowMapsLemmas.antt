@@ -10,10 +10,11 @@ use Rattle.sctp_outstanding.specs.Items.{number_of}
 use Rattle.sctp_outstanding.specs.Sack.{is_valid}
 use Rattle.sctp_rx.specs.Tracker as tracker
 use Rattle.sctp_tx.specs.Retransmission.{Sender, SackAnswer, Invalid, Valid, sender_if, told_if, answer_if, is_quiet}
-use Rattle.sctp_association.specs.Association.{Tcb, Phase, CookieEchoed, Established, ShutdownPending, ShutdownSent, ShutdownReceived, ShutdownAckSent, State, Closed, CookieWait, Open, Context, Standing, where_open}
+use Rattle.sctp_association.specs.Association.{Tcb, Phase, CookieEchoed, Established, ShutdownPending, ShutdownSent, ShutdownReceived, ShutdownAckSent, State, Closed, CookieWait, Open, Heartbeats, Context, Standing, where_open}
+use Rattle.sctp_association.specs.Heartbeats.{silenced}
 use Rattle.sctp_association.specs.Packets.{add, packet_to, emit_chunk}
 use Rattle.sctp_association.specs.Sending.{Sent, is_alone, open_with, send_buffered, send_lost}
-use Rattle.sctp_association.specs.Closing.{closed, t2_shutdown, send_shutdown, send_shutdown_ack, Onward, onward, pending, received, go_on, shut, open_onward, shutdown_in, shutdown, shut_by_peer, on_shutdown, completed, out_of_the_blue, on_shutdown_ack_open, on_shutdown_ack_in, on_shutdown_ack, on_shutdown_complete, abort, close_in, close, too_many, violated, causes_text, on_abort, on_error}
+use Rattle.sctp_association.specs.Closing.{over, closed, t2_shutdown, send_shutdown, send_shutdown_ack, Onward, onward, pending, received, go_on, shut, open_onward, shutdown_in, shutdown, shut_by_peer, on_shutdown, completed, out_of_the_blue, on_shutdown_ack_open, on_shutdown_ack_in, on_shutdown_ack, on_shutdown_complete, abort, close_in, close, too_many, violated, causes_text, on_abort, on_error}
 use Rattle.sctp_association.specs.Data.{no_data, on_no_data, not_connected, on_data_in, on_data_if, on_data, on_forward}
 use Rattle.sctp_association.specs.Acknowledging.{cleaned, sampled, answered, send_after, heard, on_clean_sack, on_sack_open, no_block, on_sack_in, on_sack}
 use Rattle.sctp_association.specs.Acknowledging as acks
@@ -34,6 +35,10 @@ OpenMaps {P} {Q} f row mapped = (phase : Phase) (t : Tcb) (c : Context P) → ma
 -- an answer to a SACK, in a context that was told so
 abbrev heard_with : {P : Type 0} → SackAnswer → Phase → Tcb → Context P → Sender → Told P → Standing P
 heard_with a phase t c s u = heard a phase (record t { sender = s }) (record c { told = u })
+
+-- a context with these heartbeats
+abbrev pub beating_as : {P : Type 0} → Context P → Heartbeats → Context P
+beating_as c h = record c { heartbeats = h }
 
 module _ {P Q : Type 0} (f : P → Q) where
   where_open_from : (row : Phase → Tcb → Context P → Standing P) (mapped : Phase → Tcb → Context Q → Standing Q) (st : State) (c : Context P) → OpenMaps f row mapped
@@ -77,8 +82,11 @@ module _ {P Q : Type 0} (f : P → Q) where
   maps_go_on ShutdownReceived t c = maps_received (is_quiet t.sender.outstanding.items) t c
   maps_go_on (ShutdownAckSent t2) t c = refl
 
+  pub maps_over : (e : Event P) (c : Context P) → over (map_event f e) (map_context f c) ≡ map_context f (over e c)
+  maps_over e c = ap (λ (d : Context Q). beating_as d (silenced c.heartbeats)) (maps_say f e c)
+
   pub maps_closed : (e : Event P) (c : Context P) → closed (map_event f e) (map_context f c) ≡ map_standing f (closed e c)
-  maps_closed e c = maps_in_state Closed _ _ (maps_say f e c)
+  maps_closed e c = maps_in_state Closed _ _ (maps_over e c)
 
   -- behind what went out
   pub maps_closed_by : (e : Event P) (c : Context P) (d : Context Q) → d ≡ map_context f c → closed (map_event f e) d ≡ map_standing f (closed e c)

@@ -9,15 +9,19 @@ use Rattle.sctp_association.specs.Association.{Tcb, Phase, CookieEchoed, Establi
 use Rattle.sctp_association.specs.Sending.{Sent, send_cookie}
 use Rattle.sctp_association.specs.Closing.{send_shutdown, send_shutdown_ack, too_many}
 use Rattle.sctp_association.specs.Opening.{send_init}
-use Rattle.sctp_association.specs.Time.{Ticking, tick_ack, timed_out, t3_if, ticking, ticked, Left, left, standing_if, standing_left, ended_if, ended, ended_or_sent, goes_on, settled_if, settled, t2_expired, t2_if, tick_t2, waits_if, echoed_again, t1_expired, t1_if, tick_cookie, Waited, waited, waiting_if, standing_waited, init_expired, init_if, tick_init, tick_open, tick_in, advance_if, advance}
+use Rattle.sctp_association.specs.Heartbeats.{counted_on, heartbeat, beat_if, unanswered_if}
+use Rattle.sctp_association.specs.Time.{Ticking, tick_ack, timed_out, t3_if, tick_t3, tick_interval, tick_timeout, ticking, ticked, Left, left, standing_if, standing_left, ended_if, ended, ended_or_sent, goes_on, settled_if, settled, t2_expired, t2_if, tick_t2, waits_if, echoed_again, t1_expired, t1_if, tick_cookie, Waited, waited, waiting_if, standing_waited, init_expired, init_if, tick_init, tick_open, tick_in, advance_if, advance}
 use Rattle.sctp_association_laws.specs.Mapped.{map_context, map_standing}
 use Rattle.sctp_association_laws.proofs.ToldMapsLemmas.{maps_nack_all}
-use Rattle.sctp_association_laws.proofs.SendingMapsLemmas.{maps_say, maps_send_buffered, maps_send_cookie}
-use Rattle.sctp_association_laws.proofs.RowMapsLemmas.{OpenMaps, maps_too_many, maps_send_shutdown, maps_send_shutdown_ack}
+use Rattle.sctp_association_laws.proofs.SendingMapsLemmas.{maps_emit_chunk, maps_send_buffered, maps_send_cookie}
+use Rattle.sctp_association_laws.proofs.RowMapsLemmas.{OpenMaps, maps_over, maps_too_many, maps_send_shutdown, maps_send_shutdown_ack}
 use Rattle.sctp_association_laws.proofs.OpeningMapsLemmas.{maps_send_init}
 
 abbrev map_ticking : {P Q : Type 0} → (P → Q) → Ticking P → Ticking Q
 map_ticking f x = record { tcb = x.tcb; context = map_context f x.context; has_expired = x.has_expired }
+
+abbrev ticking_as : {P : Type 0} → Tcb → Context P → Bool → Ticking P
+ticking_as t c has_expired = record { tcb = t; context = c; has_expired = has_expired }
 
 abbrev map_left : {P Q : Type 0} → (P → Q) → Left P → Left Q
 map_left f x = record { tcb = x.tcb; context = map_context f x.context; has_ended = x.has_ended }
@@ -31,10 +35,33 @@ module _ {P Q : Type 0} (f : P → Q) where
       ap (λ (step : Step Q). timed_out step (map_ticking f x)) (maps_nack_all f x.tcb.sender.outstanding.items x.context.told)
   maps_t3_if false x = refl
 
+  maps_beat_if : (b : Bool) (t : Tcb) (c : Context P) → beat_if b t (map_context f c) ≡ map_context f (beat_if b t c)
+  maps_beat_if true t c =
+      let d : Context P = counted_on c in
+      maps_emit_chunk f (heartbeat d.heartbeats.counter) t d
+  maps_beat_if false t c = refl
+
+  maps_interval : (x : Ticking P) → tick_interval (map_ticking f x) ≡ map_ticking f (tick_interval x)
+  maps_interval x =
+      ap (λ (c : Context Q). ticking_as x.tcb c (tick_interval x).has_expired)
+      (maps_beat_if (is_due x.context.now x.context.heartbeats.interval) x.tcb x.context)
+
+  maps_unanswered_if : (b : Bool) (c : Context P) → unanswered_if b (map_context f c) ≡ map_context f (unanswered_if b c)
+  maps_unanswered_if true c = refl
+  maps_unanswered_if false c = refl
+
+  maps_timeout : (x : Ticking P) → tick_timeout (map_ticking f x) ≡ map_ticking f (tick_timeout x)
+  maps_timeout x =
+      ap (λ (c : Context Q). ticking_as x.tcb c (tick_timeout x).has_expired)
+      (maps_unanswered_if (is_due x.context.now x.context.heartbeats.timeout) x.context)
+
   maps_ticked : (t : Tcb) (c : Context P) → ticked t (map_context f c) ≡ map_ticking f (ticked t c)
+  unfolding ticked
   maps_ticked t c =
       let x : Ticking P = tick_ack (ticking t c) in
-      maps_t3_if (is_due x.context.now x.tcb.sender.t3) x
+      let y : Ticking P = tick_t3 x in
+      ap (λ (z : Ticking Q). tick_timeout (tick_interval z)) (maps_t3_if (is_due x.context.now x.tcb.sender.t3) x)
+      ∙ (ap (λ (z : Ticking Q). tick_timeout z) (maps_interval y) ∙ maps_timeout (tick_interval y))
 
   maps_left : (t : Tcb) (has_ended : Bool) (c : Context P) (d : Context Q) → d ≡ map_context f c → left t d has_ended ≡ map_left f (left t c has_ended)
   maps_left t has_ended c d h = ap (λ (e : Context Q). left t e has_ended) h
@@ -82,16 +109,16 @@ module _ {P Q : Type 0} (f : P → Q) where
   maps_t2_expired true again mapped h t c = ap (λ (d : Context Q). goes_on t d) (h t c) ∙ maps_on t (again t c)
   maps_t2_expired false again mapped h t c = maps_given_up t c
 
-  maps_t2_if : (b : Bool) (again : Tcb → Context P → Context P) (mapped : Tcb → Context Q → Context Q) → Again again mapped → (t2 : Timer) (x : Ticking P)
-      → t2_if b mapped t2 (map_ticking f x) ≡ map_left f (t2_if b again t2 x)
-  maps_t2_if true again mapped h t2 x = maps_t2_expired (is_running (expire x.context.now t2)) again mapped h x.tcb x.context
-  maps_t2_if false again mapped h t2 x = maps_settled x
+  maps_t2_if : (b : Bool) (now : ℕ) (again : Tcb → Context P → Context P) (mapped : Tcb → Context Q → Context Q) → Again again mapped → (t2 : Timer) (x : Ticking P)
+      → t2_if b now mapped t2 (map_ticking f x) ≡ map_left f (t2_if b now again t2 x)
+  maps_t2_if true now again mapped h t2 x = maps_t2_expired (is_running (expire now t2)) again mapped h x.tcb x.context
+  maps_t2_if false now again mapped h t2 x = maps_settled x
 
   maps_t2 : (again : Tcb → Context P → Context P) (mapped : Tcb → Context Q → Context Q) → Again again mapped → (t2 : Timer) (t : Tcb) (c : Context P)
-      → tick_t2 mapped t2 (ticked t (map_context f c)) ≡ map_left f (tick_t2 again t2 (ticked t c))
+      → tick_t2 c.now mapped t2 (ticked t (map_context f c)) ≡ map_left f (tick_t2 c.now again t2 (ticked t c))
   maps_t2 again mapped h t2 t c =
       let x : Ticking P = ticked t c in
-      ap (λ (y : Ticking Q). tick_t2 mapped t2 y) (maps_ticked t c) ∙ maps_t2_if (is_due x.context.now t2) again mapped h t2 x
+      ap (λ (y : Ticking Q). tick_t2 c.now mapped t2 y) (maps_ticked t c) ∙ maps_t2_if (is_due c.now t2) c.now again mapped h t2 x
 
   -- ---- T1-cookie
 
@@ -103,7 +130,7 @@ module _ {P Q : Type 0} (f : P → Q) where
   maps_t1_expired true cookie t c =
       let x : Sent P = send_cookie cookie t c in
       ap (λ (y : Sent Q). echoed_again y) (maps_send_cookie f cookie t c) ∙ maps_ended x.tcb x.context
-  maps_t1_expired false cookie t c = maps_left t true _ _ (maps_say f (OnAborted TooManyRetries (codes "No COOKIE_ACK received")) c)
+  maps_t1_expired false cookie t c = maps_left t true _ _ (maps_over f (OnAborted TooManyRetries (codes "No COOKIE_ACK received")) c)
 
   maps_t1_if : (b : Bool) (t1 : Timer) (cookie : List ℕ) (x : Ticking P) → t1_if b t1 cookie (map_ticking f x) ≡ map_left f (t1_if b t1 cookie x)
   maps_t1_if true t1 cookie x = maps_t1_expired (is_running (expire x.context.now t1)) cookie x.tcb x.context
@@ -120,7 +147,7 @@ module _ {P Q : Type 0} (f : P → Q) where
 
   maps_init_expired : (b : Bool) (tag first : ℕ) (c : Context P) → init_expired b tag first (map_context f c) ≡ map_waited f (init_expired b tag first c)
   maps_init_expired true tag first c = maps_waited false (send_init tag first c) (send_init tag first (map_context f c)) (maps_send_init f tag first c)
-  maps_init_expired false tag first c = maps_waited true _ _ (maps_say f (OnAborted TooManyRetries (codes "No INIT_ACK received")) c)
+  maps_init_expired false tag first c = maps_waited true _ _ (maps_over f (OnAborted TooManyRetries (codes "No INIT_ACK received")) c)
 
   maps_init_if : (b : Bool) (tag first : ℕ) (t1 : Timer) (c : Context P) → init_if b tag first t1 (map_context f c) ≡ map_waited f (init_if b tag first t1 c)
   maps_init_if true tag first t1 c = maps_init_expired (is_running (expire c.now t1)) tag first c

@@ -38,6 +38,7 @@ map_context f c = record {
   queue = c.queue;
   forward_from = c.forward_from;
   errors = c.errors;
+  heartbeats = c.heartbeats;
   counts = c.counts;
   peer = c.peer;
   told = map_told f c.told;

@@ -223,3 +223,65 @@ a rests
     assert!(rt; tells(rt.alloc(), &moves, rest)?);
     Ok(())
 }
+
+#[test]
+fn idle_ends_ask_for_each_other(rt: HostRuntime) -> Result<(), AllocError> {
+    let moves = [
+        Time(29_999),
+        Time(30_000),
+        Give(2, B),
+        Give(3, A),
+        Time(30_500),
+    ];
+    let rest = "a packet 2 24
+b packet 2 24
+b packet 3 24
+a rests
+";
+    assert!(rt; tells(rt.alloc(), &moves, rest)?);
+    Ok(())
+}
+
+/// An end that sends and takes data asks later; one that is closed doesn't ask.
+#[test]
+fn data_puts_off_a_heartbeat(rt: HostRuntime) -> Result<(), AllocError> {
+    let moves = [
+        Time(20_000),
+        Send(A, &[0x78], plainly()),
+        Give(2, B),
+        Give(2, A),
+        Close(B),
+        Time(30_000),
+        Time(49_999),
+        Time(50_000),
+    ];
+    let rest = "a OnBufferedAmountLow 1
+a packet 2 32
+b packet 2 28
+b packet 3 32
+b OnClosed
+a packet 3 24
+a rests
+";
+    assert!(rt; tells(rt.alloc(), &moves, rest)?);
+    Ok(())
+}
+
+/// With nobody there, eleven heartbeats stay without an answer.
+#[test]
+fn a_peer_vanishes(rt: HostRuntime) -> Result<(), AllocError> {
+    let mut moves = Vec::new(rt.alloc());
+    moves.push(Close(B))?;
+    let mut rest = String::from_str(rt.alloc(), "b packet 2 32\nb OnClosed\n")?;
+    for count in 1..12_u64 {
+        moves.push(Time(30_000 * count))?;
+        moves.push(Time(30_000 * count + 500))?;
+        let number = count + 1;
+        rest.push_str(&format!(in rt.alloc(); "a packet {number} 24\n")?)?;
+    }
+    rest.push_str(
+        "a packet 13 44\na OnAborted TooManyRetries: Too many retransmissions\na rests\n",
+    )?;
+    assert!(rt; tells(rt.alloc(), &moves, &rest)?);
+    Ok(())
+}

@@ -3,7 +3,8 @@ use Rattle.sctp_wire.specs.Cause.{CauseTree}
 use Rattle.sctp_packet.specs.Chunk.{abort_chunk}
 use Rattle.sctp_state.specs.Events.{OnClosed}
 use Rattle.sctp_association.specs.Association.{Context}
-use Rattle.sctp_association.specs.Packets.{emit_chunk, say}
+use Rattle.sctp_association.specs.Closing.{over}
+use Rattle.sctp_association.specs.Packets.{emit_chunk}
 use Rattle.sctp_association.specs.Views.{context_of, tcb_of}
 use Rattle.sctp_association.proofs.context.Context.abort_by_user.Goals as goal
 
@@ -12,4 +13,4 @@ returns g c =
     let word_of = g.C.Checksum.word_of in
     let sent = c.in_ok-send_abort.ensures
     ∙ ap (λ (cause : CauseTree). emit_chunk (abort_chunk false (cause ∷ [])) (tcb_of c.args.tcb.now) (context_of word_of c.args.self.now)) c.in_ok-cause.ensures in
-    subst (λ (x : Context (List ℕ)). OnOk c.tell.result (context_of word_of c.tell.new.self ≡ say OnClosed x)) sent c.tell.ensures
+    subst (λ (x : Context (List ℕ)). OnOk c.internal_close.result (context_of word_of c.internal_close.new.self ≡ over OnClosed x)) sent c.internal_close.ensures
