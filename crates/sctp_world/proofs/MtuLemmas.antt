@@ -1,7 +1,9 @@
 -- No packet is above its sender's mtu.
-use Rattle.std.proofs.Common.{◌≡◌, ℕ, ◌≤◌, true, Some, List, [], ◌∷◌, ◌++◌, refl, sym, ap, subst, ◌∙◌}
+use Rattle.std.proofs.Common.{◌≡◌, ℕ, ◌≤◌, true, Some, List, [], ◌∷◌, ◌++◌, refl, sym, ap, subst, ◌∙◌, arith}
 use Rattle.std.specs.Prelude.{All}
 use Rattle.std.proofs.lemmas.List.Elements.{All-nil, All-cons, All-head, All-tail, All-append}
+use Rattle.rand_core.specs.Stream.{Stream}
+use Rattle.sctp_state.specs.Options.{Options, IsValid}
 use Rattle.sctp_state.specs.Events.{Event, SendPacket, OnConnected, OnClosed, OnConnectionRestarted, OnAborted, OnError, OnBufferedAmountLow, OnTotalBufferedAmountLow, OnStreamsResetFailed, OnStreamsResetPerformed, OnIncomingStreamReset, OnLifecycleMessageFullySent, OnLifecycleMessageMaybeExpired, OnLifecycleMessageExpired, OnLifecycleMessageDelivered, OnLifecycleEnd}
 use Rattle.sctp_association.specs.Association.{Context, Endpoint}
 use Rattle.sctp_association.specs.Laws.{HasAtMost, SendsAtMost, StaysWithin, called}
@@ -9,7 +11,7 @@ use Rattle.sctp_association.specs.Laws as table
 use Rattle.sctp_association.specs.Socket.{Hears, heard, not_read}
 use Rattle.sctp_association.proofs.LawsLemmas.{stays_within, sends_at_most}
 use Rattle.sctp_world.specs.Judge.{End, Entry, A, B}
-use Rattle.sctp_world.specs.World.{Side, World, Action, CallOf, Give, GiveForeign, TellTime, Told, Takes, ComesTo, told, skipped, Comes, Gives, Happens, Runs, IsShort, IsShortSide, AreShort, packets_in, settled, side_of, other, step_of, calls, tells_time}
+use Rattle.sctp_world.specs.World.{Side, World, Action, CallOf, Give, GiveForeign, TellTime, Told, Takes, ComesTo, told, skipped, Comes, Gives, Happens, Runs, IsShort, IsShortSide, AreShort, fresh_side, fresh_world, packets_in, settled, side_of, other, step_of, calls, tells_time}
 
 packets_short : (mtu : ℕ) (events : List (Event (List ℕ))) → All (HasAtMost mtu) events → All (IsShort mtu) (packets_in events)
 packets_short mtu [] h = All-nil (IsShort mtu)
@@ -102,3 +104,19 @@ happens_short mtu_a mtu_b (TellTime B now) w v e h = subst (AreShort mtu_a mtu_b
 pub runs_short : (mtu_a mtu_b : ℕ) (actions : List Action) (w v : World) → Runs actions w v → AreShort mtu_a mtu_b w → AreShort mtu_a mtu_b v
 runs_short mtu_a mtu_b [] w v e h = subst (AreShort mtu_a mtu_b) (sym e) h
 runs_short mtu_a mtu_b (action ∷ actions) w v r h = runs_short mtu_a mtu_b actions r.0 v r.2 (happens_short mtu_a mtu_b action w r.0 r.1 h)
+
+-- ---- a new world
+
+fresh_short : (o : Options) (words : Stream) (word_of : List ℕ → ℕ) → IsValid o → IsShortSide o.mtu (fresh_side o words word_of)
+fresh_short o words word_of valid = record {
+  word_of = word_of;
+  own = refl;
+  limit = refl;
+  enough = omega (arith, valid.sizes.mtu_least);
+  taken = refl;
+  packets = All-nil (IsShort o.mtu);
+}
+
+pub new_short : (oa ob : Options) (a b : Stream) (f g : List ℕ → ℕ) → IsValid oa → IsValid ob → (w : World) → w ≡ fresh_world oa ob a b f g → AreShort oa.mtu ob.mtu w
+new_short oa ob a b f g valid_a valid_b w is =
+    subst (AreShort oa.mtu ob.mtu) (sym is) (record { a = fresh_short oa a f valid_a; b = fresh_short ob b g valid_b })

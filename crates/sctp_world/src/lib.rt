@@ -1,7 +1,7 @@
-//! Two ends that talk to each other, what a judge sees of them, and the commands that drive them.
+//! Two sockets that talk to each other, what a judge sees of them, and the commands that drive them.
 //!
-//! [`World`] has two ends to which nothing is lost. The commands drive one, a line each; one more, `probe`, reads a packet
-//! and answers with its message and the packet that acknowledges it.
+//! [`World`] has two sockets and all packets that they ever sent, of which any may be given again, late or never. The commands
+//! drive one, a line each; one more, `probe`, reads a packet and answers with its message and the packet that acknowledges it.
 #![tactic(auto)]
 
 mod answer;

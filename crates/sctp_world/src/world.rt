@@ -86,6 +86,27 @@ impl<R: Rng + Drop, C: Checksum + Drop> World<R, C> {
         ensures world { IfOk result (λ w. world_of R.stream C.word_of w
             ≡ fresh_world (options_of options_a.now) (options_of options_b.now) (R.stream rng_a) (R.stream rng_b) (C.word_of checksum_a) (C.word_of checksum_b)) }
         ensures works { IfOk result (λ w. w.has_failed ≡ false) }
+        ensures short { IfOk result (λ w. AreShort (options_of options_a.now).mtu (options_of options_b.now).mtu (world_of R.stream C.word_of w)) }
+    {
+        World::made(
+            alloc, options_a, options_b, rng_a, rng_b, checksum_a, checksum_b,
+        )
+    }
+
+    fn made(
+        alloc: Global,
+        options_a: &Options,
+        options_b: &Options,
+        rng_a: R,
+        rng_b: R,
+        checksum_a: C,
+        checksum_b: C,
+    ) -> Result<World<R, C>, CallError>
+        requires a { IsValid (options_of options_a.now) }
+        requires b { IsValid (options_of options_b.now) }
+        ensures world { IfOk result (λ w. world_of R.stream C.word_of w
+            ≡ fresh_world (options_of options_a.now) (options_of options_b.now) (R.stream rng_a) (R.stream rng_b) (C.word_of checksum_a) (C.word_of checksum_b)) }
+        ensures works { IfOk result (λ w. w.has_failed ≡ false) }
     {
         Ok(World {
             alloc,
