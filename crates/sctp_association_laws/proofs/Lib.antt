@@ -5,4 +5,5 @@ pub mod OpeningMapsLemmas
 pub mod TimeMapsLemmas
 pub mod CallMapsLemmas
 pub mod InputMapsLemmas
+pub mod HandoverMapsLemmas
 pub mod MappedLemmas
