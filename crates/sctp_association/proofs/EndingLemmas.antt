@@ -6,7 +6,7 @@ use Rattle.sctp_rx.specs.Tracker.{is_ack_due}
 use Rattle.sctp_association.specs.Association.{Tcb, Phase, CookieEchoed, Established, ShutdownPending, ShutdownSent, ShutdownReceived, ShutdownAckSent, State, Closed, CookieWait, Open, Context, Standing, Endpoint, where_open}
 use Rattle.sctp_association.specs.Sending.{asked}
 use Rattle.sctp_association.specs.Input.{refusal, Heard, hear, hear_rest, hear_all, has_data, repeats, repeats_if, ended_if, at_end, ended, on_standing, handled, counts, taken_if, on_packet}
-use Rattle.sctp_association.specs.Laws.{Call, Connect, Close, Shutdown, Send, SendMany, TakeMessage, SetLowThreshold, SetPriority, SetMaxMessageSize, Advance, Packet, NoPacket, called, is_closed, ends, ended_after, ended_by, ended_unless, ended_in, ended_in_call}
+use Rattle.sctp_association.specs.Laws.{Call, Connect, Close, Shutdown, Send, SendMany, TakeMessage, SetLowThreshold, SetPriority, SetMaxMessageSize, Advance, HandOver, Restore, Packet, NoPacket, called, is_closed, ends, ended_after, ended_by, ended_unless, ended_in, ended_in_call}
 
 not_both : (b : Bool) → b ≡ false → b ≡ true → ⊥
 not_both b e f = cc
@@ -101,4 +101,6 @@ module _ {P : Type 0} where
   some_call (SetPriority stream priority) s e f = one_ends s.standing.state (called (SetPriority stream priority) s).standing.state e f
   some_call (SetMaxMessageSize bytes) s e f = one_ends s.standing.state (called (SetMaxMessageSize bytes) s).standing.state e f
   some_call (Advance now) s e f = one_ends s.standing.state (called (Advance now) s).standing.state e f
+  some_call HandOver s e f = one_ends s.standing.state (called HandOver s).standing.state e f
+  some_call (Restore h) s e f = one_ends s.standing.state (called (Restore h) s).standing.state e f
   some_call NoPacket s e f = one_ends s.standing.state (called NoPacket s).standing.state e f

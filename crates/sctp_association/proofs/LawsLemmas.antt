@@ -8,12 +8,13 @@ use Rattle.sctp_packet.proofs.PacketLemmas.{length_joined}
 use Rattle.sctp_state.specs.Events.{Event, SendPacket}
 use Rattle.sctp_association.specs.Association.{Context, Endpoint}
 use Rattle.sctp_association.specs.Wire.{field_of, written}
-use Rattle.sctp_association.specs.Laws.{Call, Connect, Close, Shutdown, Send, SendMany, TakeMessage, SetLowThreshold, SetPriority, SetMaxMessageSize, Advance, Packet, NoPacket, called, Packing, IsWithin, IsShort, StaysWithin, HasAtMost, SendsAtMost, ended_in_call, TellsEndings}
+use Rattle.sctp_association.specs.Laws.{Call, Connect, Close, Shutdown, Send, SendMany, TakeMessage, SetLowThreshold, SetPriority, SetMaxMessageSize, Advance, HandOver, Restore, Packet, NoPacket, called, Packing, IsWithin, IsShort, StaysWithin, HasAtMost, SendsAtMost, ended_in_call, TellsEndings}
 use Rattle.sctp_association.proofs.StepsLemmas.{Goes}
 use Rattle.sctp_association.proofs.RowStepsLemmas.{steps_close, steps_shutdown}
 use Rattle.sctp_association.proofs.OpeningStepsLemmas.{steps_connect}
 use Rattle.sctp_association.proofs.TimeStepsLemmas.{steps_advance}
 use Rattle.sctp_association.proofs.CallStepsLemmas.{steps_send, steps_send_many, steps_threshold, steps_priority, steps_max_message_size, steps_take_message}
+use Rattle.sctp_association.proofs.HandoverStepsLemmas.{steps_hand_over, steps_restore}
 use Rattle.sctp_association.proofs.InputStepsLemmas.{goes_packet, steps_no_packet}
 
 module _ {P : Type 0} where
@@ -28,6 +29,8 @@ module _ {P : Type 0} where
   goes_call (SetPriority stream priority) s = steps_priority stream priority s.standing
   goes_call (SetMaxMessageSize bytes) s = steps_max_message_size bytes s.standing
   goes_call (Advance now) s = steps_advance now s.standing
+  goes_call HandOver s = steps_hand_over s.standing
+  goes_call (Restore h) s = steps_restore h s.standing
   goes_call (Packet p) s = goes_packet p s
   goes_call NoPacket s = steps_no_packet s
 

@@ -13,6 +13,7 @@ pub mod OpeningStepsLemmas
 pub mod TimeStepsLemmas
 pub mod CallStepsLemmas
 pub mod InputStepsLemmas
+pub mod HandoverStepsLemmas
 pub mod LawsLemmas
 pub mod EndingLemmas
 pub mod MomentsLemmas

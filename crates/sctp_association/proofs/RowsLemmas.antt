@@ -10,7 +10,7 @@ use Rattle.sctp_wire.specs.Show.{joined}
 use Rattle.sctp_packet.specs.Written.{chunk_bytes, chunks_bytes, chunk_value, data_value, idata_value, init_fields, block_bytes, sack_value, skip_bytes, forward_value}
 use Rattle.sctp_state.specs.Cookie.{cookie_bytes, capability_bytes, cookie_from, read_cookie}
 use Rattle.sctp_association.specs.Time.{ticked}
-use Rattle.sctp_association.specs.Rows.{Beats, BothConnect, Closes, FirstConversation, Fragments, GivenUpOnce, OtherOrder, ShutsDown}
+use Rattle.sctp_association.specs.Rows.{Beats, BothConnect, Closes, FirstConversation, Fragments, GivenUpOnce, OtherOrder, ShutsDown, TakenUp}
 
 pub first_goes : FirstConversation
 unfolding next_u32 next_u64 be16 be32 be64 padded_item inner_items parameter_value cause_value cause_text joined chunk_bytes chunks_bytes chunk_value data_value idata_value init_fields block_bytes sack_value skip_bytes forward_value cookie_bytes capability_bytes cookie_from read_cookie ticked
@@ -87,4 +87,17 @@ beats_goes = record {
   errors = refl;
   none = refl;
   later = refl;
+}
+
+pub taken_up_goes : TakenUp
+unfolding next_u32 next_u64 be16 be32 be64 padded_item inner_items parameter_value cause_value cause_text joined chunk_bytes chunks_bytes chunk_value data_value idata_value init_fields block_bytes sack_value skip_bytes forward_value cookie_bytes capability_bytes cookie_from read_cookie ticked
+taken_up_goes = record {
+  ready = refl;
+  left = refl;
+  restored = refl;
+  crossed = (refl, refl, refl, refl);
+  sent = refl;
+  invalid = refl;
+  not_closed = refl;
+  neither = refl;
 }

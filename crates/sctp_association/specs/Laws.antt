@@ -5,12 +5,14 @@ use Rattle.sctp_packet.specs.Chunk.{ChunkTree}
 use Rattle.sctp_packet.specs.Written.{chunks_bytes}
 use Rattle.sctp_packet.specs.Packet.{HeaderTree, PacketTree}
 use Rattle.sctp_state.specs.Options.{SendOptions}
+use Rattle.sctp_state.specs.Handover.{HandoverState}
 use Rattle.sctp_state.specs.Events.{Event, SendPacket, OnClosed, OnAborted}
 use Rattle.sctp_association.specs.Association.{State, Closed, CookieWait, Open, Context, Endpoint, in_context}
 use Rattle.sctp_association.specs.Opening.{connect}
 use Rattle.sctp_association.specs.Closing.{close, shutdown}
 use Rattle.sctp_association.specs.Calls.{send, send_many, set_low_threshold, set_priority, set_max_message_size, take_message}
 use Rattle.sctp_association.specs.Time.{advance}
+use Rattle.sctp_association.specs.Handover.{hand_over, restore}
 use Rattle.sctp_association.specs.Wire.{written}
 use Rattle.sctp_association.specs.Input.{refusal, Heard, hear, has_data, repeats_if, counts, on_standing, on_packet, on_no_packet}
 
@@ -27,6 +29,8 @@ pub data Call : Type 0 where
   SetPriority : (stream priority : ℕ) → Call
   SetMaxMessageSize : (bytes : ℕ) → Call
   Advance : (now : ℕ) → Call
+  HandOver : Call
+  Restore : HandoverState → Call
   Packet : PacketTree → Call
   NoPacket : Call
 
@@ -41,6 +45,8 @@ called (SetLowThreshold stream bytes) s = on_standing (in_context (set_low_thres
 called (SetPriority stream priority) s = on_standing (in_context (set_priority stream priority)) s
 called (SetMaxMessageSize bytes) s = on_standing (in_context (set_max_message_size bytes)) s
 called (Advance now) s = on_standing (advance now) s
+called HandOver s = on_standing hand_over s
+called (Restore h) s = on_standing (restore h) s
 called (Packet p) s = on_packet p s
 called NoPacket s = on_no_packet s
 

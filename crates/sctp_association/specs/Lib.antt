@@ -9,6 +9,7 @@ pub mod Opening
 pub mod Time
 pub mod Calls
 pub mod Input
+pub mod Handover
 pub mod Pair
 pub mod Rows
 pub mod Wire

@@ -6,12 +6,14 @@ use Rattle.sctp_packet.specs.Written.{chunks_bytes}
 use Rattle.sctp_packet.specs.Packet.{HeaderTree}
 use Rattle.sctp_serial.specs.Messages.{Message}
 use Rattle.sctp_state.specs.Options.{SendOptions, defaults}
+use Rattle.sctp_state.specs.Handover.{HandoverState}
 use Rattle.sctp_state.specs.Events.{Event, SendPacket, GivenUp, silent}
 use Rattle.sctp_association.specs.Association.{Standing, Endpoint, fresh}
 use Rattle.sctp_association.specs.Opening.{connect}
 use Rattle.sctp_association.specs.Closing.{close, shutdown}
 use Rattle.sctp_association.specs.Calls.{send, ready_in, take_message}
 use Rattle.sctp_association.specs.Time.{advance}
+use Rattle.sctp_association.specs.Handover.{hand_over, restore}
 use Rattle.sctp_association.specs.Input.{on_packet, on_standing}
 
 pub record Sent : Type 0 where
@@ -42,13 +44,18 @@ pub data Move : Type 0 where
   Time : (now : ℕ) → Move
   Close : (at_a : Bool) → Move
   Shutdown : (at_a : Bool) → Move
+  HandOver : (at_a : Bool) → Move
+  TakeUp : (at_a : Bool) → HandoverState → Move
 
 -- the words from this one on
 abbrev pub words_from : ℕ → Stream
 words_from n = record { u32_after = λ calls. n + length calls; u64_after = λ calls. n + length calls; bytes_after = λ calls k. [] }
 
+abbrev pub new_end : (word : ℕ) → Endpoint Sent
+new_end word = fresh defaults sent (words_from word)
+
 abbrev pub at_first : Pair
-at_first = record { a = fresh defaults sent (words_from 456); b = fresh defaults sent (words_from 1000); from_a = []; from_b = []; log = [] }
+at_first = record { a = new_end 456; b = new_end 1000; from_a = []; from_b = []; log = [] }
 
 -- ---- what is told is taken
 
@@ -111,6 +118,10 @@ move (Close true) w = took_a (on_standing close w.a) w
 move (Close false) w = took_b (on_standing close w.b) w
 move (Shutdown true) w = took_a (on_standing shutdown w.a) w
 move (Shutdown false) w = took_b (on_standing shutdown w.b) w
+move (HandOver true) w = took_a (on_standing hand_over w.a) w
+move (HandOver false) w = took_b (on_standing hand_over w.b) w
+move (TakeUp true h) w = took_a (on_standing (restore h) (new_end 456)) w
+move (TakeUp false h) w = took_b (on_standing (restore h) (new_end 1000)) w
 
 abbrev pub moves : List Move → Pair → Pair
 moves [] w = w

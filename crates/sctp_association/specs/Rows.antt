@@ -6,8 +6,11 @@ use Rattle.sctp_state.specs.Options.{plainly}
 use Rattle.sctp_state.specs.declared.api.ErrorKind.TheVariants.{PeerReported}
 use Rattle.sctp_state.specs.declared.api.GivenUpCause.TheVariants.{Retransmissions}
 use Rattle.sctp_state.specs.Events.{OnConnected, OnClosed, OnAborted, OnBufferedAmountLow, OnLifecycleMessageFullySent, OnLifecycleMessageDelivered, OnLifecycleEnd}
-use Rattle.sctp_association.specs.Association.{Identity, State, Open}
-use Rattle.sctp_association.specs.Pair.{Line, Packet, Says, Gone, Move, Connect, Give, Send, Receive, Time, Close, Shutdown, after, then, ready_b}
+use Rattle.sctp_state.specs.declared.api.errors.RestoreError.TheVariants.{InvalidState, SocketNotClosed}
+use Rattle.sctp_state.specs.Handover.{HandoverState}
+use Rattle.sctp_association.specs.Association.{Identity, State, Closed, Open, Standing}
+use Rattle.sctp_association.specs.Handover.{readiness, handed_over, refusal_in}
+use Rattle.sctp_association.specs.Pair.{Sent, Line, Packet, Says, Gone, Move, Connect, Give, Send, Receive, Time, Close, Shutdown, HandOver, TakeUp, after, then, ready_b}
 
 abbrev pub message : (stream : ℕ) → List ℕ → Message
 message stream bytes = record { stream = stream; ppid = 53; payload = bytes }
@@ -134,3 +137,27 @@ pub record ShutsDown : Type 0 where
   pub goes_on : then (opened ++ (short_message ∷ Shutdown true ∷ Give 2 false ∷ [])) (Give 2 true ∷ []) ≡ size 20 ∷ []
   pub at_once : then (opened ++ (Shutdown true ∷ Shutdown false ∷ [])) (Give 2 false ∷ Give 2 true ∷ []) ≡ size 16 ∷ size 16 ∷ []
   pub gives_up : then (Connect true ∷ []) (Shutdown true ∷ []) ≡ Says OnClosed ∷ []
+
+-- ---- an end that is handed over, and a new one in its place
+
+abbrev pub standing_a : List Move → Standing Sent
+standing_a moves = (after moves).a.standing
+
+abbrev pub record_of : List Move → HandoverState
+record_of moves = handed_over (standing_a moves)
+
+abbrev pub no_tag : HandoverState → HandoverState
+no_tag h = record h { my_verification_tag = 0 }
+
+abbrev pub carried_on : List Move
+carried_on = opened ++ (HandOver true ∷ TakeUp true (record_of opened) ∷ [])
+
+pub record TakenUp : Type 0 where
+  pub ready : readiness (standing_a opened) ≡ 0
+  pub left : then opened (HandOver true ∷ []) ≡ Says OnClosed ∷ []
+  pub restored : then opened (HandOver true ∷ TakeUp true (record_of opened) ∷ []) ≡ Says OnClosed ∷ Says OnConnected ∷ []
+  pub crossed : AreCrossedAfter carried_on
+  pub sent : then carried_on (short_message ∷ Give 2 false ∷ Give 2 true ∷ []) ≡ Says (OnBufferedAmountLow 1) ∷ size 32 ∷ size 28 ∷ []
+  pub invalid : refusal_in Closed (no_tag (record_of opened)) ≡ Some InvalidState
+  pub not_closed : refusal_in (standing_a opened).state (record_of opened) ≡ Some SocketNotClosed
+  pub neither : refusal_in (standing_a opened).state (no_tag (record_of opened)) ≡ Some SocketNotClosed

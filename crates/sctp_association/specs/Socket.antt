@@ -10,6 +10,11 @@ use Rattle.sctp_state.specs.declared.api.errors.SendError.{SendError}
 use Rattle.sctp_state.specs.declared.api.errors.SendError.TheVariants as sends
 use Rattle.sctp_state.specs.declared.api.errors.BatchFault.{BatchFault}
 use Rattle.sctp_state.specs.declared.api.errors.BatchFault.TheVariants as batches
+use Rattle.sctp_state.specs.declared.api.errors.HandoverError.{HandoverError}
+use Rattle.sctp_state.specs.declared.api.errors.HandoverError.TheVariants as handovers
+use Rattle.sctp_state.specs.declared.api.errors.RestoreError.{RestoreError}
+use Rattle.sctp_state.specs.declared.api.errors.RestoreError.TheVariants as restores
+use Rattle.sctp_state.specs.declared.api.handover.SocketHandoverState.{SocketHandoverState}
 use Rattle.sctp_state.specs.Options.{Options}
 use Rattle.sctp_send_queue.specs.Queue.{Queue, is_empty}
 use Rattle.sctp_association.specs.Association.{State, Closed, CookieWait, Open, Endpoint}
@@ -78,6 +83,22 @@ batch_ending (Err (batches.Refused e)) = Worked
 batch_ending (Err batches.Memory) = RanOut
 batch_ending (Err batches.Failed) = HadFailed
 
+abbrev pub handover_ending : Result SocketHandoverState HandoverError → Ending
+handover_ending (Ok h) = Worked
+handover_ending (Err (handovers.NotReady r)) = Worked
+handover_ending (Err handovers.Memory) = RanOut
+handover_ending (Err handovers.Failed) = HadFailed
+
+abbrev pub restore_ending_by : RestoreError → Ending
+restore_ending_by restores.SocketNotClosed = Worked
+restore_ending_by restores.InvalidState = Worked
+restore_ending_by restores.Memory = RanOut
+restore_ending_by restores.Failed = HadFailed
+
+abbrev pub restore_ending : Result (Unit {0}) RestoreError → Ending
+restore_ending (Ok done) = Worked
+restore_ending (Err e) = restore_ending_by e
+
 -- One on a socket that has failed changes nothing; one that found too little memory makes it fail.
 abbrev pub Ends : {R C : Type 0} → Ending → (before after : SocketValue R C) → Type 0
 Ends Worked before after = (before.has_failed ≡ false) × (after.has_failed ≡ false)
@@ -93,6 +114,17 @@ refusals_in (Ok done) = []
 refusals_in (Err (batches.Refused e)) = e.0.items
 refusals_in (Err batches.Memory) = []
 refusals_in (Err batches.Failed) = []
+
+-- what stands in the way of a handover: nothing, where there is a record
+abbrev pub readiness_in : Result SocketHandoverState HandoverError → ℕ
+readiness_in (Ok h) = 0
+readiness_in (Err (handovers.NotReady r)) = r.0
+readiness_in (Err handovers.Memory) = 0
+readiness_in (Err handovers.Failed) = 0
+
+abbrev pub restore_refusal_in : Result (Unit {0}) RestoreError → Option RestoreError
+restore_refusal_in (Ok done) = None
+restore_refusal_in (Err e) = Some e
 
 -- ---- queries
 

@@ -4,7 +4,8 @@ ghost use Rattle.std.specs.Prelude.{◌<◌, ◌^◌};
 
 use sctp_serial::{Message, SocketTime, StreamId};
 use sctp_state::{
-    BatchFault, CallError, Metrics, Options, SendError, SendOptions, SocketEvent, SocketState,
+    BatchFault, CallError, HandoverError, HandoverReadiness, Metrics, Options, RestoreError,
+    SendError, SendOptions, SocketEvent, SocketHandoverState, SocketState,
 };
 
 /// An end of an SCTP association, which makes no system call. Packets, moments and messages are handed in; events, among
@@ -81,4 +82,18 @@ pub trait DcSctpSocket {
 
     /// How many messages wait to be handed out.
     fn messages_ready_count(&self) -> usize;
+
+    /// What stands in the way of a handover: nothing where the socket is closed; where it is neither closed nor connected,
+    /// that; else reset requests and streams that wait for a reset, data that is missing or isn't whole, a loss that is
+    /// being recovered from, and, unless `enable_handover_with_outstanding_data` is set, messages and fragments that wait.
+    fn get_handover_readiness(&self) -> HandoverReadiness;
+
+    /// Hands over the socket: its record is written, and it closes; the peer isn't told. `NotReady` says what stands in the
+    /// way, and changes nothing. Of a closed socket nothing is told.
+    fn get_handover_state_and_close(&mut self) -> Result<SocketHandoverState, HandoverError>;
+
+    /// Takes up the record of a socket that was handed over, and sends what may be sent; of a closed one there is nothing to
+    /// take up. The queue's content is replaced. A socket that isn't closed answers `SocketNotClosed`, and a closed one
+    /// `InvalidState` where the record isn't valid (`SocketHandoverState::is_valid`); both change nothing.
+    fn restore_from_state(&mut self, state: &SocketHandoverState) -> Result<(), RestoreError>;
 }

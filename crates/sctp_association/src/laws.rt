@@ -2,11 +2,11 @@
 
 ghost use Rattle.sctp_association.specs.Laws.{EachCallSendsAtMost, EachCallStaysWithin, EachCallTellsEndings, EachClosingEnds};
 ghost use Rattle.sctp_association.specs.Moments.{AMomentBeforeMovesTheClock, AnEarlierMomentChangesNothing};
-ghost use Rattle.sctp_association.specs.Rows.{Beats, BothConnect, Closes, FirstConversation, Fragments, GivenUpOnce, OtherOrder, ShutsDown};
+ghost use Rattle.sctp_association.specs.Rows.{Beats, BothConnect, Closes, FirstConversation, Fragments, GivenUpOnce, OtherOrder, ShutsDown, TakenUp};
 
 /// Conversations of two ends with default options go as they have to: an opening, a message that is delivered once, two
 /// that come in the other order, ends that connect at once, a message that is given up, one of three fragments, a close,
-/// a shutdown, and heartbeats of idle ends.
+/// a shutdown, heartbeats of idle ends, and an end that is handed over.
 pub fn conversations_go()
     ensures first { FirstConversation }
     ensures order { OtherOrder }
@@ -16,6 +16,7 @@ pub fn conversations_go()
     ensures closes { Closes }
     ensures shuts_down { ShutsDown }
     ensures beats { Beats }
+    ensures taken_up { TakenUp }
 {}
 
 /// No call makes an end tell a packet above the mtu, by its chunks and by its bytes.

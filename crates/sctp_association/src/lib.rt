@@ -7,6 +7,7 @@ mod context;
 mod cookie_echo;
 mod data;
 mod draws;
+mod handover;
 mod handshake;
 mod heartbeats;
 mod input;

@@ -4,20 +4,23 @@ ghost use Rattle.std.specs.Prelude.{◌≡◌, ◌<◌, ◌^◌, ◌↔◌, fals
 ghost use Rattle.sctp_serial.specs.Messages.{message_of};
 ghost use Rattle.sctp_send_queue.specs.Queue.{amount_of, stream};
 ghost use Rattle.sctp_state.specs.Events.{event_of, first_of, given_up_of};
+ghost use Rattle.sctp_state.specs.Handover.{handover_state_of};
 ghost use Rattle.sctp_state.specs.Options.{IsValid, options_of, send_options_of};
 ghost use Rattle.sctp_association.specs.Association.{fresh, in_context};
 ghost use Rattle.sctp_association.specs.Calls as calls;
 ghost use Rattle.sctp_association.specs.Closing as closing;
+ghost use Rattle.sctp_association.specs.Handover as handover;
 ghost use Rattle.sctp_association.specs.Input.{my_tag, on_standing};
 ghost use Rattle.sctp_association.specs.Metrics.{metrics_in, metrics_of};
 ghost use Rattle.sctp_association.specs.Opening as opening;
-ghost use Rattle.sctp_association.specs.Socket.{Ends, Hears, Judges, Worked, association_in, association_of, batch_ending, ending_of, endpoint, is_at_rest, refusal_in, refusals_in, sending_ending};
+ghost use Rattle.sctp_association.specs.Socket.{Ends, Hears, Judges, Worked, association_in, association_of, batch_ending, ending_of, endpoint, handover_ending, is_at_rest, readiness_in, refusal_in, refusals_in, restore_ending, restore_refusal_in, sending_ending};
 ghost use Rattle.sctp_association.specs.Time as time;
 ghost use Rattle.sctp_association.specs.Wire.{written};
 
 use crate::api::DcSctpSocket;
 use crate::calls::{send, send_many};
 use crate::context::Context;
+use crate::handover::{hand_over, restore};
 use crate::input::{handle_input, judge};
 use crate::opening::connect;
 use crate::shutdown::{handle_close, handle_shutdown};
@@ -27,8 +30,8 @@ use crate::transmission_control_block::Association;
 use rand_core::Rng;
 use sctp_serial::{Message, SocketTime, StreamId};
 use sctp_state::{
-    BatchFault, BatchSendError, CallError, GivenUp, Metrics, Options, SendError, SendOptions,
-    SocketEvent, SocketState,
+    BatchFault, BatchSendError, CallError, GivenUp, HandoverError, HandoverReadiness, Metrics,
+    Options, RestoreError, SendError, SendOptions, SocketEvent, SocketHandoverState, SocketState,
 };
 use sctp_wire::Checksum;
 use std::alloc::Global;
@@ -355,5 +358,53 @@ impl<R: Rng, C: Checksum> DcSctpSocket for Socket<R, C> {
         ensures { result ≡ length (calls.ready_in self.now.state) }
     {
         self.state.ready_count()
+    }
+
+    fn get_handover_readiness(&self) -> HandoverReadiness
+        ensures { result.0 ≡ handover.readiness (endpoint R.stream C.word_of self.now).standing }
+    {
+        self.context.get_handover_readiness(&self.state)
+    }
+
+    fn get_handover_state_and_close(&mut self) -> Result<SocketHandoverState, HandoverError>
+        ensures ends { Ends (handover_ending result) self.old self.new }
+        ensures answer { handover_ending result ≡ Worked → readiness_in result ≡ handover.readiness (endpoint R.stream C.word_of self.old).standing }
+        ensures refused { (r : HandoverReadiness) → result ≡ Err (HandoverError.NotReady r) → 0 < r.0 }
+        ensures record { IfOk result (λ h. handover_state_of h ≡ handover.handed_over (endpoint R.stream C.word_of self.old).standing) }
+        ensures left { handover_ending result ≡ Worked → endpoint R.stream C.word_of self.new ≡ on_standing handover.hand_over (endpoint R.stream C.word_of self.old) }
+    {
+        if self.has_failed {
+            return Err(HandoverError::Failed);
+        }
+        let readiness = self.context.get_handover_readiness(&self.state);
+        if !readiness.is_ready() {
+            return Err(HandoverError::NotReady(readiness));
+        }
+        match hand_over(&mut self.state, &mut self.context) {
+            Ok(state) => Ok(state),
+            Err(_) => {
+                self.has_failed = true;
+                Err(HandoverError::Memory)
+            }
+        }
+    }
+
+    fn restore_from_state(&mut self, state: &SocketHandoverState) -> Result<(), RestoreError>
+        ensures ends { Ends (restore_ending result) self.old self.new }
+        ensures answer { restore_ending result ≡ Worked → restore_refusal_in result ≡ handover.refusal_in self.old.state (handover_state_of state.now) }
+        ensures restored { restore_ending result ≡ Worked
+            → endpoint R.stream C.word_of self.new ≡ on_standing (handover.restore (handover_state_of state.now)) (endpoint R.stream C.word_of self.old) }
+    {
+        if self.has_failed {
+            return Err(RestoreError::Failed);
+        }
+        match restore(&mut self.state, &mut self.context, state) {
+            Ok(None) => Ok(()),
+            Ok(Some(refusal)) => Err(refusal),
+            Err(_) => {
+                self.has_failed = true;
+                Err(RestoreError::Memory)
+            }
+        }
     }
 }

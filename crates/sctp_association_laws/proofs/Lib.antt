@@ -5,6 +5,7 @@ pub mod OpeningMapsLemmas
 pub mod TimeMapsLemmas
 pub mod CallMapsLemmas
 pub mod InputMapsLemmas
+pub mod HandoverMapsLemmas
 pub mod MappedLemmas
 pub mod OpeningRunLemmas
 pub mod QueueRunLemmas

@@ -8,12 +8,14 @@ use Rattle.sctp_association.specs.Association.{Endpoint, in_context, context}
 use Rattle.sctp_association.specs.Closing.{close, shutdown}
 use Rattle.sctp_association.specs.Calls.{send, send_many, set_low_threshold}
 use Rattle.sctp_association.specs.Time.{advance}
-use Rattle.sctp_association.specs.Laws.{Call, Connect, Close, Shutdown, Send, SendMany, TakeMessage, SetLowThreshold, SetPriority, SetMaxMessageSize, Advance, Packet, NoPacket, called}
+use Rattle.sctp_association.specs.Handover.{hand_over, restore}
+use Rattle.sctp_association.specs.Laws.{Call, Connect, Close, Shutdown, Send, SendMany, TakeMessage, SetLowThreshold, SetPriority, SetMaxMessageSize, Advance, HandOver, Restore, Packet, NoPacket, called}
 use Rattle.sctp_association_laws.specs.Mapped.{map_context, map_end, Carried, as_written, BytesAreWrittenChunks}
 use Rattle.sctp_association_laws.proofs.RowMapsLemmas.{maps_in_state, maps_close, maps_shutdown}
 use Rattle.sctp_association_laws.proofs.OpeningMapsLemmas.{maps_connect}
 use Rattle.sctp_association_laws.proofs.TimeMapsLemmas.{maps_advance}
 use Rattle.sctp_association_laws.proofs.CallMapsLemmas.{maps_send, maps_send_many, maps_low_threshold}
+use Rattle.sctp_association_laws.proofs.HandoverMapsLemmas.{maps_hand_over, maps_restore}
 use Rattle.sctp_association_laws.proofs.InputMapsLemmas.{maps_on_standing, maps_packet, maps_no_packet}
 
 -- packets as they are
@@ -33,6 +35,8 @@ maps_called f (SetLowThreshold stream bytes) s =
 maps_called f (SetPriority stream priority) s = refl
 maps_called f (SetMaxMessageSize bytes) s = refl
 maps_called f (Advance now) s = maps_on_standing f (advance now) (advance now) s (maps_advance f now s.standing)
+maps_called f HandOver s = maps_on_standing f hand_over hand_over s (maps_hand_over f s.standing)
+maps_called f (Restore h) s = maps_on_standing f (restore h) (restore h) s (maps_restore f h s.standing)
 maps_called f (Packet p) s = maps_packet f p s
 maps_called f NoPacket s = maps_no_packet f s
 

@@ -1,6 +1,7 @@
 //! Packets that are put together, and control blocks with default options.
 
 mod conversations;
+mod handover;
 mod link;
 
 use sctp_association::{Context, Identity, OutgoingPacket, Phase, State, TransmissionControlBlock};

@@ -270,18 +270,48 @@ a rests
 /// With nobody there, eleven heartbeats stay without an answer.
 #[test]
 fn a_peer_vanishes(rt: HostRuntime) -> Result<(), AllocError> {
-    let mut moves = Vec::new(rt.alloc());
-    moves.push(Close(B))?;
-    let mut rest = String::from_str(rt.alloc(), "b packet 2 32\nb OnClosed\n")?;
-    for count in 1..12_u64 {
-        moves.push(Time(30_000 * count))?;
-        moves.push(Time(30_000 * count + 500))?;
-        let number = count + 1;
-        rest.push_str(&format!(in rt.alloc(); "a packet {number} 24\n")?)?;
-    }
-    rest.push_str(
-        "a packet 13 44\na OnAborted TooManyRetries: Too many retransmissions\na rests\n",
-    )?;
-    assert!(rt; tells(rt.alloc(), &moves, &rest)?);
+    let moves = [
+        Close(B),
+        Time(30_000),
+        Time(30_500),
+        Time(60_000),
+        Time(60_500),
+        Time(90_000),
+        Time(90_500),
+        Time(120_000),
+        Time(120_500),
+        Time(150_000),
+        Time(150_500),
+        Time(180_000),
+        Time(180_500),
+        Time(210_000),
+        Time(210_500),
+        Time(240_000),
+        Time(240_500),
+        Time(270_000),
+        Time(270_500),
+        Time(300_000),
+        Time(300_500),
+        Time(330_000),
+        Time(330_500),
+    ];
+    let rest = "b packet 2 32
+b OnClosed
+a packet 2 24
+a packet 3 24
+a packet 4 24
+a packet 5 24
+a packet 6 24
+a packet 7 24
+a packet 8 24
+a packet 9 24
+a packet 10 24
+a packet 11 24
+a packet 12 24
+a packet 13 44
+a OnAborted TooManyRetries: Too many retransmissions
+a rests
+";
+    assert!(rt; tells(rt.alloc(), &moves, rest)?);
     Ok(())
 }

@@ -1,4 +1,6 @@
-//! Two sockets with default options and what they tell, a line for each event.
+//! Two sockets and what they tell, a line for each event.
+
+ghost use Rattle.sctp_state.specs.Options.{IsValid, options_of};
 
 use rand_pcg::Pcg32;
 use sctp_association::{DcSctpSocket, Socket};
@@ -42,6 +44,8 @@ pub enum Move<'a> {
     Time(u64),
     Close(End),
     Shutdown(End),
+    /// The socket is handed over to a new one, which takes its place.
+    Replace(End),
 }
 
 pub fn plainly() -> SendOptions {
@@ -62,13 +66,24 @@ pub fn once() -> SendOptions {
 }
 
 /// What a test asks of a socket beside the calls of the trait.
-trait Watched: DcSctpSocket {
+trait Watched: DcSctpSocket + Drop {
+    /// A new one with the same options.
+    fn renewed(&self, alloc: Global) -> Result<Self, CallError>;
+
     fn next_gone(&mut self) -> Option<GivenUp>;
 
     fn rests(&self) -> bool;
 }
 
 impl Watched for Socket<Pcg32, Seven> {
+    fn renewed(&self, alloc: Global) -> Result<Socket<Pcg32, Seven>, CallError> {
+        let options = self.options();
+        if !options.is_valid() {
+            return Err(CallError::Failed);
+        }
+        Socket::new(alloc, "new", &options, Pcg32::new(3, 3), Seven)
+    }
+
     fn next_gone(&mut self) -> Option<GivenUp> {
         self.next_given_up()
     }
@@ -92,11 +107,18 @@ fn name_of(end: End) -> &'static str {
     }
 }
 
-fn made_side(alloc: Global, end: End, words: u64) -> Result<Side<Socket<Pcg32, Seven>>, CallError> {
+fn made_side(
+    alloc: Global,
+    end: End,
+    options: &Options,
+    words: u64,
+) -> Result<Side<Socket<Pcg32, Seven>>, CallError>
+    requires { IsValid (options_of options.now) }
+{
     let socket = Socket::new(
         alloc,
         name_of(end),
-        &Options::default(),
+        options,
         Pcg32::new(words, words),
         Seven,
     )?;
@@ -290,6 +312,26 @@ fn give<S: Watched>(side: &mut Side<S>, packets: &[Vec<u8>], place: usize) -> bo
     }
 }
 
+/// A socket that isn't ready is refused, and tells why.
+fn replace<S: Watched>(
+    alloc: Global,
+    side: &mut Side<S>,
+    log: &mut String,
+) -> Result<bool, AllocError> {
+    let readiness = side.socket.get_handover_readiness();
+    let Ok(state) = side.socket.get_handover_state_and_close() else {
+        let text = format!(in alloc; "{readiness}")?;
+        note(alloc, side, &text, log)?;
+        return Ok(true);
+    };
+    take_told(alloc, side, log)?;
+    let Ok(socket) = side.socket.renewed(alloc) else {
+        return Err(AllocError);
+    };
+    side.socket = socket;
+    Ok(side.socket.restore_from_state(&state).is_err())
+}
+
 fn tell_time<S: Watched>(side: &mut Side<S>, moment: u64) -> bool {
     let now = SocketTime::zero() + Duration::from_millis(moment);
     side.socket.advance_time(now).is_err()
@@ -313,6 +355,7 @@ fn act<S: Watched>(
         Move::Time(moment) => Ok(tell_time(side, *moment)),
         Move::Close(_) => Ok(side.socket.close().is_err()),
         Move::Shutdown(_) => Ok(side.socket.shutdown().is_err()),
+        Move::Replace(_) => replace(alloc, side, log),
     }
 }
 
@@ -340,6 +383,7 @@ fn is_at_a(turn: &Move<'_>) -> bool {
         Move::Time(_) => true,
         Move::Close(end) => *end == End::A,
         Move::Shutdown(end) => *end == End::A,
+        Move::Replace(end) => *end == End::A,
     }
 }
 
@@ -381,13 +425,26 @@ fn play_both<S: Watched>(
     Ok(log)
 }
 
-/// What two fresh sockets tell of these moves and then those, and whether the first one is at rest at last.
-pub fn play(alloc: Global, moves: &[Move<'_>], later: &[Move<'_>]) -> Result<String, AllocError> {
-    let Ok(mut a) = made_side(alloc, End::A, 1) else {
+/// What two fresh sockets with these options tell of these moves and then those, and whether the first one is at rest at
+/// last.
+pub fn play_with(
+    alloc: Global,
+    options: &Options,
+    moves: &[Move<'_>],
+    later: &[Move<'_>],
+) -> Result<String, AllocError>
+    requires { IsValid (options_of options.now) }
+{
+    let Ok(mut a) = made_side(alloc, End::A, options, 1) else {
         return Err(AllocError);
     };
-    let Ok(mut b) = made_side(alloc, End::B, 2) else {
+    let Ok(mut b) = made_side(alloc, End::B, options, 2) else {
         return Err(AllocError);
     };
     play_both(alloc, &mut a, &mut b, moves, later)
+}
+
+/// The same with default options.
+pub fn play(alloc: Global, moves: &[Move<'_>], later: &[Move<'_>]) -> Result<String, AllocError> {
+    play_with(alloc, &Options::default(), moves, later)
 }

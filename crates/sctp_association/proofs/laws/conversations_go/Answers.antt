@@ -1,4 +1,4 @@
-use Rattle.sctp_association.proofs.RowsLemmas.{beats_goes, first_goes, order_goes, both_goes, given_up_goes, fragments_goes, closes_goes, shuts_down_goes}
+use Rattle.sctp_association.proofs.RowsLemmas.{beats_goes, first_goes, order_goes, both_goes, given_up_goes, fragments_goes, closes_goes, shuts_down_goes, taken_up_goes}
 use Rattle.sctp_association.proofs.laws.conversations_go.Goals as goal
 
 pub returns-clause-first : goal.returns-clause-first
@@ -24,3 +24,6 @@ returns-clause-shuts_down c = shuts_down_goes
 
 pub returns-clause-beats : goal.returns-clause-beats
 returns-clause-beats c = beats_goes
+
+pub returns-clause-taken_up : goal.returns-clause-taken_up
+returns-clause-taken_up c = taken_up_goes
