@@ -1,4 +1,4 @@
-//! Scripts of two ends.
+//! Scripts: what is a command, and how much a line and a message hold.
 
 use sctp_world::run_script;
 use std::alloc::AllocError;
@@ -11,7 +11,7 @@ const OPENED: &str =
     "a packet 0 44\nb packet 0 96\na packet 1 64\nb event OnConnected\nb packet 1 16\na event OnConnected\n";
 
 /// Whether the script, behind an opening, prints this behind what the opening prints.
-fn prints(rt: &HostRuntime, script: &str, want: &str) -> Result<bool, AllocError> {
+pub fn prints(rt: &HostRuntime, script: &str, want: &str) -> Result<bool, AllocError> {
     let mut text = Vec::from_slice(rt.alloc(), OPENING.as_bytes())?;
     text.extend_from_slice(script.as_bytes())?;
     let mut wanted = Vec::from_slice(rt.alloc(), OPENED.as_bytes())?;
@@ -19,7 +19,8 @@ fn prints(rt: &HostRuntime, script: &str, want: &str) -> Result<bool, AllocError
     prints_all(rt, &text, &wanted)
 }
 
-fn prints_all(rt: &HostRuntime, script: &[u8], want: &[u8]) -> Result<bool, AllocError> {
+/// Whether the script prints this.
+pub fn prints_all(rt: &HostRuntime, script: &[u8], want: &[u8]) -> Result<bool, AllocError> {
     let mut reader = script;
     let mut out = Vec::new(rt.alloc());
     let end = run_script(rt.alloc(), &mut reader, &mut out);
@@ -27,29 +28,12 @@ fn prints_all(rt: &HostRuntime, script: &[u8], want: &[u8]) -> Result<bool, Allo
 }
 
 #[test]
-fn a_message_crosses(rt: HostRuntime) {
-    let script = "send a 1 53 010203 id 7\ngive a 2 b\nrecv b\nrecv b\ngive b 2 a\n";
-    let want =
-        "a event OnBufferedAmountLow 1\na event OnLifecycleMessageFullySent 7\na packet 2 32\nb packet 2 28\nb message 1 53 010203\nb none\na event OnLifecycleMessageDelivered 7\na event OnLifecycleEnd 7\n";
-    assert!(rt; prints(&rt, script, want) == Ok(true));
-}
-
-#[test]
-fn a_packet_comes_three_times(rt: HostRuntime) {
-    let script = "send a 1 53 010203\ngive a 2 b\ngive a 2 b\ngive a 2 b\nrecv b\nrecv b\n";
-    let want =
-        "a event OnBufferedAmountLow 1\na packet 2 32\nb packet 2 28\nb message 1 53 010203\nb none\n";
-    assert!(rt; prints(&rt, script, want) == Ok(true));
-}
-
-#[test]
 fn too_long_a_message(rt: HostRuntime) {
     let refused =
         "a refused MessageTooLarge\na event OnLifecycleEnd 3\na event OnError ProtocolViolation: Unable to send too large message\n";
-    assert!(rt; answers(&rt, 1001, refused) == Ok(true));
-    let sent =
-        "a event OnBufferedAmountLow 1\na event OnLifecycleMessageFullySent 3\na packet 2 1028\n";
-    assert!(rt; answers(&rt, 1000, sent) == Ok(true));
+    assert!(rt; answers(&rt, 262_145, refused) == Ok(true));
+    let sent = "a packet 2 1188\na packet 3 1188\na packet 4 1188\na packet 5 1188\n";
+    assert!(rt; answers(&rt, 262_144, sent) == Ok(true));
 }
 
 /// Whether a message of so many zeros is answered so.
@@ -65,68 +49,130 @@ fn sends(rt: &HostRuntime, size: usize) -> Result<String, AllocError> {
 }
 
 #[test]
-fn a_hundred_messages(rt: HostRuntime) {
+fn too_long_a_line(rt: HostRuntime) {
+    // with as many zeros the line has 1,048,575 bytes, and with one more 1,048,577
+    assert!(rt; is_command(&rt, 524_279) == Ok(true));
+    assert!(rt; is_command(&rt, 524_280) == Ok(false));
+}
+
+/// Whether the line that sends so many zeros is a command.
+fn is_command(rt: &HostRuntime, size: usize) -> Result<bool, AllocError> {
+    Ok(runs(rt, sends(rt, size)?.as_bytes()))
+}
+
+#[test]
+fn a_thousand_messages(rt: HostRuntime) {
     assert!(rt; cross_in_order(&rt) == Ok(true));
 }
 
-/// Whether a hundred messages, each sent, given and acknowledged before the next, are received in order.
+/// Whether a thousand messages, each sent and given before the next, are received in order. The first is acknowledged at
+/// once, of the others every second one, and the last when the acknowledgement has waited for 200 ms.
 fn cross_in_order(rt: &HostRuntime) -> Result<bool, AllocError> {
     let mut script = String::new(rt.alloc());
     let mut want = String::new(rt.alloc());
-    for number in 2..102 {
-        script.push_str(&round(rt, number)?)?;
-        want.push_str(&round_text(rt, number)?)?;
+    for number in 1..501 {
+        let first = number * 2;
+        script.push_str(&two_messages(rt, first, number + 1)?)?;
+        want.push_str(&two_texts(rt, first, number + 1)?)?;
     }
+    script.push_str("time 200\ngive b 502 a\n")?;
+    want.push_str("b packet 502 28\n")?;
     prints(rt, &script, &want)
 }
 
-fn round(rt: &HostRuntime, number: u32) -> Result<String, AllocError> {
+/// Sends and gives the packets `first` and the next one of a, and gives the packet `reply` of b between.
+fn two_messages(rt: &HostRuntime, first: u32, reply: u32) -> Result<String, AllocError> {
+    let second = first.saturating_add(1);
     format!(in rt.alloc();
-        "send a 1 53 {number:08x}\ngive a {number} b\nrecv b\ngive b {number} a\n"
+        "send a 1 53 {first:08x}\ngive a {first} b\ngive b {reply} a\nrecv b\nsend a 1 53 {second:08x}\ngive a {second} b\nrecv b\n"
     )
 }
 
-fn round_text(rt: &HostRuntime, number: u32) -> Result<String, AllocError> {
+fn two_texts(rt: &HostRuntime, first: u32, reply: u32) -> Result<String, AllocError> {
+    let second = first.saturating_add(1);
     format!(in rt.alloc();
-        "a event OnBufferedAmountLow 1\na packet {number} 32\nb packet {number} 28\nb message 1 53 {number:08x}\n"
+        "a event OnBufferedAmountLow 1\na packet {first} 32\nb packet {reply} 28\nb message 1 53 {first:08x}\na event OnBufferedAmountLow 1\na packet {second} 32\nb message 1 53 {second:08x}\n"
     )
 }
 
 #[test]
 fn what_is_no_command(rt: HostRuntime) {
-    let lines: [&str; 12] = [
+    let lines: [&str; 44] = [
         "connect",
         "connect c",
         "connect  a",
         "connect a ",
+        "Connect a",
+        "shutdown",
+        "shutdown a b",
+        "shutdown c",
+        "close",
+        "close a b",
+        "close A",
+        "time",
+        "time x",
+        "time -1",
+        "time 1 2",
+        "time 18446744073709551616",
+        "foreign a",
+        "foreign 00",
+        "foreign c 00",
+        "foreign a 0",
+        "foreign a 0g",
+        "foreign a 00 00",
         "give a 0 a",
         "give a +1 b",
         "give a 18446744073709551616 b",
         "send a 65536 53 01",
+        "send a 1 4294967296 01",
         "send a 1 53 ",
+        "send a 1 53",
+        "send a 1 53 1",
+        "send a 1 53 0x",
         "send a 1 53 01 id 0",
+        "send a 1 53 01 id",
+        "send a 1 53 01 life",
+        "send a 1 53 01 life 18446744073709551616",
+        "send a 1 53 01 rtx 65536",
+        "send a 1 53 01 ordered",
+        "send a 1 53 01 unordered unordered",
+        "send a 1 53 01 life 1 unordered",
+        "send a 1 53 01 rtx 1 life 1",
+        "send a 1 53 01 id 1 rtx 1",
+        "reset a 1",
         "recv a b",
         "show a -1",
     ];
     for line in lines {
-        assert!(rt; !runs(&rt, line.as_bytes()));
+        assert!(rt; !runs(&rt, line.as_bytes()), "{line}");
     }
 }
 
 #[test]
 fn what_is_a_command(rt: HostRuntime) {
-    let lines: [&str; 8] = [
+    let lines: [&str; 19] = [
         "connect a",
+        "shutdown a",
+        "close b",
+        "time 0",
+        "time 18446744073709551615",
+        "foreign b aBcD",
         "give a 007 b",
         "give b 18446744073709551615 a",
         "send b 65535 4294967295 aBcD",
         "send a 0 0 01 id 18446744073709551615",
+        "send a 1 53 61 unordered life 100 rtx 2 id 5",
+        "send a 1 53 61 unordered id 5",
+        "send a 1 53 61 life 0 rtx 65535",
+        "send a 1 53 61 life 18446744073709551615",
+        "send a 1 53 61 rtx 0",
         "recv b",
         "show a 0",
+        "show b 18446744073709551615",
         "",
     ];
     for line in lines {
-        assert!(rt; runs(&rt, line.as_bytes()));
+        assert!(rt; runs(&rt, line.as_bytes()), "{line}");
     }
 }
 

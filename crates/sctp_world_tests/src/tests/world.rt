@@ -8,13 +8,13 @@ use sctp_world::*;
 use std::alloc::AllocError;
 use std::test::Fail;
 
-fn fresh<R: Rng>(rt: &HostRuntime, a: R, b: R) -> Option<World<R, ByteSum>> {
+pub fn fresh<R: Rng + Drop>(rt: &HostRuntime, a: R, b: R) -> Option<World<R, ByteSum>> {
     let options = Options::default();
     World::new(rt.alloc(), &options, &options, a, b, ByteSum, ByteSum).ok()
 }
 
 /// Connects both ends.
-fn open<R: Rng>(world: &mut World<R, ByteSum>) -> Result<(), WorldError> {
+pub fn open<R: Rng>(world: &mut World<R, ByteSum>) -> Result<(), WorldError> {
     world.run(&[
         Event::Call(End::A, Call::Connect),
         Event::Give(0, End::B),
@@ -36,7 +36,7 @@ fn message(rt: &HostRuntime) -> Result<Event, AllocError> {
 }
 
 /// The length of a packet; 0 where there is none.
-fn size<R: Rng>(world: &World<R, ByteSum>, end: End, number: usize) -> usize {
+pub fn size<R: Rng>(world: &World<R, ByteSum>, end: End, number: usize) -> usize {
     match world.packet(end, number) {
         Some(bytes) => bytes.len(),
         None => 0,
@@ -64,26 +64,34 @@ fn a_message_crosses(rt: HostRuntime) -> Result<(), Fail> {
     Ok(())
 }
 
-/// Whether the last entries of the log tell of an empty message that was refused, and of nothing more.
-fn refuses_nothing<R: Rng>(rt: &HostRuntime, world: &mut World<R, ByteSum>) -> bool {
-    let empty = Message::new(StreamId(1), PpId(53), Vec::new(rt.alloc()));
+/// Whether the last entries of the log tell of a message that was refused with this error, and of nothing more.
+fn refuses<R: Rng>(
+    world: &mut World<R, ByteSum>,
+    message: Message,
+    refusal: SendError,
+) -> Result<bool, WorldError> {
     let before = world.log().len();
-    let event = Event::Call(End::A, Call::Send(empty, SendOptions::default()));
-    if world.step(&event).is_err() {
-        return false;
-    }
-    match world.log().get(before..) {
+    world.step(&Event::Call(End::A, Call::Send(message, SendOptions::default())))?;
+    Ok(match world.log().get(before..) {
         Some(
             [
-                Entry::Send(End::A, _, _, _, Some(error)),
+                Entry::Call(End::A, _, _, Answer::Sent(Some(error))),
                 Entry::Event(End::A, told),
             ],
         ) => {
-            *error == SendError::EmptyPayload
+            *error == refusal
                 && matches!(told, SocketEvent::OnError(ErrorKind::ProtocolViolation, _))
         }
         _ => false,
-    }
+    })
+}
+
+fn refuses_nothing<R: Rng>(
+    rt: &HostRuntime,
+    world: &mut World<R, ByteSum>,
+) -> Result<bool, WorldError> {
+    let empty = Message::new(StreamId(1), PpId(53), Vec::new(rt.alloc()));
+    refuses(world, empty, SendError::EmptyPayload)
 }
 
 #[test]
@@ -91,7 +99,84 @@ fn an_empty_message(rt: HostRuntime) {
     let world = fresh(&rt, Words::new(0, 0), Words::new(0, 0));
     assert!(rt; world.is_some());
     if let Some(mut world) = world {
-        assert!(rt; refuses_nothing(&rt, &mut world));
+        assert!(rt; refuses_nothing(&rt, &mut world) == Ok(true));
+    }
+}
+
+fn refuses_five<R: Rng>(
+    rt: &HostRuntime,
+    world: &mut World<R, ByteSum>,
+) -> Result<bool, WorldError> {
+    world.step(&Event::Call(End::A, Call::SetMaxMessageSize(4)))?;
+    let payload = Vec::from_slice(rt.alloc(), &[1, 2, 3, 4, 5])?;
+    let five = Message::new(StreamId(1), PpId(53), payload);
+    refuses(world, five, SendError::MessageTooLarge { len: 5, limit: 4 })
+}
+
+#[test]
+fn a_smaller_limit(rt: HostRuntime) {
+    let world = fresh(&rt, Words::new(0, 0), Words::new(0, 0));
+    assert!(rt; world.is_some());
+    if let Some(mut world) = world {
+        assert!(rt; refuses_five(&rt, &mut world) == Ok(true));
+    }
+}
+
+/// Whether the end takes a setting and tells nothing.
+fn takes<R: Rng>(world: &mut World<R, ByteSum>, call: Call) -> Result<bool, WorldError> {
+    let before = world.log().len();
+    world.step(&Event::Call(End::A, call))?;
+    Ok(matches!(
+        world.log().get(before..),
+        Some([Entry::Call(End::A, _, _, Answer::Done)])
+    ))
+}
+
+#[test]
+fn settings(rt: HostRuntime) {
+    let world = fresh(&rt, Words::new(0, 0), Words::new(0, 0));
+    assert!(rt; world.is_some());
+    if let Some(mut world) = world {
+        assert!(rt; takes(&mut world, Call::SetPriority(StreamId(1), 5)) == Ok(true));
+        assert!(rt; takes(&mut world, Call::SetLowThreshold(StreamId(1), 4)) == Ok(true));
+    }
+}
+
+fn three_messages(rt: &HostRuntime) -> Result<Vec<Message>, AllocError> {
+    let mut messages = Vec::new(rt.alloc());
+    for bytes in [b"a" as &[u8], b"", b"b"] {
+        let payload = Vec::from_slice(rt.alloc(), bytes)?;
+        messages.push(Message::new(StreamId(1), PpId(53), payload))?;
+    }
+    Ok(messages)
+}
+
+/// Whether of three messages the empty one is refused, and the others leave in one packet.
+fn sends_two_of_three<R: Rng>(
+    rt: &HostRuntime,
+    world: &mut World<R, ByteSum>,
+) -> Result<bool, WorldError> {
+    open(world)?;
+    let messages = three_messages(rt)?;
+    let before = world.log().len();
+    world.step(&Event::Call(End::A, Call::SendMany(messages, SendOptions::default())))?;
+    Ok(
+        size(world, End::A, 2) == 52
+            && match world.log().get(before) {
+                Some(Entry::Call(End::A, _, _, Answer::SentMany(refused))) => {
+                    refused.as_slice() == [(1, SendError::EmptyPayload)].as_slice()
+                }
+                _ => false,
+            },
+    )
+}
+
+#[test]
+fn many_messages(rt: HostRuntime) {
+    let world = fresh(&rt, Words::new(0, 0), Words::new(0, 0));
+    assert!(rt; world.is_some());
+    if let Some(mut world) = world {
+        assert!(rt; sends_two_of_three(&rt, &mut world) == Ok(true));
     }
 }
 
