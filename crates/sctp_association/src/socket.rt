@@ -3,7 +3,7 @@
 ghost use Rattle.std.specs.Prelude.{◌≡◌, ◌<◌, ◌^◌, ◌↔◌, false, true, Err, length, map, option_map, drop, slice_get, IfOk, IfErr, OnOk};
 ghost use Rattle.sctp_serial.specs.Messages.{message_of};
 ghost use Rattle.sctp_send_queue.specs.Queue.{amount_of, stream};
-ghost use Rattle.sctp_state.specs.Events.{event_of, first_of, given_up_of};
+ghost use Rattle.sctp_state.specs.Events.{event_of, first_of, given_up_of, numbers_of};
 ghost use Rattle.sctp_state.specs.Options.{IsValid, options_of, send_options_of};
 ghost use Rattle.sctp_association.specs.Association.{fresh, in_context};
 ghost use Rattle.sctp_association.specs.Calls as calls;
@@ -11,7 +11,8 @@ ghost use Rattle.sctp_association.specs.Closing as closing;
 ghost use Rattle.sctp_association.specs.Input.{my_tag, on_standing};
 ghost use Rattle.sctp_association.specs.Metrics.{metrics_in, metrics_of};
 ghost use Rattle.sctp_association.specs.Opening as opening;
-ghost use Rattle.sctp_association.specs.Socket.{Ends, Hears, Judges, Worked, association_in, association_of, batch_ending, ending_of, endpoint, is_at_rest, refusal_in, refusals_in, sending_ending};
+ghost use Rattle.sctp_association.specs.Resets as resets;
+ghost use Rattle.sctp_association.specs.Socket.{Ends, Hears, Judges, Worked, association_in, association_of, batch_ending, ending_of, endpoint, is_at_rest, refusal_in, refusals_in, reset_refusal_in, resetting_ending, sending_ending};
 ghost use Rattle.sctp_association.specs.Time as time;
 ghost use Rattle.sctp_association.specs.Wire.{written};
 
@@ -22,13 +23,14 @@ use crate::input::{handle_input, judge};
 use crate::opening::connect;
 use crate::shutdown::{handle_close, handle_shutdown};
 use crate::state::State;
+use crate::stream_reset::reset_streams;
 use crate::timers::advance_time;
 use crate::transmission_control_block::Association;
 use rand_core::Rng;
 use sctp_serial::{Message, SocketTime, StreamId};
 use sctp_state::{
-    BatchFault, BatchSendError, CallError, GivenUp, Metrics, Options, SendError, SendOptions,
-    SocketEvent, SocketState,
+    BatchFault, BatchSendError, CallError, GivenUp, Metrics, Options, ResetStreamsError, SendError,
+    SendOptions, SocketEvent, SocketState,
 };
 use sctp_wire::Checksum;
 use std::alloc::Global;
@@ -260,6 +262,25 @@ impl<R: Rng, C: Checksum> DcSctpSocket for Socket<R, C> {
             Err(_) => {
                 self.has_failed = true;
                 Err(BatchFault::Memory)
+            }
+        }
+    }
+
+    fn reset_streams(&mut self, streams: &[StreamId]) -> Result<(), ResetStreamsError>
+        ensures ends { Ends (resetting_ending result) self.old self.new }
+        ensures answer { resetting_ending result ≡ Worked → reset_refusal_in result ≡ resets.reset_refusal self.old.state }
+        ensures reset { resetting_ending result ≡ Worked
+            → endpoint R.stream C.word_of self.new ≡ on_standing (resets.reset_streams (numbers_of streams.now)) (endpoint R.stream C.word_of self.old) }
+    {
+        if self.has_failed {
+            return Err(ResetStreamsError::Failed);
+        }
+        match reset_streams(&mut self.state, &mut self.context, streams) {
+            Ok(None) => Ok(()),
+            Ok(Some(refusal)) => Err(refusal),
+            Err(_) => {
+                self.has_failed = true;
+                Err(ResetStreamsError::Memory)
             }
         }
     }

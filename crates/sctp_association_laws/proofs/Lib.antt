@@ -4,5 +4,6 @@ pub mod RowMapsLemmas
 pub mod OpeningMapsLemmas
 pub mod TimeMapsLemmas
 pub mod CallMapsLemmas
+pub mod ResetMapsLemmas
 pub mod InputMapsLemmas
 pub mod MappedLemmas
