@@ -48,11 +48,11 @@ module _ {P : Type 0} where
       let d : Context P = offer m how shown c in
       goes_then 0 c d (offer_all ms how shown d) (goes_offer m how shown c) (goes_offer_all ms how shown d)
 
-  steps_send_in : OpenSteps (send_in {P = P})
+  pub steps_send_in : OpenSteps (send_in {P = P})
   steps_send_in phase t c = goes_send_buffered c (is_alone phase) t
 
   -- behind a change of the context
-  steps_then : (s : Standing P) (d : Context P) (t : Standing P) → Goes 0 s.context d → Steps (with_context s d) t → Steps s t
+  pub steps_then : (s : Standing P) (d : Context P) (t : Standing P) → Goes 0 s.context d → Steps (with_context s d) t → Steps s t
   steps_then s d t g h = goes_then (ends s.state t.state) s.context d t.context g h
 
   steps_sent_if : (o : Option SendError) (s : Standing P) → Steps s (sent_if o s)

@@ -6,7 +6,7 @@ use Rattle.sctp_rx.specs.Tracker.{is_ack_due}
 use Rattle.sctp_association.specs.Association.{Tcb, Phase, CookieEchoed, Established, ShutdownPending, ShutdownSent, ShutdownReceived, ShutdownAckSent, State, Closed, CookieWait, Open, Context, Standing, Endpoint, where_open}
 use Rattle.sctp_association.specs.Sending.{asked}
 use Rattle.sctp_association.specs.Input.{refusal, Heard, hear, hear_rest, hear_all, has_data, repeats, repeats_if, ended_if, at_end, ended, on_standing, handled, counts, taken_if, on_packet}
-use Rattle.sctp_association.specs.Laws.{Call, Connect, Close, Shutdown, Send, SendMany, TakeMessage, SetLowThreshold, SetPriority, SetMaxMessageSize, Advance, HandOver, Restore, Packet, NoPacket, called, is_closed, ends, ended_after, ended_by, ended_unless, ended_in, ended_in_call}
+use Rattle.sctp_association.specs.Laws.{Call, Connect, Close, Shutdown, Send, SendMany, TakeMessage, SetLowThreshold, SetPriority, SetMaxMessageSize, Advance, HandOver, Restore, Packet, NoPacket, called, is_closed, ends, ended_after, ended_by, ended_unless, ended_in, ended_in_call, ResetStreams}
 
 not_both : (b : Bool) → b ≡ false → b ≡ true → ⊥
 not_both b e f = cc
@@ -96,6 +96,7 @@ module _ {P : Type 0} where
   some_call Shutdown s e f = one_ends s.standing.state (called Shutdown s).standing.state e f
   some_call (Send m o) s e f = one_ends s.standing.state (called (Send m o) s).standing.state e f
   some_call (SendMany ms o) s e f = one_ends s.standing.state (called (SendMany ms o) s).standing.state e f
+  some_call (ResetStreams streams) s e f = one_ends s.standing.state (called (ResetStreams streams) s).standing.state e f
   some_call TakeMessage s e f = one_ends s.standing.state (called TakeMessage s).standing.state e f
   some_call (SetLowThreshold stream bytes) s e f = one_ends s.standing.state (called (SetLowThreshold stream bytes) s).standing.state e f
   some_call (SetPriority stream priority) s e f = one_ends s.standing.state (called (SetPriority stream priority) s).standing.state e f

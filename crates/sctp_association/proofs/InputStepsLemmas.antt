@@ -12,12 +12,14 @@ use Rattle.sctp_association.specs.Packets.{Packet, add, new_packet}
 use Rattle.sctp_association.specs.Sending.{asked, acknowledged, selective_ack, is_alone}
 use Rattle.sctp_association.specs.Closing.{violated, on_abort, on_error, on_shutdown, on_shutdown_complete}
 use Rattle.sctp_association.specs.Opening.{on_cookie_ack}
+use Rattle.sctp_association.specs.Resets.{on_reconfig}
 use Rattle.sctp_association.specs.Input.{refusal, is_reported, echoed, echoed_in, complained, on_unknown_if, on_unknown, on_heartbeat, Heard, on_standing, on_chunk, violation, heard_if, hear, hear_rest, hear_all, has_data, repeats, repeats_if, ended_if, at_end, ended, handled, counted, counts, taken_if, on_packet, on_no_packet}
 use Rattle.sctp_association.specs.Laws.{ends, ended_after, ended_by, ended_unless, ended_in}
 use Rattle.sctp_association.proofs.StepsLemmas.{most_bytes, Goes, Steps, EndSteps}
 use Rattle.sctp_association.proofs.GoesLemmas.{small_add, small_new, goes_silent, goes_same, goes_through, goes_then, goes_last, goes_complained, goes_emit_chunk}
 use Rattle.sctp_association.proofs.SendingStepsLemmas.{goes_send_with}
 use Rattle.sctp_association.proofs.RowStepsLemmas.{OpenSteps, steps_context, steps_same, steps_where_open, goes_send_shutdown, steps_violated, steps_abort, steps_error, steps_data, steps_forward, steps_sack, steps_shut_by_peer, steps_shutdown_ack, steps_shutdown_complete}
+use Rattle.sctp_association.proofs.ResetStepsLemmas.{steps_reconfig}
 use Rattle.sctp_association.proofs.OpeningStepsLemmas.{steps_init, steps_init_ack, steps_cookie_ack, steps_complains, steps_cookie_echo}
 
 module _ {P : Type 0} where
@@ -81,7 +83,7 @@ module _ {P : Type 0} where
   steps_chunk tag (shutdown_chunk tsn) s = steps_where_open on_shutdown s.standing steps_shut_by_peer
   steps_chunk tag shutdown_ack_chunk s = steps_shutdown_ack tag s.standing
   steps_chunk tag (shutdown_complete_chunk reflected) s = steps_where_open on_shutdown_complete s.standing steps_shutdown_complete
-  steps_chunk tag (re_config_chunk parameters) s = steps_same s.standing
+  steps_chunk tag (re_config_chunk parameters) s = steps_where_open (on_reconfig parameters) s.standing (steps_reconfig parameters)
 
   steps_heard_if : (v : Option (List ℕ)) (tag : ℕ) (chunk : ChunkTree) (s : Endpoint P) → EndSteps s (heard_if v tag chunk s).end
   steps_heard_if (Some reason) tag chunk s = steps_where_open (λ phase t c. violated reason t c) s.standing (steps_violated reason)

@@ -8,13 +8,14 @@ use Rattle.sctp_packet.proofs.PacketLemmas.{length_joined}
 use Rattle.sctp_state.specs.Events.{Event, SendPacket}
 use Rattle.sctp_association.specs.Association.{Context, Endpoint}
 use Rattle.sctp_association.specs.Wire.{field_of, written}
-use Rattle.sctp_association.specs.Laws.{Call, Connect, Close, Shutdown, Send, SendMany, TakeMessage, SetLowThreshold, SetPriority, SetMaxMessageSize, Advance, HandOver, Restore, Packet, NoPacket, called, Packing, IsWithin, IsShort, StaysWithin, HasAtMost, SendsAtMost, ended_in_call, TellsEndings}
+use Rattle.sctp_association.specs.Laws.{Call, Connect, Close, Shutdown, Send, SendMany, TakeMessage, SetLowThreshold, SetPriority, SetMaxMessageSize, Advance, HandOver, Restore, Packet, NoPacket, called, Packing, IsWithin, IsShort, StaysWithin, HasAtMost, SendsAtMost, ended_in_call, TellsEndings, ResetStreams}
 use Rattle.sctp_association.proofs.StepsLemmas.{Goes}
 use Rattle.sctp_association.proofs.RowStepsLemmas.{steps_close, steps_shutdown}
 use Rattle.sctp_association.proofs.OpeningStepsLemmas.{steps_connect}
 use Rattle.sctp_association.proofs.TimeStepsLemmas.{steps_advance}
 use Rattle.sctp_association.proofs.CallStepsLemmas.{steps_send, steps_send_many, steps_threshold, steps_priority, steps_max_message_size, steps_take_message}
 use Rattle.sctp_association.proofs.HandoverStepsLemmas.{steps_hand_over, steps_restore}
+use Rattle.sctp_association.proofs.ResetStepsLemmas.{steps_reset_streams}
 use Rattle.sctp_association.proofs.InputStepsLemmas.{goes_packet, steps_no_packet}
 
 module _ {P : Type 0} where
@@ -24,6 +25,7 @@ module _ {P : Type 0} where
   goes_call Shutdown s = steps_shutdown s.standing
   goes_call (Send m o) s = steps_send m o s.standing
   goes_call (SendMany ms o) s = steps_send_many ms o s.standing
+  goes_call (ResetStreams streams) s = steps_reset_streams streams s.standing
   goes_call TakeMessage s = steps_take_message s.standing
   goes_call (SetLowThreshold stream bytes) s = steps_threshold stream bytes s.standing
   goes_call (SetPriority stream priority) s = steps_priority stream priority s.standing

@@ -2,6 +2,7 @@ pub mod BurstLemmas
 pub mod CleanedLemmas
 pub mod OutgoingLemmas
 pub mod RowsLemmas
+pub mod RequestLemmas
 mod MisuseLemmas
 mod HearLemmas
 pub mod StepsLemmas
@@ -12,8 +13,10 @@ pub mod RowStepsLemmas
 pub mod OpeningStepsLemmas
 pub mod TimeStepsLemmas
 pub mod CallStepsLemmas
+pub mod ResetStepsLemmas
 pub mod InputStepsLemmas
 pub mod HandoverStepsLemmas
 pub mod LawsLemmas
 pub mod EndingLemmas
+pub mod ResetLawsLemmas
 pub mod MomentsLemmas

@@ -5,7 +5,7 @@ use Rattle.sctp_state.specs.Timers.{Timer, due_by, is_due, moment_of, next_expir
 use Rattle.sctp_association.specs.Association.{Tcb, Phase, CookieEchoed, Established, ShutdownPending, ShutdownSent, ShutdownReceived, ShutdownAckSent, State, Closed, CookieWait, Open, Context, Standing, open_as}
 use Rattle.sctp_association.specs.Sending.{is_alone}
 use Rattle.sctp_association.specs.Closing.{send_shutdown, send_shutdown_ack}
-use Rattle.sctp_association.specs.Time.{Ticking, ticking, tick_ack, t3_if, tick_t3, tick_interval, tick_timeout, ticked, standing_left, settled, t2_if, tick_t2, standing_waited, init_if, tick_init, tick_open, tick_in, advance_if, advance, running_expiry, phase_expiry, timeout_in, poll_timeout}
+use Rattle.sctp_association.specs.Time.{Ticking, ticking, tick_ack, t3_if, tick_t3, tick_interval, tick_timeout, requests_if, tick_requests, ticked, standing_left, settled, t2_if, tick_t2, standing_waited, init_if, tick_init, tick_open, tick_in, advance_if, advance, running_expiry, phase_expiry, timeout_in, poll_timeout}
 use Rattle.sctp_association.specs.Moments.{at_moment, is_cookie_echoed}
 
 not_due_by : (now : ℕ) (o : Option ℕ) → now < moment_of o → due_by o now ≡ false
@@ -27,6 +27,7 @@ record Waits {P : Type 0} (t : Tcb) (c : Context P) : Type 0 where
   pub delay : is_due c.now t.tracker.tracker.delay ≡ false
   pub interval : is_due c.now c.heartbeats.interval ≡ false
   pub timeout : is_due c.now c.heartbeats.timeout ≡ false
+  pub requests : is_due c.now t.requests.timer ≡ false
 
 module _ {P : Type 0} where
   waits : (t : Tcb) (c : Context P) → c.now < running_expiry t c.heartbeats → Waits t c
@@ -35,6 +36,7 @@ module _ {P : Type 0} where
     delay = not_due c.now t.tracker.tracker.delay (omega (arith, h));
     interval = not_due c.now c.heartbeats.interval (omega (arith, h));
     timeout = not_due c.now c.heartbeats.timeout (omega (arith, h));
+    requests = not_due c.now t.requests.timer (omega (arith, h));
   }
 
   same_ack : (t : Tcb) (c : Context P) → Waits t c → tick_ack (ticking t c) ≡ ticking t c
@@ -49,12 +51,16 @@ module _ {P : Type 0} where
   same_timeout : (t : Tcb) (c : Context P) → Waits t c → tick_timeout (ticking t c) ≡ ticking t c
   same_timeout t c w = rw w.timeout refl
 
+  same_requests : (t : Tcb) (c : Context P) → Waits t c → tick_requests (ticking t c) ≡ ticking t c
+  same_requests t c w = ap (λ (b : Bool). requests_if b (ticking t c)) w.requests
+
   same_ticked : (t : Tcb) (c : Context P) → Waits t c → ticked t c ≡ ticking t c
   unfolding ticked
   same_ticked t c w =
-      ap (λ (x : Ticking P). tick_timeout (tick_interval (tick_t3 x))) (same_ack t c w)
-      ∙ (ap (λ (x : Ticking P). tick_timeout (tick_interval x)) (same_t3 t c w)
-      ∙ (ap (λ (x : Ticking P). tick_timeout x) (same_interval t c w) ∙ same_timeout t c w))
+      ap (λ (x : Ticking P). tick_requests (tick_timeout (tick_interval (tick_t3 x)))) (same_ack t c w)
+      ∙ (ap (λ (x : Ticking P). tick_requests (tick_timeout (tick_interval x))) (same_t3 t c w)
+      ∙ (ap (λ (x : Ticking P). tick_requests (tick_timeout x)) (same_interval t c w)
+      ∙ (ap (λ (x : Ticking P). tick_requests x) (same_timeout t c w) ∙ same_requests t c w)))
 
   same_settled : (phase : Phase) (t : Tcb) (c : Context P) → c.now < running_expiry t c.heartbeats → standing_left phase (settled (ticked t c)) ≡ open_as phase t c
   same_settled phase t c h = ap (λ (x : Ticking P). standing_left phase (settled x)) (same_ticked t c (waits t c h))

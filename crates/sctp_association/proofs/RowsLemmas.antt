@@ -10,7 +10,7 @@ use Rattle.sctp_wire.specs.Show.{joined}
 use Rattle.sctp_packet.specs.Written.{chunk_bytes, chunks_bytes, chunk_value, data_value, idata_value, init_fields, block_bytes, sack_value, skip_bytes, forward_value}
 use Rattle.sctp_state.specs.Cookie.{cookie_bytes, capability_bytes, cookie_from, read_cookie}
 use Rattle.sctp_association.specs.Time.{ticked}
-use Rattle.sctp_association.specs.Rows.{Beats, BothConnect, Closes, FirstConversation, Fragments, GivenUpOnce, OtherOrder, ShutsDown, TakenUp}
+use Rattle.sctp_association.specs.Rows.{Beats, BothConnect, Closes, FirstConversation, Fragments, GivenUpOnce, OtherOrder, ShutsDown, TakenUp, ResetsOnce, ResetWaits}
 
 pub first_goes : FirstConversation
 unfolding next_u32 next_u64 be16 be32 be64 padded_item inner_items parameter_value cause_value cause_text joined chunk_bytes chunks_bytes chunk_value data_value idata_value init_fields block_bytes sack_value skip_bytes forward_value cookie_bytes capability_bytes cookie_from read_cookie ticked
@@ -76,6 +76,27 @@ shuts_down_goes = record {
   goes_on = refl;
   at_once = refl;
   gives_up = refl;
+}
+
+pub resets_goes : ResetsOnce
+unfolding next_u32 next_u64 be16 be32 be64 padded_item inner_items parameter_value cause_value cause_text joined chunk_bytes chunks_bytes chunk_value data_value idata_value init_fields block_bytes sack_value skip_bytes forward_value cookie_bytes capability_bytes cookie_from read_cookie ticked
+resets_goes = record {
+  asked = refl;
+  performed = refl;
+  repeated = refl;
+  answered = refl;
+}
+
+pub reset_waits_goes : ResetWaits
+unfolding next_u32 next_u64 be16 be32 be64 padded_item inner_items parameter_value cause_value cause_text joined chunk_bytes chunks_bytes chunk_value data_value idata_value init_fields block_bytes sack_value skip_bytes forward_value cookie_bytes capability_bytes cookie_from read_cookie ticked
+reset_waits_goes = record {
+  waits = refl;
+  in_progress = refl;
+  performed = refl;
+  repeated = refl;
+  results = refl;
+  again = refl;
+  errors = refl;
 }
 
 pub beats_goes : Beats

@@ -1,5 +1,5 @@
 -- What sending tells: bursts of packets within the mtu.
-use Rattle.std.proofs.Common.{ℕ, zero, suc, nat_le, nat_lt, Bool, true, false, List, refl, arith}
+use Rattle.std.proofs.Common.{ℕ, zero, suc, nat_le, nat_lt, Bool, true, false, Option, Some, None, is_some, List, [], ◌∷◌, refl, arith}
 use Rattle.sctp_packet.specs.Chunk.{ChunkTree, cookie_echo_chunk}
 use Rattle.sctp_outstanding.specs.Items.{fast_items}
 use Rattle.sctp_outstanding.specs.Forward.{is_forward_due}
@@ -8,9 +8,11 @@ use Rattle.sctp_tx.specs.ForwardPoints.{forward_chunk}
 use Rattle.sctp_tx.specs.Sending as fragments
 use Rattle.sctp_tx.specs.Sending.{send}
 use Rattle.sctp_tx.specs.Resent.{resent_fast}
+use Rattle.sctp_send_queue.specs.Resets.{requested, request_resets}
 use Rattle.sctp_association.specs.Association.{Tcb, Context}
+use Rattle.sctp_association.specs.Requests.{Request, request_chunk}
 use Rattle.sctp_association.specs.Packets.{Packet, room, fits, add, has_chunks, packet_to, new_packet, emit}
-use Rattle.sctp_association.specs.Sending.{Filling, selective_ack, asked, ack_if, goes_along, with_ack, forward_added_if, forward_if, tested, tested_if, with_forward, data_chunks, is_small, filled, with_data, filled_as, emitted, Turned, turned_if, turned, go_on, burst, send_with, send_buffered, cookie_if, send_cookie, fast_most, fast_packet, fast_if, send_lost}
+use Rattle.sctp_association.specs.Sending.{Filling, selective_ack, asked, ack_if, goes_along, with_ack, forward_added_if, forward_if, tested, tested_if, with_forward, most_streams, add_request, request_of, request_at_most, request_if, with_request, data_chunks, is_small, filled, with_data, filled_as, emitted, Turned, turned_if, turned, go_on, burst, send_with, send_buffered, cookie_if, send_cookie, fast_most, fast_packet, fast_if, send_lost}
 use Rattle.sctp_association.proofs.StepsLemmas.{most_bytes, Goes}
 use Rattle.sctp_association.proofs.TellsLemmas.{tells_expired, tells_sent}
 use Rattle.sctp_association.proofs.GoesLemmas.{IsSmall, small_empty, small_add, small_add_all, small_new, small_whole, goes_by, goes_silent, goes_same, goes_then, goes_emit, small_after}
@@ -22,6 +24,10 @@ pub record Fills {P : Type 0} (c d : Context P) (p : Packet) : Type 0 where
 
 abbrev pub FillsBy : {P : Type 0} → Context P → Filling P → Type 0
 FillsBy c x = Fills c x.context x.packet
+
+pub small_add_request : (most : ℕ) (p : Packet) (o : Option Request) → IsSmall most p → IsSmall most (add_request o p)
+small_add_request most p None h = h
+small_add_request most p (Some r) h = small_add most p (request_chunk r) h
 
 module _ {P : Type 0} (c : Context P) where
   -- the context goes on, the packet stays small
@@ -63,6 +69,25 @@ module _ {P : Type 0} (c : Context P) where
   fills_forward : (x : Filling P) → FillsBy c x → FillsBy c (with_forward x)
   fills_forward x h = fills_tested_if (nat_le x.context.forward_from x.context.now) x h
 
+  fills_request_of : (streams : List ℕ) (x : Filling P) → FillsBy c x → FillsBy c (request_of streams x)
+  fills_request_of [] x h = h
+  fills_request_of (id ∷ ids) x h =
+      let y : Filling P = request_of (id ∷ ids) x in
+      record { goes = h.goes; small = small_add_request (most_bytes x.context) x.packet y.tcb.requests.current h.small }
+
+  fills_request_at_most : (most : ℕ) (x : Filling P) → FillsBy c x → FillsBy c (request_at_most most x)
+  fills_request_at_most most x h =
+      let d : Context P = record x.context { queue = request_resets most x.context.queue } in
+      fills_request_of (requested most x.context.queue) (record x { context = d })
+      (fills_on x.context d x.packet (goes_silent x.context d refl refl refl) h)
+
+  fills_request_if : (b : Bool) (x : Filling P) → FillsBy c x → FillsBy c (request_if b x)
+  fills_request_if true x h = h
+  fills_request_if false x h = fills_request_at_most (most_streams x.packet) x h
+
+  fills_request : (x : Filling P) → FillsBy c x → FillsBy c (with_request x)
+  fills_request x h = fills_request_if (is_some x.tcb.requests.current) x h
+
   fills_data : (x : Filling P) → FillsBy c x → FillsBy c (with_data x)
   fills_data x h =
       let f : fragments.Filling P = send x.context.now (room x.packet) x.tcb.sender x.context.queue x.context.told in
@@ -73,7 +98,9 @@ module _ {P : Type 0} (c : Context P) where
       record { goes = k.goes; small = small_add_all (most_bytes y.context) x.packet (data_chunks x.tcb (is_small x.context.options f.sender) f.chunks) k.small }
 
   fills_as : (is_first : Bool) (x : Filling P) → FillsBy c x → FillsBy c (filled_as is_first x)
-  fills_as true x h = fills_data (with_forward (with_ack x)) (fills_forward (with_ack x) (fills_ack x h))
+  fills_as true x h =
+      let y : Filling P = with_forward (with_ack x) in
+      fills_data (with_request y) (fills_request y (fills_forward (with_ack x) (fills_ack x h)))
   fills_as false x h = fills_data x h
 
   fills_emitted : (x : Filling P) → FillsBy c x → FillsBy c (emitted x)

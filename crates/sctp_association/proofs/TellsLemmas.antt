@@ -52,7 +52,7 @@ quiet_endings (e ∷ es) h =
     let both = split_and (is_quiet e) (list_all is_quiet es) h in
     omega (arith, quiet_ending e both.0, quiet_endings es both.1)
 
-quiet_expiry : (P : Type 0) (l : Option ℕ) → list_all is_quiet (expiry {P = P} l) ≡ true
+pub quiet_expiry : (P : Type 0) (l : Option ℕ) → list_all is_quiet (expiry {P = P} l) ≡ true
 quiet_expiry P None = refl
 quiet_expiry P (Some id) = refl
 

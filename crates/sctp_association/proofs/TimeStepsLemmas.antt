@@ -2,18 +2,21 @@
 use Rattle.std.proofs.Common.{ℕ, nat_lt, Bool, true, false, List, codes, refl}
 use Rattle.sctp_state.specs.declared.api.ErrorKind.TheVariants.{TooManyRetries}
 use Rattle.sctp_state.specs.Errors.{is_exhausted}
+use Rattle.sctp_state.specs.Rtt.{rto}
 use Rattle.sctp_state.specs.Timers.{Timer, is_due, is_running, expire}
 use Rattle.sctp_state.specs.Events.{OnAborted}
 use Rattle.sctp_association.specs.Association.{Tcb, Phase, CookieEchoed, Established, ShutdownPending, ShutdownSent, ShutdownReceived, ShutdownAckSent, State, Closed, CookieWait, Open, Context, Standing}
-use Rattle.sctp_association.specs.Sending.{Sent, send_cookie}
+use Rattle.sctp_association.specs.Packets.{Packet, new_packet}
+use Rattle.sctp_association.specs.Requests.{lasting, expired, woken, is_unanswered}
+use Rattle.sctp_association.specs.Sending.{Sent, add_request, send_cookie}
 use Rattle.sctp_association.specs.Closing.{send_shutdown, send_shutdown_ack}
 use Rattle.sctp_association.specs.Heartbeats.{counted_on, heartbeat, beat_if, unanswered_if}
-use Rattle.sctp_association.specs.Time.{Ticking, tick_ack, t3_if, tick_t3, tick_interval, ticking, ticked, Left, standing_if, standing_left, ended_if, ended, ended_or_sent, goes_on, settled_if, settled, t2_expired, t2_if, tick_t2, waits_if, echoed_again, t1_expired, t1_if, tick_cookie, Waited, waiting_if, init_expired, init_if, tick_init, tick_open, tick_in, advance_if, advance}
+use Rattle.sctp_association.specs.Time.{Ticking, tick_ack, t3_if, tick_t3, tick_interval, tick_timeout, request_again, errs_if, requests_again, unanswered, requests_if, tick_requests, ticking, ticked, Left, standing_if, standing_left, ended_if, ended, ended_or_sent, goes_on, settled_if, settled, t2_expired, t2_if, tick_t2, waits_if, echoed_again, t1_expired, t1_if, tick_cookie, Waited, waiting_if, init_expired, init_if, tick_init, tick_open, tick_in, advance_if, advance}
 use Rattle.sctp_association.specs.Laws.{ends}
 use Rattle.sctp_association.proofs.StepsLemmas.{most_bytes, Goes, Steps}
 use Rattle.sctp_association.proofs.TellsLemmas.{tells_nack_all}
-use Rattle.sctp_association.proofs.GoesLemmas.{goes_by, goes_silent, goes_same, goes_then, goes_said, goes_emit_chunk}
-use Rattle.sctp_association.proofs.SendingStepsLemmas.{goes_send_buffered, goes_send_cookie}
+use Rattle.sctp_association.proofs.GoesLemmas.{small_new, goes_by, goes_silent, goes_same, goes_then, goes_said, goes_emit, goes_emit_chunk}
+use Rattle.sctp_association.proofs.SendingStepsLemmas.{small_add_request, goes_send_buffered, goes_send_cookie}
 use Rattle.sctp_association.proofs.RowStepsLemmas.{StepsFrom, steps_same, goes_too_many, goes_send_shutdown, goes_send_shutdown_ack}
 use Rattle.sctp_association.proofs.OpeningStepsLemmas.{goes_send_init}
 
@@ -45,15 +48,44 @@ module _ {P : Type 0} where
   goes_unanswered_if true c = goes_silent c (unanswered_if true c) refl refl refl
   goes_unanswered_if false c = goes_same c
 
+  goes_request_again : (b : Bool) (x : Ticking P) → Goes 0 x.context (request_again b x).context
+  goes_request_again true x = goes_same x.context
+  goes_request_again false x =
+      let c : Context P = x.context in
+      let t : Tcb = record x.tcb { requests = lasting (rto x.tcb.rtt) x.tcb.requests } in
+      let p : Packet = new_packet c.options t in
+      goes_emit (add_request t.requests.current p) c (small_add_request (most_bytes c) p t.requests.current (small_new t c))
+
+  goes_errs_if : (b : Bool) (c : Context P) → Goes 0 c (errs_if b c)
+  goes_errs_if true c = goes_silent c (errs_if true c) refl refl refl
+  goes_errs_if false c = goes_same c
+
+  goes_unanswered : (x : Ticking P) → Goes 0 x.context (unanswered x).context
+  goes_unanswered x =
+      let is_error : Bool = is_unanswered x.tcb.requests.current in
+      let d : Context P = errs_if is_error x.context in
+      let y : Ticking P = record {
+        tcb = record x.tcb { requests = woken (expired x.context.now x.tcb.requests) };
+        context = d;
+        has_expired = true;
+      } in
+      goes_then 0 x.context d (requests_again y).context (goes_errs_if is_error x.context) (goes_request_again (is_exhausted d.errors) y)
+
+  goes_requests_if : (b : Bool) (x : Ticking P) → Goes 0 x.context (requests_if b x).context
+  goes_requests_if true x = goes_unanswered x
+  goes_requests_if false x = goes_same x.context
+
   goes_ticked : (t : Tcb) (c : Context P) → Goes 0 c (ticked t c).context
   unfolding ticked
   goes_ticked t c =
       let x : Ticking P = tick_ack (ticking t c) in
       let y : Ticking P = tick_t3 x in
       let z : Ticking P = tick_interval y in
+      let w : Ticking P = tick_timeout z in
       goes_then 0 c y.context (ticked t c).context (goes_t3_if (is_due x.context.now x.tcb.sender.t3) x)
       (goes_then 0 y.context z.context (ticked t c).context (goes_beat_if (is_due y.context.now y.context.heartbeats.interval) y.tcb y.context)
-      (goes_unanswered_if (is_due z.context.now z.context.heartbeats.timeout) z.context))
+      (goes_then 0 z.context w.context (ticked t c).context (goes_unanswered_if (is_due z.context.now z.context.heartbeats.timeout) z.context)
+      (goes_requests_if (is_due w.context.now w.tcb.requests.timer) w)))
 
   steps_if : (b : Bool) (phase new : Phase) (t u : Tcb) (c d : Context P) → Goes (once b) c d → StepsFrom (Open phase t) c (standing_if b new u d)
   steps_if true phase new t u c d g = g

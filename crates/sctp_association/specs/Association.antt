@@ -17,6 +17,7 @@ use Rattle.sctp_rx.specs.Tracker.{DataTracker, tracker}
 use Rattle.sctp_rx.specs.ReassemblyQueue.{Reassembly, reassembly}
 use Rattle.sctp_send_queue.specs.Queue.{Queue, queue}
 use Rattle.sctp_tx.specs.Retransmission.{Sender, sender}
+use Rattle.sctp_association.specs.Requests.{Requests, requests}
 
 -- ---- what was drawn, and what names the peer
 
@@ -36,6 +37,7 @@ pub record Tcb : Type 0 where
   pub reassembly : Reassembly
   pub sender : Sender
   pub rtt : Rtt
+  pub requests : Requests
 
 -- a new one, for a peer with this window
 abbrev pub tcb : Options → Identity → (a_rwnd : ℕ) → Capabilities → Tcb
@@ -46,6 +48,7 @@ tcb o i a_rwnd k = record {
   reassembly = reassembly o.max_receiver_window_buffer_size k.message_interleaving;
   sender = sender o i.my_first a_rwnd k.partial_reliability k.message_interleaving;
   rtt = unsampled o;
+  requests = requests o i.my_first i.peer_first;
 }
 
 -- ---- states (RFC 9260 section 4)

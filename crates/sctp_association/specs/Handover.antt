@@ -1,8 +1,6 @@
 -- A socket is handed over: its record is written and it closes, and another socket takes the record up and goes on in its
 -- place. The peer sees nothing of it.
 use Rattle.std.specs.Prelude.{ℕ, ◌==◌, not, bit_or, Bool, true, false, Option, Some, None}
-use Rattle.sctp_serial.specs.Serial.{serial_difference}
-use Rattle.sctp_serial.specs.Unwrapped.{words}
 use Rattle.sctp_state.specs.declared.api.handover.HandoverCapabilities.{HandoverCapabilities}
 use Rattle.sctp_state.specs.declared.api.handover.HandoverSocketState.{HandoverSocketState}
 use Rattle.sctp_state.specs.declared.api.handover.HandoverSocketState.TheVariants as handed
@@ -21,6 +19,7 @@ use Rattle.sctp_send_queue.specs.Restored as taken_up
 use Rattle.sctp_tx.specs.Handover as sender
 use Rattle.sctp_association.specs.Association.{Identity, Tcb, tcb, Phase, CookieEchoed, Established, ShutdownPending, ShutdownSent, ShutdownReceived, ShutdownAckSent, State, Closed, CookieWait, Open, Context, Standing}
 use Rattle.sctp_association.specs.Packets.{say}
+use Rattle.sctp_association.specs.Requests.{Request, Requests}
 use Rattle.sctp_association.specs.Sending.{open_with, send_buffered}
 
 -- ---- what stands in the way: the bits of the parts
@@ -32,8 +31,16 @@ is_strict o = not o.enable_handover_with_outstanding_data
 abbrev pub receiving : Tcb → ℕ
 receiving t = bit_or (tracker.readiness t.tracker.tracker) (reassembly.readiness t.reassembly)
 
+-- an own reset request that waits for its answer
+abbrev pub pending : Option Request → ℕ
+pending None = 0
+pending (Some r) = 4
+
+abbrev pub request_readiness : Requests → ℕ
+request_readiness r = pending r.current
+
 abbrev pub block_readiness : (is_strict : Bool) → Tcb → ℕ
-block_readiness is_strict t = bit_or (receiving t) (sender.readiness is_strict t.sender)
+block_readiness is_strict t = bit_or (bit_or (receiving t) (sender.readiness is_strict t.sender)) (request_readiness t.requests)
 
 abbrev pub readiness_open : {P : Type 0} → Phase → Tcb → Context P → ℕ
 readiness_open (CookieEchoed t1 cookie) t c = 1
@@ -63,13 +70,12 @@ capabilities_written k = record {
   negotiated_maximum_outgoing_streams = k.outgoing;
 }
 
--- the number of the next reset request, which are counted from the first TSN on: there was none
+-- the number of the next reset request, and that of the peer's last one
 abbrev pub own_requests : Tcb → Transmission → Transmission
-own_requests t tx = record tx { next_reset_req_sn = t.identity.my_first }
+own_requests t tx = record tx { next_reset_req_sn = t.requests.next }
 
--- the number of the peer's last one: there was none, and the first has the number of its first TSN
 abbrev pub peer_requests : Tcb → Receive → Receive
-peer_requests t rx = record rx { last_completed_reset_req_sn = serial_difference words t.identity.peer_first 1 }
+peer_requests t rx = record rx { last_completed_reset_req_sn = t.requests.last }
 
 abbrev pub transmission : (now : ℕ) → Tcb → Transmission → Transmission
 transmission now t tx = own_requests t (sender.handed_over now t.sender tx)
@@ -150,12 +156,17 @@ capabilities_from o k = record {
   outgoing = k.negotiated_maximum_outgoing_streams;
 }
 
--- the parts of a new control block take up theirs; of reset requests nothing is kept
+-- both sides count their reset requests on
+abbrev pub requests_restored : HandoverState → Requests → Requests
+requests_restored h r = record r { next = h.tx.next_reset_req_sn; last = h.rx.last_completed_reset_req_sn }
+
+-- the parts of a new control block take up theirs
 abbrev pub block_restored : (now : ℕ) → HandoverState → Tcb → Tcb
 block_restored now h t = record t {
   tracker = tracker.restore h.rx t.tracker;
   reassembly = reassembly.restored h.rx t.reassembly;
   sender = sender.restore now h.tx t.sender;
+  requests = requests_restored h t.requests;
 }
 
 abbrev pub tcb_from : (now : ℕ) → Options → HandoverState → Tcb

@@ -22,6 +22,7 @@ use Rattle.sctp_association.specs.Sending.{asked, acknowledged, selective_ack, i
 use Rattle.sctp_association.specs.Closing.{send_shutdown, on_shutdown, on_shutdown_ack, on_shutdown_complete, violated, on_abort, on_error}
 use Rattle.sctp_association.specs.Data.{on_data, on_forward}
 use Rattle.sctp_association.specs.Acknowledging.{on_sack}
+use Rattle.sctp_association.specs.Resets.{on_reconfig}
 use Rattle.sctp_association.specs.Opening.{stands, complains, on_init, on_init_ack, on_cookie_ack, on_cookie_echo}
 
 -- ---- which packets are taken (RFC 9260 section 8.5)
@@ -194,7 +195,7 @@ on_chunk tag (heartbeat_ack_chunk parameters) s = on_standing (in_context (on_he
 on_chunk tag (shutdown_chunk tsn) s = on_standing (where_open on_shutdown) s
 on_chunk tag shutdown_ack_chunk s = on_standing (on_shutdown_ack tag) s
 on_chunk tag (shutdown_complete_chunk reflected) s = on_standing (where_open on_shutdown_complete) s
-on_chunk tag (re_config_chunk parameters) s = s
+on_chunk tag (re_config_chunk parameters) s = on_standing (where_open (on_reconfig parameters)) s
 
 -- an unknown chunk without the bit for it ends the packet
 abbrev pub goes_on : ChunkTree → Bool

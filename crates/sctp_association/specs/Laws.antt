@@ -11,6 +11,7 @@ use Rattle.sctp_association.specs.Association.{State, Closed, CookieWait, Open, 
 use Rattle.sctp_association.specs.Opening.{connect}
 use Rattle.sctp_association.specs.Closing.{close, shutdown}
 use Rattle.sctp_association.specs.Calls.{send, send_many, set_low_threshold, set_priority, set_max_message_size, take_message}
+use Rattle.sctp_association.specs.Resets.{reset_streams}
 use Rattle.sctp_association.specs.Time.{advance}
 use Rattle.sctp_association.specs.Handover.{hand_over, restore}
 use Rattle.sctp_association.specs.Wire.{written}
@@ -24,6 +25,7 @@ pub data Call : Type 0 where
   Shutdown : Call
   Send : Message → SendOptions → Call
   SendMany : List Message → SendOptions → Call
+  ResetStreams : (streams : List ℕ) → Call
   TakeMessage : Call
   SetLowThreshold : (stream bytes : ℕ) → Call
   SetPriority : (stream priority : ℕ) → Call
@@ -40,6 +42,7 @@ called Close s = on_standing close s
 called Shutdown s = on_standing shutdown s
 called (Send m o) s = on_standing (send m o) s
 called (SendMany ms o) s = on_standing (send_many ms o) s
+called (ResetStreams streams) s = on_standing (reset_streams streams) s
 called TakeMessage s = on_standing take_message s
 called (SetLowThreshold stream bytes) s = on_standing (in_context (set_low_threshold stream bytes)) s
 called (SetPriority stream priority) s = on_standing (in_context (set_priority stream priority)) s

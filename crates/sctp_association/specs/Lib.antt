@@ -1,3 +1,5 @@
+pub mod Requests
+pub mod RequestViews
 pub mod Association
 pub mod Packets
 pub mod Heartbeats
@@ -7,6 +9,7 @@ pub mod Data
 pub mod Acknowledging
 pub mod Opening
 pub mod Time
+pub mod Resets
 pub mod Calls
 pub mod Input
 pub mod Handover
@@ -17,5 +20,6 @@ pub mod PacketView
 pub mod Views
 pub mod Socket
 pub mod Laws
+pub mod ResetLaws
 pub mod Moments
 pub mod Metrics

@@ -1,7 +1,8 @@
 -- Two ends with default options and a list of moves, to compute conversations by. A packet is its tag and its chunks.
 use Rattle.std.specs.Prelude.{ℕ, ◌+◌, Bool, true, false, Option, Some, None, List, [], ◌∷◌, ◌++◌, length, slice_get}
 use Rattle.rand_core.specs.Stream.{Stream}
-use Rattle.sctp_packet.specs.Chunk.{ChunkTree}
+use Rattle.sctp_wire.specs.Parameter.{ParameterTree, reset_response}
+use Rattle.sctp_packet.specs.Chunk.{ChunkTree, re_config_chunk}
 use Rattle.sctp_packet.specs.Written.{chunks_bytes}
 use Rattle.sctp_packet.specs.Packet.{HeaderTree}
 use Rattle.sctp_serial.specs.Messages.{Message}
@@ -12,6 +13,7 @@ use Rattle.sctp_association.specs.Association.{Standing, Endpoint, fresh}
 use Rattle.sctp_association.specs.Opening.{connect}
 use Rattle.sctp_association.specs.Closing.{close, shutdown}
 use Rattle.sctp_association.specs.Calls.{send, ready_in, take_message}
+use Rattle.sctp_association.specs.Resets.{reset_streams}
 use Rattle.sctp_association.specs.Time.{advance}
 use Rattle.sctp_association.specs.Handover.{hand_over, restore}
 use Rattle.sctp_association.specs.Input.{on_packet, on_standing}
@@ -46,6 +48,7 @@ pub data Move : Type 0 where
   Shutdown : (at_a : Bool) → Move
   HandOver : (at_a : Bool) → Move
   TakeUp : (at_a : Bool) → HandoverState → Move
+  Reset : (at_a : Bool) → (stream : ℕ) → Move
 
 -- the words from this one on
 abbrev pub words_from : ℕ → Stream
@@ -122,6 +125,8 @@ move (HandOver true) w = took_a (on_standing hand_over w.a) w
 move (HandOver false) w = took_b (on_standing hand_over w.b) w
 move (TakeUp true h) w = took_a (on_standing (restore h) (new_end 456)) w
 move (TakeUp false h) w = took_b (on_standing (restore h) (new_end 1000)) w
+move (Reset true stream) w = took_a (on_standing (reset_streams (stream ∷ [])) w.a) w
+move (Reset false stream) w = took_b (on_standing (reset_streams (stream ∷ [])) w.b) w
 
 abbrev pub moves : List Move → Pair → Pair
 moves [] w = w
@@ -141,3 +146,22 @@ ready_at s = ready_in s.standing.state
 
 abbrev pub ready_b : List Move → List Message
 ready_b ms = ready_at (after ms).b
+
+-- the results of requests to reset streams that b has sent
+
+abbrev pub results_in : List ParameterTree → List ℕ
+results_in [] = []
+results_in (reset_response number result sender receiver ∷ ps) = result ∷ results_in ps
+results_in (p ∷ ps) = results_in ps
+
+abbrev pub results_of : List ChunkTree → List ℕ
+results_of [] = []
+results_of (re_config_chunk ps ∷ chunks) = results_in ps ++ results_of chunks
+results_of (chunk ∷ chunks) = results_of chunks
+
+abbrev pub results_from : List Sent → List ℕ
+results_from [] = []
+results_from (p ∷ ps) = results_of p.chunks ++ results_from ps
+
+abbrev pub results_b : List Move → List ℕ
+results_b ms = results_from (after ms).from_b

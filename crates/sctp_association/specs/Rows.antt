@@ -5,12 +5,12 @@ use Rattle.sctp_state.specs.Numbers.{ms}
 use Rattle.sctp_state.specs.Options.{plainly}
 use Rattle.sctp_state.specs.declared.api.ErrorKind.TheVariants.{PeerReported}
 use Rattle.sctp_state.specs.declared.api.GivenUpCause.TheVariants.{Retransmissions}
-use Rattle.sctp_state.specs.Events.{OnConnected, OnClosed, OnAborted, OnBufferedAmountLow, OnLifecycleMessageFullySent, OnLifecycleMessageDelivered, OnLifecycleEnd}
+use Rattle.sctp_state.specs.Events.{OnConnected, OnClosed, OnAborted, OnBufferedAmountLow, OnLifecycleMessageFullySent, OnLifecycleMessageDelivered, OnLifecycleEnd, OnIncomingStreamReset, OnStreamsResetPerformed}
 use Rattle.sctp_state.specs.declared.api.errors.RestoreError.TheVariants.{InvalidState, SocketNotClosed}
 use Rattle.sctp_state.specs.Handover.{HandoverState}
 use Rattle.sctp_association.specs.Association.{Identity, State, Closed, Open, Standing}
 use Rattle.sctp_association.specs.Handover.{readiness, handed_over, refusal_in}
-use Rattle.sctp_association.specs.Pair.{Sent, Line, Packet, Says, Gone, Move, Connect, Give, Send, Receive, Time, Close, Shutdown, HandOver, TakeUp, after, then, ready_b}
+use Rattle.sctp_association.specs.Pair.{Sent, Line, Packet, Says, Gone, Move, Connect, Give, Send, Receive, Time, Close, Shutdown, HandOver, TakeUp, after, then, ready_b, Reset, results_b}
 
 abbrev pub message : (stream : ℕ) → List ℕ → Message
 message stream bytes = record { stream = stream; ppid = 53; payload = bytes }
@@ -161,3 +161,34 @@ pub record TakenUp : Type 0 where
   pub invalid : refusal_in Closed (no_tag (record_of opened)) ≡ Some InvalidState
   pub not_closed : refusal_in (standing_a opened).state (record_of opened) ≡ Some SocketNotClosed
   pub neither : refusal_in (standing_a opened).state (no_tag (record_of opened)) ≡ Some SocketNotClosed
+
+-- ---- a stream that is reset, and what comes again
+
+abbrev pub asked_for : List Move
+asked_for = opened ++ (Reset true 1 ∷ [])
+
+pub record ResetsOnce : Type 0 where
+  pub asked : then opened (Reset true 1 ∷ []) ≡ size 36 ∷ []
+  pub performed : then asked_for (Give 2 false ∷ []) ≡ Says (OnIncomingStreamReset (1 ∷ [])) ∷ size 28 ∷ []
+  pub repeated : then (asked_for ++ (Give 2 false ∷ [])) (Give 2 false ∷ []) ≡ size 28 ∷ []
+  pub answered : then (asked_for ++ (Give 2 false ∷ Give 2 false ∷ [])) (Give 2 true ∷ Give 3 true ∷ []) ≡ Says (OnStreamsResetPerformed (1 ∷ [])) ∷ []
+
+-- ---- a reset that waits for what was sent before it: the first message is there, the second comes later
+
+abbrev pub behind_two : List Move
+behind_two = opened ++ (short_message ∷ short_message ∷ Reset true 1 ∷ Give 2 false ∷ [])
+
+abbrev pub put_off : List Move
+put_off = behind_two ++ (Give 4 false ∷ [])
+
+abbrev pub there : List Move
+there = put_off ++ (Give 3 false ∷ [])
+
+pub record ResetWaits : Type 0 where
+  pub waits : then behind_two (Give 4 false ∷ []) ≡ size 28 ∷ []
+  pub in_progress : results_b put_off ≡ 6 ∷ []
+  pub performed : then there (Give 4 false ∷ []) ≡ Says (OnIncomingStreamReset (1 ∷ [])) ∷ size 28 ∷ size 28 ∷ []
+  pub repeated : then (there ++ (Give 4 false ∷ [])) (Give 4 false ∷ []) ≡ size 28 ∷ []
+  pub results : results_b (there ++ (Give 4 false ∷ Give 4 false ∷ [])) ≡ 6 ∷ 1 ∷ 1 ∷ []
+  pub again : then (put_off ++ (Give 3 true ∷ [])) (Time (500 * ms) ∷ []) ≡ size 36 ∷ size 52 ∷ []
+  pub errors : (after (put_off ++ (Give 3 true ∷ Time (500 * ms) ∷ []))).a.standing.context.errors.value ≡ 1  -- of the data alone

@@ -1,24 +1,27 @@
--- What goes into packets: in the first of a burst an acknowledgement and a forward point where they are due, and in each
--- as much data as the windows let go (RFC 9260 section 6.1).
-use Rattle.std.specs.Prelude.{ℕ, zero, suc, ◌-◌, ◌*◌, ◌||◌, not, nat_lt, nat_le, ◌==◌, min, Bool, true, false, List, length, map}
+-- What goes into packets: in the first of a burst an acknowledgement, a forward point and a request to reset streams where
+-- they are due, and in each as much data as the windows let go (RFC 9260 section 6.1).
+use Rattle.std.specs.Prelude.{ℕ, zero, suc, ◌-◌, ◌*◌, ◌/◌, ◌||◌, not, nat_lt, nat_le, ◌==◌, min, Bool, true, false, Option, Some, None, is_some, List, [], ◌∷◌, length, map}
 use Rattle.sctp_serial.specs.Time.{later}
 use Rattle.sctp_packet.specs.Chunk.{ChunkTree, FragmentTree, data_chunk, idata_chunk, sack_chunk, cookie_echo_chunk}
 use Rattle.sctp_state.specs.Numbers.{ms}
 use Rattle.sctp_state.specs.Options.{Options}
-use Rattle.sctp_state.specs.Rtt.{srtt}
-use Rattle.sctp_outstanding.specs.Items.{fast_items}
+use Rattle.sctp_state.specs.Rtt.{rto, srtt}
+use Rattle.sctp_outstanding.specs.Items.{fast_items, begin_reset, next_number}
+use Rattle.sctp_outstanding.specs.Items as items
 use Rattle.sctp_outstanding.specs.Forward.{is_forward_due}
 use Rattle.sctp_outstanding.specs.Losses.{expire_outstanding}
 use Rattle.sctp_rx.specs.Tracker.{is_ack_due, take_ack}
 use Rattle.sctp_rx.specs.ReassemblyQueue.{Reassembly, watermark, queued_bytes}
 use Rattle.sctp_rx.specs.Sack.{sack, reported}
 use Rattle.sctp_send_queue.specs.Queue.{Queue}
+use Rattle.sctp_send_queue.specs.Resets.{requested, request_resets}
 use Rattle.sctp_tx.specs.Retransmission.{Sender}
 use Rattle.sctp_tx.specs.Resent.{may_send_new, resent_fast, send_fast}
 use Rattle.sctp_tx.specs.ForwardPoints.{expired, forward_chunk}
 use Rattle.sctp_tx.specs.Sending as fragments
 use Rattle.sctp_tx.specs.Sending.{send}
 use Rattle.sctp_association.specs.Association.{Tcb, Phase, CookieEchoed, Established, ShutdownPending, ShutdownSent, ShutdownReceived, ShutdownAckSent, Context, Standing, open_as}
+use Rattle.sctp_association.specs.Requests.{Request, request_chunk, started}
 use Rattle.sctp_association.specs.Heartbeats.{beating_if}
 use Rattle.sctp_association.specs.Packets.{Packet, emptied, room, fits, add, add_all, has_chunks, rounded, packet_to, new_packet, emit}
 
@@ -88,6 +91,50 @@ tested_if false x = x
 abbrev pub with_forward : {P : Type 0} → Filling P → Filling P
 with_forward x = tested_if (nat_le x.context.forward_from x.context.now) x
 
+-- ---- requests to reset streams (RFC 6525 section 5.1.2)
+
+-- how many streams a request has room for: it takes 20 bytes and 2 a stream, in whole words of 4
+abbrev pub most_streams : Packet → ℕ
+most_streams p = (room p / 4 * 4 - 20) / 2
+
+-- the current request goes along
+abbrev pub add_request : Option Request → Packet → Packet
+add_request None p = p
+add_request (Some r) p = add (request_chunk r) p
+
+abbrev pub last_assigned : Sender → ℕ
+last_assigned s = items.written s.outstanding (next_number s.outstanding.items - 1)
+
+-- a reset begins: no forward point crosses the next TSN
+abbrev pub begun : Sender → Sender
+begun s = record s { outstanding = record s.outstanding { items = begin_reset s.outstanding.items } }
+
+abbrev pub request_started : (now : ℕ) → List ℕ → Tcb → Tcb
+request_started now streams t = record t {
+  sender = begun t.sender;
+  requests = started now (rto t.rtt) (last_assigned (begun t.sender)) streams t.requests;
+}
+
+abbrev pub carrying : {P : Type 0} → Tcb → Filling P → Filling P
+carrying t x = record x { packet = add_request t.requests.current x.packet; tcb = t }
+
+abbrev pub request_of : {P : Type 0} → List ℕ → Filling P → Filling P
+request_of [] x = x
+request_of (id ∷ ids) x = carrying (request_started x.context.now (id ∷ ids) x.tcb) x
+
+-- so many of the streams that are ready are in the request, the others stay ready for another one
+abbrev pub request_at_most : {P : Type 0} → (most : ℕ) → Filling P → Filling P
+request_at_most most x =
+    request_of (requested most x.context.queue) (record x { context = record x.context { queue = request_resets most x.context.queue } })
+
+-- one request at a time
+abbrev pub request_if : {P : Type 0} → (has_current : Bool) → Filling P → Filling P
+request_if true x = x
+request_if false x = request_at_most (most_streams x.packet) x
+
+abbrev pub with_request : {P : Type 0} → Filling P → Filling P
+with_request x = request_if (is_some x.tcb.requests.current) x
+
 -- ---- data
 
 abbrev pub data_chunk_of : (is_interleaved is_immediate : Bool) → ℕ × FragmentTree → ChunkTree
@@ -117,7 +164,7 @@ abbrev pub with_data : {P : Type 0} → Filling P → Filling P
 with_data x = filled (send x.context.now (room x.packet) x.tcb.sender x.context.queue x.context.told) x
 
 abbrev pub filled_as : {P : Type 0} → (is_first : Bool) → Filling P → Filling P
-filled_as true x = with_data (with_forward (with_ack x))
+filled_as true x = with_data (with_request (with_forward (with_ack x)))
 filled_as false x = with_data x
 
 -- ---- bursts

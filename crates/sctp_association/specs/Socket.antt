@@ -6,6 +6,8 @@ use Rattle.sctp_packet.specs.Packet.{PacketTree, Accepts, Refuses, IsFault}
 use Rattle.sctp_packet.specs.declared.packet.PacketParseError.{PacketParseError}
 use Rattle.sctp_state.specs.declared.api.errors.CallError.{CallError}
 use Rattle.sctp_state.specs.declared.api.errors.CallError.TheVariants as calls
+use Rattle.sctp_state.specs.declared.api.errors.ResetStreamsError.{ResetStreamsError}
+use Rattle.sctp_state.specs.declared.api.errors.ResetStreamsError.TheVariants as resets
 use Rattle.sctp_state.specs.declared.api.errors.SendError.{SendError}
 use Rattle.sctp_state.specs.declared.api.errors.SendError.TheVariants as sends
 use Rattle.sctp_state.specs.declared.api.errors.BatchFault.{BatchFault}
@@ -99,6 +101,16 @@ abbrev pub restore_ending : Result (Unit {0}) RestoreError → Ending
 restore_ending (Ok done) = Worked
 restore_ending (Err e) = restore_ending_by e
 
+abbrev pub resetting_by : ResetStreamsError → Ending
+resetting_by resets.NotConnected = Worked
+resetting_by resets.NotSupported = Worked
+resetting_by resets.Memory = RanOut
+resetting_by resets.Failed = HadFailed
+
+abbrev pub resetting_ending : Result (Unit {0}) ResetStreamsError → Ending
+resetting_ending (Ok done) = Worked
+resetting_ending (Err e) = resetting_by e
+
 -- One on a socket that has failed changes nothing; one that found too little memory makes it fail.
 abbrev pub Ends : {R C : Type 0} → Ending → (before after : SocketValue R C) → Type 0
 Ends Worked before after = (before.has_failed ≡ false) × (after.has_failed ≡ false)
@@ -108,6 +120,10 @@ Ends HadFailed before after = (before.has_failed ≡ true) × (after ≡ before)
 abbrev pub refusal_in : Result (Unit {0}) SendError → Option SendError
 refusal_in (Ok done) = None
 refusal_in (Err e) = Some e
+
+abbrev pub reset_refusal_in : Result (Unit {0}) ResetStreamsError → Option ResetStreamsError
+reset_refusal_in (Ok done) = None
+reset_refusal_in (Err e) = Some e
 
 abbrev pub refusals_in : Result (Unit {0}) BatchFault → List (ℕ × SendError)
 refusals_in (Ok done) = []

@@ -3,6 +3,7 @@ use Rattle.std.specs.Prelude.{ℕ, ◌||◌, nat_lt, min, max, Bool, true, false
 use Rattle.sctp_serial.specs.Time.{forever}
 use Rattle.sctp_state.specs.declared.api.ErrorKind.TheVariants.{TooManyRetries}
 use Rattle.sctp_state.specs.Errors.{one_error, is_exhausted}
+use Rattle.sctp_state.specs.Rtt.{rto}
 use Rattle.sctp_state.specs.Timers.{Timer, is_due, is_running, expire, next_expiry}
 use Rattle.sctp_state.specs.Events.{OnAborted}
 use Rattle.sctp_outstanding.specs.Losses.{Step, nack_all}
@@ -10,9 +11,11 @@ use Rattle.sctp_rx.specs.Tracker.{ack_timeout}
 use Rattle.sctp_tx.specs.Retransmission.{timed_out_sender}
 use Rattle.sctp_association.specs.Association.{Tcb, Phase, CookieEchoed, Established, ShutdownPending, ShutdownSent, ShutdownReceived, ShutdownAckSent, State, Closed, CookieWait, Open, Heartbeats, Context, Standing, open_as}
 use Rattle.sctp_association.specs.Heartbeats.{beat_if, unanswered_if, expiry}
-use Rattle.sctp_association.specs.Sending.{Sent, send_buffered, send_cookie}
+use Rattle.sctp_association.specs.Requests.{lasting, expired, woken, is_unanswered}
+use Rattle.sctp_association.specs.Sending.{Sent, add_request, send_buffered, send_cookie}
 use Rattle.sctp_association.specs.Closing.{over, send_shutdown, send_shutdown_ack, too_many}
 use Rattle.sctp_association.specs.Opening.{send_init}
+use Rattle.sctp_association.specs.Packets.{new_packet, emit}
 
 -- ---- the timers of a control block, one after the other
 
@@ -57,11 +60,39 @@ tick_timeout x = record x {
   has_expired = is_due x.context.now x.context.heartbeats.timeout || x.has_expired;
 }
 
+-- the reconfiguration timer (RFC 6525 section 5.1.1): the request goes out again, unless this was one error too many
+abbrev pub request_again : {P : Type 0} → (is_exhausted : Bool) → Ticking P → Ticking P
+request_again true x = x
+request_again false x =
+    let t : Tcb = record x.tcb { requests = lasting (rto x.tcb.rtt) x.tcb.requests } in
+    record x { tcb = t; context = emit (add_request t.requests.current (new_packet x.context.options t)) x.context }
+
+abbrev pub errs_if : {P : Type 0} → (is_error : Bool) → Context P → Context P
+errs_if true c = record c { errors = one_error c.errors }
+errs_if false c = c
+
+abbrev pub requests_again : {P : Type 0} → Ticking P → Ticking P
+requests_again x = request_again (is_exhausted x.context.errors) x
+
+abbrev pub unanswered : {P : Type 0} → Ticking P → Ticking P
+unanswered x = requests_again (record {
+  tcb = record x.tcb { requests = woken (expired x.context.now x.tcb.requests) };
+  context = errs_if (is_unanswered x.tcb.requests.current) x.context;
+  has_expired = true;
+})
+
+abbrev pub requests_if : {P : Type 0} → (is_due : Bool) → Ticking P → Ticking P
+requests_if true x = unanswered x
+requests_if false x = x
+
+abbrev pub tick_requests : {P : Type 0} → Ticking P → Ticking P
+tick_requests x = requests_if (is_due x.context.now x.tcb.requests.timer) x
+
 abbrev pub ticking : {P : Type 0} → Tcb → Context P → Ticking P
 ticking t c = record { tcb = t; context = c; has_expired = false }
 
 unfoldable pub ticked : {P : Type 0} → Tcb → Context P → Ticking P
-ticked t c = tick_timeout (tick_interval (tick_t3 (tick_ack (ticking t c))))
+ticked t c = tick_requests (tick_timeout (tick_interval (tick_t3 (tick_ack (ticking t c)))))
 
 -- ---- what an expiry leads to at last: the association may have ended
 
@@ -191,7 +222,7 @@ advance now s = advance_if (nat_lt now s.context.now) now s
 -- ---- when to call next
 
 abbrev pub tcb_expiry : Tcb → ℕ
-tcb_expiry t = min (next_expiry t.sender.t3) (next_expiry t.tracker.tracker.delay)
+tcb_expiry t = min (next_expiry t.requests.timer) (min (next_expiry t.sender.t3) (next_expiry t.tracker.tracker.delay))
 
 abbrev pub running_expiry : Tcb → Heartbeats → ℕ
 running_expiry t h = min (tcb_expiry t) (expiry h)

@@ -11,6 +11,7 @@ use Rattle.sctp_association.specs.declared.transmission_control_block.Transmissi
 use Rattle.sctp_packet.specs.declared.sack.SackChunk.{SackChunk}
 use Rattle.sctp_packet.specs.Chunk.{SackTree}
 use Rattle.sctp_send_queue.specs.Queue.{Queue}
+use Rattle.sctp_wire.specs.Parameter.{ParameterTree}
 use Rattle.sctp_association.specs.declared.state.Phase as given_phase
 use Rattle.sctp_association.specs.declared.state.Phase.TheVariants as phases
 use Rattle.sctp_association.specs.declared.state.State as given_state
@@ -23,6 +24,7 @@ use Rattle.sctp_association.specs.declared.cookie_echo.Verdict.TheVariants as ve
 use Rattle.sctp_association.specs.Closing.{Onward}
 use Rattle.sctp_association.specs.Sending.{Filling, Sent}
 use Rattle.sctp_association.specs.Time.{Left, Ticking, Waited, left, standing_if, waited}
+use Rattle.sctp_association.specs.Resets.{Handling, Handled, handled}
 use Rattle.sctp_association.specs.Input.{Heard, wrong_tag_text, interleaving_text, no_interleaving_text, no_partial_text}
 use Rattle.sctp_association.specs.declared.validation.Refusal.{Refusal}
 use Rattle.sctp_association.specs.declared.validation.Refusal.TheVariants as refusals
@@ -47,6 +49,7 @@ tcb_of t = record {
   reassembly = t.reassembly_queue;
   sender = t.retransmission_queue;
   rtt = t.rto;
+  requests = t.reset_requests;
 }
 
 -- ---- states
@@ -112,6 +115,13 @@ left_of word_of t c has_ended = left (tcb_of t) (context_of word_of c) has_ended
 
 abbrev pub waited_of : {C : Type 0} → (C → List ℕ → ℕ) → ContextValue C → (has_ended : Bool) → Waited (List ℕ)
 waited_of word_of c has_ended = waited (context_of word_of c) has_ended
+
+-- what the parameters of a RE-CONFIG have done so far
+abbrev pub handling_of : {C : Type 0} → (C → List ℕ → ℕ) → given_tcb.TransmissionControlBlock → ContextValue C → List ParameterTree → Handling (List ℕ)
+handling_of word_of t c responses = record { tcb = tcb_of t; context = context_of word_of c; responses = responses }
+
+abbrev pub handled_of : {C : Type 0} → (C → List ℕ → ℕ) → given_tcb.TransmissionControlBlock → ContextValue C → List ParameterTree → (is_whole : Bool) → Handled (List ℕ)
+handled_of word_of t c responses is_whole = handled is_whole (handling_of word_of t c responses)
 
 -- an end that may have ended
 abbrev pub standing_after : {C : Type 0} → (C → List ℕ → ℕ) → given_phase.Phase → given_tcb.TransmissionControlBlock → ContextValue C → (has_ended : Bool) → Standing (List ℕ)

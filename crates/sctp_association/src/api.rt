@@ -4,8 +4,8 @@ ghost use Rattle.std.specs.Prelude.{◌<◌, ◌^◌};
 
 use sctp_serial::{Message, SocketTime, StreamId};
 use sctp_state::{
-    BatchFault, CallError, HandoverError, HandoverReadiness, Metrics, Options, RestoreError,
-    SendError, SendOptions, SocketEvent, SocketHandoverState, SocketState,
+    BatchFault, CallError, HandoverError, HandoverReadiness, Metrics, Options, ResetStreamsError,
+    RestoreError, SendError, SendOptions, SocketEvent, SocketHandoverState, SocketState,
 };
 
 /// An end of an SCTP association, which makes no system call. Packets, moments and messages are handed in; events, among
@@ -47,6 +47,11 @@ pub trait DcSctpSocket {
         messages: Vec<Message>,
         options: &SendOptions,
     ) -> Result<(), BatchFault>;
+
+    /// Resets streams, whose numbers then begin anew (RFC 6525): their messages of which nothing is sent are dropped, a
+    /// partly sent one ends first, and no other one is sent until the peer has answered. An empty list only sends what may
+    /// be sent. Refused without an association, or where the peer can't reset streams; then nothing changes.
+    fn reset_streams(&mut self, streams: &[StreamId]) -> Result<(), ResetStreamsError>;
 
     /// Sets the priority of a stream, by which it is weighed where messages are interleaved (RFC 8260).
     fn set_stream_priority(&mut self, id: StreamId, priority: u16) -> Result<(), CallError>;

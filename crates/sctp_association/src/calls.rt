@@ -184,7 +184,10 @@ impl<C: Checksum> Context<C> {
 }
 
 /// What waits goes out, as far as it may, where there is a control block.
-fn send_waiting<C: Checksum>(state: &mut State, context: &mut Context<C>) -> Result<(), AllocError>
+pub(crate) fn send_waiting<C: Checksum>(
+    state: &mut State,
+    context: &mut Context<C>,
+) -> Result<(), AllocError>
     ensures { OnOk result (standing_of C.word_of state.new context.new ≡ where_open send_in (standing_of C.word_of state.old context.old)) }
 {
     match state {

@@ -38,7 +38,8 @@ impl TransmissionControlBlock {
     {
         let receiving = self.data_tracker.get_handover_readiness()
             | self.reassembly_queue.get_handover_readiness();
-        receiving | self.retransmission_queue.get_handover_readiness(is_strict)
+        let sending = self.retransmission_queue.get_handover_readiness(is_strict);
+        receiving | sending | self.reset_requests.get_handover_readiness()
     }
 
     /// Writes the association into the record of a socket that is handed over now, but for messages that wait.
@@ -59,17 +60,8 @@ impl TransmissionControlBlock {
         self.retransmission_queue.add_to_handover_state(now, state)?;
         self.data_tracker.add_to_handover_state(state);
         self.reassembly_queue.add_to_handover_state(state)?;
-        self.add_requests_to_handover_state(state);
+        self.reset_requests.add_to_handover_state(state);
         Ok(())
-    }
-
-    /// Writes the numbers of reset requests: there was none yet.
-    fn add_requests_to_handover_state(&self, state: &mut SocketHandoverState)
-        ensures { let old = handover_state_of state.old in handover_state_of state.new
-            ≡ record old { tx = table.own_requests (tcb_of self.now) old.tx; rx = table.peer_requests (tcb_of self.now) old.rx } }
-    {
-        state.tx.next_reset_req_sn = self.identity.my_initial_tsn.0;
-        state.rx.last_completed_reset_req_sn = (self.identity.peer_initial_tsn - 1).0;
     }
 
     /// Takes up the association of a record now. For a new control block of the record's identity and capabilities.
@@ -84,6 +76,7 @@ impl TransmissionControlBlock {
         ensures { OnOk result (tcb_of self.new ≡ table.block_restored now (handover_state_of state.now) (tcb_of self.old)) }
     {
         self.data_tracker.restore_from_state(state);
+        self.reset_requests.restore_from_state(state);
         self.reassembly_queue.restore_from_state(state)?;
         self.retransmission_queue.restore_from_state(now, state)
     }

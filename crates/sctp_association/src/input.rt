@@ -25,6 +25,7 @@ use crate::outgoing_packet::word_of;
 use crate::sack::handle_sack;
 use crate::shutdown::{handle_shutdown_ack, handle_shutdown_chunk, handle_shutdown_complete};
 use crate::state::{Phase, State};
+use crate::stream_reset::handle_reconfig;
 use crate::transmission_control_block::TransmissionControlBlock;
 use rand_core::Rng;
 use sctp_packet::{Chunk, HeartbeatAckChunk, PacketParseError, SctpPacket};
@@ -213,7 +214,7 @@ fn handle_misuse<C: Checksum>(
     }
 }
 
-/// What a chunk does, of a packet under this tag. RE-CONFIG changes nothing.
+/// What a chunk does, of a packet under this tag.
 fn dispatch<R: Rng, C: Checksum>(
     state: &mut State,
     context: &mut Context<C>,
@@ -251,8 +252,8 @@ fn dispatch<R: Rng, C: Checksum>(
         Chunk::Shutdown(_) => handle_shutdown_chunk(state, context),
         Chunk::ShutdownAck(_) => handle_shutdown_ack(state, context, tag),
         Chunk::ShutdownComplete(_) => handle_shutdown_complete(state, context),
+        Chunk::ReConfig(c) => handle_reconfig(state, context, c.parameters),
         Chunk::Unknown(c) => handle_unknown(state, context, &c),
-        _ => Ok(()),
     }
 }
 

@@ -2,11 +2,13 @@
 
 ghost use Rattle.sctp_association.specs.Laws.{EachCallSendsAtMost, EachCallStaysWithin, EachCallTellsEndings, EachClosingEnds};
 ghost use Rattle.sctp_association.specs.Moments.{AMomentBeforeMovesTheClock, AnEarlierMomentChangesNothing};
-ghost use Rattle.sctp_association.specs.Rows.{Beats, BothConnect, Closes, FirstConversation, Fragments, GivenUpOnce, OtherOrder, ShutsDown, TakenUp};
+ghost use Rattle.sctp_association.specs.ResetLaws.{DoneRequestsAreAnswered, RequestsFit, ResetsWait};
+ghost use Rattle.sctp_association.specs.Rows.{Beats, BothConnect, Closes, FirstConversation, Fragments, GivenUpOnce, OtherOrder, ResetsOnce, ResetWaits, ShutsDown, TakenUp};
 
 /// Conversations of two ends with default options go as they have to: an opening, a message that is delivered once, two
 /// that come in the other order, ends that connect at once, a message that is given up, one of three fragments, a close,
-/// a shutdown, heartbeats of idle ends, and an end that is handed over.
+/// a shutdown, heartbeats of idle ends, an end that is handed over, a stream that is reset, and a reset that waits for what
+/// was sent before it.
 pub fn conversations_go()
     ensures first { FirstConversation }
     ensures order { OtherOrder }
@@ -17,6 +19,16 @@ pub fn conversations_go()
     ensures shuts_down { ShutsDown }
     ensures beats { Beats }
     ensures taken_up { TakenUp }
+    ensures resets { ResetsOnce }
+    ensures reset_waits { ResetWaits }
+{}
+
+/// A reset of the peer's streams is performed once, not before all that was sent before it came; and an own request has
+/// room for the streams that are put into it.
+pub fn resets_are_in_turn()
+    ensures done { DoneRequestsAreAnswered }
+    ensures waits { ResetsWait }
+    ensures fit { RequestsFit }
 {}
 
 /// No call makes an end tell a packet above the mtu, by its chunks and by its bytes.

@@ -2,15 +2,16 @@
 
 ghost use Rattle.std.specs.Prelude.{◌≡◌, ◌*◌, true, map, OnOk, IfOk};
 ghost use Rattle.sctp_outstanding.specs.Views.{chunk_of};
+ghost use Rattle.sctp_state.specs.Events.{numbers_of};
 ghost use Rattle.sctp_association.specs.Packets.{add_all};
-ghost use Rattle.sctp_association.specs.Sending.{burst_with, data_chunks, forward_if, send_buffered, send_cookie, send_lost, send_with, turned, with_ack, with_data, with_forward};
+ghost use Rattle.sctp_association.specs.Sending.{burst_with, carrying, data_chunks, forward_if, most_streams, request_of, request_started, send_buffered, send_cookie, send_lost, send_with, turned, with_ack, with_data, with_forward, with_request};
 ghost use Rattle.sctp_association.specs.Views.{context_of, filling_of, sent_of, tcb_of};
 
 use crate::context::Context;
 use crate::outgoing_packet::OutgoingPacket;
 use crate::transmission_control_block::TransmissionControlBlock;
 use sctp_packet::{COMMON_HEADER_SIZE, Chunk, CookieEchoChunk, Data};
-use sctp_serial::Tsn;
+use sctp_serial::{StreamId, Tsn};
 use sctp_wire::Checksum;
 use std::alloc::AllocError;
 use std::time::Duration;
@@ -75,6 +76,52 @@ impl<C: Checksum> Context<C> {
         Ok(())
     }
 
+    /// A request for these streams begins, and goes along.
+    fn carry_reset_request(
+        &self,
+        packet: &mut OutgoingPacket,
+        tcb: &mut TransmissionControlBlock,
+        streams: Vec<StreamId>,
+    ) -> Result<(), AllocError>
+        ensures { let x = filling_of C.word_of packet.old tcb.old self.now in
+            OnOk result (filling_of C.word_of packet.new tcb.new self.now ≡ carrying (request_started x.context.now (numbers_of streams.items) x.tcb) x) }
+    {
+        tcb.start_ssn_reset_request(self.clock, streams, packet)
+    }
+
+    /// The same, where there are streams to reset.
+    fn start_reset_request(
+        &self,
+        packet: &mut OutgoingPacket,
+        tcb: &mut TransmissionControlBlock,
+        streams: Vec<StreamId>,
+    ) -> Result<(), AllocError>
+        ensures { OnOk result (filling_of C.word_of packet.new tcb.new self.now
+            ≡ request_of (numbers_of streams.items) (filling_of C.word_of packet.old tcb.old self.now)) }
+    {
+        if streams.is_empty() {
+            return Ok(());
+        }
+        self.carry_reset_request(packet, tcb, streams)
+    }
+
+    /// A request to reset the streams that are ready goes along, as many as there is room for, where none waits for its
+    /// answer (RFC 6525 section 5.1.2). The others wait for another request.
+    fn add_reset_request(
+        &mut self,
+        packet: &mut OutgoingPacket,
+        tcb: &mut TransmissionControlBlock,
+    ) -> Result<(), AllocError>
+        ensures { OnOk result (filling_of C.word_of packet.new tcb.new self.new ≡ with_request (filling_of C.word_of packet.old tcb.old self.old)) }
+    {
+        if tcb.reset_requests.has_current() {
+            return Ok(());
+        }
+        let most = most_streams(packet);
+        let streams = self.send_queue.get_streams_ready_to_reset(most)?;
+        self.start_reset_request(packet, tcb, streams)
+    }
+
     /// As much data goes along as the windows and the packet let go.
     fn add_data(
         &mut self,
@@ -118,6 +165,7 @@ impl<C: Checksum> Context<C> {
         if is_first {
             self.add_ack(packet, tcb)?;
             self.add_forward_tsn(packet, tcb)?;
+            self.add_reset_request(packet, tcb)?;
         }
         self.add_data(packet, tcb)?;
         if packet.is_empty() {
@@ -216,6 +264,14 @@ impl<C: Checksum> Context<C> {
         add_fragments(&mut packet, tcb, false, fragments)?;
         self.emit(&mut packet)
     }
+}
+
+/// How many streams a request in this packet has room for.
+fn most_streams(packet: &OutgoingPacket) -> usize
+    ensures { result ≡ most_streams packet.now }
+{
+    let whole = packet.bytes_remaining() / 4 * 4;
+    whole.saturating_sub(20) / 2
 }
 
 /// The chunks of the fragments that fit, one after the other.

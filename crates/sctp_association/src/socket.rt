@@ -3,7 +3,7 @@
 ghost use Rattle.std.specs.Prelude.{◌≡◌, ◌<◌, ◌^◌, ◌↔◌, false, true, Err, length, map, option_map, drop, slice_get, IfOk, IfErr, OnOk};
 ghost use Rattle.sctp_serial.specs.Messages.{message_of};
 ghost use Rattle.sctp_send_queue.specs.Queue.{amount_of, stream};
-ghost use Rattle.sctp_state.specs.Events.{event_of, first_of, given_up_of};
+ghost use Rattle.sctp_state.specs.Events.{event_of, first_of, given_up_of, numbers_of};
 ghost use Rattle.sctp_state.specs.Handover.{handover_state_of};
 ghost use Rattle.sctp_state.specs.Options.{IsValid, options_of, send_options_of};
 ghost use Rattle.sctp_association.specs.Association.{fresh, in_context};
@@ -13,7 +13,8 @@ ghost use Rattle.sctp_association.specs.Handover as handover;
 ghost use Rattle.sctp_association.specs.Input.{my_tag, on_standing};
 ghost use Rattle.sctp_association.specs.Metrics.{metrics_in, metrics_of};
 ghost use Rattle.sctp_association.specs.Opening as opening;
-ghost use Rattle.sctp_association.specs.Socket.{Ends, Hears, Judges, Worked, association_in, association_of, batch_ending, ending_of, endpoint, handover_ending, is_at_rest, readiness_in, refusal_in, refusals_in, restore_ending, restore_refusal_in, sending_ending};
+ghost use Rattle.sctp_association.specs.Resets as resets;
+ghost use Rattle.sctp_association.specs.Socket.{Ends, Hears, Judges, Worked, association_in, association_of, batch_ending, ending_of, endpoint, handover_ending, is_at_rest, readiness_in, refusal_in, refusals_in, reset_refusal_in, resetting_ending, restore_ending, restore_refusal_in, sending_ending};
 ghost use Rattle.sctp_association.specs.Time as time;
 ghost use Rattle.sctp_association.specs.Wire.{written};
 
@@ -25,13 +26,15 @@ use crate::input::{handle_input, judge};
 use crate::opening::connect;
 use crate::shutdown::{handle_close, handle_shutdown};
 use crate::state::State;
+use crate::stream_reset::reset_streams;
 use crate::timers::advance_time;
 use crate::transmission_control_block::Association;
 use rand_core::Rng;
 use sctp_serial::{Message, SocketTime, StreamId};
 use sctp_state::{
     BatchFault, BatchSendError, CallError, GivenUp, HandoverError, HandoverReadiness, Metrics,
-    Options, RestoreError, SendError, SendOptions, SocketEvent, SocketHandoverState, SocketState,
+    Options, ResetStreamsError, RestoreError, SendError, SendOptions, SocketEvent,
+    SocketHandoverState, SocketState,
 };
 use sctp_wire::Checksum;
 use std::alloc::Global;
@@ -270,6 +273,25 @@ impl<R: Rng, C: Checksum> DcSctpSocket for Socket<R, C> {
             Err(_) => {
                 self.has_failed = true;
                 Err(BatchFault::Memory)
+            }
+        }
+    }
+
+    fn reset_streams(&mut self, streams: &[StreamId]) -> Result<(), ResetStreamsError>
+        ensures ends { Ends (resetting_ending result) self.old self.new }
+        ensures answer { resetting_ending result ≡ Worked → reset_refusal_in result ≡ resets.reset_refusal self.old.state }
+        ensures reset { resetting_ending result ≡ Worked
+            → endpoint R.stream C.word_of self.new ≡ on_standing (resets.reset_streams (numbers_of streams.now)) (endpoint R.stream C.word_of self.old) }
+    {
+        if self.has_failed {
+            return Err(ResetStreamsError::Failed);
+        }
+        match reset_streams(&mut self.state, &mut self.context, streams) {
+            Ok(None) => Ok(()),
+            Ok(Some(refusal)) => Err(refusal),
+            Err(_) => {
+                self.has_failed = true;
+                Err(ResetStreamsError::Memory)
             }
         }
     }

@@ -1,6 +1,6 @@
 //! Time: which timers a state looks at, and what their expiries lead to.
 
-ghost use Rattle.std.specs.Prelude.{◌≡◌, IfOk, OnOk};
+ghost use Rattle.std.specs.Prelude.{◌≡◌, true, IfOk, OnOk};
 ghost use Rattle.sctp_association.specs.Time as table;
 ghost use Rattle.sctp_association.specs.Views.{context_of, left_of, phase_of, standing_after, standing_of, state_of, tcb_of, ticking_of, waited_of};
 ghost use Rattle.sctp_state.specs.Timers.{expire};
@@ -40,6 +40,38 @@ impl<C: Checksum> Context<C> {
         Ok(has_expired)
     }
 
+    /// The own request to reset streams goes out again, unless there were too many errors.
+    fn send_request_again(&mut self, tcb: &mut TransmissionControlBlock) -> Result<(), AllocError>
+        ensures { OnOk result (ticking_of C.word_of tcb.new self.new true ≡ table.requests_again (ticking_of C.word_of tcb.old self.old true)) }
+    {
+        if self.tx_error_counter.is_exhausted() {
+            return Ok(());
+        }
+        tcb.reset_requests.update_rto(tcb.rto.rto());
+        let mut packet = tcb.new_packet(self.alloc, &self.options);
+        tcb.add_prepared_ssn_reset_request(&mut packet)?;
+        self.emit(&mut packet)
+    }
+
+    /// The reconfiguration timer (RFC 6525 section 5.1.1), after the other ones have expired or not. The answer is whether
+    /// any did.
+    fn tick_requests(
+        &mut self,
+        tcb: &mut TransmissionControlBlock,
+        has_expired: bool,
+    ) -> Result<bool, AllocError>
+        ensures { IfOk result (λ any. ticking_of C.word_of tcb.new self.new any ≡ table.tick_requests (ticking_of C.word_of tcb.old self.old has_expired)) }
+    {
+        if !tcb.reset_requests.expire(self.clock) {
+            return Ok(has_expired);
+        }
+        if tcb.reset_requests.wake() {
+            self.tx_error_counter.increment();
+        }
+        self.send_request_again(tcb)?;
+        Ok(true)
+    }
+
     /// The timers of a control block, and those of heartbeats, one after the other. The answer is whether any expired.
     #[tactic(auto, unfolding(crate::specs::Time::ticked))]
     fn tick_tcb(&mut self, tcb: &mut TransmissionControlBlock) -> Result<bool, AllocError>
@@ -49,7 +81,7 @@ impl<C: Checksum> Context<C> {
         let has_expired = self.tick_t3(tcb, has_expired)?;
         let is_beat = self.tick_heartbeat_interval(tcb)?;
         let is_unanswered = self.tick_heartbeat_timeout();
-        Ok(is_unanswered || is_beat || has_expired)
+        self.tick_requests(tcb, is_unanswered || is_beat || has_expired)
     }
 
     /// Too many errors end the association. The answer is whether it ended.
@@ -262,7 +294,8 @@ impl TransmissionControlBlock {
         ensures { result ≡ table.tcb_expiry (tcb_of self.now) }
     {
         let t3_rtx = self.retransmission_queue.next_timeout();
-        t3_rtx.min(self.data_tracker.next_timeout())
+        let earliest = t3_rtx.min(self.data_tracker.next_timeout());
+        self.reset_requests.next_timeout().min(earliest)
     }
 }
 

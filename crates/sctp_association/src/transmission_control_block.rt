@@ -12,6 +12,7 @@ ghost use Rattle.sctp_packet.specs.Views.{fragment_tree};
 ghost use Rattle.sctp_packet.specs.ChunkView.{chunk_tree};
 
 use crate::outgoing_packet::OutgoingPacket;
+use crate::reset_requests::ResetRequests;
 use sctp_packet::{Chunk, Data, DataChunk, IDataChunk};
 use sctp_rx::{DataTracker, ReassemblyQueue};
 use sctp_serial::Tsn;
@@ -64,6 +65,7 @@ pub struct TransmissionControlBlock {
     pub reassembly_queue: ReassemblyQueue,
     pub retransmission_queue: RetransmissionQueue,
     pub rto: RetransmissionTimeout,
+    pub reset_requests: ResetRequests,
 }
 
 impl TransmissionControlBlock {
@@ -96,6 +98,12 @@ impl TransmissionControlBlock {
                 capabilities.message_interleaving,
             ),
             rto: RetransmissionTimeout::new(options),
+            reset_requests: ResetRequests::new(
+                alloc,
+                options,
+                identity.my_initial_tsn,
+                identity.peer_initial_tsn,
+            ),
         }
     }
 

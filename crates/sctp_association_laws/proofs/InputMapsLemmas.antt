@@ -14,10 +14,12 @@ use Rattle.sctp_association.specs.Closing.{send_shutdown, violated, on_abort, on
 use Rattle.sctp_association.specs.Data.{on_data, on_forward}
 use Rattle.sctp_association.specs.Acknowledging.{on_sack}
 use Rattle.sctp_association.specs.Opening.{on_cookie_ack}
+use Rattle.sctp_association.specs.Resets.{on_reconfig}
 use Rattle.sctp_association.specs.Input.{refusal, is_reported, echoed, echoed_in, complained, on_unknown_if, on_unknown, on_heartbeat, Heard, on_standing, on_chunk, goes_on, violation, heard_if, hear, hear_rest, hear_all, has_data, repeats, repeats_if, ended_if, at_end, ended, handled, counts, taken_if, on_packet, on_no_packet}
 use Rattle.sctp_association_laws.specs.Mapped.{map_context, map_standing, map_end}
 use Rattle.sctp_association_laws.proofs.SendingMapsLemmas.{maps_complain, maps_emit_chunk, maps_send_with}
 use Rattle.sctp_association_laws.proofs.RowMapsLemmas.{OpenMaps, maps_where_open, maps_in_state, maps_send_shutdown, maps_on_shutdown, maps_shutdown_ack, maps_shutdown_complete, maps_violated, maps_on_abort, maps_on_error, maps_data, maps_forward, maps_on_sack}
+use Rattle.sctp_association_laws.proofs.ResetMapsLemmas.{maps_reconfig}
 use Rattle.sctp_association_laws.proofs.OpeningMapsLemmas.{maps_stands, maps_init, maps_init_ack, maps_cookie_ack, maps_cookie_echo, maps_complains}
 
 abbrev map_heard : {P Q : Type 0} → (P → Q) → Heard P → Heard Q
@@ -99,7 +101,7 @@ module _ {P Q : Type 0} (f : P → Q) where
   maps_chunk tag (shutdown_chunk tsn) s = maps_on_open on_shutdown on_shutdown s (maps_on_shutdown f)
   maps_chunk tag shutdown_ack_chunk s = maps_on_standing (on_shutdown_ack tag) (on_shutdown_ack tag) s (maps_shutdown_ack f tag s.standing)
   maps_chunk tag (shutdown_complete_chunk reflected) s = maps_on_open on_shutdown_complete on_shutdown_complete s (maps_shutdown_complete f)
-  maps_chunk tag (re_config_chunk parameters) s = refl
+  maps_chunk tag (re_config_chunk parameters) s = maps_on_open (on_reconfig parameters) (on_reconfig parameters) s (maps_reconfig f parameters)
 
   maps_heard_if : (o : Option (List ℕ)) (tag : ℕ) (chunk : ChunkTree) (s : Endpoint P) → heard_if o tag chunk (map_end f s) ≡ map_heard f (heard_if o tag chunk s)
   maps_heard_if (Some reason) tag chunk s =

@@ -4,6 +4,7 @@ pub mod RowMapsLemmas
 pub mod OpeningMapsLemmas
 pub mod TimeMapsLemmas
 pub mod CallMapsLemmas
+pub mod ResetMapsLemmas
 pub mod InputMapsLemmas
 pub mod HandoverMapsLemmas
 pub mod MappedLemmas

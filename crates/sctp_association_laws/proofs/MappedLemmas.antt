@@ -7,15 +7,17 @@ use Rattle.sctp_association.specs.Wire.{written}
 use Rattle.sctp_association.specs.Association.{Endpoint, in_context, context}
 use Rattle.sctp_association.specs.Closing.{close, shutdown}
 use Rattle.sctp_association.specs.Calls.{send, send_many, set_low_threshold}
+use Rattle.sctp_association.specs.Resets.{reset_streams}
 use Rattle.sctp_association.specs.Time.{advance}
 use Rattle.sctp_association.specs.Handover.{hand_over, restore}
-use Rattle.sctp_association.specs.Laws.{Call, Connect, Close, Shutdown, Send, SendMany, TakeMessage, SetLowThreshold, SetPriority, SetMaxMessageSize, Advance, HandOver, Restore, Packet, NoPacket, called}
+use Rattle.sctp_association.specs.Laws.{Call, Connect, Close, Shutdown, Send, SendMany, TakeMessage, SetLowThreshold, SetPriority, SetMaxMessageSize, Advance, HandOver, Restore, Packet, NoPacket, called, ResetStreams}
 use Rattle.sctp_association_laws.specs.Mapped.{map_context, map_end, Carried, as_written, BytesAreWrittenChunks}
 use Rattle.sctp_association_laws.proofs.RowMapsLemmas.{maps_in_state, maps_close, maps_shutdown}
 use Rattle.sctp_association_laws.proofs.OpeningMapsLemmas.{maps_connect}
 use Rattle.sctp_association_laws.proofs.TimeMapsLemmas.{maps_advance}
 use Rattle.sctp_association_laws.proofs.CallMapsLemmas.{maps_send, maps_send_many, maps_low_threshold}
 use Rattle.sctp_association_laws.proofs.HandoverMapsLemmas.{maps_hand_over, maps_restore}
+use Rattle.sctp_association_laws.proofs.ResetMapsLemmas.{maps_reset_streams}
 use Rattle.sctp_association_laws.proofs.InputMapsLemmas.{maps_on_standing, maps_packet, maps_no_packet}
 
 -- packets as they are
@@ -28,6 +30,7 @@ maps_called f Close s = maps_on_standing f close close s (maps_close f s.standin
 maps_called f Shutdown s = maps_on_standing f shutdown shutdown s (maps_shutdown f s.standing)
 maps_called f (Send m o) s = maps_on_standing f (send m o) (send m o) s (maps_send f m o s.standing)
 maps_called f (SendMany ms o) s = maps_on_standing f (send_many ms o) (send_many ms o) s (maps_send_many f ms o s.standing)
+maps_called f (ResetStreams streams) s = maps_on_standing f (reset_streams streams) (reset_streams streams) s (maps_reset_streams f streams s.standing)
 maps_called f TakeMessage s = refl
 maps_called f (SetLowThreshold stream bytes) s =
     maps_on_standing f (in_context (set_low_threshold stream bytes)) (in_context (set_low_threshold stream bytes)) s

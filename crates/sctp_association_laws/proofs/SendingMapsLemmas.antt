@@ -1,5 +1,5 @@
 -- What is said, packets that go out and bursts of them do the same whatever packets are.
-use Rattle.std.proofs.Common.{◌≡◌, ℕ, zero, suc, nat_le, nat_lt, not, Bool, true, false, List, refl, ap, ◌∙◌}
+use Rattle.std.proofs.Common.{◌≡◌, ℕ, zero, suc, nat_le, nat_lt, not, Bool, true, false, is_some, List, [], ◌∷◌, refl, ap, ◌∙◌}
 use Rattle.sctp_packet.specs.Chunk.{ChunkTree, cookie_echo_chunk}
 use Rattle.sctp_state.specs.declared.api.ErrorKind.{ErrorKind}
 use Rattle.sctp_state.specs.Numbers.{more}
@@ -8,12 +8,13 @@ use Rattle.sctp_outstanding.specs.Items.{fast_items}
 use Rattle.sctp_outstanding.specs.Losses.{Step}
 use Rattle.sctp_outstanding.specs.Forward.{is_forward_due}
 use Rattle.sctp_rx.specs.Tracker.{is_ack_due}
+use Rattle.sctp_send_queue.specs.Resets.{requested, request_resets}
 use Rattle.sctp_tx.specs.ForwardPoints.{forward_chunk}
 use Rattle.sctp_tx.specs.Sending as fragments
 use Rattle.sctp_tx.specs.Sending.{send}
 use Rattle.sctp_association.specs.Association.{Tcb, Phase, Context, Counts}
 use Rattle.sctp_association.specs.Packets.{Packet, emptied, room, fits, add, has_chunks, packet_to, new_packet, say, complain, header_to, emit_if, emit, emit_chunk}
-use Rattle.sctp_association.specs.Sending.{Filling, asked, ack_if, goes_along, with_ack, forward_added_if, forward_if, tested, forward_tested, tested_if, with_forward, filled, with_data, filled_as, emitted, Turned, turned_if, turned, go_on, burst, Sent, sent, sent_by, is_alone, open_with, send_with, send_buffered, send_in, cookie_if, send_cookie, fast_packet, fast_if, send_lost}
+use Rattle.sctp_association.specs.Sending.{Filling, asked, ack_if, goes_along, with_ack, forward_added_if, forward_if, tested, forward_tested, tested_if, with_forward, most_streams, request_of, request_if, with_request, filled, with_data, filled_as, emitted, Turned, turned_if, turned, go_on, burst, Sent, sent, sent_by, is_alone, open_with, send_with, send_buffered, send_in, cookie_if, send_cookie, fast_packet, fast_if, send_lost}
 use Rattle.sctp_association_laws.specs.Mapped.{map_event, map_context, map_standing}
 use Rattle.sctp_association_laws.proofs.ToldMapsLemmas.{maps_tell, maps_expire, maps_fragments_sent}
 
@@ -97,6 +98,19 @@ module _ {P Q : Type 0} (f : P → Q) where
   maps_with_forward : (x : Filling P) → with_forward (map_filling f x) ≡ map_filling f (with_forward x)
   maps_with_forward x = maps_tested_if (nat_le x.context.forward_from x.context.now) x
 
+  maps_request_of : (streams : List ℕ) (x : Filling P) → request_of streams (map_filling f x) ≡ map_filling f (request_of streams x)
+  maps_request_of [] x = refl
+  maps_request_of (id ∷ ids) x = refl
+
+  maps_request_if : (b : Bool) (x : Filling P) → request_if b (map_filling f x) ≡ map_filling f (request_if b x)
+  maps_request_if true x = refl
+  maps_request_if false x =
+      let most : ℕ = most_streams x.packet in
+      maps_request_of (requested most x.context.queue) (record x { context = record x.context { queue = request_resets most x.context.queue } })
+
+  maps_with_request : (x : Filling P) → with_request (map_filling f x) ≡ map_filling f (with_request x)
+  maps_with_request x = maps_request_if (is_some x.tcb.requests.current) x
+
   maps_with_data : (x : Filling P) → with_data (map_filling f x) ≡ map_filling f (with_data x)
   maps_with_data x =
       ap (λ (y : fragments.Filling Q). filled y (map_filling f x))
@@ -105,8 +119,10 @@ module _ {P Q : Type 0} (f : P → Q) where
   maps_filled_as : (is_first : Bool) (x : Filling P) → filled_as is_first (map_filling f x) ≡ map_filling f (filled_as is_first x)
   maps_filled_as true x =
       let y : Filling P = with_ack x in
-      ap (λ (z : Filling Q). with_data (with_forward z)) (maps_with_ack x)
-      ∙ (ap (λ (z : Filling Q). with_data z) (maps_with_forward y) ∙ maps_with_data (with_forward y))
+      let r : Filling P = with_forward y in
+      ap (λ (z : Filling Q). with_data (with_request (with_forward z))) (maps_with_ack x)
+      ∙ (ap (λ (z : Filling Q). with_data (with_request z)) (maps_with_forward y)
+      ∙ (ap (λ (z : Filling Q). with_data z) (maps_with_request r) ∙ maps_with_data (with_request r)))
   maps_filled_as false x = maps_with_data x
 
   -- ---- bursts

@@ -2,18 +2,21 @@
 use Rattle.std.proofs.Common.{◌≡◌, ℕ, nat_lt, Bool, true, false, List, codes, refl, ap, ◌∙◌}
 use Rattle.sctp_state.specs.declared.api.ErrorKind.TheVariants.{TooManyRetries}
 use Rattle.sctp_state.specs.Errors.{is_exhausted}
+use Rattle.sctp_state.specs.Rtt.{rto}
 use Rattle.sctp_state.specs.Timers.{Timer, is_due, is_running, expire}
 use Rattle.sctp_state.specs.Events.{OnAborted}
 use Rattle.sctp_outstanding.specs.Losses.{Step}
 use Rattle.sctp_association.specs.Association.{Tcb, Phase, CookieEchoed, Established, ShutdownPending, ShutdownSent, ShutdownReceived, ShutdownAckSent, State, Closed, CookieWait, Open, Context, Standing}
-use Rattle.sctp_association.specs.Sending.{Sent, send_cookie}
+use Rattle.sctp_association.specs.Packets.{new_packet}
+use Rattle.sctp_association.specs.Requests.{lasting, expired, woken, is_unanswered}
+use Rattle.sctp_association.specs.Sending.{Sent, add_request, send_cookie}
 use Rattle.sctp_association.specs.Closing.{send_shutdown, send_shutdown_ack, too_many}
 use Rattle.sctp_association.specs.Opening.{send_init}
 use Rattle.sctp_association.specs.Heartbeats.{counted_on, heartbeat, beat_if, unanswered_if}
-use Rattle.sctp_association.specs.Time.{Ticking, tick_ack, timed_out, t3_if, tick_t3, tick_interval, tick_timeout, ticking, ticked, Left, left, standing_if, standing_left, ended_if, ended, ended_or_sent, goes_on, settled_if, settled, t2_expired, t2_if, tick_t2, waits_if, echoed_again, t1_expired, t1_if, tick_cookie, Waited, waited, waiting_if, standing_waited, init_expired, init_if, tick_init, tick_open, tick_in, advance_if, advance}
+use Rattle.sctp_association.specs.Time.{Ticking, tick_ack, timed_out, t3_if, tick_t3, tick_interval, tick_timeout, request_again, errs_if, requests_again, unanswered, requests_if, tick_requests, ticking, ticked, Left, left, standing_if, standing_left, ended_if, ended, ended_or_sent, goes_on, settled_if, settled, t2_expired, t2_if, tick_t2, waits_if, echoed_again, t1_expired, t1_if, tick_cookie, Waited, waited, waiting_if, standing_waited, init_expired, init_if, tick_init, tick_open, tick_in, advance_if, advance}
 use Rattle.sctp_association_laws.specs.Mapped.{map_context, map_standing}
 use Rattle.sctp_association_laws.proofs.ToldMapsLemmas.{maps_nack_all}
-use Rattle.sctp_association_laws.proofs.SendingMapsLemmas.{maps_emit_chunk, maps_send_buffered, maps_send_cookie}
+use Rattle.sctp_association_laws.proofs.SendingMapsLemmas.{maps_emit, maps_emit_chunk, maps_send_buffered, maps_send_cookie}
 use Rattle.sctp_association_laws.proofs.RowMapsLemmas.{OpenMaps, maps_over, maps_too_many, maps_send_shutdown, maps_send_shutdown_ack}
 use Rattle.sctp_association_laws.proofs.OpeningMapsLemmas.{maps_send_init}
 
@@ -55,13 +58,37 @@ module _ {P Q : Type 0} (f : P → Q) where
       ap (λ (c : Context Q). ticking_as x.tcb c (tick_timeout x).has_expired)
       (maps_unanswered_if (is_due x.context.now x.context.heartbeats.timeout) x.context)
 
+  maps_request_again : (b : Bool) (x : Ticking P) → request_again b (map_ticking f x) ≡ map_ticking f (request_again b x)
+  maps_request_again true x = refl
+  maps_request_again false x =
+      let t : Tcb = record x.tcb { requests = lasting (rto x.tcb.rtt) x.tcb.requests } in
+      ap (λ (d : Context Q). ticking_as t d x.has_expired) (maps_emit f (add_request t.requests.current (new_packet x.context.options t)) x.context)
+
+  maps_errs_if : (b : Bool) (c : Context P) → errs_if b (map_context f c) ≡ map_context f (errs_if b c)
+  maps_errs_if true c = refl
+  maps_errs_if false c = refl
+
+  maps_unanswered : (x : Ticking P) → unanswered (map_ticking f x) ≡ map_ticking f (unanswered x)
+  maps_unanswered x =
+      let is_error : Bool = is_unanswered x.tcb.requests.current in
+      let t : Tcb = record x.tcb { requests = woken (expired x.context.now x.tcb.requests) } in
+      let y : Ticking P = ticking_as t (errs_if is_error x.context) true in
+      ap (λ (d : Context Q). requests_again (ticking_as t d true)) (maps_errs_if is_error x.context) ∙ maps_request_again (is_exhausted y.context.errors) y
+
+  maps_requests_if : (b : Bool) (x : Ticking P) → requests_if b (map_ticking f x) ≡ map_ticking f (requests_if b x)
+  maps_requests_if true x = maps_unanswered x
+  maps_requests_if false x = refl
+
   maps_ticked : (t : Tcb) (c : Context P) → ticked t (map_context f c) ≡ map_ticking f (ticked t c)
   unfolding ticked
   maps_ticked t c =
       let x : Ticking P = tick_ack (ticking t c) in
       let y : Ticking P = tick_t3 x in
-      ap (λ (z : Ticking Q). tick_timeout (tick_interval z)) (maps_t3_if (is_due x.context.now x.tcb.sender.t3) x)
-      ∙ (ap (λ (z : Ticking Q). tick_timeout z) (maps_interval y) ∙ maps_timeout (tick_interval y))
+      let z : Ticking P = tick_interval y in
+      let w : Ticking P = tick_timeout z in
+      ap (λ (v : Ticking Q). tick_requests (tick_timeout (tick_interval v))) (maps_t3_if (is_due x.context.now x.tcb.sender.t3) x)
+      ∙ (ap (λ (v : Ticking Q). tick_requests (tick_timeout v)) (maps_interval y)
+      ∙ (ap (λ (v : Ticking Q). tick_requests v) (maps_timeout z) ∙ maps_requests_if (is_due w.context.now w.tcb.requests.timer) w))
 
   maps_left : (t : Tcb) (has_ended : Bool) (c : Context P) (d : Context Q) → d ≡ map_context f c → left t d has_ended ≡ map_left f (left t c has_ended)
   maps_left t has_ended c d h = ap (λ (e : Context Q). left t e has_ended) h

@@ -70,7 +70,7 @@ module _ {P Q : Type 0} (f : P → Q) where
   maps_tell_all es fs t h =
       ap (λ (xs : List (Event Q)). with_events t.gone xs) (sym (maps_both t.events es (map (map_event f) t.events) fs refl h))
 
-  maps_expiry : (l : Option ℕ) → map (map_event f) (expiry l) ≡ expiry l
+  pub maps_expiry : (l : Option ℕ) → map (map_event f) (expiry l) ≡ expiry l
   maps_expiry None = refl
   maps_expiry (Some id) = refl
 

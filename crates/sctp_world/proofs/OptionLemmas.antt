@@ -2,7 +2,7 @@
 use Rattle.std.proofs.Common.{◌≡◌, ◌≢◌, ℕ, zero, suc, ◌<◌, ◌^◌, Bool, true, false, Option, Some, None, List, [], ◌∷◌, codes, IfNone, refl, sym, ap, subst, ◌∙◌, arith}
 use Rattle.sctp_serial.specs.Messages.{Message}
 use Rattle.sctp_state.specs.Options.{SendOptions}
-use Rattle.sctp_world.specs.Judge.{End, Connect, Shutdown, Close, Send, SendMany, Receive, SetPriority, SetMaxMessageSize, SetLowThreshold}
+use Rattle.sctp_world.specs.Judge.{End, Connect, Shutdown, Close, Send, SendMany, Receive, Reset, SetPriority, SetMaxMessageSize, SetLowThreshold, HandOver}
 use Rattle.sctp_world.specs.World.{CallOf, Give, GiveForeign, TellTime}
 use Rattle.sctp_world.specs.Commands.{IsFlag, IsNamed, IsHex, SpellsLimit, SpellsLife, SpellsOptions, SpellsSend, SpellsWords, Asked, probe_of, happens, passes, shown}
 
@@ -65,6 +65,9 @@ no_close words more e = cc
 no_recv : (words more : List (List ℕ)) → codes "send" ∷ words ≡ codes "recv" ∷ more → ⊥
 no_recv words more e = omega (arith, ap (letter 0) e)
 
+no_reset : (words more : List (List ℕ)) → codes "send" ∷ words ≡ codes "reset" ∷ more → ⊥
+no_reset words more e = cc
+
 no_give : (words more : List (List ℕ)) → codes "send" ∷ words ≡ codes "give" ∷ more → ⊥
 no_give words more e = omega (arith, ap (letter 0) e)
 
@@ -87,9 +90,11 @@ only_send words none (happens (CallOf x Close)) k = no_close words _ k
 only_send words none (happens (CallOf x (Send m o))) k = none x m o k
 only_send words none (happens (CallOf x (SendMany ms o))) k = k
 only_send words none (happens (CallOf x Receive)) k = no_recv words _ k
+only_send words none (happens (CallOf x (Reset streams))) k = no_reset words _ k.2
 only_send words none (happens (CallOf x (SetPriority stream priority))) k = k
 only_send words none (happens (CallOf x (SetMaxMessageSize bytes))) k = k
 only_send words none (happens (CallOf x (SetLowThreshold stream bytes))) k = k
+only_send words none (happens (CallOf x HandOver)) k = k
 only_send words none (happens (Give packet x)) k = no_give words _ k.1
 only_send words none (happens (GiveForeign x bytes)) k = no_foreign words _ k.1
 only_send words none (happens (TellTime x now)) k = k

@@ -7,7 +7,7 @@ use Rattle.std.specs.Str.Parse.{digits_value}
 use Rattle.hex.specs.Hex.{decode_of}
 use Rattle.sctp_serial.specs.Messages.{Message}
 use Rattle.sctp_state.specs.Options.{SendOptions}
-use Rattle.sctp_world.specs.Judge.{End, A, B, Connect, Shutdown, Close, Send, SendMany, Receive, SetPriority, SetMaxMessageSize, SetLowThreshold}
+use Rattle.sctp_world.specs.Judge.{End, A, B, Connect, Shutdown, Close, Send, SendMany, Receive, Reset, SetPriority, SetMaxMessageSize, SetLowThreshold, HandOver}
 use Rattle.sctp_world.specs.World.{Action, CallOf, Give, GiveForeign, TellTime, other}
 
 -- ---- lines and words
@@ -96,8 +96,8 @@ pub record SpellsSend (words : List (List ℕ)) (x : End) (m : Message) (options
   pub payload_is : IsHex payload m.payload
   pub options_are : SpellsOptions rest options
 
--- `probe HEX`, `connect X`, `shutdown X`, `close X`, `send ..`, `recv X`, `give X K Y`, `foreign X HEX`, `time MS`, `show X K`;
--- Y is the other end
+-- `probe HEX`, `connect X`, `shutdown X`, `close X`, `send ..`, `recv X`, `give X K Y`, `reset X S`, `foreign X HEX`, `time MS`,
+-- `show X K`; Y is the other end
 abbrev pub SpellsWords : List (List ℕ) → Asked → Type 0
 SpellsWords words (probe_of bytes) = (hex : List ℕ) × (words ≡ codes "probe" ∷ hex ∷ []) × IsHex hex bytes
 SpellsWords words (happens (CallOf x Connect)) = words ≡ codes "connect" ∷ end_name x ∷ []
@@ -106,9 +106,13 @@ SpellsWords words (happens (CallOf x Close)) = words ≡ codes "close" ∷ end_n
 SpellsWords words (happens (CallOf x (Send m options))) = SpellsSend words x m options
 SpellsWords words (happens (CallOf x Receive)) = words ≡ codes "recv" ∷ end_name x ∷ []
 SpellsWords words (happens (CallOf x (SendMany ms options))) = ⊥
+SpellsWords words (happens (CallOf x (Reset streams))) =
+    (number : List ℕ) × (stream : ℕ) × (words ≡ codes "reset" ∷ end_name x ∷ number ∷ []) × IsNumber number stream × (stream < 2 ^ 16)
+    × (streams ≡ stream ∷ [])
 SpellsWords words (happens (CallOf x (SetPriority stream priority))) = ⊥
 SpellsWords words (happens (CallOf x (SetMaxMessageSize bytes))) = ⊥
 SpellsWords words (happens (CallOf x (SetLowThreshold stream bytes))) = ⊥
+SpellsWords words (happens (CallOf x HandOver)) = ⊥
 SpellsWords words (happens (Give packet x)) =
     (number : List ℕ) × (words ≡ codes "give" ∷ end_name (other x) ∷ number ∷ end_name x ∷ []) × IsNumber number packet × (packet < 2 ^ 64)
 SpellsWords words (happens (GiveForeign x bytes)) = (hex : List ℕ) × (words ≡ codes "foreign" ∷ end_name x ∷ hex ∷ []) × IsHex hex bytes

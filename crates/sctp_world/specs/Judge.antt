@@ -3,6 +3,8 @@ use Rattle.std.specs.Prelude.{ℕ, ◌+◌, ◌==◌, ◌&&◌, Bool, true, fals
 use Rattle.std.specs.List.{flat_map, list_any}
 use Rattle.sctp_serial.specs.Messages.{Message}
 use Rattle.sctp_state.specs.declared.api.errors.SendError.{SendError}
+use Rattle.sctp_state.specs.declared.api.errors.ResetStreamsError.{ResetStreamsError}
+use Rattle.sctp_state.specs.Handover.{HandoverState}
 use Rattle.sctp_state.specs.Options.{SendOptions}
 use Rattle.sctp_state.specs.Events.{Event, OnConnected, GivenUp}
 use Rattle.sctp_association.specs.Socket.{Association}
@@ -41,15 +43,20 @@ pub data Call : Type 0 where
   Send : Message → SendOptions → Call
   SendMany : List Message → SendOptions → Call
   Receive : Call
+  Reset : (streams : List ℕ) → Call
   SetPriority : (stream priority : ℕ) → Call
   SetMaxMessageSize : (bytes : ℕ) → Call
   SetLowThreshold : (stream bytes : ℕ) → Call
+  HandOver : Call
 
 pub data Answer : Type 0 where
   Done : Answer
   Sent : (refused : Option SendError) → Answer
   SentMany : (refused : List (ℕ × SendError)) → Answer  -- by their places
   Received : Option Message → Answer
+  AskedReset : (refused : Option ResetStreamsError) → Answer
+  HandedOver : HandoverState → Answer
+  NotReady : (readiness : ℕ) → Answer
 
 -- ---- the log: for each event the call, packet or moment, with the end's clock; an association that changed;
 -- what was told, in order, each packet by its number; what was given up; what became ready

@@ -7,11 +7,13 @@ use Rattle.sctp_state.specs.declared.api.ErrorKind.{ErrorKind}
 use Rattle.sctp_state.specs.declared.api.ErrorKind.TheVariants as kinds
 use Rattle.sctp_state.specs.declared.api.GivenUpCause.{GivenUpCause}
 use Rattle.sctp_state.specs.declared.api.GivenUpCause.TheVariants as causes
+use Rattle.sctp_state.specs.declared.api.errors.ResetStreamsError.{ResetStreamsError}
+use Rattle.sctp_state.specs.declared.api.errors.ResetStreamsError.TheVariants as resets
 use Rattle.sctp_state.specs.declared.api.errors.SendError.{SendError}
 use Rattle.sctp_state.specs.declared.api.errors.SendError.TheVariants as refusals
 use Rattle.sctp_state.specs.Events.{Event, SendPacket, OnConnected, OnClosed, OnConnectionRestarted, OnAborted, OnError, OnBufferedAmountLow, OnTotalBufferedAmountLow, OnStreamsResetFailed, OnStreamsResetPerformed, OnIncomingStreamReset, OnLifecycleMessageFullySent, OnLifecycleMessageMaybeExpired, OnLifecycleMessageExpired, OnLifecycleMessageDelivered, OnLifecycleEnd}
 use Rattle.sctp_serial.specs.Messages.{Message}
-use Rattle.sctp_world.specs.Judge.{End, Answer, Done, Sent, SentMany, Received, Entry, Called, Given, Foreign, Timed, Associated, Emitted, Happened, GaveUp, BecameReady}
+use Rattle.sctp_world.specs.Judge.{End, Answer, Done, Sent, SentMany, Received, AskedReset, HandedOver, NotReady, Entry, Called, Given, Foreign, Timed, Associated, Emitted, Happened, GaveUp, BecameReady}
 use Rattle.sctp_world.specs.Commands.{end_name}
 use Rattle.sctp_world.specs.World.{World, side_of}
 
@@ -56,6 +58,12 @@ refusal_name refusals.ShuttingDown = codes "ShuttingDown"
 refusal_name refusals.ResourceExhaustion = codes "ResourceExhaustion"
 refusal_name refusals.Memory = codes "Memory"
 refusal_name refusals.Failed = codes "Failed"
+
+abbrev pub reset_refusal_name : ResetStreamsError → List ℕ
+reset_refusal_name resets.NotConnected = codes "NotConnected"
+reset_refusal_name resets.NotSupported = codes "NotSupported"
+reset_refusal_name resets.Memory = codes "Memory"
+reset_refusal_name resets.Failed = codes "Failed"
 
 -- a number behind a space
 abbrev pub number_word : ℕ → List ℕ
@@ -126,6 +134,10 @@ answer_text x (Sent (Some e)) = refusal_line x (refusal_name e)
 answer_text x (SentMany refused) = []
 answer_text x (Received None) = none_line x
 answer_text x (Received (Some m)) = message_line x m
+answer_text x (AskedReset None) = []
+answer_text x (AskedReset (Some e)) = refusal_line x (reset_refusal_name e)
+answer_text x (HandedOver h) = []
+answer_text x (NotReady readiness) = []
 
 -- Answers, bytes that were skipped, packets, events, and messages given up; nothing of any other entry.
 abbrev pub entry_text : World → Entry → List ℕ

@@ -1,17 +1,19 @@
 -- Two ends and all packets between them: what each event does, and what it adds to the log.
-use Rattle.std.specs.Prelude.{◌≡◌, ℕ, ◌+◌, ◌≤◌, All, Bool, true, false, Option, Some, None, List, [], ◌∷◌, ◌++◌, length, map, drop, slice_get}
+use Rattle.std.specs.Prelude.{◌≡◌, ℕ, zero, suc, ◌+◌, ◌≤◌, All, Bool, true, false, Option, Some, None, List, [], ◌∷◌, ◌++◌, length, map, drop, slice_get}
 use Rattle.rand_core.specs.Stream.{Stream}
 use Rattle.sctp_serial.specs.Messages.{Message}
 use Rattle.sctp_state.specs.Options.{Options}
 use Rattle.sctp_state.specs.Events.{Event, SendPacket, first_of, GivenUp, silent}
 use Rattle.sctp_association.specs.Association.{Endpoint, fresh}
 use Rattle.sctp_association.specs.Calls.{shown_state, refusal_of, refusals, ready_in}
+use Rattle.sctp_association.specs.Handover.{readiness, handed_over}
+use Rattle.sctp_association.specs.Resets.{reset_refusal}
 use Rattle.sctp_association.specs.Laws as table
 use Rattle.sctp_association.specs.Laws.{called}
 use Rattle.sctp_association.specs.Socket.{Association, Hears, Judges, association_in}
 use Rattle.sctp_association.specs.Socket as socket
 use Rattle.sctp_association.specs.Wire.{written}
-use Rattle.sctp_world.specs.Judge.{End, A, B, same_association, Call, Connect, Shutdown, Close, Send, SendMany, Receive, SetPriority, SetMaxMessageSize, SetLowThreshold, Answer, Done, Sent, SentMany, Received, Entry, Called, Given, Foreign, Timed, Associated, Emitted, Happened, GaveUp, BecameReady}
+use Rattle.sctp_world.specs.Judge.{End, A, B, same_association, Call, Connect, Shutdown, Close, Send, SendMany, Receive, Reset, SetPriority, SetMaxMessageSize, SetLowThreshold, HandOver, Answer, Done, Sent, SentMany, Received, AskedReset, HandedOver, NotReady, Entry, Called, Given, Foreign, Timed, Associated, Emitted, Happened, GaveUp, BecameReady}
 
 -- an end, with the packets that it ever sent
 pub record Side : Type 0 where
@@ -125,13 +127,20 @@ step_of Close = table.Close
 step_of (Send m options) = table.Send m options
 step_of (SendMany ms options) = table.SendMany ms options
 step_of Receive = table.TakeMessage
+step_of (Reset streams) = table.ResetStreams streams
 step_of (SetPriority stream priority) = table.SetPriority stream priority
 step_of (SetMaxMessageSize bytes) = table.SetMaxMessageSize bytes
 step_of (SetLowThreshold stream bytes) = table.SetLowThreshold stream bytes
+step_of HandOver = table.HandOver
 
 -- an end after a call
 abbrev pub after_call : Call → Endpoint (List ℕ) → Endpoint (List ℕ)
 after_call call s = called (step_of call) s
+
+-- the record, where nothing stands in the way
+abbrev pub handed_by : (readiness : ℕ) → Endpoint (List ℕ) → Answer
+handed_by zero s = HandedOver (handed_over s.standing)
+handed_by (suc n) s = NotReady (suc n)
 
 abbrev pub answer_to : Call → Endpoint (List ℕ) → Answer
 answer_to Connect s = Done
@@ -140,9 +149,11 @@ answer_to Close s = Done
 answer_to (Send m options) s = Sent (refusal_of m s.standing)
 answer_to (SendMany ms options) s = SentMany (refusals 0 ms options (shown_state s.standing.state) s.standing.context)
 answer_to Receive s = Received (first_of (ready_at s))
+answer_to (Reset streams) s = AskedReset (reset_refusal s.standing.state)
 answer_to (SetPriority stream priority) s = Done
 answer_to (SetMaxMessageSize bytes) s = Done
 answer_to (SetLowThreshold stream bytes) s = Done
+answer_to HandOver s = handed_by (readiness s.standing) s
 
 -- the call with its answer
 abbrev pub call_entry : End → Call → Endpoint (List ℕ) → Entry

@@ -3,7 +3,8 @@ use Rattle.std.specs.Prelude.{ℕ, Bool, Option, Some, None, List, [], ◌∷◌
 use Rattle.std.specs.Option.{option_map}
 use Rattle.rand_core.specs.Stream.{Stream}
 use Rattle.sctp_serial.specs.Messages.{Message, message_of}
-use Rattle.sctp_state.specs.Events.{event_of, given_up_of}
+use Rattle.sctp_state.specs.Events.{event_of, given_up_of, numbers_of}
+use Rattle.sctp_state.specs.Handover.{handover_state_of}
 use Rattle.sctp_state.specs.Options.{send_options_of}
 use Rattle.sctp_association.specs.Socket.{SocketValue, association_of, endpoint}
 use Rattle.sctp_world.specs.declared.world.log.End as given_end
@@ -16,7 +17,7 @@ use Rattle.sctp_world.specs.declared.world.log.Event as given_event
 use Rattle.sctp_world.specs.declared.world.log.Event.TheVariants as events
 use Rattle.sctp_world.specs.declared.world.log.Entry as given_entry
 use Rattle.sctp_world.specs.declared.world.log.Entry.TheVariants as entries
-use Rattle.sctp_world.specs.Judge.{End, A, B, Call, Connect, Shutdown, Close, Send, SendMany, Receive, SetPriority, SetMaxMessageSize, SetLowThreshold, Answer, Done, Sent, SentMany, Received, Entry, Called, Given, Foreign, Timed, Associated, Emitted, Happened, GaveUp, BecameReady}
+use Rattle.sctp_world.specs.Judge.{End, A, B, Call, Connect, Shutdown, Close, Send, SendMany, Receive, Reset, SetPriority, SetMaxMessageSize, SetLowThreshold, HandOver, Answer, Done, Sent, SentMany, Received, AskedReset, HandedOver, NotReady, Entry, Called, Given, Foreign, Timed, Associated, Emitted, Happened, GaveUp, BecameReady}
 use Rattle.sctp_world.specs.World.{Action, CallOf, Give, GiveForeign, TellTime, Side, World}
 
 abbrev pub end_tree : given_end.End → End
@@ -30,15 +31,20 @@ call_tree calls.Close = Close
 call_tree (calls.Send message options) = Send (message_of message) (send_options_of options)
 call_tree (calls.SendMany messages options) = SendMany (map message_of messages.items) (send_options_of options)
 call_tree calls.Receive = Receive
+call_tree (calls.Reset streams) = Reset (numbers_of streams.items)
 call_tree (calls.SetPriority stream priority) = SetPriority stream.0 priority
 call_tree (calls.SetMaxMessageSize bytes) = SetMaxMessageSize bytes
 call_tree (calls.SetLowThreshold stream bytes) = SetLowThreshold stream.0 bytes
+call_tree calls.Handover = HandOver
 
 abbrev pub answer_tree : given_answer.Answer → Answer
 answer_tree answers.Done = Done
 answer_tree (answers.Sent refused) = Sent refused
 answer_tree (answers.SentMany refused) = SentMany refused.items
 answer_tree (answers.Received message) = Received (option_map message_of message)
+answer_tree (answers.AskedReset refused) = AskedReset refused
+answer_tree (answers.HandedOver state) = HandedOver (handover_state_of state)
+answer_tree (answers.NotReady readiness) = NotReady readiness.0
 
 abbrev pub action_of : given_event.Event → Action
 action_of (events.Call end call) = CallOf (end_tree end) (call_tree call)

@@ -24,8 +24,8 @@ const MAX_LINE: usize = 1048576;
 pub enum Command {
     /// `probe HEX`: what the bytes of a packet say.
     Probe(Vec<u8>),
-    /// `connect X`, `shutdown X`, `close X`, `send X S P HEX ..`, `recv X`, `give X K Y`, `foreign X HEX`: an event of the
-    /// world.
+    /// `connect X`, `shutdown X`, `close X`, `send X S P HEX ..`, `recv X`, `give X K Y`, `reset X S`, `foreign X HEX`: an
+    /// event of the world.
     Event(Event),
     /// `time MS`: both ends are told the moment.
     Time(SocketTime),
@@ -66,6 +66,8 @@ fn parse_words(alloc: Global, words: &[&[u8]]) -> Result<Option<Command>, AllocE
         Ok(parse_shutdown(rest))
     } else if is_word(name, b"close") {
         Ok(parse_close(rest))
+    } else if is_word(name, b"reset") {
+        parse_reset(alloc, rest)
     } else if is_word(name, b"foreign") {
         parse_foreign(alloc, rest)
     } else if is_word(name, b"send") {
@@ -128,6 +130,24 @@ fn parse_close(rest: &[&[u8]]) -> Option<Command>
         return None;
     };
     Some(Command::Event(Event::Call(end_of(end)?, Call::Close)))
+}
+
+/// `X S`
+fn parse_reset(alloc: Global, rest: &[&[u8]]) -> Result<Option<Command>, AllocError>
+    ensures command { IfOk result (λ found. IfSome found (λ command. SpellsWords (codes "reset" ∷ map (λ word. word.now) rest.now) (command_of command))) }
+    ensures none { IfOk result (λ found. IfNone found ((asked : Asked) → SpellsWords (codes "reset" ∷ map (λ word. word.now) rest.now) asked → ⊥)) }
+{
+    let [end, stream] = rest else {
+        return Ok(None);
+    };
+    let Some(end) = end_of(end) else {
+        return Ok(None);
+    };
+    let Some(stream) = half_number_of(stream) else {
+        return Ok(None);
+    };
+    let streams = Vec::from_slice(alloc, &[StreamId(stream)])?;
+    Ok(Some(Command::Event(Event::Call(end, Call::Reset(streams)))))
 }
 
 /// `X HEX`

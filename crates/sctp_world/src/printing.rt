@@ -4,14 +4,14 @@ ghost use Rattle.std.specs.Prelude.{◌≡◌, ◌++◌, map, slice_get, IfOk, s
 ghost use Rattle.std.specs.List.{flat_map};
 ghost use Rattle.sctp_state.specs.Events.{event_of, numbers_of};
 ghost use Rattle.sctp_world.specs.World.{side_of};
-ghost use Rattle.sctp_world.specs.Printed.{size_of, kind_name, event_name, event_words, refusal_name, refusal_line, message_line, none_line, given_up_line, bytes_line, packet_line, event_line, number_word, cause_words, answer_text, entry_text, news_text, packet_text};
+ghost use Rattle.sctp_world.specs.Printed.{size_of, kind_name, event_name, event_words, refusal_name, reset_refusal_name, refusal_line, message_line, none_line, given_up_line, bytes_line, packet_line, event_line, number_word, cause_words, answer_text, entry_text, news_text, packet_text};
 ghost use Rattle.sctp_serial.specs.Messages.{message_of};
 ghost use Rattle.sctp_world.specs.WorldView.{answer_tree, end_tree, entry_tree, world_of};
 
 use crate::world::{Answer, End, Entry, World};
 use rand_core::Rng;
 use sctp_serial::{Message, StreamId};
-use sctp_state::{ErrorKind, GivenUp, GivenUpCause, SendError, SocketEvent};
+use sctp_state::{ErrorKind, GivenUp, GivenUpCause, ResetStreamsError, SendError, SocketEvent};
 use sctp_wire::Checksum;
 use std::alloc::{AllocError, Global};
 
@@ -92,6 +92,10 @@ fn answer_text(alloc: Global, end: End, answer: &Answer) -> Result<String, Alloc
 {
     match answer {
         Answer::Sent(Some(refusal)) => refusal_text(alloc, end, refusal),
+        Answer::AskedReset(Some(refusal)) => {
+            let name = reset_refusal_name(refusal);
+            format!(in alloc; "{end} refused {name}\n")
+        }
         Answer::Received(Some(message)) => message_text(alloc, end, message),
         Answer::Received(None) => format!(in alloc; "{end} none\n"),
         _ => Ok(String::new(alloc)),
@@ -206,6 +210,17 @@ fn refusal_name(error: &SendError) -> &'static str
         SendError::ResourceExhaustion => "ResourceExhaustion",
         SendError::Memory => "Memory",
         SendError::Failed => "Failed",
+    }
+}
+
+fn reset_refusal_name(error: &ResetStreamsError) -> &'static str
+    ensures { result.now ≡ reset_refusal_name error.now }
+{
+    match error {
+        ResetStreamsError::NotConnected => "NotConnected",
+        ResetStreamsError::NotSupported => "NotSupported",
+        ResetStreamsError::Memory => "Memory",
+        ResetStreamsError::Failed => "Failed",
     }
 }
 

@@ -2,7 +2,7 @@
 
 use crate::tests::link::End::{A, B};
 use crate::tests::link::Move::{
-    Close, Connect, Foreign, Give, Receive, Send, SendTwo, Shutdown, Time,
+    Close, Connect, Foreign, Give, Receive, Reset, ResetMany, Send, SendTwo, Shutdown, Time,
 };
 use crate::tests::link::{Move, named, once, plainly, play};
 use std::alloc::{AllocError, Global};
@@ -313,5 +313,127 @@ a OnAborted TooManyRetries: Too many retransmissions
 a rests
 ";
     assert!(rt; tells(rt.alloc(), &moves, rest)?);
+    Ok(())
+}
+
+#[test]
+fn a_stream_is_reset(rt: HostRuntime) -> Result<(), AllocError> {
+    let moves = [
+        Reset(A, 1),
+        Give(2, B),
+        Give(2, B),
+        Give(2, A),
+        Give(3, A),
+        Send(A, &[0x61], plainly()),
+        Give(3, B),
+        Receive(B),
+    ];
+    let rest = "a packet 2 36
+b OnIncomingStreamReset 1
+b packet 2 28
+b packet 3 28
+a OnStreamsResetPerformed 1
+a OnBufferedAmountLow 1
+a packet 3 32
+b packet 4 28
+b message 61
+";
+    assert!(rt; tells(rt.alloc(), &moves, rest)?);
+    Ok(())
+}
+
+#[test]
+fn a_reset_waits_for_what_was_sent_before(rt: HostRuntime) -> Result<(), AllocError> {
+    let moves = [
+        Send(A, &[0x78], plainly()),
+        Send(A, &[0x78], plainly()),
+        Reset(A, 1),
+        Give(2, B),
+        Give(4, B),
+        Give(3, B),
+        Give(4, B),
+        Give(4, B),
+        Receive(B),
+        Receive(B),
+    ];
+    let rest = "a OnBufferedAmountLow 1
+a packet 2 32
+a OnBufferedAmountLow 1
+a packet 3 32
+a packet 4 36
+b packet 2 28
+b packet 3 28
+b OnIncomingStreamReset 1
+b packet 4 28
+b packet 5 28
+b packet 6 28
+b message 78
+b message 78
+";
+    assert!(rt; tells(rt.alloc(), &moves, rest)?);
+    Ok(())
+}
+
+#[test]
+fn a_reset_is_asked_for_again(rt: HostRuntime) -> Result<(), AllocError> {
+    let moves = [
+        Send(A, &[0x78], plainly()),
+        Reset(A, 1),
+        Give(3, B),
+        Give(2, A),
+        Give(2, B),
+        Time(500),
+        Give(4, B),
+        Give(3, A),
+        Give(4, A),
+    ];
+    let rest = "a OnBufferedAmountLow 1
+a packet 2 32
+a packet 3 36
+b packet 2 28
+b packet 3 28
+a packet 4 36
+a packet 5 32
+b OnIncomingStreamReset 1
+b packet 4 28
+a OnStreamsResetPerformed 1
+a rests
+";
+    assert!(rt; tells(rt.alloc(), &moves, rest)?);
+    Ok(())
+}
+
+#[test]
+fn streams_without_room_wait(rt: HostRuntime) -> Result<(), AllocError> {
+    let moves = [
+        ResetMany(A, 600),
+        Give(2, B),
+        Give(2, A),
+        Give(3, B),
+        Give(3, A),
+    ];
+    let rest = "a packet 2 1188
+b OnIncomingStreamReset
+b packet 2 28
+a OnStreamsResetPerformed
+a packet 3 76
+b OnIncomingStreamReset
+b packet 3 28
+a OnStreamsResetPerformed
+a rests
+";
+    assert!(rt; tells(rt.alloc(), &moves, rest)?);
+    Ok(())
+}
+
+#[test]
+fn a_reset_is_refused(rt: HostRuntime) -> Result<(), AllocError> {
+    let log = play(rt.alloc(), &[Reset(A, 1), Connect(A), Reset(A, 1)], &[])?;
+    let expected = "a refused
+a packet 0 44
+a refused
+a rests
+";
+    assert!(rt; log.as_bytes() == expected.as_bytes());
     Ok(())
 }

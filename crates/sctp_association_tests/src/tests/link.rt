@@ -46,6 +46,10 @@ pub enum Move<'a> {
     Shutdown(End),
     /// The socket is handed over to a new one, which takes its place.
     Replace(End),
+    /// This stream.
+    Reset(End, u16),
+    /// So many, from 0 on.
+    ResetMany(End, u16),
 }
 
 pub fn plainly() -> SendOptions {
@@ -147,6 +151,9 @@ fn event_name(event: &SocketEvent) -> &'static str {
         SocketEvent::OnClosed() => "OnClosed",
         SocketEvent::OnConnectionRestarted() => "OnConnectionRestarted",
         SocketEvent::OnBufferedAmountLow(_) => "OnBufferedAmountLow",
+        SocketEvent::OnStreamsResetFailed(_) => "OnStreamsResetFailed",
+        SocketEvent::OnStreamsResetPerformed(_) => "OnStreamsResetPerformed",
+        SocketEvent::OnIncomingStreamReset(_) => "OnIncomingStreamReset",
         SocketEvent::OnLifecycleMessageFullySent(_) => "OnLifecycleMessageFullySent",
         SocketEvent::OnLifecycleMessageDelivered(_) => "OnLifecycleMessageDelivered",
         SocketEvent::OnLifecycleEnd(_) => "OnLifecycleEnd",
@@ -154,10 +161,21 @@ fn event_name(event: &SocketEvent) -> &'static str {
     }
 }
 
+/// The stream of a list of one.
+fn only(ids: &[StreamId]) -> Option<u64> {
+    match ids.first() {
+        Some(id) if ids.len() == 1 => Some(u64::from(id.0)),
+        _ => None,
+    }
+}
+
 /// The stream or the lifecycle that an event names.
 fn event_number(event: &SocketEvent) -> Option<u64> {
     match event {
         SocketEvent::OnBufferedAmountLow(id) => Some(u64::from(id.0)),
+        SocketEvent::OnStreamsResetFailed(ids) => only(ids),
+        SocketEvent::OnStreamsResetPerformed(ids) => only(ids),
+        SocketEvent::OnIncomingStreamReset(ids) => only(ids),
         SocketEvent::OnLifecycleMessageFullySent(id) => Some(id.value()),
         SocketEvent::OnLifecycleMessageDelivered(id) => Some(id.value()),
         SocketEvent::OnLifecycleEnd(id) => Some(id.value()),
@@ -332,6 +350,18 @@ fn replace<S: Watched>(
     Ok(side.socket.restore_from_state(&state).is_err())
 }
 
+fn reset_many<S: Watched>(
+    alloc: Global,
+    side: &mut Side<S>,
+    count: u16,
+) -> Result<bool, AllocError> {
+    let mut ids = Vec::new(alloc);
+    for id in 0..count {
+        ids.push(StreamId(id))?;
+    }
+    Ok(side.socket.reset_streams(&ids).is_err())
+}
+
 fn tell_time<S: Watched>(side: &mut Side<S>, moment: u64) -> bool {
     let now = SocketTime::zero() + Duration::from_millis(moment);
     side.socket.advance_time(now).is_err()
@@ -356,6 +386,8 @@ fn act<S: Watched>(
         Move::Close(_) => Ok(side.socket.close().is_err()),
         Move::Shutdown(_) => Ok(side.socket.shutdown().is_err()),
         Move::Replace(_) => replace(alloc, side, log),
+        Move::Reset(_, id) => Ok(side.socket.reset_streams(&[StreamId(*id)]).is_err()),
+        Move::ResetMany(_, count) => reset_many(alloc, side, *count),
     }
 }
 
@@ -384,6 +416,8 @@ fn is_at_a(turn: &Move<'_>) -> bool {
         Move::Close(end) => *end == End::A,
         Move::Shutdown(end) => *end == End::A,
         Move::Replace(end) => *end == End::A,
+        Move::Reset(end, _) => *end == End::A,
+        Move::ResetMany(end, _) => *end == End::A,
     }
 }
 

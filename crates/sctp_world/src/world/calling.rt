@@ -2,17 +2,18 @@
 
 ghost use Rattle.std.specs.Prelude.{◌≡◌, map, IfOk, OnOk};
 ghost use Rattle.sctp_serial.specs.Messages.{message_of};
+ghost use Rattle.sctp_state.specs.Events.{numbers_of};
 ghost use Rattle.sctp_state.specs.Options.{send_options_of};
 ghost use Rattle.sctp_association.specs.Socket.{endpoint};
-ghost use Rattle.sctp_world.specs.Judge.{Receive, Send, SendMany};
+ghost use Rattle.sctp_world.specs.Judge.{HandOver, Reset, Send, SendMany};
 ghost use Rattle.sctp_world.specs.World.{after_call, answer_to};
 ghost use Rattle.sctp_world.specs.WorldView.{answer_tree, call_tree};
 
 use crate::world::log::{Answer, Call, copies_of, copy_of};
 use rand_core::Rng;
 use sctp_association::{DcSctpSocket, Socket};
-use sctp_serial::Message;
-use sctp_state::{BatchFault, CallError, SendError, SendOptions};
+use sctp_serial::{Message, StreamId};
+use sctp_state::{BatchFault, CallError, HandoverError, ResetStreamsError, SendError, SendOptions};
 use sctp_wire::Checksum;
 use std::alloc::Global;
 
@@ -31,7 +32,9 @@ pub fn make_call<R: Rng, C: Checksum>(
         Call::Close => socket.close()?,
         Call::Send(message, options) => return send(alloc, message, options, socket),
         Call::SendMany(messages, options) => return send_many(alloc, messages, options, socket),
+        Call::Handover => return hand_over(socket),
         Call::Receive => return Ok(Answer::Received(socket.get_next_message())),
+        Call::Reset(streams) => return reset(streams, socket),
         Call::SetPriority(stream, priority) => socket.set_stream_priority(*stream, *priority)?,
         Call::SetMaxMessageSize(bytes) => socket.set_max_message_size(*bytes as usize),
         Call::SetLowThreshold(stream, bytes) => {
@@ -78,5 +81,32 @@ fn send_many<R: Rng, C: Checksum>(
         Err(BatchFault::Refused(refused)) => Ok(Answer::SentMany(refused.0)),
         Err(BatchFault::Memory) => Err(CallError::Memory),
         Err(BatchFault::Failed) => Err(CallError::Failed),
+    }
+}
+
+fn hand_over<R: Rng, C: Checksum>(socket: &mut Socket<R, C>) -> Result<Answer, CallError>
+    ensures after { OnOk result (endpoint R.stream C.word_of socket.new ≡ after_call HandOver (endpoint R.stream C.word_of socket.old)) }
+    ensures answer { IfOk result (λ answer. answer_tree answer ≡ answer_to HandOver (endpoint R.stream C.word_of socket.old)) }
+{
+    match socket.get_handover_state_and_close() {
+        Ok(state) => Ok(Answer::HandedOver(state)),
+        Err(HandoverError::NotReady(readiness)) => Ok(Answer::NotReady(readiness)),
+        Err(HandoverError::Memory) => Err(CallError::Memory),
+        Err(HandoverError::Failed) => Err(CallError::Failed),
+    }
+}
+
+fn reset<R: Rng, C: Checksum>(
+    streams: &[StreamId],
+    socket: &mut Socket<R, C>,
+) -> Result<Answer, CallError>
+    ensures after { OnOk result (endpoint R.stream C.word_of socket.new ≡ after_call (Reset (numbers_of streams.now)) (endpoint R.stream C.word_of socket.old)) }
+    ensures answer { IfOk result (λ answer. answer_tree answer ≡ answer_to (Reset (numbers_of streams.now)) (endpoint R.stream C.word_of socket.old)) }
+{
+    match socket.reset_streams(streams) {
+        Ok(()) => Ok(Answer::AskedReset(None)),
+        Err(ResetStreamsError::Memory) => Err(CallError::Memory),
+        Err(ResetStreamsError::Failed) => Err(CallError::Failed),
+        Err(refusal) => Ok(Answer::AskedReset(Some(refusal))),
     }
 }

@@ -7,7 +7,10 @@ ghost use Rattle.sctp_world.specs.WorldView.{call_tree, end_tree};
 
 use sctp_association::Association;
 use sctp_serial::{Message, SocketTime, StreamId};
-use sctp_state::{GivenUp, SendError, SendOptions, SocketEvent};
+use sctp_state::{
+    GivenUp, HandoverReadiness, ResetStreamsError, SendError, SendOptions, SocketEvent,
+    SocketHandoverState,
+};
 use std::alloc::{AllocError, Global};
 use std::fmt;
 
@@ -39,11 +42,15 @@ pub enum Call {
     SendMany(Vec<Message>, SendOptions),
     /// Takes the next message that is ready.
     Receive,
+    /// Asks the peer to begin these streams anew.
+    Reset(Vec<StreamId>),
     SetPriority(StreamId, u16),
     /// The most bytes of a message's payload.
     SetMaxMessageSize(u32),
     /// The amount in bytes at which a stream is low.
     SetLowThreshold(StreamId, usize),
+    /// Closes the end, where nothing stands in the way, and writes the record of its association.
+    Handover,
 }
 
 /// What a call answered.
@@ -56,6 +63,12 @@ pub enum Answer {
     SentMany(Vec<(usize, SendError)>),
     /// The message that was handed out, where one was ready.
     Received(Option<Message>),
+    /// Why no stream is reset, where that is so.
+    AskedReset(Option<ResetStreamsError>),
+    /// The record of the association that was handed over.
+    HandedOver(SocketHandoverState),
+    /// What stands in the way of a handover.
+    NotReady(HandoverReadiness),
 }
 
 /// What may happen next.
@@ -121,8 +134,10 @@ pub fn copy_of_call(alloc: Global, call: &Call) -> Result<Call, AllocError>
             Call::SendMany(copies_of(alloc, messages)?, *options)
         }
         Call::Receive => Call::Receive,
+        Call::Reset(streams) => Call::Reset(Vec::from_slice(alloc, streams)?),
         Call::SetPriority(stream, priority) => Call::SetPriority(*stream, *priority),
         Call::SetMaxMessageSize(bytes) => Call::SetMaxMessageSize(*bytes),
         Call::SetLowThreshold(stream, bytes) => Call::SetLowThreshold(*stream, *bytes),
+        Call::Handover => Call::Handover,
     })
 }

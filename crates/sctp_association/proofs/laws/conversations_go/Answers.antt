@@ -1,4 +1,4 @@
-use Rattle.sctp_association.proofs.RowsLemmas.{beats_goes, first_goes, order_goes, both_goes, given_up_goes, fragments_goes, closes_goes, shuts_down_goes, taken_up_goes}
+use Rattle.sctp_association.proofs.RowsLemmas.{beats_goes, first_goes, order_goes, both_goes, given_up_goes, fragments_goes, closes_goes, shuts_down_goes, taken_up_goes, resets_goes, reset_waits_goes}
 use Rattle.sctp_association.proofs.laws.conversations_go.Goals as goal
 
 pub returns-clause-first : goal.returns-clause-first
@@ -21,6 +21,12 @@ returns-clause-closes c = closes_goes
 
 pub returns-clause-shuts_down : goal.returns-clause-shuts_down
 returns-clause-shuts_down c = shuts_down_goes
+
+pub returns-clause-resets : goal.returns-clause-resets
+returns-clause-resets c = resets_goes
+
+pub returns-clause-reset_waits : goal.returns-clause-reset_waits
+returns-clause-reset_waits c = reset_waits_goes
 
 pub returns-clause-beats : goal.returns-clause-beats
 returns-clause-beats c = beats_goes
