@@ -1,13 +1,12 @@
 -- Entries of a forward point ascend, and with them the chunk has room.
-use Rattle.std.proofs.Common.{◌≡◌, inl, inr, ℕ, zero, suc, ◌+◌, ◌*◌, ◌≤◌, ◌<◌, Bool, true, false, cond, Option, Some, None, List, [], ◌∷◌, length, refl, ap, sym, subst, ◌∙◌, arith}
+use Rattle.std.proofs.Common.{◌≡◌, ℕ, suc, ◌+◌, ◌*◌, ◌≤◌, ◌<◌, Bool, true, false, cond, Option, Some, None, List, [], ◌∷◌, length, refl, ap, sym, subst, ◌∙◌, arith}
 use Rattle.std.specs.Prelude.{◌&&◌, ◌||◌, ◌==◌, not, nat_lt, nat_le, if◌then◌else◌}
 use Rattle.std.specs.List.{list_all, list_any}
-use Rattle.std.proofs.lemmas.Bool.{cases_lt}
 use Rattle.std.proofs.lemmas.Bool.Decides.{nat_tests}
 use Rattle.sctp_outstanding.specs.declared.skips.SkipEntry.{SkipEntry}
 use Rattle.sctp_outstanding.specs.Item.{Item, is_abandoned}
 use Rattle.sctp_outstanding.specs.Items.{Items, when}
-use Rattle.sctp_outstanding.specs.Forward.{ForwardPoint, entry_of, entry_size, is_before, is_same, is_alike, named, with_entry, count_with, size_with, stops, passes, passed, walk}
+use Rattle.sctp_outstanding.specs.Forward.{ForwardPoint, entry_of, is_before, is_same, is_alike, named, with_entry, count_with, size_with, stops, passes, passed, walk}
 use Rattle.sctp_outstanding.specs.Point.{Ascend}
 
 -- ---- the order of entries is that of numbers
@@ -46,8 +45,11 @@ is-other a b h = grind (arith, nat_tests)
 is-lower : (a b : ℕ) → a < b → nat_lt a b ≡ true
 is-lower a b h = grind (arith, nat_tests)
 
-is-apart : (a b : ℕ) → (a == b) ≡ false → b ≤ a → b < a
-is-apart a b h le = grind (arith, nat_tests)
+is-different : (a b : ℕ) → b < a → (a == b) ≡ false
+is-different a b h = grind (arith, nat_tests)
+
+is-below : (a b : ℕ) → (a == b) ≡ false → a ≤ b → a < b
+is-below a b h le = grind (arith, nat_tests)
 
 before-is : (e d : SkipEntry) → is_before e d ≡ nat_lt (rank e) (rank d)
 before-is e d = before-place e.stream_id.0 d.stream_id.0 e.is_unordered d.is_unordered
@@ -67,11 +69,8 @@ module _ (e d : SkipEntry) (ds : List SkipEntry) (lo : ℕ) (least : lo ≤ rank
   put-rises false true b s = (least, subst (λ k. Rising (suc k) ds) (sym (is-equal (rank e) (rank d) (sym (alike-is e d) ∙ s))) h.1)
   put-rises false false b s =
       let up : rank e ≤ rank d = is-not-less (rank d) (rank e) (sym (before-is d e) ∙ b) in
-      let less : rank e < rank d = is-apart-up (rank e) (rank d) (sym (alike-is e d) ∙ s) up in
+      let less : rank e < rank d = is-below (rank e) (rank d) (sym (alike-is e d) ∙ s) up in
       (least, (less, h.1))
-    where
-      is-apart-up : (a b : ℕ) → (a == b) ≡ false → a ≤ b → suc a ≤ b
-      is-apart-up a b h le = grind (arith, nat_tests)
 
 named-rises : (e : SkipEntry) (lo : ℕ) (ds : List SkipEntry) → lo ≤ rank e → Rising lo ds → Rising lo (named e ds)
 named-rises e lo [] least h = (least, tt)
@@ -92,10 +91,6 @@ none-alike e lo (d ∷ ds) less h =
     neither (is_alike e d) (list_any (is_alike e) ds) (alike-is e d ∙ is-other (rank e) (rank d) (omega (arith, less, h.0)))
     (none-alike e (suc (rank d)) ds (omega (arith, less, h.0)) h.1)
 
-at-most-one : (b : Bool) → when b 1 ≤ 1
-at-most-one true = omega arith
-at-most-one false = omega arith
-
 -- behind an entry that comes before it, what is alike is counted alone
 counts-on : (a b : Bool) → a ≡ false → when (not (a || b)) 1 ≡ when (not b) 1
 counts-on a b h = ap (λ x. when (not (x || b)) 1) h
@@ -110,19 +105,13 @@ module _ (e d : SkipEntry) (ds : List SkipEntry) (lo : ℕ) (h : Rising lo (d �
       let off : is_alike e d ≡ false = alike-is e d ∙ is-different (rank e) (rank d) less in
       let more : when (not (is_alike e d || list_any (is_alike e) ds)) 1 ≡ when (not (list_any (is_alike e) ds)) 1 = counts-on (is_alike e d) (list_any (is_alike e) ds) off in
       omega (arith, ih, more)
-    where
-      is-different : (a b : ℕ) → b < a → (a == b) ≡ false
-      is-different a b h = grind (arith, nat_tests)
   put-length false true b s = omega arith
   put-length false false b s =
       let up : rank e ≤ rank d = is-not-less (rank d) (rank e) (sym (before-is d e) ∙ b) in
-      let less : rank e < rank d = is-apart-up (rank e) (rank d) (sym (alike-is e d) ∙ s) up in
+      let less : rank e < rank d = is-below (rank e) (rank d) (sym (alike-is e d) ∙ s) up in
       let none : list_any (is_alike e) (d ∷ ds) ≡ false = none-alike e (rank d) (d ∷ ds) less (omega arith, h.1) in
       let one : when (not (list_any (is_alike e) (d ∷ ds))) 1 ≡ 1 = counts-one (list_any (is_alike e) (d ∷ ds)) none in
       omega (arith, one)
-    where
-      is-apart-up : (a b : ℕ) → (a == b) ≡ false → a ≤ b → suc a ≤ b
-      is-apart-up a b h le = grind (arith, nat_tests)
 
 named-length : (e : SkipEntry) (lo : ℕ) (ds : List SkipEntry) → Rising lo ds → length (named e ds) ≤ count_with (Some e) ds
 named-length e lo [] h = omega arith
