@@ -1,4 +1,5 @@
 pub mod AgainLemmas
+pub mod EntriesLemmas
 pub mod ForwardLemmas
 pub mod KeepsLemmas
 pub mod LaidLemmas

@@ -9,6 +9,7 @@ use Rattle.sctp_outstanding.specs.Item.{Item, is_abandoned}
 use Rattle.sctp_outstanding.specs.Items.{Items}
 use Rattle.sctp_outstanding.specs.Forward.{ForwardPoint, is_first_gone, entry_of, is_before, is_same, is_alike, named, with_entry, size_with, stops, passes, passed, walk, forward_point}
 use Rattle.sctp_outstanding.specs.Point.{named_number, number_in, last_number, IsPoint}
+use Rattle.sctp_outstanding.proofs.EntriesLemmas.{point-fits, point-ascends}
 
 -- ---- entries
 
@@ -151,6 +152,8 @@ points-are-sound most s =
       within = omega (arith, h.1.within, n);
       given_up = subst (λ k. list_all is_abandoned (take k s.kept) ≡ true) n h.1.given_up;
       named = λ e. subst (λ k. named_number e f.entries ≡ last_number s.is_interleaved e None (take k s.kept)) n (h.1.names e);
+      ascends = point-ascends most s s.kept;
+      fits = point-fits most s s.kept;
       unbroken = λ k lt. h.1.unbroken k (omega arith) (omega (arith, lt, n));
       ahead = λ due room. goes-ahead most s s.kept (both s.is_partial (is_first_gone s.kept) due).1 room;
     }

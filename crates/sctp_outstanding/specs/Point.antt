@@ -5,7 +5,7 @@ use Rattle.std.specs.List.{list_all}
 use Rattle.sctp_outstanding.specs.declared.skips.SkipEntry.{SkipEntry}
 use Rattle.sctp_outstanding.specs.Item.{Item, is_abandoned}
 use Rattle.sctp_outstanding.specs.Items.{Items}
-use Rattle.sctp_outstanding.specs.Forward.{ForwardPoint, is_forward_due, entry_of, is_alike, stops, forward_point}
+use Rattle.sctp_outstanding.specs.Forward.{ForwardPoint, is_forward_due, entry_of, is_alike, is_before, size_with, stops, forward_point}
 
 -- what entries say of a stream and order
 abbrev pub named_number : SkipEntry → List SkipEntry → Option ℕ
@@ -22,11 +22,19 @@ abbrev pub last_number : (is_interleaved : Bool) → SkipEntry → Option ℕ �
 last_number m e found [] = found
 last_number m e found (i ∷ is) = last_number m e (number_in e (entry_of m i) found) is
 
+-- by stream, ordered before unordered, and none twice
+abbrev pub Ascend : List SkipEntry → Type 0
+Ascend [] = Unit {0}
+Ascend (e ∷ es) = (list_all (is_before e) es ≡ true) × Ascend es
+
 pub record IsPoint (most : ℕ) (s : Items) (f : ForwardPoint) : Type 0 where
   pub within : f.count ≤ length s.kept
   pub given_up : list_all is_abandoned (take f.count s.kept) ≡ true
   -- each stream touched is named, with its last number, and no other
   pub named : (e : SkipEntry) → named_number e f.entries ≡ last_number s.is_interleaved e None (take f.count s.kept)
+  pub ascends : Ascend f.entries
+  -- with all its entries the chunk is within the size, if it passes anything
+  pub fits : 0 < f.count → size_with s.is_interleaved None f.entries ≤ most
   -- it is over no breakpoint of a reset
   pub unbroken : (k : ℕ) → k < f.count → stops k s ≡ false
   -- and where it is due it goes on, if the chunk may hold one entry

@@ -113,9 +113,10 @@ pub fn mid_skips(alloc: Global, entries: &[SkipEntry]) -> Result<Vec<SkippedStre
     entries.iter().map(|entry| entry.mid_skip()).collect(alloc)
 }
 
-/// Puts the entry, if there is one, at its place.
+/// Puts the entry, if there is one, at its place. Without memory nothing changes.
 pub fn put_if(entries: &mut Vec<SkipEntry>, entry: Option<SkipEntry>) -> Result<(), AllocError>
-    ensures { OnOk result (entries.new.items ≡ with_entry entry entries.old.items) }
+    ensures ok { OnOk result (entries.new.items ≡ with_entry entry entries.old.items) }
+    ensures err { OnErr result (entries.new.items ≡ entries.old.items) }
 {
     if let Some(entry) = entry {
         put(entries, entry)?;

@@ -7,7 +7,7 @@ ghost use Rattle.std.specs.Prelude.{IfSome, ◌<◌};
 use packets::PACKETS;
 use sctp_packet::*;
 use sctp_serial::{Fsn, Mid, PpId, Ssn, StreamId, StreamKey, Tsn};
-use sctp_wire::{ChunkParseError, Policy};
+use sctp_wire::{ChunkParseError, Policy, RawItem};
 use std::alloc::Global;
 use std::test::Fail;
 use texts::TEXTS;
@@ -287,5 +287,35 @@ fn refused_packets(rt: HostRuntime) -> Result<(), Fail> {
     let unsummed = refusal(rt.alloc(), &header, 0, &Policy::default());
     assert!(rt; matches!(unsummed, Some(PacketParseError::InvalidChecksum)));
     assert!(rt; has_no_chunks(rt.alloc(), &header, 376));
+    Ok(())
+}
+
+// Whether the bytes are a chunk of this type with flags 1 and this value, and one more byte.
+fn is_raw(bytes: &[u8], typ: u8, value: &[u8]) -> Result<bool, ChunkParseError> {
+    let (chunk, rest) = RawChunk::from_bytes(bytes)?;
+    let is_other = match chunk.value_as(typ.wrapping_add(1)) {
+        Ok(_) => false,
+        Err(fault) => fault == ChunkParseError::InvalidType,
+    };
+    let is_read = chunk.typ == typ && chunk.flags == 1 && rest.len() == 1;
+    Ok(is_read && is_other && chunk.value_as(typ)? == value)
+}
+
+// A chunk's header has its type, its flags, and its length with the header's own four bytes (RFC 9260 section 3.2).
+#[test]
+fn raw_chunks(rt: HostRuntime) -> Result<(), Fail> {
+    let value = [0u8, 0, 0, 9];
+    let mut bytes = Vec::new(rt.alloc());
+    write_chunk_header(7, 1, value.len(), &mut bytes)?;
+    assert!(rt; bytes.as_slice() == [7u8, 1, 0, 8].as_slice());
+    bytes.extend_from_slice(&value)?;
+    bytes.push(255)?;
+    assert!(rt; is_raw(&bytes, 7, &value) == Ok(true));
+    let chunk = RawChunk::from_item(RawItem {
+        first: 6,
+        second: 1,
+        value: &value,
+    });
+    assert!(rt; chunk.typ == 6 && chunk.flags == 1 && chunk.value == value.as_slice());
     Ok(())
 }

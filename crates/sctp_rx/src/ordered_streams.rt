@@ -12,7 +12,7 @@ use crate::ordered_stream::{FIRST, OrderedStream};
 use crate::ready_messages::ReadyMessages;
 use crate::reassembly_key::ReassemblyKey;
 use sctp_packet::Data;
-use sctp_serial::StreamId;
+use sctp_serial::{Mid, SerialNumber, Ssn, StreamId};
 use sctp_state::api::handover::HandoverOrderedStream;
 use std::alloc::{AllocError, Global};
 use std::collections::BTreeMap;
@@ -247,10 +247,11 @@ fn bytes_in<K: ReassemblyKey>(streams: &BTreeMap<u16, OrderedStream<K>>) -> usiz
 fn wire_number(number: u128, is_interleaved: bool) -> u32
     ensures { result ≡ wire (space_of is_interleaved) 0 number }
 {
+    let number = (number % (1 << 32)) as u64;
     if is_interleaved {
-        (number % (1 << 32)) as u32
+        Mid::wrapped(Mid(0), number).0
     } else {
-        (number % (1 << 16)) as u32
+        u32::from(Ssn::wrapped(Ssn(0), number).0)
     }
 }
 

@@ -54,6 +54,9 @@ fn is_message(
     Some(
         interval.first().key == first
             && interval.last().key == last
+            && interval.is_complete()
+            && interval.is_in_turn(first.number as u128)
+            && !interval.is_in_turn(first.number as u128 + 1)
             && collected.as_slice() == payload,
     )
 }

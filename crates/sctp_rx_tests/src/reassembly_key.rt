@@ -1,7 +1,15 @@
 use sctp_rx::{
     InterleavedKey, ReassemblyKey, TraditionalKey, UnorderedInterleavedKey, is_before, is_same,
-    leads_to,
+    leads_to, touch,
 };
+
+// Whether no key lies between the two, of which the first is the lower one.
+fn are_neighbours<K: ReassemblyKey>(first: K, second: K) -> bool {
+    if !is_before(first, second) {
+        return false;
+    }
+    touch(first, second)
+}
 
 // Whether the second key is the next one behind the first, and the third one isn't.
 fn are_in_a_row<K: ReassemblyKey>(first: K, second: K, third: K) -> bool {
@@ -9,6 +17,8 @@ fn are_in_a_row<K: ReassemblyKey>(first: K, second: K, third: K) -> bool {
         && leads_to(first, second)
         && !leads_to(first, third)
         && !leads_to(second, first)
+        && are_neighbours(first, second)
+        && !are_neighbours(first, third)
         && is_same(first, first)
         && !is_same(first, second)
 }

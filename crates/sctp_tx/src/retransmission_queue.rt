@@ -386,7 +386,8 @@ impl RetransmissionQueue {
 
     /// What a packet with room for `max_bytes` of chunks takes, as far as the windows let it go: first the items that
     /// wait to be sent again, ascending, then new fragments. Before that, what is left of messages that were given up
-    /// leaves the send queue.
+    /// leaves the send queue. Without memory none is handed out, and how much of this was done is not told: fragments may
+    /// have left the queue or count as sent, and events may tell of some of it. Sender and queue can still be called.
     pub fn get_chunks_to_send(
         &mut self,
         now: SocketTime,

@@ -2,7 +2,11 @@
 #![tactic(auto)]
 
 #[cfg(test)]
+mod item;
+#[cfg(test)]
 mod items;
+#[cfg(test)]
+mod parts;
 #[cfg(test)]
 mod sender;
 #[cfg(test)]

@@ -87,6 +87,7 @@ impl Deferred {
     pub fn pop(&mut self) -> Option<Waiting>
         ensures value { self.old.waiting ≡ option_to_list (option_map waiting_of result) ++ self.new.waiting }
         ensures none { IfNone result (self.old.waiting ≡ []) }
+        ensures others { self.new ≡ record self.old { waiting = self.new.waiting } }
         ensures small { IfSome result (λ w. waiting_number (waiting_of w) < 2 ^ 63) }
     {
         let waiting = self.waiting.pop_front()?;
