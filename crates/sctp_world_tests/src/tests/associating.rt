@@ -182,6 +182,41 @@ b none
 }
 
 #[test]
+fn idle_ends_ask_after_each_other(rt: HostRuntime) {
+    let script = "time 30000
+give a 2 b
+give b 3 a
+";
+    let want = "a packet 2 24
+b packet 2 24
+b packet 3 24
+";
+    assert!(rt; prints(&rt, script, want) == Ok(true));
+}
+
+#[test]
+fn a_stream_is_reset(rt: HostRuntime) {
+    let script = "reset a 1
+give a 2 b
+give a 2 b
+give b 2 a
+give b 3 a
+close a
+reset a 1
+";
+    let want = "a packet 2 36
+b event OnIncomingStreamReset 1
+b packet 2 28
+b packet 3 28
+a event OnStreamsResetPerformed 1
+a packet 3 32
+a event OnClosed
+a refused NotConnected
+";
+    assert!(rt; prints(&rt, script, want) == Ok(true));
+}
+
+#[test]
 fn nothing_is_sent_after_a_shutdown(rt: HostRuntime) {
     let script = "shutdown a
 send a 1 53 61 id 4

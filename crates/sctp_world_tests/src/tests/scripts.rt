@@ -139,7 +139,7 @@ fn what_is_no_command(rt: HostRuntime) {
         "send a 1 53 01 life 1 unordered",
         "send a 1 53 01 rtx 1 life 1",
         "send a 1 53 01 id 1 rtx 1",
-        "reset a 1",
+        "reset a 65536",
         "recv a b",
         "show a -1",
     ];
@@ -150,8 +150,9 @@ fn what_is_no_command(rt: HostRuntime) {
 
 #[test]
 fn what_is_a_command(rt: HostRuntime) {
-    let lines: [&str; 19] = [
+    let lines: [&str; 20] = [
         "connect a",
+        "reset b 65535",
         "shutdown a",
         "close b",
         "time 0",
