@@ -3,8 +3,8 @@
 use crate::tests::words::Words;
 use crate::tests::world::{fresh, open, size};
 use rand_core::Rng;
-use sctp_serial::{Message, OutgoingMessageId, PpId, SocketTime, StreamId};
-use sctp_state::{GivenUp, GivenUpCause, Options, SendOptions};
+use sctp_serial::{Message, PpId, SocketTime, StreamId};
+use sctp_state::{Options, SendOptions};
 use sctp_world::*;
 use std::alloc::AllocError;
 use std::time::Duration;
@@ -12,12 +12,12 @@ use std::time::Duration;
 /// No end sends as many packets.
 const MANY: usize = 2000;
 
-/// How many packets of each end were handed over or lost, and how many milliseconds passed.
+/// How many packets of each end were handed over or lost, and how many seconds passed.
 #[derive(Clone, Copy)]
 struct Course {
     a: usize,
     b: usize,
-    milliseconds: u64,
+    seconds: u64,
 }
 
 /// Gives the packets of `from` from this number on to the other end, each once; where `loses`, every tenth not at all.
@@ -48,16 +48,16 @@ fn go_on<R: Rng>(
 ) -> Result<Course, WorldError> {
     let a = hand_over(world, End::A, End::B, course.a, loses)?;
     let b = hand_over(world, End::B, End::A, course.b, loses)?;
-    let mut milliseconds = course.milliseconds;
+    let mut seconds = course.seconds;
     if a == course.a && b == course.b {
-        milliseconds = milliseconds.saturating_add(1000);
-        tell_time(world, milliseconds)?;
+        seconds = seconds.saturating_add(1);
+        tell_time(world, seconds)?;
     }
-    Ok(Course { a, b, milliseconds })
+    Ok(Course { a, b, seconds })
 }
 
-fn tell_time<R: Rng>(world: &mut World<R, ByteSum>, milliseconds: u64) -> Result<(), WorldError> {
-    let now = SocketTime::zero() + Duration::from_millis(milliseconds);
+fn tell_time<R: Rng>(world: &mut World<R, ByteSum>, seconds: u64) -> Result<(), WorldError> {
+    let now = SocketTime::zero() + Duration::from_secs(seconds);
     world.step(&Event::Time(End::A, now))?;
     world.step(&Event::Time(End::B, now))
 }
@@ -67,7 +67,7 @@ fn come_to_rest<R: Rng>(world: &mut World<R, ByteSum>, loses: bool) -> Result<bo
     let mut course = Course {
         a: 2,
         b: 2,
-        milliseconds: 0,
+        seconds: 0,
     };
     for _ in 0..200 {
         if world.is_at_rest(End::A) && world.is_at_rest(End::B) {
@@ -217,56 +217,6 @@ fn numbers_begin_anew(rt: HostRuntime) {
     }
 }
 
-/// A message with these options is sent once.
-fn once() -> SendOptions {
-    SendOptions {
-        max_retransmissions: Some(0),
-        ..SendOptions::default()
-    }
-}
-
-/// Sends two messages, of which the first is lost and given up. Says whether a then is at rest.
-fn gives_up<R: Rng>(rt: &HostRuntime, world: &mut World<R, ByteSum>) -> Result<bool, WorldError> {
-    open(world)?;
-    send(world, End::A, 1, Vec::from_slice(rt.alloc(), &[1])?, once())?;
-    let second = Vec::from_slice(rt.alloc(), &[2])?;
-    send(world, End::A, 2, second, SendOptions::default())?;
-    world.run(&[Event::Give(3, End::B), Event::Give(2, End::A)])?;
-    tell_time(world, 500)?;
-    world.step(&Event::Give(4, End::B))?;
-    tell_time(world, 700)?;
-    world.step(&Event::Give(3, End::A))?;
-    Ok(world.is_at_rest(End::A) && hands_out(world, End::B, 2, &[2])?)
-}
-
-/// Whether the log has this many messages that were given up, each of them a's first.
-fn has_given_up<R: Rng>(world: &World<R, ByteSum>, count: usize) -> bool {
-    let first = GivenUp {
-        number: OutgoingMessageId(0),
-        cause: GivenUpCause::Retransmissions(0),
-    };
-    let mut rest = count;
-    for entry in world.log() {
-        if let Entry::GivenUp(end, record) = entry {
-            if rest == 0 || *end != End::A || *record != first {
-                return false;
-            }
-            rest -= 1;
-        }
-    }
-    rest == 0
-}
-
-#[test]
-fn the_first_is_given_up(rt: HostRuntime) {
-    let world = fresh(&rt, Words::new(456, 7), Words::new(5, 11));
-    assert!(rt; world.is_some());
-    if let Some(mut world) = world {
-        assert!(rt; gives_up(&rt, &mut world) == Ok(true));
-        assert!(rt; has_given_up(&world, 1));
-    }
-}
-
 // ---- options
 
 fn with_options<R: Rng + Drop>(
@@ -351,8 +301,12 @@ fn is_sent_again<R: Rng>(
 ) -> Result<bool, WorldError> {
     open(world)?;
     let payload = Vec::from_slice(rt.alloc(), &[1])?;
-    send(world, End::A, 9, payload, once())?;
-    tell_time(world, 500)?;
+    let once = SendOptions {
+        max_retransmissions: Some(0),
+        ..SendOptions::default()
+    };
+    send(world, End::A, 9, payload, once)?;
+    tell_time(world, 1)?;
     world.step(&Event::Give(3, End::B))?;
     Ok(hands_out(world, End::B, 9, &[1])? && hands_out_nothing(world, End::B)?)
 }
@@ -374,6 +328,5 @@ fn one_end_has_no_partial_reliability(rt: HostRuntime) {
         assert_eq!(rt; size(&world, End::B, 0), 92);
         assert_eq!(rt; size(&world, End::A, 3), 32);
         assert_eq!(rt; size(&world, End::A, 4), 0);
-        assert!(rt; has_given_up(&world, 0));
     }
 }
