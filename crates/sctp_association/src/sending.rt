@@ -201,7 +201,7 @@ impl<C: Checksum> Context<C> {
     }
 
     /// What may be sent goes out, behind the chunks of this packet.
-    pub(crate) fn send_buffered_packets_with(
+    pub fn send_buffered_packets_with(
         &mut self,
         tcb: &mut TransmissionControlBlock,
         is_alone: bool,
@@ -213,7 +213,7 @@ impl<C: Checksum> Context<C> {
     }
 
     /// What may be sent goes out.
-    pub(crate) fn send_buffered_packets(
+    pub fn send_buffered_packets(
         &mut self,
         tcb: &mut TransmissionControlBlock,
         is_alone: bool,

@@ -181,7 +181,7 @@ impl<C: Checksum> Context<C> {
     }
 
     /// The event that says that the association is over; no heartbeats are sent any more.
-    pub(crate) fn internal_close(&mut self, event: SocketEvent) -> Result<(), AllocError>
+    pub fn internal_close(&mut self, event: SocketEvent) -> Result<(), AllocError>
         ensures { OnOk result (context_of C.word_of self.new ≡ table.over (event_of event) (context_of C.word_of self.old)) }
     {
         self.stop_heartbeats();

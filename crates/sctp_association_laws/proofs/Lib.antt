@@ -17,3 +17,35 @@ pub mod RestRunLemmas
 pub mod FirstRunLemmas
 pub mod HeardBackLemmas
 pub mod RunPacketsLemmas
+pub mod FairLemmas
+pub mod HeardLemmas
+pub mod OwnLemmas
+pub mod SoundItemsLemmas
+pub mod SoundTrackerLemmas
+pub mod SoundQueueLemmas
+pub mod SoundTxLemmas
+pub mod SoundGoesLemmas
+pub mod SoundSendingLemmas
+pub mod SoundRowsLemmas
+pub mod SoundOpeningLemmas
+pub mod SoundTimeLemmas
+pub mod SoundCallsLemmas
+pub mod SoundResetsLemmas
+pub mod SoundInputLemmas
+pub mod SoundLawsLemmas
+pub mod SoundHeardLemmas
+pub mod ArgumentLemmas
+mod SpendsLemmas
+mod QueueSpendsLemmas
+mod ItemSpendsLemmas
+mod LivesLemmas
+mod RowLivesLemmas
+mod OpeningLivesLemmas
+mod TimeLivesLemmas
+mod CallLivesLemmas
+mod InputLivesLemmas
+pub mod LifecycleLemmas
+mod HandoverValidLemmas
+mod HandoverAgainLemmas
+mod NumberedOnceLemmas
+mod NewEndLemmas

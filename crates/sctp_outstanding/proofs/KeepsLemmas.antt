@@ -116,10 +116,10 @@ remain-settled bs offset (i ∷ is) = (by-settling (is_covered bs offset) i, rem
 
 -- ---- steps
 
-keeps-all : (s : Items) → Keeps s s
+pub keeps-all : (s : Items) → Keeps s s
 keeps-all s = record { acked = refl; items = remain-all s.kept }
 
-keeps-on : (s t u : Items) → Keeps s t → Keeps t u → Keeps s u
+pub keeps-on : (s t u : Items) → Keeps s t → Keeps t u → Keeps s u
 keeps-on s t u a b = record { acked = b.acked ∙ a.acked; items = remain-on s.kept t.kept u.kept a.items b.items }
 
 given-up-keeps : (number : ℕ) (s : Items) → Keeps s (abandon_message number s)

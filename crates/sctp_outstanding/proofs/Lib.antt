@@ -5,6 +5,7 @@ pub mod KeepsLemmas
 pub mod LaidLemmas
 pub mod LossesLemmas
 pub mod PointLemmas
+pub mod RecordLemmas
 pub mod RestLemmas
 pub mod RoomLemmas
 pub mod SackLemmas

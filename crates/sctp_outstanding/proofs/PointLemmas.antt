@@ -1,6 +1,6 @@
 -- What a forward point passes, and what it names.
 use Rattle.std.proofs.Common.{◌≡◌, inl, inr, ℕ, suc, ◌+◌, ◌≤◌, ◌<◌, Bool, true, false, cond, Option, Some, None, List, [], ◌∷◌, length, take, refl, ap, sym, subst, ◌∙◌, arith}
-use Rattle.std.specs.Prelude.{◌&&◌, ◌||◌, ◌==◌, not, nat_lt, nat_le, if◌then◌else◌}
+use Rattle.std.specs.Prelude.{◌&&◌, ◌||◌, ◌==◌, not, nat_lt, nat_le, slice_get, if◌then◌else◌}
 use Rattle.std.specs.List.{list_all}
 use Rattle.std.proofs.lemmas.Bool.{cases_lt}
 use Rattle.std.proofs.lemmas.Bool.Decides.{nat_tests}
@@ -157,3 +157,26 @@ points-are-sound most s =
       unbroken = λ k lt. h.1.unbroken k (omega arith) (omega (arith, lt, n));
       ahead = λ due room. goes-ahead most s s.kept (both s.is_partial (is_first_gone s.kept) due).1 room;
     }
+
+-- ---- where it ends
+
+module _ (most : ℕ) (s : Items) where
+  -- so many more items were passed, and the next one can't be
+  ends : (f : ForwardPoint) (is : List Item) → (n : ℕ) × ((walk most s f is).count ≡ f.count + n) × ((i : Item) → slice_get is n ≡ Some i → passes most s (walk most s f is) i ≡ false)
+  ends f [] = (0, omega arith, λ i e. absurd (cc))
+  ends f (i ∷ is) = go (passes most s f i) refl (ends (passed s f i) is) where
+    go : (b : Bool) → passes most s f i ≡ b
+        → (n : ℕ) × ((walk most s (passed s f i) is).count ≡ (passed s f i).count + n) × ((j : Item) → slice_get is n ≡ Some j → passes most s (walk most s (passed s f i) is) j ≡ false)
+        → (n : ℕ) × ((if b then walk most s (passed s f i) is else f).count ≡ f.count + n)
+        × ((j : Item) → slice_get (i ∷ is) n ≡ Some j → passes most s (if b then walk most s (passed s f i) is else f) j ≡ false)
+    go true e h = (suc h.0, omega (arith, h.1), λ j ej. h.2 j ej)
+    go false e h = (0, omega arith, λ j ej. here j cc)
+      where
+        here : (j : Item) → i ≡ j → passes most s f j ≡ false
+        here j same = subst (λ x. passes most s f x ≡ false) same e
+
+pub points-go-far : (most : ℕ) (s : Items) (i : Item) → slice_get s.kept (forward_point most s).count ≡ Some i → passes most s (forward_point most s) i ≡ false
+points-go-far most s i there =
+    let h = ends most s nothing s.kept in
+    let n : h.0 ≡ (forward_point most s).count = omega (arith, h.1) in
+    h.2 i (subst (λ k. slice_get s.kept k ≡ Some i) (sym n) there)

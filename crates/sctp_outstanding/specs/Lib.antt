@@ -10,6 +10,7 @@ pub mod Keeps
 pub mod Losses
 pub mod Passes
 pub mod Point
+pub mod Records
 pub mod Resending
 pub mod Sack
 pub mod Totals

@@ -1,11 +1,11 @@
 -- What a forward point tells: given-up items alone, without a hole, and of each stream touched the number of its last message
 -- among them (RFC 3758 section 3.5, RFC 8260 section 2.3).
-use Rattle.std.specs.Prelude.{◌≡◌, ℕ, ◌<◌, ◌≤◌, Bool, true, false, if◌then◌else◌, Option, Some, None, List, [], ◌∷◌, length, take}
+use Rattle.std.specs.Prelude.{◌≡◌, ℕ, ◌<◌, ◌≤◌, Bool, true, false, if◌then◌else◌, Option, Some, None, List, [], ◌∷◌, length, take, slice_get}
 use Rattle.std.specs.List.{list_all}
 use Rattle.sctp_outstanding.specs.declared.skips.SkipEntry.{SkipEntry}
 use Rattle.sctp_outstanding.specs.Item.{Item, is_abandoned}
 use Rattle.sctp_outstanding.specs.Items.{Items}
-use Rattle.sctp_outstanding.specs.Forward.{ForwardPoint, is_forward_due, entry_of, is_alike, is_before, size_with, stops, forward_point}
+use Rattle.sctp_outstanding.specs.Forward.{ForwardPoint, is_forward_due, entry_of, is_alike, is_before, size_with, stops, passes, forward_point}
 
 -- what entries say of a stream and order
 abbrev pub named_number : SkipEntry → List SkipEntry → Option ℕ
@@ -42,3 +42,7 @@ pub record IsPoint (most : ℕ) (s : Items) (f : ForwardPoint) : Type 0 where
 
 abbrev pub PointsAreSound : Type 0
 PointsAreSound = (most : ℕ) (s : Items) → IsPoint most s (forward_point most s)
+
+-- it ends before an item that is not given up, before a breakpoint, or before an entry that has no room
+abbrev pub PointsGoFar : Type 0
+PointsGoFar = (most : ℕ) (s : Items) (i : Item) → slice_get s.kept (forward_point most s).count ≡ Some i → passes most s (forward_point most s) i ≡ false

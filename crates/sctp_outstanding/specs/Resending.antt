@@ -1,9 +1,10 @@
 -- Items that are sent again (RFC 9260 sections 7.2.4 and 6.3.3).
 use Rattle.std.specs.Prelude.{◌≡◌, ℕ, zero, suc, ◌+◌, ◌-◌, ◌==◌, ◌&&◌, nat_le, min, Bool, if◌then◌else◌, Option, Some, None, List, [], ◌∷◌, ◌++◌, length, slice_get}
+use Rattle.std.specs.List.{sum_by}
 use Rattle.sctp_packet.specs.Chunk.{FragmentTree}
 use Rattle.sctp_outstanding.specs.declared.outstanding_data.Turn.{Turn}
 use Rattle.sctp_outstanding.specs.declared.outstanding_data.Turn.TheVariants.{Send, PassOver, Leave}
-use Rattle.sctp_outstanding.specs.Item.{Item, is_fast, should_be_retransmitted, chunk_size, mark_as_retransmitted, miss_fast}
+use Rattle.sctp_outstanding.specs.Item.{Item, is_fast, should_be_retransmitted, size_of, chunk_size, mark_as_retransmitted, miss_fast}
 use Rattle.sctp_outstanding.specs.Items.{Outstanding, written, flight_items}
 use Rattle.sctp_outstanding.specs.Losses.{change_items}
 
@@ -74,6 +75,10 @@ empty_packet room window d = record { outstanding = d; chunks = []; room = room;
 
 abbrev pub resend : (fast : Bool) → (room window : ℕ) → Outstanding → Resent
 resend fast room window d = resent_below fast (length d.items.kept) (empty_packet room window d)
+
+-- the bytes of chunks, with headers and padding
+abbrev pub chunk_bytes : (is_interleaved : Bool) → List (ℕ × FragmentTree) → ℕ
+chunk_bytes m chunks = sum_by (λ c. size_of m c.1) chunks
 
 -- some of the items were handed out, and the others not
 abbrev pub SomeResent : (fast : Bool) → Resent → Outstanding → Type 0

@@ -2,7 +2,8 @@
 
 ghost use Rattle.sctp_outstanding.specs.Again.{EachComesBack};
 ghost use Rattle.sctp_outstanding.specs.Keeps.{LossesKeep, LifetimesKeep, ResendingKeeps, NewItemsKeep, SacksKeep, MessagesAreGivenUp};
-ghost use Rattle.sctp_outstanding.specs.Point.{PointsAreSound};
+ghost use Rattle.sctp_outstanding.specs.Point.{PointsAreSound, PointsGoFar};
+ghost use Rattle.sctp_outstanding.specs.Records.{NewIsToldOnce, NewItemsTellOnce, LossesTellOnce, LifetimesTellOnce, SacksTellOnce, ResendingTellsOnce, TakingTellsOnce, CountsAreTold, LifetimesAreTold};
 
 /// Items that are written into a record, which is taken up at the same moment, come back under their TSNs, with all but
 /// what whole milliseconds don't tell and how often an item was reported missing.
@@ -25,9 +26,35 @@ pub fn messages_are_given_up()
     ensures { MessagesAreGivenUp }
 {}
 
+/// In one association each message has one record at most, and an item is given up exactly where its message has one: a new
+/// association has neither, and each call keeps that, as long as no fragment is sent of a message that was given up.
+pub fn a_message_is_given_up_once()
+    ensures new { NewIsToldOnce }
+    ensures new_items { NewItemsTellOnce }
+    ensures losses { LossesTellOnce }
+    ensures lifetimes { LifetimesTellOnce }
+    ensures sacks { SacksTellOnce }
+    ensures resending { ResendingTellsOnce }
+    ensures taking { TakingTellsOnce }
+{}
+
+/// Where an item is lost by a report or a timeout, a record is made exactly where its message is given up: of partial
+/// reliability, once the item was sent again as often as its limit allows. The record has that item's sendings less one,
+/// which is no less than the limit. Where a lifetime passed the record says so.
+pub fn records_tell_why()
+    ensures counts { CountsAreTold }
+    ensures lifetimes { LifetimesAreTold }
+{}
+
 /// A forward point passes given-up items alone, from the cumulative TSN on without a hole and over no breakpoint of a
 /// reset; and it names each stream that it touches, and no other, with the number of its last message. Its entries ascend,
 /// and the chunk that they make is no longer than it may be.
 pub fn points_are_sound()
     ensures { PointsAreSound }
+{}
+
+/// A forward point ends only before an item that isn't given up, before a breakpoint of a reset, before an entry that would
+/// make its chunk too long, or behind the last item.
+pub fn points_go_as_far_as_they_can()
+    ensures { PointsGoFar }
 {}

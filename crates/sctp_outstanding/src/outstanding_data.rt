@@ -8,29 +8,29 @@ ghost use Rattle.sctp_outstanding.specs.Entries.{ssn_skip, mid_skip};
 ghost use Rattle.sctp_packet.specs.Covered.{AreRuns};
 ghost use Rattle.sctp_serial.specs.Unwrapped.{origin};
 ghost use Rattle.sctp_state.specs.Events.{give_up, tell_all};
-ghost use Rattle.sctp_outstanding.specs.Views.{discard_of, last_tree, point_of, resent_of, chunk_of};
-ghost use Rattle.sctp_outstanding.specs.Resending.{again_at, allowed, turn_at, step_at, resent_below, resend, empty_packet, SomeResent};
-ghost use Rattle.sctp_outstanding.specs.declared.outstanding_data.Turn.TheVariants.{Send, PassOver, Leave};
+ghost use Rattle.sctp_outstanding.specs.Views.{discard_of, point_of};
 ghost use Rattle.sctp_outstanding.specs.Losses.{loss_of};
 ghost use Rattle.sctp_outstanding.specs.Items.{first_sent, inserted, begin_reset, begun_at};
 ghost use Rattle.sctp_outstanding.specs.Interrupted.{Same, SomeNacked, SomeExpired, SomeHeard};
-ghost use Rattle.sctp_outstanding.specs.Forward.{is_forward_due, entry_at, stops, passes_of, forward_point, size_with, with_entry};
+ghost use Rattle.sctp_outstanding.specs.Forward.{is_forward_due, entry_at, stops, passes_of, forward_point};
 ghost use Rattle.std.specs.List.{list_any};
 ghost use Rattle.sctp_outstanding.specs.Sack.{sample, sample_at, is_valid, staying, leaving, left_bytes, reports, hear, acked_bytes, highest_end};
 ghost use Rattle.sctp_state.specs.Events.{first_of};
 
 mod handover;
+mod resending;
 
-use crate::item::{Item, copy_of};
+use crate::item::Item;
 use crate::kept::{Change, Kept, placeholder};
 use crate::sack::{AckInfo, highest_end, settle_all, take_out};
 use crate::skips::{SkipEntry, chunk_size_with, mid_skips, put_if, ssn_skips};
 use sctp_packet::{Data, ForwardTsnChunk, GapAckBlock, IForwardTsnChunk};
-use sctp_serial::{Fsn, LifecycleId, OutgoingMessageId, SerialNumber, SocketTime, StreamId, Tsn};
-use sctp_state::{Events, GivenUp, GivenUpCause, SocketEvent};
+use sctp_serial::{LifecycleId, OutgoingMessageId, SerialNumber, SocketTime, StreamId, Tsn};
+use sctp_state::{Events, GivenUp, GivenUpCause};
 use std::alloc::{AllocError, Global};
 use std::collections::VecDeque;
 use std::marker::Model;
+use std::mem;
 use std::time::Duration;
 
 /// A message of which the send queue is to drop what is left.
@@ -229,6 +229,14 @@ impl OutstandingData {
         ensures { result ≡ not (length self.now.items.discards == 0) }
     {
         !self.discards.is_empty()
+    }
+
+    /// Takes out all messages of which the send queue is to drop what is left, in order.
+    pub fn get_unsent_messages_to_discard(&mut self) -> VecDeque<Discarded>
+        ensures all { map discard_of result.items ≡ self.old.items.discards }
+        ensures rest { self.new ≡ record self.old { items = record self.old.items { discards = [] } } }
+    {
+        mem::replace(&mut self.discards, VecDeque::new(self.alloc))
     }
 
     /// Takes out the next message of which the send queue is to drop what is left.
@@ -611,24 +619,6 @@ impl OutstandingData {
         Tsn::wrapped(self.first, self.acked) + past
     }
 
-    // Hands the item at the place out to be sent once more.
-    fn resend_at(&mut self, place: usize, filling: &mut Filling) -> Result<(), AllocError>
-        ensures ok { OnOk result (resent_of self.new filling.new ≡ again_at place (resent_of self.old filling.old)) }
-        ensures err { OnErr result (self.new ≡ self.old) }
-    {
-        let Some(item) = self.kept.get(place) else {
-            return Ok(());
-        };
-        let size = item.chunk_size(self.kept.is_interleaved());
-        let fragment = copy_of(self.alloc, item.data())?;
-        let tsn = self.tsn_at(place);
-        filling.chunks.push((tsn, fragment))?;
-        filling.room = filling.room.saturating_sub(size);
-        filling.window = filling.window.saturating_sub(size);
-        self.kept.change(place, Change::Retransmit);
-        Ok(())
-    }
-
     /// The round trip time that an acknowledgement of this TSN tells now: the time since its item was sent, where it is
     /// kept and was sent once.
     pub fn measure_rtt(&self, now: SocketTime, tsn: Tsn) -> Option<Duration>
@@ -649,103 +639,6 @@ impl OutstandingData {
         let next = last_cumulative_tsn + 1;
         self.acked = (1 << 32) - 1 + next.steps_from(self.first);
     }
-
-    // What may be sent now: while something is in flight the peer's window counts too.
-    fn allowed(&self, filling: &Filling) -> usize
-        ensures { result ≡ allowed (resent_of self.now filling.now) }
-    {
-        if self.kept.flights() == 0 {
-            return filling.room;
-        }
-        filling.room.min(filling.window)
-    }
-
-    // What becomes of the item at the place.
-    fn turn_at(&self, place: usize, fast: bool, filling: &Filling) -> Turn
-        ensures { result ≡ turn_at fast place (resent_of self.now filling.now) }
-    {
-        let Some(item) = self.kept.get(place) else {
-            return Turn::Leave;
-        };
-        let size = item.chunk_size(self.kept.is_interleaved());
-        if fast {
-            return fast_turn(item.is_fast(), size <= filling.room);
-        }
-        if item.should_be_retransmitted() && size <= self.allowed(filling) {
-            return Turn::Send;
-        }
-        Turn::Leave
-    }
-
-    fn take_turn(
-        &mut self,
-        place: usize,
-        fast: bool,
-        filling: &mut Filling,
-    ) -> Result<(), AllocError>
-        ensures ok { OnOk result (resent_of self.new filling.new ≡ step_at fast place (resent_of self.old filling.old)) }
-        ensures err { OnErr result (self.new ≡ self.old) }
-    {
-        match self.turn_at(place, fast, filling) {
-            Turn::Send => self.resend_at(place, filling),
-            Turn::PassOver => {
-                self.kept.change(place, Change::MissFast);
-                Ok(())
-            }
-            Turn::Leave => Ok(()),
-        }
-    }
-
-    fn resend(&mut self, fast: bool, filling: &mut Filling) -> Result<(), AllocError>
-        ensures ok { OnOk result (resent_of self.new filling.new ≡ resent_below fast (length self.old.items.kept) (resent_of self.old filling.old)) }
-        ensures err { OnErr result (SomeResent fast (resent_of self.old filling.old) self.new) }
-    {
-        for place in 0..self.kept.len() {
-            self.take_turn(place, fast, filling)?;
-        }
-        Ok(())
-    }
-
-    /// Hands out the items that wait for the packet that ignores the congestion window, in ascending order, as far as
-    /// their chunks fit into `max_size` bytes; those that don't fit wait for another packet. Without memory this is done
-    /// for some of the first items alone, and none is handed out.
-    pub fn get_chunks_to_be_fast_retransmitted(
-        &mut self,
-        max_size: usize,
-    ) -> Result<Vec<(Tsn, Data)>, AllocError>
-        ensures items { OnOk result (self.new ≡ (resend true max_size 0 self.old).outstanding) }
-        ensures chunks { IfOk result (λ chunks. map chunk_of chunks.items ≡ (resend true max_size 0 self.old).chunks) }
-        ensures err { OnErr result (SomeResent true (empty_packet max_size 0 self.old) self.new) }
-    {
-        let mut filling = Filling {
-            chunks: Vec::new(self.alloc),
-            room: max_size,
-            window: 0,
-        };
-        self.resend(true, &mut filling)?;
-        Ok(filling.chunks)
-    }
-
-    /// Hands out the items that wait to be sent again, in ascending order, as far as their chunks fit into `max_size`
-    /// bytes and, while something is in flight, into the peer's window `rwnd`; an item that doesn't fit is passed over.
-    /// Without memory this is done for some of the first items alone, and none is handed out.
-    pub fn get_chunks_to_be_retransmitted(
-        &mut self,
-        max_size: usize,
-        rwnd: usize,
-    ) -> Result<Vec<(Tsn, Data)>, AllocError>
-        ensures items { OnOk result (self.new ≡ (resend false max_size rwnd self.old).outstanding) }
-        ensures chunks { IfOk result (λ chunks. map chunk_of chunks.items ≡ (resend false max_size rwnd self.old).chunks) }
-        ensures err { OnErr result (SomeResent false (empty_packet max_size rwnd self.old) self.new) }
-    {
-        let mut filling = Filling {
-            chunks: Vec::new(self.alloc),
-            room: max_size,
-            window: rwnd,
-        };
-        self.resend(false, &mut filling)?;
-        Ok(filling.chunks)
-    }
 }
 
 // What becomes of an item that waits.
@@ -754,15 +647,6 @@ enum Turn {
     Send,
     PassOver,
     Leave,
-}
-
-fn fast_turn(is_fast: bool, fits: bool) -> Turn
-    ensures { result ≡ (if is_fast then (if fits then Send else PassOver) else Leave) }
-{
-    if !is_fast {
-        return Turn::Leave;
-    }
-    if fits { Turn::Send } else { Turn::PassOver }
 }
 
 // A packet that is being filled.

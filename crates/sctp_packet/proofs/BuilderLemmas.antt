@@ -1,7 +1,7 @@
 -- Packets that are being built.
 use Rattle.std.proofs.Common.{◌≡◌, ◌≢◌, ℕ, ◌+◌, ◌-◌, ◌^◌, min, ◌<◌, ◌≤◌, ◌==◌, Bool, true, false, cond, List, [], ◌∷◌, ◌++◌, length, take, drop, refl, sym, ap, subst, ◌∙◌, append_assoc, arith}
 use Rattle.std.specs.List.{flat_map}
-use Rattle.std.proofs.lemmas.List.{append-nil, length-append, length-take, length-drop, drop_at, take_at}
+use Rattle.std.proofs.lemmas.List.{append-nil, length-append, length-take, length-drop, take_at}
 use Rattle.std.proofs.lemmas.List.Concat.{flat_map-cons}
 use Rattle.std.proofs.lemmas.Bool.{eqb-true}
 use Rattle.sctp_wire.specs.Fields.{be16, be32, length_be32}
@@ -11,7 +11,7 @@ use Rattle.sctp_packet.specs.Chunk.{ChunkTree}
 use Rattle.sctp_packet.specs.Written.{chunk_item, chunk_bytes, chunks_bytes}
 use Rattle.sctp_packet.specs.Packet.{HeaderTree, header_bytes, unsummed_bytes, joined_bytes, packet_bytes}
 use Rattle.sctp_packet.proofs.PacketLemmas.{length_joined}
-use Rattle.sctp_packet.specs.Builder.{BuilderTree, HasPacket, Holds, built}
+use Rattle.sctp_packet.specs.Builder.{BuilderTree, HasPacket, built}
 
 pub header_written : (h : HeaderTree) (o w1 w2 w3 : List ℕ) → w1 ≡ o ++ be16 h.source_port → w2 ≡ w1 ++ be16 h.destination_port → w3 ≡ w2 ++ be32 h.verification_tag
     → w3 ++ be32 0 ≡ o ++ unsummed_bytes h []

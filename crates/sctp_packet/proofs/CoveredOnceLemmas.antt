@@ -1,13 +1,13 @@
 -- A set of offsets has one list of runs, and no list of blocks over it is shorter.
-use Rattle.std.proofs.Common.{◌≡◌, ℕ, ◌+◌, ◌<◌, ◌≤◌, Bool, true, false, ltb, ◌||◌, ◌&&◌, List, [], ◌∷◌, length, refl, sym, ap, ◌∙◌, subst, inl, inr, arith}
+use Rattle.std.proofs.Common.{◌≡◌, ℕ, ◌+◌, ◌<◌, ◌≤◌, Bool, true, false, ltb, ◌&&◌, List, [], ◌∷◌, length, refl, sym, ap, ◌∙◌, subst, inl, inr, arith}
 use Rattle.std.specs.List.{All, AllByRecursion, filter}
 use Rattle.std.proofs.lemmas.Bool.{lt-ltb, le-ltb, cases_lt, cases_order, both_ways}
 use Rattle.std.proofs.lemmas.Bool.Decides.{nat_tests}
 use Rattle.std.proofs.lemmas.List.Elements.{All-from_recursion}
 use Rattle.sctp_packet.specs.declared.sack.GapAckBlock.{GapAckBlock}
-use Rattle.sctp_packet.specs.Covered.{covers, is_covered, AreRuns, SameOffsets, IsMaximalRun}
+use Rattle.sctp_packet.specs.Covered.{is_covered, AreRuns, SameOffsets, IsMaximalRun}
 
-is_covered-below : (low n : ℕ) (bs : List GapAckBlock) → AreRuns low bs → n < low → is_covered bs n ≡ false
+pub is_covered-below : (low n : ℕ) (bs : List GapAckBlock) → AreRuns low bs → n < low → is_covered bs n ≡ false
 is_covered-below low n [] r h = refl
 is_covered-below low n (b ∷ bs) r h = grind (arith, nat_tests, is_covered-below (b.end + 2) n bs r.2 (omega arith))
 

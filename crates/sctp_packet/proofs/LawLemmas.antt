@@ -1,5 +1,5 @@
 -- Packets: bytes are at most one, and what was built is read back.
-use Rattle.std.proofs.Common.{◌≡◌, ◌≢◌, ◌⊎◌, inl, inr, ℕ, ◌+◌, ◌^◌, ◌<◌, ◌≤◌, Bool, true, false, List, [], ◌∷◌, ◌++◌, length, drop, map, Ok, Err, refl, sym, ap, subst, ◌∙◌, append_assoc, arith}
+use Rattle.std.proofs.Common.{◌≡◌, ◌⊎◌, inl, inr, ℕ, ◌^◌, ◌<◌, ◌≤◌, Bool, true, false, List, [], ◌++◌, length, drop, map, Ok, Err, refl, sym, ap, subst, ◌∙◌, arith}
 use Rattle.std.specs.Prelude.{All, Result, IfOk, IfErr, MatchResult}
 use Rattle.sctp_wire.specs.Fields.{be16, be32}
 use Rattle.sctp_wire.specs.Item.{Item, Tiles}
@@ -15,7 +15,7 @@ use Rattle.sctp_packet.specs.Chunk.{ChunkTree}
 use Rattle.sctp_packet.specs.Written.{chunks_bytes}
 use Rattle.sctp_packet.specs.Grammar.{IsChunk, RefusesChunk, carried}
 use Rattle.sctp_packet.specs.ReadBack.{ChunkReadsBack}
-use Rattle.sctp_packet.specs.Packet.{HeaderTree, PacketTree, IsPacket, FitsHeader, Accepts, Refuses, IsFault, lets_through, checksum_field, header_bytes, joined_bytes, packet_bytes}
+use Rattle.sctp_packet.specs.Packet.{HeaderTree, PacketTree, IsPacket, FitsHeader, Accepts, Refuses, IsFault, lets_through, checksum_field, header_bytes, packet_bytes}
 use Rattle.sctp_packet.specs.PacketView.{packet_tree}
 use Rattle.sctp_packet.proofs.FieldLemmas.{cut16, cut32, same32}
 use Rattle.sctp_packet.proofs.PacketLemmas.{body_at, field_at, length_joined}
@@ -113,7 +113,7 @@ built_accepted policy word field header chunks fits small reads short sum = reco
   sum = sum;
 }
 
-memory_alone : (policy : Policy) (word : ℕ) (bytes : List ℕ) (p : PacketTree) (e : PacketParseError) → Accepts policy word bytes p → Refuses policy word bytes e → e ≡ faults.Memory
+pub memory_alone : (policy : Policy) (word : ℕ) (bytes : List ℕ) (p : PacketTree) (e : PacketParseError) → Accepts policy word bytes p → Refuses policy word bytes e → e ≡ faults.Memory
 memory_alone policy word bytes p faults.Memory a r = refl
 memory_alone policy word bytes p faults.TooShort a r = absurd (never_both_lem policy word bytes faults.TooShort p (λ e. cc) r a)
 memory_alone policy word bytes p faults.TooLong a r = absurd (never_both_lem policy word bytes faults.TooLong p (λ e. cc) r a)
@@ -130,3 +130,23 @@ read_back_lem policy word field header chunks (Ok p) fits small reads short sum 
     one_packet_lem (packet_bytes header field chunks) (packet_tree p) (packet_of header field (map carried chunks)) ok.packet (built_accepted policy word field header chunks fits small reads short sum).packet
 read_back_lem policy word field header chunks (Err e) fits small reads short sum ok err =
     memory_alone policy word (packet_bytes header field chunks) (packet_of header field (map carried chunks)) e (built_accepted policy word field header chunks fits small reads short sum) err
+
+pub accepted_alone : (policy : Policy) (word : ℕ) (bytes : List ℕ) (p : PacketTree) (answer : Result SctpPacket PacketParseError)
+    → IfOk answer (λ q. Accepts policy word bytes (packet_tree q)) → IfErr answer (Refuses policy word bytes) → Accepts policy word bytes p
+    → MatchResult answer (λ q. packet_tree q ≡ p) (λ fault. fault ≡ faults.Memory)
+accepted_alone policy word bytes p (Ok q) ok err a = one_packet_lem bytes (packet_tree q) p ok.packet a.packet
+accepted_alone policy word bytes p (Err e) ok err a = memory_alone policy word bytes p e a err
+
+same_or_memory : (policy : Policy) (word : ℕ) (bytes : List ℕ) (reason e : PacketParseError) → IsFault reason → Refuses policy word bytes reason → Refuses policy word bytes e
+    → (e ≡ reason) ⊎ (e ≡ faults.Memory)
+same_or_memory policy word bytes reason faults.Memory m r k = inr refl
+same_or_memory policy word bytes reason faults.TooShort m r k = inl (one_reason_lem policy word bytes faults.TooShort reason (λ e. cc) m k r)
+same_or_memory policy word bytes reason faults.TooLong m r k = inl (one_reason_lem policy word bytes faults.TooLong reason (λ e. cc) m k r)
+same_or_memory policy word bytes reason faults.InvalidChecksum m r k = inl (one_reason_lem policy word bytes faults.InvalidChecksum reason (λ e. cc) m k r)
+same_or_memory policy word bytes reason (faults.Chunk f) m r k = inl (one_reason_lem policy word bytes (faults.Chunk f) reason (λ e. cc) m k r)
+
+pub refused_alone : (policy : Policy) (word : ℕ) (bytes : List ℕ) (reason : PacketParseError) (answer : Result SctpPacket PacketParseError)
+    → IfOk answer (λ q. Accepts policy word bytes (packet_tree q)) → IfErr answer (Refuses policy word bytes) → IsFault reason → Refuses policy word bytes reason
+    → MatchResult answer (λ q. ⊥) (λ fault. (fault ≡ reason) ⊎ (fault ≡ faults.Memory))
+refused_alone policy word bytes reason (Ok q) ok err m r = absurd (never_both_lem policy word bytes reason (packet_tree q) m r ok)
+refused_alone policy word bytes reason (Err e) ok err m r = same_or_memory policy word bytes reason e m r err

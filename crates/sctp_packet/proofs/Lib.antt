@@ -12,3 +12,6 @@ pub mod LawLemmas
 pub mod CanonicalLemmas
 pub mod CoveredLemmas
 pub mod CoveredOnceLemmas
+pub mod ValidLemmas
+pub mod RangeLemmas
+pub mod BuiltLemmas

@@ -1,5 +1,5 @@
 -- An item stands for at most one chunk.
-use Rattle.std.proofs.Common.{◌≡◌, ℕ, zero, suc, ◌+◌, ◌*◌, ◌^◌, ◌<◌, Bool, true, false, cond, List, [], ◌∷◌, ◌++◌, length, refl, sym, ap, subst, ◌∙◌, arith}
+use Rattle.std.proofs.Common.{◌≡◌, ℕ, suc, ◌*◌, ◌^◌, ◌<◌, Bool, true, false, cond, List, [], ◌∷◌, ◌++◌, length, refl, sym, ap, subst, ◌∙◌, arith}
 use Rattle.std.specs.Prelude.{All}
 use Rattle.std.specs.List.{flat_map, list_all}
 use Rattle.std.proofs.lemmas.List.{length-append}
@@ -22,8 +22,8 @@ use Rattle.sctp_packet.specs.declared.sack.GapAckBlock.{GapAckBlock}
 use Rattle.sctp_packet.specs.declared.forward_tsn.SkippedStream.{SkippedStream}
 use Rattle.sctp_packet.specs.declared.forward_tsn.SkippedStream.TheVariants as skips
 use Rattle.sctp_packet.specs.Chunk.{ChunkTree, FragmentTree, InitTree, SackTree, data_chunk, init_chunk, init_ack_chunk, sack_chunk, heartbeat_request_chunk, heartbeat_ack_chunk, abort_chunk, shutdown_chunk, shutdown_ack_chunk, error_chunk, cookie_echo_chunk, cookie_ack_chunk, shutdown_complete_chunk, idata_chunk, re_config_chunk, forward_tsn_chunk, i_forward_tsn_chunk, unknown_chunk}
-use Rattle.sctp_packet.specs.Written.{chunk_type, is_known_chunk, flag, data_value, idata_value, ppid_or_fsn, init_fields, sack_value, block_bytes, length_block_bytes, tsn_bytes, skip_bytes, forward_value, key_stream, key_flag, is_ssn_skip}
-use Rattle.sctp_packet.specs.Grammar.{IsChunk, SaysFragment, SaysInit, SaysSkip, SaysSkips, FitsFragment, FitsInit, FitsBlock, FitsTsn, FitsSkip, FitsSack, Each}
+use Rattle.sctp_packet.specs.Written.{is_known_chunk, flag, data_value, idata_value, ppid_or_fsn, init_fields, sack_value, block_bytes, length_block_bytes, tsn_bytes, skip_bytes, forward_value, key_stream, key_flag, is_ssn_skip}
+use Rattle.sctp_packet.specs.Grammar.{IsChunk, SaysInit, SaysSkip, SaysSkips, FitsInit, FitsBlock, FitsTsn, FitsSkip, FitsSack, Each}
 use Rattle.sctp_packet.proofs.FieldLemmas.{same16, same32, cut16, cut32}
 
 -- ---- entries

@@ -1,6 +1,5 @@
 -- The parts of a packet, and faults of chunks as faults of packets.
-use Rattle.std.proofs.Common.{◌≡◌, ◌⊎◌, inl, inr, ℕ, ◌+◌, ◌^◌, ◌<◌, ◌≤◌, Bool, true, false, List, [], ◌∷◌, ◌++◌, length, take, drop, refl, sym, ap, subst, ◌∙◌, arith}
-use Rattle.std.specs.Int.{w32, from_be_bytes}
+use Rattle.std.proofs.Common.{◌≡◌, ◌⊎◌, inl, inr, ℕ, ◌+◌, ◌^◌, ◌<◌, true, List, length, drop, refl, sym, subst, arith}
 use Rattle.std.proofs.lemmas.Nat.{from_be_bytes-to_be_bytes_4}
 use Rattle.sctp_wire.specs.Fields.{be16, be32}
 use Rattle.sctp_wire.specs.Refusal.{BreaksAs}
@@ -8,7 +7,6 @@ use Rattle.sctp_wire.specs.declared.checksum.Policy.{Policy}
 use Rattle.sctp_wire.specs.declared.error.ChunkParseError.{ChunkParseError}
 use Rattle.sctp_wire.specs.declared.error.ChunkParseError.TheVariants as faults
 use Rattle.sctp_packet.specs.declared.packet.PacketParseError.{PacketParseError}
-use Rattle.sctp_packet.specs.declared.packet.PacketParseError.TheVariants as packet_faults
 use Rattle.sctp_packet.specs.Grammar.{IsChunk, RefusesChunk}
 use Rattle.sctp_packet.specs.Packet.{HeaderTree, header_bytes, joined_bytes, checksum_field, IsSized, lets_through, Refuses}
 use Rattle.sctp_packet.specs.Faults.{IsPacketFault}

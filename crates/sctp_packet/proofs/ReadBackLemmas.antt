@@ -1,5 +1,5 @@
 -- The item that is written for a chunk stands for the chunk, with the fields that its kind does not write at zero.
-use Rattle.std.proofs.Common.{◌≡◌, ℕ, ◌+◌, ◌^◌, ◌<◌, ◌≤◌, Bool, true, false, cond, List, [], ◌∷◌, ◌++◌, length, map, refl, sym, ap, subst, ◌∙◌, arith}
+use Rattle.std.proofs.Common.{◌≡◌, ℕ, ◌^◌, ◌<◌, Bool, true, false, cond, List, [], ◌∷◌, ◌++◌, map, refl, subst, arith}
 use Rattle.std.specs.Prelude.{All}
 use Rattle.std.specs.List.{flat_map, list_all}
 use Rattle.std.proofs.lemmas.List.{append-nil}
@@ -7,8 +7,8 @@ use Rattle.std.proofs.lemmas.List.Concat.{flat_map-cons}
 use Rattle.sctp_serial.specs.declared.types.StreamKey.{StreamKey}
 use Rattle.sctp_serial.specs.declared.types.StreamKey.TheVariants as keys
 use Rattle.sctp_wire.specs.Fields.{be32}
-use Rattle.sctp_wire.specs.Item.{Item, Tiles}
-use Rattle.sctp_wire.specs.Serialize.{IsEncodable, padded_item, inner_items}
+use Rattle.sctp_wire.specs.Item.{Tiles}
+use Rattle.sctp_wire.specs.Serialize.{inner_items}
 use Rattle.sctp_wire.specs.Parameter.{ParameterTree, IsParameter, parameter_item}
 use Rattle.sctp_wire.specs.Cause.{CauseTree, IsCause, cause_item}
 use Rattle.sctp_wire.specs.ReadBack.{ParameterReadsBack, CauseReadsBack}
@@ -19,7 +19,7 @@ use Rattle.sctp_packet.specs.declared.forward_tsn.SkippedStream.{SkippedStream}
 use Rattle.sctp_packet.specs.declared.forward_tsn.SkippedStream.TheVariants as skips
 use Rattle.sctp_packet.specs.Chunk.{ChunkTree, FragmentTree, data_chunk, init_chunk, init_ack_chunk, sack_chunk, heartbeat_request_chunk, heartbeat_ack_chunk, abort_chunk, shutdown_chunk, shutdown_ack_chunk, error_chunk, cookie_echo_chunk, cookie_ack_chunk, shutdown_complete_chunk, idata_chunk, re_config_chunk, forward_tsn_chunk, i_forward_tsn_chunk, unknown_chunk}
 use Rattle.sctp_packet.specs.Written.{flag, fragment_flags, reflected_flag, chunk_item, chunk_value, chunk_bytes, chunks_bytes, data_value, idata_value, skip_bytes, forward_value, key_flag, is_mid_skip}
-use Rattle.sctp_packet.specs.Grammar.{IsChunk, SaysFragment, SaysSkips, FitsFragment, carried}
+use Rattle.sctp_packet.specs.Grammar.{IsChunk, SaysSkips, carried}
 use Rattle.sctp_packet.specs.ReadBack.{ChunkReadsBack}
 
 flags_say : (i u b e : Bool) → (i ≡ flag (fragment_flags i u b e) 8) × (u ≡ flag (fragment_flags i u b e) 4) × (b ≡ flag (fragment_flags i u b e) 2) × (e ≡ flag (fragment_flags i u b e) 1)

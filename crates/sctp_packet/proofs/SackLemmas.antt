@@ -1,8 +1,8 @@
 -- SACK chunks read: the counts fix the length.
-use Rattle.std.proofs.Common.{◌≡◌, ℕ, ◌+◌, ◌*◌, ◌^◌, ◌<◌, ◌≤◌, ◌≢◌, ◌%◌, List, [], ◌∷◌, ◌++◌, length, refl, sym, ap, ◌∙◌, append_assoc, arith}
+use Rattle.std.proofs.Common.{◌≡◌, ℕ, ◌+◌, ◌*◌, ◌^◌, ◌<◌, ◌≢◌, List, ◌++◌, length, sym, ap, ◌∙◌, append_assoc, arith}
 use Rattle.std.specs.List.{flat_map}
 use Rattle.std.proofs.lemmas.List.{length-append}
-use Rattle.sctp_wire.specs.Fields.{be16, be32, length_be16, length_be32}
+use Rattle.sctp_wire.specs.Fields.{be16, be32, length_be16}
 use Rattle.sctp_serial.specs.declared.types.tsn.Tsn.{Tsn}
 use Rattle.sctp_wire.proofs.SerializeLemmas.{length_entries}
 use Rattle.sctp_packet.specs.declared.sack.GapAckBlock.{GapAckBlock}

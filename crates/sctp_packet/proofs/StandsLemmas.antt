@@ -1,25 +1,22 @@
 -- What stands for a chunk is refused for want of memory alone, and an item has one fault.
-use Rattle.std.proofs.Common.{◌≡◌, ◌≢◌, ◌⊎◌, inl, inr, ℕ, ◌+◌, ◌*◌, ◌-◌, ◌%◌, ◌^◌, ◌<◌, ◌≤◌, Bool, true, false, cond, List, [], ◌∷◌, ◌++◌, length, drop, refl, sym, ap, subst, ◌∙◌, append_assoc, arith}
-use Rattle.std.specs.Prelude.{All}
+use Rattle.std.proofs.Common.{◌≡◌, ◌≢◌, inl, inr, ℕ, ◌+◌, ◌*◌, ◌-◌, ◌%◌, ◌≤◌, Bool, true, cond, List, [], ◌∷◌, ◌++◌, length, drop, sym, ap, subst, ◌∙◌, append_assoc, arith}
 use Rattle.std.specs.List.{flat_map, list_all}
 use Rattle.std.proofs.lemmas.List.{length-append, drop_at}
-use Rattle.sctp_serial.specs.declared.types.tsn.Tsn.{Tsn}
-use Rattle.sctp_wire.specs.Fields.{be16, be32, length_be16, length_be32}
-use Rattle.sctp_wire.specs.Item.{Item, Tiles, Breaks}
+use Rattle.sctp_wire.specs.Fields.{be16, be32, length_be32}
+use Rattle.sctp_wire.specs.Item.{Item, Tiles}
 use Rattle.sctp_wire.specs.Refusal.{BreaksAs}
 use Rattle.sctp_wire.specs.Parameter.{ParameterTree, IsParameter, RefusesParameter, parameter_shape, HasNoResult}
 use Rattle.sctp_wire.specs.Serialize.{type_of}
 use Rattle.sctp_wire.specs.Cause.{CauseTree, IsCause, RefusesCause, cause_shape}
 use Rattle.sctp_wire.specs.declared.error.ChunkParseError.{ChunkParseError}
-use Rattle.sctp_wire.specs.declared.error.ChunkParseError.TheVariants.{InvalidLength, Memory}
+use Rattle.sctp_wire.specs.declared.error.ChunkParseError.TheVariants.{Memory}
 use Rattle.sctp_wire.proofs.TilesLemmas.{whole_not_broken}
 use Rattle.sctp_wire.proofs.SerializeLemmas.{length_entries}
 use Rattle.sctp_wire.proofs.RefusalLemmas.{BreaksAs-Breaks, one_break, one_fault_as}
 use Rattle.sctp_wire.proofs.LawLemmas.{parameter_stands, cause_stands}
-use Rattle.sctp_packet.specs.declared.sack.GapAckBlock.{GapAckBlock}
 use Rattle.sctp_packet.specs.declared.forward_tsn.SkippedStream.{SkippedStream}
 use Rattle.sctp_packet.specs.Chunk.{ChunkTree, FragmentTree, InitTree, SackTree, data_chunk, init_chunk, init_ack_chunk, sack_chunk, heartbeat_request_chunk, heartbeat_ack_chunk, abort_chunk, shutdown_chunk, shutdown_ack_chunk, error_chunk, cookie_echo_chunk, cookie_ack_chunk, shutdown_complete_chunk, idata_chunk, re_config_chunk, forward_tsn_chunk, i_forward_tsn_chunk, unknown_chunk}
-use Rattle.sctp_packet.specs.Written.{is_known_chunk, chunk_value, data_value, idata_value, init_fields, sack_value, block_bytes, length_block_bytes, tsn_bytes, skip_bytes, forward_value, is_ssn_skip}
+use Rattle.sctp_packet.specs.Written.{is_known_chunk, data_value, idata_value, init_fields, sack_value, block_bytes, length_block_bytes, tsn_bytes, skip_bytes, forward_value, is_ssn_skip}
 use Rattle.sctp_packet.specs.Grammar.{IsChunk, RefusesChunk, ValueShape, any_value, exactly, at_least, in_steps, by_counts, parameters_behind, of_causes, value_shape, known_shape, IsFaulty, IsCounted, SaysInit, SaysSkips, FitsSack}
 use Rattle.sctp_packet.proofs.SkipLemmas.{length_ssn_skips}
 use Rattle.sctp_packet.proofs.OneChunkLemmas.{length_front, length_says}

@@ -1,5 +1,5 @@
 -- What a builder's fields mean.
-use Rattle.std.specs.Prelude.{◌≡◌, ◌<◌, ◌≤◌, length, drop, ℕ, List, vec_capacity}
+use Rattle.std.specs.Prelude.{◌<◌, ◌≤◌, length, drop, vec_capacity}
 use Rattle.sctp_packet.specs.declared.builder.SctpPacketBuilder.TheInside.{Inside}
 use Rattle.sctp_packet.specs.Packet.{HeaderTree}
 use Rattle.sctp_packet.specs.Builder.{BuilderTree, HasPacket}

@@ -1,6 +1,6 @@
 -- The offsets that gap ack blocks cover, and blocks that are the maximal runs of these (RFC 9260 section 3.3.4).
-use Rattle.std.specs.Prelude.{◌≡◌, ℕ, ◌+◌, ◌≤◌, Bool, true, false, ◌&&◌, List, [], ◌∷◌, nat_le}
-use Rattle.std.specs.List.{list_any}
+use Rattle.std.specs.Prelude.{◌≡◌, ℕ, ◌+◌, ◌<◌, ◌≤◌, Bool, true, false, ◌&&◌, List, [], ◌∷◌, nat_le, All}
+use Rattle.std.specs.List.{list_any, AllPairs}
 use Rattle.sctp_packet.specs.declared.sack.GapAckBlock.{GapAckBlock}
 
 -- from start to end, both included: with start above end there is no such offset
@@ -32,3 +32,10 @@ AreRuns lowest (block ∷ blocks) = (lowest ≤ block.start) × (block.start ≤
 abbrev pub Ascend : ℕ → List GapAckBlock → Type 0
 Ascend lowest [] = Unit {0}
 Ascend lowest (block ∷ blocks) = (lowest ≤ block.start) × (block.start ≤ block.end) × Ascend block.start blocks
+
+-- The blocks are the maximal runs of the offsets that they cover, each once and in their order, and none of these offsets is
+-- below 2.
+pub record AreValid (blocks : List GapAckBlock) : Type 0 where
+  pub runs : All (IsMaximalRun blocks) blocks
+  pub ascending : AllPairs (λ block later. block.start < later.start) blocks
+  pub from_two : (offset : ℕ) → offset < 2 → is_covered blocks offset ≡ false

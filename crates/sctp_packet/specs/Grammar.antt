@@ -1,19 +1,19 @@
 -- Chunks read: which item stands for which chunk, and why an item stands for none. A relation between an item and a tree.
 use Rattle.std.specs.Prelude.{◌≡◌, ◌≢◌, ◌⊎◌, ℕ, ◌+◌, ◌-◌, ◌*◌, ◌%◌, ◌<◌, ◌≤◌, ◌^◌, Bool, true, false, if◌then◌else◌, cond, ◌==◌, List, [], ◌∷◌, ◌++◌, length, drop, All}
-use Rattle.std.specs.List.{flat_map, list_all}
+use Rattle.std.specs.List.{list_all}
 use Rattle.sctp_serial.specs.declared.types.tsn.Tsn.{Tsn}
 use Rattle.sctp_wire.specs.declared.error.ChunkParseError.{ChunkParseError}
 use Rattle.sctp_wire.specs.declared.error.ChunkParseError.TheVariants.{InvalidLength, InvalidType, Memory}
 use Rattle.sctp_wire.specs.Fields.{be16, be32}
 use Rattle.sctp_wire.specs.Item.{Item, Tiles}
 use Rattle.sctp_wire.specs.Refusal.{BreaksAs}
-use Rattle.sctp_wire.specs.Parameter.{ParameterTree, IsParameter, RefusesParameter}
+use Rattle.sctp_wire.specs.Parameter.{IsParameter, RefusesParameter}
 use Rattle.sctp_wire.specs.Cause.{IsCause, RefusesCause}
 use Rattle.sctp_packet.specs.declared.sack.GapAckBlock.{GapAckBlock}
 use Rattle.sctp_packet.specs.declared.forward_tsn.SkippedStream.{SkippedStream}
 use Rattle.sctp_packet.specs.declared.forward_tsn.SkippedStream.TheVariants as skips
 use Rattle.sctp_packet.specs.Chunk.{ChunkTree, FragmentTree, InitTree, SackTree, data_chunk, init_chunk, init_ack_chunk, sack_chunk, heartbeat_request_chunk, heartbeat_ack_chunk, abort_chunk, shutdown_chunk, shutdown_ack_chunk, error_chunk, cookie_echo_chunk, cookie_ack_chunk, shutdown_complete_chunk, idata_chunk, re_config_chunk, forward_tsn_chunk, i_forward_tsn_chunk, unknown_chunk}
-use Rattle.sctp_packet.specs.Written.{chunk_type, is_known_chunk, flag, data_value, idata_value, init_fields, sack_value, skip_bytes, forward_value, key_stream, key_flag, is_ssn_skip}
+use Rattle.sctp_packet.specs.Written.{chunk_type, is_known_chunk, flag, data_value, idata_value, init_fields, sack_value, forward_value, key_stream, key_flag, is_ssn_skip}
 
 -- ---- what an item says
 

@@ -1,5 +1,5 @@
 -- The fields that INIT and INIT ACK begin with, as the program holds them.
-use Rattle.std.specs.Prelude.{ℕ, ◌<◌, ◌^◌, List, []}
+use Rattle.std.specs.Prelude.{ℕ, List, []}
 use Rattle.sctp_packet.specs.declared.init.InitFields.{InitFields}
 use Rattle.sctp_packet.specs.Chunk.{InitTree}
 use Rattle.sctp_packet.specs.Written.{init_fields}

@@ -1,12 +1,11 @@
 -- Packets (RFC 9260 section 3): a common header and chunks. A relation between bytes and a tree of what they say.
-use Rattle.std.specs.Prelude.{◌≡◌, ◌≢◌, ℕ, ◌+◌, ◌<◌, ◌≤◌, ◌^◌, Bool, true, false, if◌then◌else◌, List, [], ◌∷◌, ◌++◌, length, take, drop, map}
+use Rattle.std.specs.Prelude.{◌≡◌, ◌≢◌, ℕ, ◌<◌, ◌≤◌, ◌^◌, Bool, true, false, List, [], ◌++◌, length, take, drop}
 use Rattle.std.specs.Int.{w32, from_be_bytes}
 use Rattle.sctp_wire.specs.Fields.{be16, be32}
 use Rattle.sctp_wire.specs.Item.{Tiles}
 use Rattle.sctp_wire.specs.Refusal.{BreaksAs}
 use Rattle.sctp_wire.specs.Checksum.{accepts, with_zero_field}
 use Rattle.sctp_wire.specs.declared.checksum.Policy.{Policy}
-use Rattle.sctp_wire.specs.declared.error.ChunkParseError.{ChunkParseError}
 use Rattle.sctp_wire.specs.declared.error.ChunkParseError.TheVariants as chunk_faults
 use Rattle.sctp_packet.specs.declared.packet.PacketParseError.{PacketParseError}
 use Rattle.sctp_packet.specs.declared.packet.PacketParseError.TheVariants.{TooShort, TooLong, InvalidChecksum, Chunk, Memory}

@@ -1,5 +1,5 @@
 -- What the program's values say, without where they lie in memory.
-use Rattle.std.specs.Prelude.{ℕ, Bool, true, false, map}
+use Rattle.std.specs.Prelude.{Bool, true, false, map}
 use Rattle.sctp_serial.specs.declared.types.StreamKey.{StreamKey}
 use Rattle.sctp_serial.specs.declared.types.StreamKey.TheVariants as keys
 use Rattle.sctp_wire.specs.Item.{Item}

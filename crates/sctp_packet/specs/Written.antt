@@ -1,17 +1,14 @@
 -- The item that is written for a chunk: type, flags and value (RFC 9260 section 3.2). One grammar for reader and writer.
-use Rattle.std.specs.Prelude.{◌≡◌, ℕ, ◌+◌, Bool, true, false, if◌then◌else◌, ◌==◌, ◌||◌, ◌&&◌, not, bit_and, List, [], ◌++◌, length, map, refl}
+use Rattle.std.specs.Prelude.{◌≡◌, ℕ, ◌+◌, Bool, true, false, if◌then◌else◌, ◌==◌, ◌||◌, not, bit_and, List, [], ◌++◌, length, map, refl}
 use Rattle.std.specs.List.{flat_map, list_all}
-use Rattle.sctp_serial.specs.declared.api.StreamId.{StreamId}
 use Rattle.sctp_serial.specs.declared.types.tsn.Tsn.{Tsn}
-use Rattle.sctp_serial.specs.declared.types.ssn.Ssn.{Ssn}
-use Rattle.sctp_serial.specs.declared.types.mid.Mid.{Mid}
 use Rattle.sctp_serial.specs.declared.types.StreamKey.{StreamKey}
 use Rattle.sctp_serial.specs.declared.types.StreamKey.TheVariants as keys
 use Rattle.sctp_wire.specs.Fields.{be16, be32}
 use Rattle.sctp_wire.specs.Item.{Item}
 use Rattle.sctp_wire.specs.Serialize.{padded_item, inner_items}
-use Rattle.sctp_wire.specs.Parameter.{ParameterTree, parameter_item, parameter_is_whole}
-use Rattle.sctp_wire.specs.Cause.{CauseTree, cause_item}
+use Rattle.sctp_wire.specs.Parameter.{parameter_item, parameter_is_whole}
+use Rattle.sctp_wire.specs.Cause.{cause_item}
 use Rattle.sctp_packet.specs.declared.sack.GapAckBlock.{GapAckBlock}
 use Rattle.sctp_packet.specs.declared.forward_tsn.SkippedStream.{SkippedStream}
 use Rattle.sctp_packet.specs.declared.forward_tsn.SkippedStream.TheVariants as skips

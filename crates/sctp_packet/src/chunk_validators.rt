@@ -2,7 +2,7 @@
 
 ghost use Rattle.std.specs.Prelude.{◌≡◌, ◌≤◌, ◌↔◌, IsTrue, List, All, length};
 ghost use Rattle.sctp_packet.specs.declared.sack.GapAckBlock.{GapAckBlock};
-ghost use Rattle.sctp_packet.specs.Covered.{SameOffsets, IsMaximalRun, AreRuns, Ascend};
+ghost use Rattle.sctp_packet.specs.Covered.{SameOffsets, IsMaximalRun, AreRuns, AreValid, Ascend};
 
 use crate::sack::{GapAckBlock, SackChunk};
 
@@ -29,7 +29,8 @@ pub fn clean_sack(mut sack: SackChunk) -> SackChunk
 /// Whether the blocks are the maximal runs of the offsets that they cover, ascending, and none covers an offset below 2:
 /// offset 1 is the TSN right above the cumulative one, which would have been counted there.
 pub fn validate_sack(sack: &SackChunk) -> bool
-    ensures { IsTrue result ↔ AreRuns 2 sack.now.gap_ack_blocks.items }
+    ensures runs { IsTrue result ↔ AreRuns 2 sack.now.gap_ack_blocks.items }
+    ensures valid { IsTrue result ↔ AreValid sack.now.gap_ack_blocks.items }
 {
     are_runs(&sack.gap_ack_blocks)
 }

@@ -1,6 +1,6 @@
 //! What holds of the definitions: bytes say one thing, what is read is not refused, and what was built is read back.
 
-ghost use Rattle.std.specs.Prelude.{◌≡◌, ◌≢◌, ℕ, ◌<◌, ◌≤◌, ◌^◌, Bool, true, if◌then◌else◌, List, ◌∷◌, length, map, All, Result, IfOk, IfErr, MatchResult, ◌↔◌};
+ghost use Rattle.std.specs.Prelude.{◌≡◌, ◌≢◌, ◌⊎◌, ℕ, ◌<◌, ◌≤◌, ◌^◌, Bool, true, if◌then◌else◌, List, ◌∷◌, length, map, All, Result, IfOk, IfErr, MatchResult, ◌↔◌};
 ghost use Rattle.sctp_wire.specs.Item.{Item};
 ghost use Rattle.sctp_wire.specs.declared.checksum.Policy.{Policy};
 ghost use Rattle.sctp_packet.specs.declared.packet.PacketParseError.{PacketParseError};
@@ -10,7 +10,7 @@ ghost use Rattle.sctp_packet.specs.Grammar.{IsChunk, carried};
 ghost use Rattle.sctp_packet.specs.ReadBack.{ChunkReadsBack};
 ghost use Rattle.sctp_packet.specs.Packet.{HeaderTree, PacketTree, IsPacket, FitsHeader, Accepts, Refuses, IsFault, lets_through, packet_bytes, canonical};
 ghost use Rattle.sctp_packet.specs.Written.{chunks_bytes};
-ghost use Rattle.sctp_packet.specs.Builder.{built};
+ghost use Rattle.sctp_packet.specs.Builder.{BuilderTree, Holds, built};
 ghost use Rattle.sctp_packet.specs.PacketView.{packet_tree};
 
 use crate::packet::PacketParseError;
@@ -31,6 +31,19 @@ pub fn refused_or_accepted()
         → IsFault fault → Refuses policy word bytes fault → Accepts policy word bytes p → ⊥ }
     ensures one_reason { (policy : Policy) (word : ℕ) (bytes : List ℕ) (fault other : PacketParseError)
         → IsFault fault → IsFault other → Refuses policy word bytes fault → Refuses policy word bytes other → fault ≡ other }
+{}
+
+/// What `from_bytes` answers is fixed by the bytes, the word and the policy, but for want of memory: the packet that the bytes are
+/// where they are accepted as one, and their fault where they have one.
+pub fn one_answer()
+    ensures accepted { (policy : Policy) (word : ℕ) (bytes : List ℕ) (p : PacketTree) (answer : Result SctpPacket PacketParseError)
+        → IfOk answer (λ q. Accepts policy word bytes (packet_tree q)) → IfErr answer (Refuses policy word bytes)
+        → Accepts policy word bytes p
+        → MatchResult answer (λ q. packet_tree q ≡ p) (λ fault. fault ≡ PacketParseError.Memory) }
+    ensures refused { (policy : Policy) (word : ℕ) (bytes : List ℕ) (reason : PacketParseError) (answer : Result SctpPacket PacketParseError)
+        → IfOk answer (λ q. Accepts policy word bytes (packet_tree q)) → IfErr answer (Refuses policy word bytes)
+        → IsFault reason → Refuses policy word bytes reason
+        → MatchResult answer (λ q. ⊥) (λ fault. (fault ≡ reason) ⊎ (fault ≡ PacketParseError.Memory)) }
 {}
 
 /// What `build` gives for a list of chunks is read back as this list, with the fields that their kinds do not write at
@@ -58,4 +71,19 @@ pub fn same_packets()
 pub fn built_packet()
     ensures { (summed : Bool) (header : HeaderTree) (word : ℕ) (first : ChunkTree) (others : List ChunkTree)
         → built summed header word (chunks_bytes (first ∷ others)) ≡ packet_bytes header (if summed then word else 0) (first ∷ others) }
+{}
+
+/// So what a builder hands out for the chunks that it holds is read back as these.
+pub fn built_reads_back()
+    ensures { (policy : Policy) (word sum : ℕ) (builder : BuilderTree) (first : ChunkTree) (others : List ChunkTree) (bytes : List ℕ)
+        (answer : Result SctpPacket PacketParseError)
+        → Holds builder (first ∷ others) → bytes ≡ built builder.writes_checksum builder.header sum builder.body
+        → FitsHeader builder.header → sum < 2 ^ 32 → All ChunkReadsBack (first ∷ others) → length bytes ≤ 65535
+        → lets_through policy word (if builder.writes_checksum then sum else 0) ≡ true
+        → IfOk answer (λ p. Accepts policy word bytes (packet_tree p)) → IfErr answer (Refuses policy word bytes)
+        → MatchResult answer (λ p. packet_tree p ≡ record {
+          header = builder.header;
+          checksum = if builder.writes_checksum then sum else 0;
+          chunks = map carried (first ∷ others);
+        }) (λ fault. fault ≡ PacketParseError.Memory) }
 {}

@@ -14,6 +14,7 @@ mod init;
 mod inner;
 mod laws;
 mod packet;
+mod ranges;
 mod raw;
 mod re_config;
 mod sack;
@@ -29,8 +30,12 @@ pub use error::{AbortChunk, ErrorChunk};
 pub use forward_tsn::{ForwardTsnChunk, IForwardTsnChunk, SkippedStream};
 pub use heartbeat::{HeartbeatAckChunk, HeartbeatRequestChunk};
 pub use init::{InitAckChunk, InitChunk};
-pub use laws::{built_packet, one_chunk, one_packet, read_back, refused_or_accepted, same_packets};
+pub use laws::{
+    built_packet, built_reads_back, one_answer, one_chunk, one_packet, read_back,
+    refused_or_accepted, same_packets,
+};
 pub use packet::{COMMON_HEADER_SIZE, CommonHeader, PacketParseError, SctpPacket};
+pub use ranges::chunk_fits;
 pub use raw::{RawChunk, write_chunk_header};
 pub use re_config::ReConfigChunk;
 pub use sack::{GapAckBlock, SackChunk};

@@ -1,3 +1,4 @@
+mod builder;
 mod packets;
 mod sacks;
 mod texts;
@@ -7,7 +8,7 @@ ghost use Rattle.std.specs.Prelude.{IfSome, ◌<◌};
 use packets::PACKETS;
 use sctp_packet::*;
 use sctp_serial::{Fsn, Mid, PpId, Ssn, StreamId, StreamKey, Tsn};
-use sctp_wire::{ChunkParseError, Policy, RawItem};
+use sctp_wire::{ChunkParseError, Parameter, Policy, RawItem, ReconfigurationResponseResult};
 use std::alloc::Global;
 use std::test::Fail;
 use texts::TEXTS;
@@ -75,6 +76,7 @@ fn add_all(builder: &mut SctpPacketBuilder, chunks: &[Chunk]) -> bool {
         if !builder.fits(chunk) || builder.add(chunk).is_err() {
             return false;
         }
+        chunk_fits(chunk);
     }
     true
 }
@@ -118,6 +120,47 @@ fn is_written_as(alloc: Global, packet: &SctpPacket, want: &[u8]) -> bool {
 fn outside_packets(rt: HostRuntime) {
     for digits in PACKETS {
         assert!(rt; is_written_again(rt.alloc(), digits));
+    }
+}
+
+/// A packet of one chunk that was read is written as it came, but for the zeros that bring it to a multiple of four bytes.
+fn is_written_padded(alloc: Global, digits: &str) -> bool {
+    match packet_around(alloc, digits) {
+        Some(bytes) => is_padded_again(alloc, &bytes),
+        None => false,
+    }
+}
+
+fn packet_around(alloc: Global, digits: &str) -> Option<Vec<u8>> {
+    let mut packet = bytes_of(alloc, "138813880000014100000000")?;
+    let chunk = bytes_of(alloc, digits)?;
+    packet.extend_from_slice(&chunk).ok()?;
+    Some(packet)
+}
+
+fn is_padded_again(alloc: Global, bytes: &[u8]) -> bool {
+    match read(alloc, bytes) {
+        Some(packet) => match written(alloc, &packet) {
+            Some(again) => is_padded_as(bytes, &again),
+            None => false,
+        },
+        None => false,
+    }
+}
+
+fn is_padded_as(bytes: &[u8], again: &[u8]) -> bool {
+    let has_padding = again.len() % 4 == 0 && again.len().saturating_sub(bytes.len()) < 4;
+    match again.strip_prefix(bytes) {
+        Some(padding) => has_padding && padding.iter().all(|byte| *byte == 0),
+        None => false,
+    }
+}
+
+/// One of each kind.
+#[test]
+fn written_chunks(rt: HostRuntime) {
+    for (digits, _) in TEXTS {
+        assert!(rt; is_written_padded(rt.alloc(), digits), "{digits}");
     }
 }
 
@@ -167,7 +210,8 @@ fn is_as_given(chunk: &Chunk) -> bool {
         Chunk::IData(c) => is_idata(c),
         Chunk::Sack(c) => is_sack(c),
         Chunk::IForwardTsn(c) => is_i_forward_tsn(c),
-        Chunk::ReConfig(c) => c.parameters.len() == 1,
+        Chunk::Shutdown(c) => c.cumulative_tsn_ack == Tsn(101831101),
+        Chunk::ReConfig(c) => is_reset(&c.parameters),
         _ => false,
     }
 }
@@ -207,6 +251,24 @@ fn is_i_forward_tsn(c: &IForwardTsnChunk) -> bool {
     c.new_cumulative_tsn == Tsn(10) && c.skipped_streams.as_slice() == skipped.as_slice()
 }
 
+fn is_reset(parameters: &[Parameter]) -> bool {
+    match parameters {
+        [Parameter::OutgoingSsnResetRequest(request)] => {
+            request.request_seq_nbr == 10
+                && request.response_seq_nbr == 3
+                && request.sender_last_assigned_tsn == Tsn(11)
+                && request.streams.as_slice() == [StreamId(1), StreamId(2), StreamId(3)].as_slice()
+        }
+        [Parameter::ReconfigurationResponse(response)] => {
+            response.response_seq_nbr == 10
+                && response.result == ReconfigurationResponseResult::SuccessPerformed
+                && response.sender_next_tsn == None
+                && response.receiver_next_tsn == None
+        }
+        _ => false,
+    }
+}
+
 #[test]
 fn data(rt: HostRuntime) {
     let digits = "000300145508363c000200010000003500010203";
@@ -216,9 +278,15 @@ fn data(rt: HostRuntime) {
 }
 
 #[test]
-fn sack(rt: HostRuntime) {
+fn acknowledgements(rt: HostRuntime) {
     let digits = "0300001c369dd00b0001ed73000200010002000600080008369dd011";
     assert!(rt; reads(rt.alloc(), digits));
+    assert!(rt; reads(rt.alloc(), "070000080611d1bd"));
+}
+
+#[test]
+fn reset_response(rt: HostRuntime) {
+    assert!(rt; reads(rt.alloc(), "820000100010000c0000000a00000001"));
 }
 
 #[test]

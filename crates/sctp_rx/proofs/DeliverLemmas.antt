@@ -1,12 +1,12 @@
 -- What becomes ready, one message after the other.
 use Rattle.std.proofs.Common.{◌≡◌, ℕ, zero, suc, ◌+◌, ◌<◌, ◌≤◌, ◌==◌, Bool, true, false, cond, Option, Some, None, List, [], ◌∷◌, ◌++◌, length, refl, ap, sym, subst, ◌∙◌, arith, append_assoc, length-append, append-nil}
-use Rattle.std.specs.Prelude.{◌&&◌, option_map, option_to_list}
+use Rattle.std.specs.Prelude.{◌&&◌, nat_lt, option_map, option_to_list}
 use Rattle.std.specs.List.{find}
 use Rattle.std.proofs.lemmas.Bool.Decides.{nat_tests}
 use Rattle.sctp_serial.specs.Messages.{Message}
 use Rattle.sctp_rx.specs.Runs.{flat, is_held, with_item}
 use Rattle.sctp_rx.specs.Held.{Held, rank_of, goes_on, NonePass, NoneComplete, NoneInTurn, without_first_of, left_by, intervals_of, is_in_turn, is_complete, IsTaken, IsPlaced, bytes_of, payload_of}
-use Rattle.sctp_rx.specs.Delivery.{OrderedDelivery, OrderedStream, deliver, deliver_within, at_rest, preceded_by, delivering, message_of_run, completed, ready_bytes}
+use Rattle.sctp_rx.specs.Delivery.{OrderedDelivery, OrderedStream, deliver, deliver_within, at_rest, preceded_by, delivering, ordered_arrival, message_of_run, completed, ready_bytes}
 use Rattle.std.proofs.lemmas.List.Sums.{sum_by_push}
 use Rattle.sctp_rx.proofs.FindLemmas.{found, not_found, left_none, taken_left}
 
@@ -77,10 +77,10 @@ same_rest (p ∷ ps) qs (p' ∷ ps') qs' x y h k = let t = same_rest ps qs ps' q
 
 module _ (old mid : List Held) (x : Held) (place : ℕ) (none : NoneComplete (intervals_of old)) (p : IsPlaced old mid x place) where
   pub none_incomplete : ((front back : List (List Held)) (r : List Held) → intervals_of mid ≡ front ++ r ∷ back → length front ≡ place → is_complete r ≡ false) → NoneComplete (intervals_of mid)
-  none_incomplete incomplete = rw p.runs (NonePass-with is_complete p.front p.back p.run (p.others none) (incomplete p.front p.back p.run p.runs p.at))
+  none_incomplete incomplete = rw p.runs (NonePass-with is_complete p.front p.back p.run (p.others is_complete none) (incomplete p.front p.back p.run p.runs p.at))
 
   none_around : (run new : List Held) (t : IsTaken mid run new place) → NoneComplete (t.front ++ t.back)
-  none_around run new t = subst NoneComplete (same_rest p.front p.back t.front t.back p.run run (sym p.runs ∙ t.runs) (p.at ∙ sym t.at)) (p.others none)
+  none_around run new t = subst NoneComplete (same_rest p.front p.back t.front t.back p.run run (sym p.runs ∙ t.runs) (p.at ∙ sym t.at)) (p.others is_complete none)
 
   pub none_taken : (run new : List Held) → IsTaken mid run new place → NoneComplete (intervals_of new)
   none_taken run new t = rw t.left (none_around run new t)
@@ -92,6 +92,16 @@ module _ (old mid : List Held) (x : Held) (place : ℕ) (none : NoneComplete (in
   found_taken run new t =
       ap (λ (o : Option (List Held)). option_to_list (option_map message_of_run o))
       (ap (find is_complete) t.runs ∙ found is_complete t.front t.back run (NonePass-front is_complete t.front t.back (none_around run new t)) t.complete)
+
+-- nothing is in turn where nothing was, and the interval that took the fragment is not
+pub none_turned : (old mid : List Held) (x : Held) (place n : ℕ) → IsPlaced old mid x place → ((front back : List (List Held)) (r : List Held) → intervals_of mid ≡ front ++ r ∷ back → length front ≡ place → false ≡ is_in_turn n r)
+    → NoneInTurn n (intervals_of old) → NoneInTurn n (intervals_of mid)
+none_turned old mid x place n p told none =
+    subst (NoneInTurn n) (sym p.runs) (NonePass-with (is_in_turn n) p.front p.back p.run (p.others (is_in_turn n) none) (sym (told p.front p.back p.run p.runs p.at)))
+
+-- a fragment comes by which nothing is in turn
+pub arrives_settled : (x : Held) (s : OrderedStream) (hs : List Held) → nat_lt x.number s.next ≡ false → hs ≡ with_item rank_of x s.held → NoneInTurn s.next (intervals_of hs) → ordered_arrival x s ≡ at_rest s.next hs
+arrives_settled x s hs late made none = rw late (ap (deliver s.next) (sym made) ∙ deliver_ends s.next hs (not_found (is_in_turn s.next) (intervals_of hs) none))
 
 pub none_completed : (hs : List Held) → NoneComplete (intervals_of hs) → completed hs ≡ []
 none_completed hs none = ap (λ (o : Option (List Held)). option_to_list (option_map message_of_run o)) (not_found is_complete (intervals_of hs) none)

@@ -5,12 +5,12 @@ use Rattle.std.proofs.lemmas.List.{take_more}
 use Rattle.sctp_rx.specs.declared.interval.Entry.{Entry}
 use Rattle.sctp_rx.specs.declared.interval.Interval.{Interval}
 use Rattle.sctp_rx.specs.Runs.{flat, from_rank, AreRuns, AllBelow, IsBelow, end_of}
-use Rattle.sctp_rx.specs.Held.{Held, rank_of, goes_on, bytes_of, NoneComplete}
+use Rattle.sctp_rx.specs.Held.{Held, rank_of, goes_on, bytes_of, is_complete, NoneComplete}
 use Rattle.sctp_rx.specs.Intervals.{run_of, lists_of, entries_of}
 use Rattle.sctp_rx.proofs.RunLemmas.{flat-append, AreRuns-front, AreRuns-back, AllBelow-runs, first_runs}
 use Rattle.sctp_rx.proofs.PlaceLemmas.{lists_of-append}
 use Rattle.sctp_rx.proofs.ListLemmas.{bytes_of-append}
-use Rattle.sctp_rx.proofs.InsertLemmas.{in_two, NoneComplete-back}
+use Rattle.sctp_rx.proofs.InsertLemmas.{in_two, NonePass-back}
 
 from_rank-past : (n : ℕ) (xs ys : List Held) → AllBelow rank_of n xs → from_rank rank_of n (xs ++ ys) ≡ from_rank rank_of n ys
 from_rank-past n [] ys h = refl
@@ -47,5 +47,5 @@ module _ {K : Type 0} (f : Entry K → Held) where
       record {
         runs = first_runs rank_of goes_on (end_of None ps) qs (AreRuns-back rank_of goes_on None ps qs both);
         same = sym (ap (λ (t : List (List Held)). from_rank rank_of n (flat t)) two ∙ (ap (from_rank rank_of n) (flat-append {E = Held} rank_of goes_on ps qs) ∙ from_rank-past n (flat ps) (flat qs) low));
-        none = λ h. NoneComplete-back ps qs (subst NoneComplete two h);
+        none = λ h. NonePass-back is_complete ps qs (subst NoneComplete two h);
       }

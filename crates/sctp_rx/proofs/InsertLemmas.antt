@@ -6,7 +6,7 @@ use Rattle.std.proofs.lemmas.List.{take-append-drop, length-take}
 use Rattle.sctp_rx.specs.declared.interval.Entry.{Entry}
 use Rattle.sctp_rx.specs.declared.interval.Interval.{Interval}
 use Rattle.sctp_rx.specs.Runs.{flat, end_of, last_of, is_held, IsBelow, LeadsTo, is_next, joins_left, joins_right, AreRuns}
-use Rattle.sctp_rx.specs.Held.{Held, rank_of, goes_on, NoneComplete}
+use Rattle.sctp_rx.specs.Held.{Held, rank_of, goes_on, NonePass}
 use Rattle.sctp_rx.specs.Intervals.{IsInserted, run_of, lists_of}
 use Rattle.sctp_rx.proofs.RunLemmas.{end_of-append, flat-append, alone, at_left, at_right, joining}
 use Rattle.sctp_rx.proofs.PlaceLemmas.{cons, some_run, lists_of-append}
@@ -15,20 +15,21 @@ flat_last : {E : Type 0} (ps : List (List E)) (r : List E) → flat (ps ++ r ∷
 flat_last [] r = append-nil r
 flat_last (p ∷ ps) r = ap (λ t. p ++ t) (flat_last ps r) ∙ sym (append_assoc p (flat ps) r)
 
-NoneComplete-append : (xs ys : List (List Held)) → NoneComplete xs → NoneComplete ys → NoneComplete (xs ++ ys)
-NoneComplete-append [] ys h k = k
-NoneComplete-append (x ∷ xs) ys h k = (h.0, NoneComplete-append xs ys h.1 k)
+module _ (test : List Held → Bool) where
+  NonePass-append : (xs ys : List (List Held)) → NonePass test xs → NonePass test ys → NonePass test (xs ++ ys)
+  NonePass-append [] ys h k = k
+  NonePass-append (x ∷ xs) ys h k = (h.0, NonePass-append xs ys h.1 k)
 
-pub NoneComplete-front : (xs ys : List (List Held)) → NoneComplete (xs ++ ys) → NoneComplete xs
-NoneComplete-front [] ys h = tt
-NoneComplete-front (x ∷ xs) ys h = (h.0, NoneComplete-front xs ys h.1)
+  pub NonePass-front : (xs ys : List (List Held)) → NonePass test (xs ++ ys) → NonePass test xs
+  NonePass-front [] ys h = tt
+  NonePass-front (x ∷ xs) ys h = (h.0, NonePass-front xs ys h.1)
 
-pub NoneComplete-back : (xs ys : List (List Held)) → NoneComplete (xs ++ ys) → NoneComplete ys
-NoneComplete-back [] ys h = h
-NoneComplete-back (x ∷ xs) ys h = NoneComplete-back xs ys h.1
+  pub NonePass-back : (xs ys : List (List Held)) → NonePass test (xs ++ ys) → NonePass test ys
+  NonePass-back [] ys h = h
+  NonePass-back (x ∷ xs) ys h = NonePass-back xs ys h.1
 
-NoneComplete-without : (xs ys : List (List Held)) (r : List Held) → NoneComplete (xs ++ r ∷ ys) → NoneComplete (xs ++ ys)
-NoneComplete-without xs ys r h = NoneComplete-append xs ys (NoneComplete-front xs (r ∷ ys) h) (NoneComplete-back xs (r ∷ ys) h).1
+  NonePass-without : (xs ys : List (List Held)) (r : List Held) → NonePass test (xs ++ r ∷ ys) → NonePass test (xs ++ ys)
+  NonePass-without xs ys r h = NonePass-append xs ys (NonePass-front xs (r ∷ ys) h) (NonePass-back xs (r ∷ ys) h).1
 
 held_in : (xs ys : List Held) (x : Held) → is_held rank_of (rank_of x) (xs ++ x ∷ ys) ≡ true
 held_in [] ys x = grind (arith, nat_tests)
@@ -45,7 +46,7 @@ inserts_alone ps qs x h below leads left right = record {
   at = refl;
   among = held_in [] [] x;
   together = flat-append rank_of goes_on ps ((x ∷ []) ∷ qs);
-  others = λ n. n;
+  others = λ test n. n;
 }
 
 pub inserts_left : (ps qs : List (List Held)) (d x : Held) (ds : List Held) → AreRuns rank_of goes_on None (ps ++ (d ∷ ds) ∷ qs) → LeadsTo rank_of (rank_of x) qs
@@ -61,7 +62,7 @@ inserts_left ps qs d x ds h leads left right = record {
   together =
       flat-append rank_of goes_on ps (((d ∷ ds) ++ x ∷ []) ∷ qs) ∙ (ap (λ (t : List Held). flat ps ++ t) (append_assoc (d ∷ ds) (x ∷ []) (flat qs))
       ∙ (sym (append_assoc (flat ps) (d ∷ ds) (x ∷ flat qs)) ∙ ap (λ (t : List Held). t ++ x ∷ flat qs) (sym (flat_last ps (d ∷ ds)))));
-  others = λ n. NoneComplete-without ps qs (d ∷ ds) (subst NoneComplete (append_assoc ps ((d ∷ ds) ∷ []) qs) n);
+  others = λ test n. NonePass-without test ps qs (d ∷ ds) (subst (NonePass test) (append_assoc ps ((d ∷ ds) ∷ []) qs) n);
 }
 
 pub inserts_right : (ps qs : List (List Held)) (f x : Held) (fs : List Held) → AreRuns rank_of goes_on None (ps ++ (f ∷ fs) ∷ qs) → IsBelow rank_of (rank_of x) (end_of None ps)
@@ -75,7 +76,7 @@ inserts_right ps qs f x fs h below left right = record {
   at = refl;
   among = held_in [] (f ∷ fs) x;
   together = flat-append rank_of goes_on ps ((x ∷ (f ∷ fs)) ∷ qs);
-  others = NoneComplete-without ps qs (f ∷ fs);
+  others = λ test n. NonePass-without test ps qs (f ∷ fs) n;
 }
 
 pub inserts_both : (ps qs : List (List Held)) (d f x : Held) (ds fs : List Held) → AreRuns rank_of goes_on None (ps ++ (d ∷ ds) ∷ ((f ∷ fs) ∷ qs))
@@ -91,7 +92,7 @@ inserts_both ps qs d f x ds fs h left right = record {
   together =
       flat-append rank_of goes_on ps (((d ∷ ds) ++ x ∷ (f ∷ fs)) ∷ qs) ∙ (ap (λ (t : List Held). flat ps ++ t) (append_assoc (d ∷ ds) (x ∷ (f ∷ fs)) (flat qs))
       ∙ (sym (append_assoc (flat ps) (d ∷ ds) (x ∷ ((f ∷ fs) ++ flat qs))) ∙ ap (λ (t : List Held). t ++ x ∷ ((f ∷ fs) ++ flat qs)) (sym (flat_last ps (d ∷ ds)))));
-  others = λ n. NoneComplete-without ps qs (f ∷ fs) (NoneComplete-without ps ((f ∷ fs) ∷ qs) (d ∷ ds) (subst NoneComplete (append_assoc ps ((d ∷ ds) ∷ []) ((f ∷ fs) ∷ qs)) n));
+  others = λ test n. NonePass-without test ps qs (f ∷ fs) (NonePass-without test ps ((f ∷ fs) ∷ qs) (d ∷ ds) (subst (NonePass test) (append_assoc ps ((d ∷ ds) ∷ []) ((f ∷ fs) ∷ qs)) n));
 }
 
 -- a vector in two parts, and what is at the border

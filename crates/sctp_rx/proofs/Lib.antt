@@ -26,3 +26,5 @@ pub mod SettledStreamsLemmas
 pub mod SettledQueueLemmas
 pub mod FrontLemmas
 pub mod WrittenLemmas
+pub mod HeldLemmas
+pub mod ReadyLemmas

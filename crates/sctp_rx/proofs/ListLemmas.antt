@@ -13,7 +13,7 @@ use Rattle.std.proofs.lemmas.List.{get_or_read}
 use Rattle.sctp_rx.specs.declared.interval.Entry.{Entry}
 use Rattle.sctp_rx.specs.declared.interval.Interval.{Interval}
 use Rattle.sctp_rx.specs.Runs.{is_next, flat, last_of, end_of, is_held, with_item, IsBelow, LeadsTo, AreRuns}
-use Rattle.sctp_rx.specs.Held.{Held, rank_of, goes_on, bytes_of, intervals_of, is_complete, begins, ends, NoneComplete, IsPlaced, IsTaken, is_in_turn, NoneInTurn, IsTurn}
+use Rattle.sctp_rx.specs.Held.{Held, rank_of, goes_on, bytes_of, intervals_of, is_complete, begins, ends, NonePass, NoneComplete, IsPlaced, IsTaken, is_in_turn, NoneInTurn, IsTurn}
 use Rattle.sctp_rx.specs.Intervals.{lists_of, entries_of}
 use Rattle.sctp_rx.proofs.RunLemmas.{flat-append, runs_of-flat, AreRuns-without, with_item-between, is_held-between, is_held-within}
 use Rattle.sctp_rx.proofs.PlaceLemmas.{cons, some_run, lists_of-append, read_at, remove_at}
@@ -95,14 +95,19 @@ module _ {K : Type 0} (f : Entry K → Held) where
         };
       }
 
-  pub not_complete : (xs : List (Interval K)) (i : Interval K) (v : List Held) (p : ℕ) → entries_of f xs ≡ v → AreRuns rank_of goes_on None (lists_of f xs) → p < length xs → i ≡ get_or xs p i → is_complete (run_of f i) ≡ false
-      → (front back : List (List Held)) (r : List Held) → intervals_of v ≡ front ++ r ∷ back → length front ≡ p → is_complete r ≡ false
-  not_complete xs i v p is h k read incomplete front back r runs at =
+  -- the interval at a place
+  pub run_there : (xs : List (Interval K)) (i : Interval K) (v : List Held) (p : ℕ) → entries_of f xs ≡ v → AreRuns rank_of goes_on None (lists_of f xs) → p < length xs → i ≡ get_or xs p i
+      → (front back : List (List Held)) (r : List Held) → intervals_of v ≡ front ++ r ∷ back → length front ≡ p → run_of f i ≡ r
+  run_there xs i v p is h k read front back r runs at =
       let s = split_at xs p k in
       let i_is : i ≡ s.here = read_at f xs s.before s.after s.here i p s.is s.at read in
       let lists : lists_of f xs ≡ lists_of f s.before ++ run_of f s.here ∷ lists_of f s.after = ap (lists_of f) s.is ∙ lists_of-append f s.before (s.here ∷ s.after) in
       let same : run_of f s.here ≡ r = same_place (lists_of f s.before) (lists_of f s.after) front back (run_of f s.here) r (sym lists ∙ (sym (intervals-kept xs v h is) ∙ runs)) (length-lists_of f s.before ∙ (s.at ∙ sym at)) in
-      rw (← same) (rw (← i_is) incomplete)
+      ap (run_of f) i_is ∙ same
+
+  pub not_complete : (xs : List (Interval K)) (i : Interval K) (v : List Held) (p : ℕ) → entries_of f xs ≡ v → AreRuns rank_of goes_on None (lists_of f xs) → p < length xs → i ≡ get_or xs p i → is_complete (run_of f i) ≡ false
+      → (front back : List (List Held)) (r : List Held) → intervals_of v ≡ front ++ r ∷ back → length front ≡ p → is_complete r ≡ false
+  not_complete xs i v p is h k read incomplete front back r runs at = ap is_complete (sym (run_there xs i v p is h k read front back r runs at)) ∙ incomplete
 
   -- an added entry
   starts_later : (n : ℕ) (rs : List (List Held)) → starts_upto n rs ≡ false → EndsFrom n rs → LeadsTo rank_of n rs
@@ -147,7 +152,7 @@ module _ {K : Type 0} (f : Entry K → Held) where
           runs = intervals-kept new (entries_of f new) put.kept refl ∙ put.runs;
           at = put.at;
           among = put.among;
-          others = λ none. put.others (subst NoneComplete (intervals-kept xs v h is ∙ two) none);
+          others = λ test none. put.others test (subst (NonePass test) (intervals-kept xs v h is ∙ two) none);
         };
       }
 

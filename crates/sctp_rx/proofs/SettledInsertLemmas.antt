@@ -124,6 +124,6 @@ module _ (x : Held) where
             record {
               order = order;
               settled = λ none. subst NoneComplete (sym (left_intervals is_complete (with_item rank_of x old) order))
-                  (subst (λ (t : List (List Held)). NoneComplete (without_first_of is_complete t)) (sym (runs ∙ p.put.runs)) (without_one is_complete p.put.front p.put.back p.put.run (p.put.others (subst NoneComplete s.is none))));
+                  (subst (λ (t : List (List Held)). NoneComplete (without_first_of is_complete t)) (sym (runs ∙ p.put.runs)) (without_one is_complete p.put.front p.put.back p.put.run (p.put.others is_complete (subst NoneComplete s.is none))));
             }
       ]

@@ -173,7 +173,7 @@ module _ (ss : Streams) (h : AreSettled ss) where
       go true = h
       go false = unordered_so id s (settled_past n (stream_at fresh_unordered id ss.unordered) (at_unordered id))
 
-  settled_skip : (e : SkippedStream) → AreSettled (skip e ss).streams
+  pub settled_skip : (e : SkippedStream) → AreSettled (skip e ss).streams
   settled_skip e = go ss.is_interleaved e
     where
       go : (b : Bool) (e : SkippedStream) → AreSettled (skip_of b e ss).streams

@@ -5,7 +5,7 @@ use Rattle.sctp_serial.specs.Messages.{Message}
 use Rattle.sctp_serial.specs.Unwrapped.{origin}
 use Rattle.sctp_rx.specs.Key.{pair_rank}
 use Rattle.sctp_rx.specs.Runs.{with_item, from_rank}
-use Rattle.sctp_rx.specs.Held.{Held, rank_of, intervals_of, is_complete, is_in_turn, left_by, payload_of, NoneComplete}
+use Rattle.sctp_rx.specs.Held.{Held, rank_of, intervals_of, is_complete, is_in_turn, left_by, payload_of, NoneInTurn, NoneComplete}
 
 -- the message of an interval: stream and protocol id are those of its beginning, the payloads are joined
 abbrev pub message_of_run : List Held → Message
@@ -66,6 +66,11 @@ ordered_arrival h s = if nat_lt h.number s.next then at_rest s.next s.held else 
 -- a forward point names message n: it and those before it are dropped, and the next number moves behind it, never back
 abbrev pub ordered_forward : ℕ → OrderedStream → OrderedDelivery
 ordered_forward n s = deliver (max (suc n) s.next) (from_rank rank_of (pair_rank (suc n) 0) s.held)
+
+-- what is true of every ordered stream: where it is settled, no complete message has the next number
+pub record IsOrdered (s : OrderedStream) (is_settled : Bool) : Type 0 where
+  pub least : origin ≤ s.next
+  pub settled : is_settled ≡ true → NoneInTurn s.next (intervals_of s.held)
 
 -- ---- unordered streams
 

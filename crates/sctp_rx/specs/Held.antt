@@ -76,7 +76,7 @@ pub record IsPlaced (old new : List Held) (x : Held) (place : ℕ) : Type 0 wher
   pub runs : intervals_of new ≡ front ++ run ∷ back
   pub at : length front ≡ place
   pub among : is_held rank_of (rank_of x) run ≡ true
-  pub others : NoneComplete (intervals_of old) → NoneComplete (front ++ back)
+  pub others : (test : List Held → Bool) → NonePass test (intervals_of old) → NonePass test (front ++ back)
 
 -- the interval at a place, a complete message, went out
 pub record IsTaken (old run new : List Held) (place : ℕ) : Type 0 where

@@ -5,7 +5,7 @@ use Rattle.sctp_packet.specs.Views.{fragment_tree}
 use Rattle.sctp_rx.specs.declared.interval.Entry.{Entry}
 use Rattle.sctp_rx.specs.declared.interval.Interval.{Interval}
 use Rattle.sctp_rx.specs.Runs.{flat, AreRuns, last_of, is_held}
-use Rattle.sctp_rx.specs.Held.{Held, rank_of, goes_on, bytes_of, NoneComplete, is_in_turn}
+use Rattle.sctp_rx.specs.Held.{Held, rank_of, goes_on, bytes_of, NonePass, is_in_turn}
 
 abbrev pub held : ℕ → ℕ → Data → Held
 held number index d = record { number = number; index = index; fragment = fragment_tree d }
@@ -47,7 +47,7 @@ pub record IsInserted (ps qs new : List (List Held)) (x : Held) (place : ℕ) : 
   pub at : length front ≡ place
   pub among : is_held rank_of (rank_of x) run ≡ true
   pub together : flat new ≡ flat ps ++ x ∷ flat qs
-  pub others : NoneComplete (ps ++ qs) → NoneComplete (front ++ back)
+  pub others : (test : List Held → Bool) → NonePass test (ps ++ qs) → NonePass test (front ++ back)
 
 -- whether the first run begins at n or below it
 abbrev pub starts_upto : ℕ → List (List Held) → Bool

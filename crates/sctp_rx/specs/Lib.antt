@@ -15,3 +15,4 @@ pub mod Forms
 pub mod WaitingViews
 pub mod ReassemblyHandover
 pub mod Settled
+pub mod Ready

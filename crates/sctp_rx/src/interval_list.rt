@@ -94,6 +94,14 @@ impl<K: ReassemblyKey> IntervalList<K> {
         Ok(Some(at))
     }
 
+    /// Whether the interval at the place is a complete message with the number.
+    pub fn is_in_turn_at(&self, place: usize, number: u128) -> bool
+        requires { place < length (intervals_of self.now) }
+        ensures { (front back : List (List Held)) (r : List Held) → intervals_of self.now ≡ front ++ r ∷ back → length front ≡ place → result ≡ is_in_turn number r }
+    {
+        self.intervals[place].is_in_turn(number)
+    }
+
     /// Takes the interval at the place out where it is a complete message.
     pub fn pop_if_complete(&mut self, place: usize) -> Option<Interval<K>>
         requires { place < length (intervals_of self.old) }

@@ -1,11 +1,11 @@
 //! A stream whose messages become ready in the order of their numbers.
 
-ghost use Rattle.std.specs.Prelude.{◌≡◌, ℕ, suc, ◌+◌, ◌<◌, ◌≤◌, ◌^◌, ◌++◌, max, length, OnOk, [], false, nat_lt};
+ghost use Rattle.std.specs.Prelude.{◌≡◌, ℕ, suc, ◌+◌, ◌<◌, ◌≤◌, ◌^◌, ◌++◌, max, length, OnOk, OnErr, IfOk, [], true, false, nat_lt};
 ghost use Rattle.sctp_serial.specs.Unwrapped.{origin};
-ghost use Rattle.sctp_rx.specs.Held.{bytes_of, rank_of};
+ghost use Rattle.sctp_rx.specs.Held.{bytes_of, rank_of, intervals_of, NoneInTurn};
 ghost use Rattle.sctp_rx.specs.Key.{rank_at};
 ghost use Rattle.sctp_rx.specs.Intervals.{held};
-ghost use Rattle.sctp_rx.specs.Runs.{from_rank};
+ghost use Rattle.sctp_rx.specs.Runs.{with_item, from_rank};
 ghost use Rattle.sctp_rx.specs.Delivery.{deliver, ordered_arrival, ready_bytes, Extends};
 
 use crate::interval_list::IntervalList;
@@ -26,18 +26,18 @@ pub struct OrderedStream<K: ReassemblyKey> {
     // wide enough for the number behind that of any key
     next: u128,
     list: IntervalList<K>,
+    // whether nothing in the list is in turn; not so after want of memory
+    is_settled: bool,
 }
 
 impl<K: ReassemblyKey> Model for OrderedStream<K> {
-    ghost use Rattle.std.specs.Prelude.{◌≤◌};
-    ghost use Rattle.sctp_serial.specs.Unwrapped.{origin};
-    ghost use Rattle.sctp_rx.specs.Delivery.{OrderedStream};
+    ghost use Rattle.sctp_rx.specs.Delivery.{OrderedStream, IsOrdered};
 
     ghost Value = { OrderedStream };
 
     ghost view = { λ s. record { next = s.next; held = s.list } };
 
-    ghost invariant = { λ s. origin ≤ s.next };
+    ghost invariant = { λ s. IsOrdered (record { next = s.next; held = s.list }) s.is_settled };
 }
 
 // Makes the complete messages ready that are in turn, one after the other.
@@ -52,6 +52,7 @@ fn deliver<K: ReassemblyKey>(
     ensures next { OnOk result (next.new ≡ (deliver next.old list.old).stream.next) }
     ensures held { OnOk result (list.new ≡ (deliver next.old list.old).stream.held) }
     ensures ready { OnOk result (ready.new ≡ ready.old ++ (deliver next.old list.old).messages) }
+    ensures settled { OnOk result (NoneInTurn next.new (intervals_of list.new)) }
     ensures onward { next.old ≤ next.new }
     ensures kept { Extends ready.old ready.new }
     ensures bytes { bytes_of list.new + ready_bytes ready.new ≤ bytes_of list.old + ready_bytes ready.old }
@@ -65,6 +66,34 @@ fn deliver<K: ReassemblyKey>(
     Ok(())
 }
 
+// Adds a fragment, and says whether the interval that took it is in turn.
+fn add_in<K: ReassemblyKey>(
+    list: &mut IntervalList<K>,
+    key: K,
+    fragment: Data,
+    next: u128,
+) -> Result<bool, AllocError>
+    requires { bytes_of list.old + length fragment.payload.items < 2 ^ 64 }
+    ensures value { OnOk result (list.new ≡ with_item rank_of (held (K.number key) (K.index key) fragment) list.old) }
+    ensures none { IfOk result (λ turn. turn ≡ false → NoneInTurn next (intervals_of list.old) → NoneInTurn next (intervals_of list.new)) }
+    ensures bytes { bytes_of list.new ≤ bytes_of list.old + length fragment.payload.items }
+    ensures err { OnErr result (list.new ≡ list.old) }
+{
+    let added = list.add(key, fragment)?;
+    match added {
+        Some(place) => Ok(list.is_in_turn_at(place, next)),
+        None => Ok(false),
+    }
+}
+
+// Whether nothing is in turn: nothing was before, and no interval came to be.
+fn stays_settled(is_settled: bool, is_turn: bool) -> bool
+    ensures settled { result ≡ true → is_settled ≡ true }
+    ensures turn { result ≡ true → is_turn ≡ false }
+{
+    is_settled && !is_turn
+}
+
 impl<K: ReassemblyKey> OrderedStream<K> {
     ghost use Rattle.sctp_rx.specs.Delivery.{fresh_ordered, ordered_arrival, ordered_forward};
 
@@ -76,6 +105,7 @@ impl<K: ReassemblyKey> OrderedStream<K> {
             alloc,
             next: FIRST as u128,
             list: IntervalList::new(alloc),
+            is_settled: true,
         }
     }
 
@@ -88,6 +118,7 @@ impl<K: ReassemblyKey> OrderedStream<K> {
             alloc,
             next,
             list: IntervalList::new(alloc),
+            is_settled: true,
         }
     }
 
@@ -113,7 +144,10 @@ impl<K: ReassemblyKey> OrderedStream<K> {
         self.list.total_bytes()
     }
 
-    /// Adds a fragment, unless its message is below the next one; what is in turn then becomes ready.
+    /// Adds a fragment, unless its message is below the next one; what is in turn then becomes ready. Takes a search by
+    /// halves, unless the fragment completes the next message.
+    ///
+    /// Without memory the fragment, or a message that was in turn, may be lost; what was ready stays ready.
     #[tactic(auto, using(crate::proofs::ExtendsLemmas::extends_none))]
     pub fn add(
         &mut self,
@@ -130,11 +164,20 @@ impl<K: ReassemblyKey> OrderedStream<K> {
         if (key.number() as u128) < self.next {
             return Ok(());
         }
-        self.list.add(key, fragment)?;
-        deliver(self.alloc, &mut self.next, &mut self.list, ready)
+        let is_turn = add_in(&mut self.list, key, fragment, self.next)?;
+        self.is_settled = stays_settled(self.is_settled, is_turn);
+        if self.is_settled {
+            return Ok(());
+        }
+        deliver(self.alloc, &mut self.next, &mut self.list, ready)?;
+        self.is_settled = true;
+        Ok(())
     }
 
-    /// Drops the messages up to the number before that of the key, and moves the next number to it, never back.
+    /// Drops the messages up to the number before that of the key, and moves the next number to it, never back. What is in
+    /// turn then becomes ready.
+    ///
+    /// Without memory a message that was in turn may be lost; what was ready stays ready.
     pub fn forward(&mut self, first: K, ready: &mut ReadyMessages) -> Result<(), AllocError>
         requires { bytes_of self.old.held + ready_bytes ready.old < 2 ^ 64 }
         ensures ok { (n : ℕ) → K.number first ≡ suc n → K.index first ≡ 0 → OnOk result (self.new ≡ (ordered_forward n self.old).stream) }
@@ -142,8 +185,11 @@ impl<K: ReassemblyKey> OrderedStream<K> {
         ensures kept { Extends ready.old ready.new }
         ensures bytes { bytes_of self.new.held + ready_bytes ready.new ≤ bytes_of self.old.held + ready_bytes ready.old }
     {
+        self.is_settled = false;
         self.list.retain(first);
         self.next = self.next.max(first.number() as u128);
-        deliver(self.alloc, &mut self.next, &mut self.list, ready)
+        deliver(self.alloc, &mut self.next, &mut self.list, ready)?;
+        self.is_settled = true;
+        Ok(())
     }
 }

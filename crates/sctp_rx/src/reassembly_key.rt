@@ -67,7 +67,18 @@ pub fn leads_to<K: ReassemblyKey>(x: K, y: K) -> bool
     x.next().cmp(&y).is_eq()
 }
 
-/// The law of the next key: a greater one is it exactly where no key lies between.
+/// The law of `next`: below the bound, the next key is a greater one, and no key lies between.
+pub fn next_key<K: ReassemblyKey>(x: K) -> K
+    requires { rank_at K.number K.index x < K.bound }
+    ensures key { K.is_key result }
+    ensures greater { rank_at K.number K.index x < rank_at K.number K.index result }
+    ensures least { NoneBetween K.is_key (λ k. rank_at K.number K.index k) x result }
+{
+    x.known();
+    x.next()
+}
+
+/// Among greater keys, the next one is told by that: no key lies between.
 pub fn touch<K: ReassemblyKey>(x: K, y: K) -> bool
     requires { rank_at K.number K.index x < rank_at K.number K.index y }
     ensures { IsTrue result ↔ NoneBetween K.is_key (λ k. rank_at K.number K.index k) x y }
@@ -89,7 +100,9 @@ pub fn is_same<K: ReassemblyKey>(x: K, y: K) -> bool
 /// Without interleaving: the unwrapped SSN of an ordered message, a constant for unordered ones, and the unwrapped TSN.
 #[derive(Clone, Copy, PartialEq, Eq, PartialOrd, Ord, Debug)]
 pub struct TraditionalKey {
+    /// The SSN, counted on from 2^32; 2^32 for unordered messages.
     pub number: u64,
+    /// The TSN, counted on from 2^32.
     pub index: u64,
 }
 
@@ -136,7 +149,9 @@ impl ReassemblyKey for TraditionalKey {
 /// With interleaving, on an ordered stream: the message's unwrapped MID and the fragment's FSN.
 #[derive(Clone, Copy, PartialEq, Eq, PartialOrd, Ord, Debug)]
 pub struct InterleavedKey {
+    /// The MID, counted on from 2^32.
     pub number: u64,
+    /// The FSN, and 0 where the fragment begins its message.
     pub index: u64,
 }
 
@@ -183,7 +198,9 @@ impl ReassemblyKey for InterleavedKey {
 /// With interleaving, on an unordered stream: the message's unwrapped MID and the fragment's FSN.
 #[derive(Clone, Copy, PartialEq, Eq, PartialOrd, Ord, Debug)]
 pub struct UnorderedInterleavedKey {
+    /// The MID, counted on from 2^32.
     pub number: u64,
+    /// The FSN, and 0 where the fragment begins its message.
     pub index: u64,
 }
 

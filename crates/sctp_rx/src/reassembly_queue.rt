@@ -223,6 +223,7 @@ impl ReassemblyQueue {
         ensures ok { OnOk result (self.new ≡ waits (waiting_of waiting) self.old) }
         ensures kept { Extends self.old.ready self.new.ready }
         ensures counted { IsCounted self.old self.new }
+        ensures bytes { queued_bytes self.new ≤ queued_bytes self.old + waiting_bytes (waiting_of waiting) }
     {
         match &mut self.deferred {
             Some(deferred) => deferred.push(waiting),
@@ -240,6 +241,7 @@ impl ReassemblyQueue {
         ensures ok { OnOk result (self.new ≡ add tsn.0 (fragment_tree fragment) self.old) }
         ensures kept { Extends self.old.ready self.new.ready }
         ensures counted { IsCounted self.old self.new }
+        ensures bytes { queued_bytes self.new ≤ queued_bytes self.old + length fragment.payload.items }
     {
         let _fields = &self.ready_count;
         let number = self.number_of(tsn);
@@ -254,7 +256,10 @@ impl ReassemblyQueue {
     }
 
     /// Takes a forward point: drops what it passes, moves next numbers behind what it names, never back, and makes ready
-    /// what is then in turn, by ascending stream. While a reset is deferred, a forward point above its last TSN waits.
+    /// what is then in turn, by ascending stream. While a reset is deferred, a forward point above its last TSN waits. A TSN
+    /// that lies 2^62 or more above the first one is ignored.
+    ///
+    /// Without memory the queue may hold a part of what it should. What was ready stays ready, in any case.
     #[tactic(auto, using(crate::proofs::ExtendsLemmas::extends_none))]
     pub fn handle_forward_tsn(
         &mut self,
@@ -264,6 +269,7 @@ impl ReassemblyQueue {
         ensures ok { OnOk result (self.new ≡ forward tsn.0 skipped.now self.old) }
         ensures kept { Extends self.old.ready self.new.ready }
         ensures counted { IsCounted self.old self.new }
+        ensures bytes { queued_bytes self.new ≤ queued_bytes self.old }
     {
         let _fields = &self.ready_count;
         let number = self.number_of(tsn);
@@ -320,6 +326,7 @@ impl ReassemblyQueue {
         ensures ok { OnOk result (self.new ≡ apply_each deferred.waiting self.old) }
         ensures kept { Extends self.old.ready self.new.ready }
         ensures counted { IsCounted self.old self.new }
+        ensures bytes { queued_bytes self.new ≤ queued_bytes self.old + sum_by waiting_bytes deferred.waiting }
     {
         let _fields = &self.ready_count;
         while let Some(waiting) = deferred.pop() {
@@ -340,6 +347,7 @@ impl ReassemblyQueue {
         ensures ok { OnOk result (self.new ≡ reset streams.now self.old) }
         ensures kept { Extends self.old.ready self.new.ready }
         ensures counted { IsCounted self.old self.new }
+        ensures bytes { queued_bytes self.new ≤ queued_bytes self.old }
     {
         self.streams.reset_streams(streams);
         match self.deferred.take() {

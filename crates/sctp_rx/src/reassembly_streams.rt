@@ -17,10 +17,15 @@ use std::alloc::{AllocError, Global};
 
 /// The fragments of all streams: a map from unwrapped numbers to fragments. What becomes ready by a call is behind what was
 /// ready before it.
+///
+/// `AllocError` is want of memory, and no other refusal is there. `add`, `skip` and `handle_forward_tsn` may then leave a
+/// part of their work undone: the fragment, or a message that was in turn, may be lost. What was ready stays ready, in
+/// front and in order (`kept`), no byte is counted that didn't come (`bytes`), and every call can be made. The calls of a
+/// handover then change nothing.
 pub trait ReassemblyStreams {
     ghost streams: { Self → Streams };
 
-    /// Takes a fragment with the unwrapped TSN.
+    /// Takes a fragment with the unwrapped TSN, which is ignored with interleaving.
     fn add(&mut self, tsn: u64, fragment: Data, ready: &mut ReadyMessages) -> Result<(), AllocError>
         requires room { held_bytes (streams self.old) + ready_bytes ready.old + length fragment.payload.items < 2 ^ 64 }
         requires small { tsn < 2 ^ 63 }

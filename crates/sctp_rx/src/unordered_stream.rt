@@ -103,7 +103,10 @@ impl<K: ReassemblyKey> UnorderedStream<K> {
         self.list.total_bytes()
     }
 
-    /// Adds a fragment, unless a forward point passed its message; a message that it completes becomes ready.
+    /// Adds a fragment, unless a forward point passed its message; a message that it completes becomes ready. Takes a search
+    /// by halves, unless it does complete one.
+    ///
+    /// Without memory the fragment, or the message that it completes, may be lost; what was ready stays ready.
     #[tactic(auto, using(crate::proofs::ExtendsLemmas::extends_none))]
     pub fn add(
         &mut self,

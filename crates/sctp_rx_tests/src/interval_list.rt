@@ -3,6 +3,7 @@ ghost use Rattle.std.specs.Prelude.{◌≡◌, IfOk};
 use sctp_packet::Data;
 use sctp_rx::{
     InterleavedKey, Interval, IntervalList, ReassemblyKey, TraditionalKey, UnorderedInterleavedKey,
+    is_same,
 };
 use sctp_serial::{Fsn, Mid, PpId, Ssn, StreamId, StreamKey};
 use std::alloc::{AllocError, Global};
@@ -22,10 +23,6 @@ fn piece(alloc: Global, bytes: &[u8], is_beginning: bool, is_end: bool) -> Resul
     })
 }
 
-fn at(index: u64) -> TraditionalKey {
-    TraditionalKey { number: 0, index }
-}
-
 // What `add` answers; none where memory lacks.
 fn put<K: ReassemblyKey>(
     alloc: Global,
@@ -43,42 +40,61 @@ fn put<K: ReassemblyKey>(
 }
 
 // Whether the interval goes from one key to the other, with this payload.
-fn is_message(
+fn is_message<K: ReassemblyKey>(
     alloc: Global,
-    interval: &Interval<TraditionalKey>,
-    first: TraditionalKey,
-    last: TraditionalKey,
+    interval: &Interval<K>,
+    first: K,
+    last: K,
     payload: &[u8],
 ) -> Option<bool> {
     let collected = interval.collect_payload(alloc).ok()?;
+    let number = first.number() as u128;
     Some(
-        interval.first().key == first
-            && interval.last().key == last
+        is_same(interval.first().key, first)
+            && is_same(interval.last().key, last)
             && interval.is_complete()
-            && interval.is_in_turn(first.number as u128)
-            && !interval.is_in_turn(first.number as u128 + 1)
+            && interval.is_in_turn(number)
+            && !interval.is_in_turn(number + 1)
             && collected.as_slice() == payload,
     )
 }
 
 // Whether the one interval is taken as the message of three fragments.
-fn is_joined(alloc: Global, list: &mut IntervalList<TraditionalKey>) -> Option<bool> {
+fn is_joined<K: ReassemblyKey>(
+    alloc: Global,
+    list: &mut IntervalList<K>,
+    first: K,
+    last: K,
+) -> Option<bool> {
     if list.len() != 1 || list.total_bytes() != 6 {
         return Some(false);
     }
+    let is_turn = list.is_in_turn_at(0, first.number() as u128);
+    let is_early = list.is_in_turn_at(0, first.number() as u128 + 1);
     let interval = list.pop_if_complete(0)?;
-    is_message(alloc, &interval, at(10), at(12), b"p0p1p2")
+    let is_whole = is_message(alloc, &interval, first, last, b"p0p1p2")?;
+    let is_counted = interval.total_bytes() == 6;
+    Some(is_turn && !is_early && is_whole && is_counted && list.is_empty())
 }
 
 // The gap between a beginning and an end is filled: one interval takes the place of two.
+fn fills_the_gap<K: ReassemblyKey>(alloc: Global, first: K, middle: K, last: K) -> Option<bool> {
+    let mut list = IntervalList::new(alloc);
+    let p0 = put(alloc, &mut list, first, b"p0", (true, false))?;
+    let p2 = put(alloc, &mut list, last, b"p2", (false, true))?;
+    let p1 = put(alloc, &mut list, middle, b"p1", (false, false))?;
+    let are_placed = p0 == Some(0) && p2 == Some(1) && p1 == Some(0);
+    let is_joined = is_joined(alloc, &mut list, first, last)?;
+    Some(are_placed && is_joined)
+}
+
 #[test]
-fn fills_the_gap(rt: HostRuntime) {
-    let mut list = IntervalList::new(rt.alloc());
-    assert!(rt; put(rt.alloc(), &mut list, at(10), b"p0", (true, false)) == Some(Some(0)));
-    assert!(rt; put(rt.alloc(), &mut list, at(12), b"p2", (false, true)) == Some(Some(1)));
-    assert!(rt; put(rt.alloc(), &mut list, at(11), b"p1", (false, false)) == Some(Some(0)));
-    assert!(rt; is_joined(rt.alloc(), &mut list) == Some(true));
-    assert!(rt; list.is_empty());
+fn joins_two_intervals(rt: HostRuntime) {
+    let alloc = rt.alloc();
+    assert!(rt; fills_the_gap(alloc, by_tsn(0, 10), by_tsn(0, 11), by_tsn(0, 12)) == Some(true));
+    assert!(rt; fills_the_gap(alloc, fsn_of(7, 0), fsn_of(7, 1), fsn_of(7, 2)) == Some(true));
+    let (first, middle, last) = (unordered_of(7, 0), unordered_of(7, 1), unordered_of(7, 2));
+    assert!(rt; fills_the_gap(alloc, first, middle, last) == Some(true));
 }
 
 // A key that is held is not taken twice, two whole messages are two intervals, and an incomplete one is not taken.
@@ -116,12 +132,20 @@ fn by_tsn(number: u64, index: u64) -> TraditionalKey {
     TraditionalKey { number, index }
 }
 
+fn fsn_of(number: u64, index: u64) -> InterleavedKey {
+    InterleavedKey { number, index }
+}
+
+fn unordered_of(number: u64, index: u64) -> UnorderedInterleavedKey {
+    UnorderedInterleavedKey { number, index }
+}
+
 fn by_fsn(number: u64) -> InterleavedKey {
-    InterleavedKey { number, index: 0 }
+    fsn_of(number, 0)
 }
 
 fn unordered(number: u64) -> UnorderedInterleavedKey {
-    UnorderedInterleavedKey { number, index: 0 }
+    unordered_of(number, 0)
 }
 
 #[test]

@@ -6,6 +6,8 @@ mod data_tracker;
 #[cfg(test)]
 mod interval_list;
 #[cfg(test)]
+mod memory;
+#[cfg(test)]
 mod reassembly_key;
 #[cfg(test)]
 mod reassembly_queue;

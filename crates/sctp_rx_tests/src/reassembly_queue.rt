@@ -91,6 +91,24 @@ fn has_fragments_wait(rt: HostRuntime) {
     assert!(rt; has_the_next_life_wait(rt.alloc(), &mut queue) == Some(true));
 }
 
+// A forward point that no reset holds up is taken at once.
+fn takes_a_point(alloc: Global, queue: &mut ReassemblyQueue, entry: SkippedStream) -> Option<bool> {
+    give(alloc, queue, 5, StreamKey::Ordered(StreamId(2)), 1, 98)?;
+    let before = queue.messages_ready_count();
+    queue.handle_forward_tsn(Tsn(4), &[entry]).ok()?;
+    Some(before == 0 && queue.messages_ready_count() == 1 && is_next(queue, 98))
+}
+
+#[test]
+fn takes_points(rt: HostRuntime) {
+    let mut by_tsn = ReassemblyQueue::new(rt.alloc(), 1000, false);
+    let entry = SkippedStream::ForwardTsn(StreamId(2), Ssn(0));
+    assert!(rt; takes_a_point(rt.alloc(), &mut by_tsn, entry) == Some(true));
+    let mut by_fsn = ReassemblyQueue::new(rt.alloc(), 1000, true);
+    let entry = SkippedStream::IForwardTsn(StreamKey::Ordered(StreamId(2)), Mid(0));
+    assert!(rt; takes_a_point(rt.alloc(), &mut by_fsn, entry) == Some(true));
+}
+
 fn tells_sizes(alloc: Global, queue: &mut ReassemblyQueue) -> Option<bool> {
     let key = StreamKey::Unordered(StreamId(1));
     let left = queue.remaining_bytes();
@@ -99,15 +117,16 @@ fn tells_sizes(alloc: Global, queue: &mut ReassemblyQueue) -> Option<bool> {
     give(alloc, queue, 2, key, 0, 98)?;
     let is_high = queue.is_above_watermark() && !queue.is_full();
     let is_none_left = queue.remaining_bytes() == 0;
-    Some(left == 2 && !is_early && is_high && is_none_left)
+    give(alloc, queue, 3, key, 0, 99)?;
+    Some(left == 2 && !is_early && is_high && is_none_left && queue.is_full())
 }
 
 #[test]
 fn tells_its_sizes(rt: HostRuntime) {
     let mut queue = ReassemblyQueue::new(rt.alloc(), 3, false);
     assert!(rt; tells_sizes(rt.alloc(), &mut queue) == Some(true));
-    assert!(rt; queue.ready(1).is_some());
-    assert!(rt; queue.ready(2).is_none());
+    assert!(rt; queue.ready(2).is_some());
+    assert!(rt; queue.ready(3).is_none());
 }
 
 // What stands in the way of a handover: a fragment that is held, then a reset that is deferred.

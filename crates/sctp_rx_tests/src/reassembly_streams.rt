@@ -1,5 +1,6 @@
 ghost use Rattle.std.specs.Prelude.{◌≡◌, ◌<◌, ◌∷◌, [], length, IfOk};
 
+mod one_stream;
 mod slow;
 
 use sctp_packet::{Data, SkippedStream};
@@ -96,6 +97,18 @@ fn forward<S: ReassemblyStreams>(
     }
 }
 
+fn skip<S: ReassemblyStreams>(
+    streams: &mut S,
+    ready: &mut ReadyMessages,
+    entry: SkippedStream,
+) -> Option<()> {
+    if streams.queued_bytes() < 1 << 40 && ready.total_bytes() < 1 << 40 {
+        streams.skip(entry, ready).ok()
+    } else {
+        None
+    }
+}
+
 fn is_message(message: &Message, stream: u16, payload: &[u8]) -> bool {
     message.stream_id == StreamId(stream)
         && message.ppid == PpId(53)
@@ -115,8 +128,8 @@ fn takes_the_end_first<S: ReassemblyStreams>(
     alloc: Global,
     streams: &mut S,
     ready: &mut ReadyMessages,
+    key: StreamKey,
 ) -> Option<bool> {
-    let key = StreamKey::Ordered(StreamId(1));
     give_part(alloc, streams, ready, 11, key, 0, false)?;
     let is_early = ready.len() != 0;
     give_part(alloc, streams, ready, 10, key, 0, true)?;
@@ -128,11 +141,21 @@ fn takes_the_end_first<S: ReassemblyStreams>(
     )
 }
 
+// The same of an ordered message and of one that is not.
+fn takes_both<S: ReassemblyStreams>(alloc: Global, streams: &mut S) -> Option<bool> {
+    let mut ready = ReadyMessages::new(alloc);
+    let ordered = StreamKey::Ordered(StreamId(1));
+    let is_good = takes_the_end_first(alloc, streams, &mut ready, ordered)?;
+    let unordered = StreamKey::Unordered(StreamId(1));
+    Some(is_good && takes_the_end_first(alloc, streams, &mut ready, unordered)?)
+}
+
 #[test]
 fn takes_the_protocol_of_the_beginning(rt: HostRuntime) {
-    let mut streams = InterleavedReassemblyStreams::new(rt.alloc());
-    let mut ready = ReadyMessages::new(rt.alloc());
-    assert!(rt; takes_the_end_first(rt.alloc(), &mut streams, &mut ready) == Some(true));
+    let mut by_fsn = InterleavedReassemblyStreams::new(rt.alloc());
+    assert!(rt; takes_both(rt.alloc(), &mut by_fsn) == Some(true));
+    let mut by_tsn = TraditionalReassemblyStreams::new(rt.alloc());
+    assert!(rt; takes_both(rt.alloc(), &mut by_tsn) == Some(true));
 }
 
 // Messages of a stream become ready by number, not as they come.
@@ -149,9 +172,11 @@ fn keeps_order<S: ReassemblyStreams>(
 
 #[test]
 fn keeps_the_order_of_numbers(rt: HostRuntime) {
-    let mut streams = TraditionalReassemblyStreams::new(rt.alloc());
     let mut ready = ReadyMessages::new(rt.alloc());
-    assert!(rt; keeps_order(rt.alloc(), &mut streams, &mut ready) == Some(true));
+    let mut by_tsn = TraditionalReassemblyStreams::new(rt.alloc());
+    assert!(rt; keeps_order(rt.alloc(), &mut by_tsn, &mut ready) == Some(true));
+    let mut by_fsn = InterleavedReassemblyStreams::new(rt.alloc());
+    assert!(rt; keeps_order(rt.alloc(), &mut by_fsn, &mut ready) == Some(true));
 }
 
 // A forward point over the first message of two streams frees the second ones, by ascending stream.
@@ -175,6 +200,51 @@ fn goes_on_behind_a_forward_point(rt: HostRuntime) {
     let mut streams = TraditionalReassemblyStreams::new(rt.alloc());
     let mut ready = ReadyMessages::new(rt.alloc());
     assert!(rt; frees_two(rt.alloc(), &mut streams, &mut ready) == Some(true));
+}
+
+// With interleaving, an entry of its own kind does so on its stream, and one of the other kind says nothing.
+fn frees_by_mid(
+    alloc: Global,
+    streams: &mut InterleavedReassemblyStreams,
+    ready: &mut ReadyMessages,
+) -> Option<bool> {
+    give_whole(alloc, streams, ready, 12, 4, 1, 97)?;
+    let other = SkippedStream::ForwardTsn(StreamId(4), Ssn(0));
+    skip(streams, ready, other)?;
+    let is_early = ready.len() != 0;
+    let entry = SkippedStream::IForwardTsn(StreamKey::Ordered(StreamId(4)), Mid(0));
+    skip(streams, ready, entry)?;
+    Some(!is_early && is_next(ready, 4, b"a".as_slice()) && streams.queued_bytes() == 0)
+}
+
+#[test]
+fn goes_on_behind_a_mid(rt: HostRuntime) {
+    let mut streams = InterleavedReassemblyStreams::new(rt.alloc());
+    let mut ready = ReadyMessages::new(rt.alloc());
+    assert!(rt; frees_by_mid(rt.alloc(), &mut streams, &mut ready) == Some(true));
+}
+
+// Without interleaving a forward point drops unordered fragments up to its TSN, and those above stay.
+fn drops_unordered(
+    alloc: Global,
+    streams: &mut TraditionalReassemblyStreams,
+    ready: &mut ReadyMessages,
+) -> Option<bool> {
+    let key = StreamKey::Unordered(StreamId(6));
+    give_part(alloc, streams, ready, 10, key, 0, true)?;
+    give_part(alloc, streams, ready, 12, key, 0, true)?;
+    let both = streams.queued_bytes();
+    forward(alloc, streams, ready, 10, &[])?;
+    let one = streams.queued_bytes();
+    give_part(alloc, streams, ready, 13, key, 0, false)?;
+    Some(both == 2 && one == 1 && is_next(ready, 6, b"ab".as_slice()) && ready.len() == 0)
+}
+
+#[test]
+fn drops_what_a_point_passes(rt: HostRuntime) {
+    let mut streams = TraditionalReassemblyStreams::new(rt.alloc());
+    let mut ready = ReadyMessages::new(rt.alloc());
+    assert!(rt; drops_unordered(rt.alloc(), &mut streams, &mut ready) == Some(true));
 }
 
 const STREAMS: u16 = 100;
@@ -265,10 +335,12 @@ fn gives_one<S: ReassemblyStreams>(
     give(streams, ready, (1 << 33) + place as u64, fragment)
 }
 
+// Whether each byte is that of its place.
 fn is_long_message(message: &Message) -> bool {
-    message.payload.len() == 300
-        && message.payload.get(299).copied() == Some(43)
-        && message.ppid == PpId(53)
+    let is_each = (0..COUNT).all(|place| {
+        message.payload.get(place as usize).copied() == Some((place % 256) as u8)
+    });
+    is_each && message.payload.len() == 300 && message.ppid == PpId(53)
 }
 
 // One message of many fragments, in an order: it is ready at the last one.

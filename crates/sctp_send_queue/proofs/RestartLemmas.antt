@@ -1,10 +1,12 @@
 -- A new association, a stream at a time.
-use Rattle.std.proofs.Common.{◌≡◌, ℕ, zero, suc, ◌+◌, ◌<◌, List, [], ◌∷◌, length, take, drop, get_or, ap, sym, ◌∙◌, arith, add-one}
+use Rattle.std.proofs.Common.{◌≡◌, ℕ, zero, suc, ◌+◌, ◌<◌, List, [], ◌∷◌, length, take, drop, get_or, refl, ap, sym, subst, ◌∙◌, arith, add-one}
 use Rattle.std.specs.Prelude.{map}
 use Rattle.std.proofs.Math.Seq.{drop-cons}
 use Rattle.sctp_serial.specs.declared.api.StreamId.{StreamId}
-use Rattle.sctp_send_queue.specs.Queue.{Queue}
-use Rattle.sctp_send_queue.specs.Restarted.{restarted_one, each_restarted}
+use Rattle.std.specs.Map.{keys_of}
+use Rattle.sctp_send_queue.specs.Queue.{Queue, Queued, stream}
+use Rattle.sctp_send_queue.specs.Restarted.{whole_front, restarted, restarted_one, each_restarted, reset, SomeRestarted, numbers_on, NumbersGoOn}
+use Rattle.sctp_send_queue.proofs.InOrderLemmas.{each_put}
 
 pub restart-each : (ids : List StreamId) (i : ℕ) (none : StreamId) (q r : Queue) → i < length ids → r ≡ restarted_one (get_or ids i none).0 q
     → each_restarted (map (λ id. id.0) (drop (i + 1) ids)) r ≡ each_restarted (map (λ id. id.0) (drop i ids)) q
@@ -22,3 +24,33 @@ more-restarted (id ∷ ids) (suc i) none q p r more is after = more-restarted id
 pub restarted-more : (ids : List StreamId) (i : ℕ) (none : StreamId) (q p r : Queue) → i < length ids → p ≡ each_restarted (take i (map (λ id. id.0) ids)) q
     → r ≡ restarted_one (get_or ids i none).0 p → r ≡ each_restarted (take (i + 1) (map (λ id. id.0) ids)) q
 restarted-more ids i none q p r more is after = more-restarted ids i none q p r more is after ∙ ap (λ k. each_restarted (take k (map (λ id. id.0) ids)) q) (sym (add-one i))
+
+-- ---- numbers of messages
+
+abbrev numbers_in : List Queued → List ℕ
+numbers_in ms = map (λ m. m.number) ms
+
+whole-numbers : (ms : List Queued) → numbers_in (whole_front ms) ≡ numbers_in ms
+whole-numbers [] = refl
+whole-numbers (m ∷ rest) = refl
+
+one-numbers : (id : ℕ) (q : Queue) → NumbersGoOn q (restarted_one id q)
+one-numbers id q = record {
+  next = refl;
+  waiting = each_put (λ k ms. numbers_in ms ≡ numbers_on k q) id (restarted (stream id q.streams)) q.streams (λ k. refl) (whole-numbers (stream id q.streams).messages);
+}
+
+pub restarted-numbers : (ids : List ℕ) (q : Queue) → NumbersGoOn q (each_restarted ids q)
+restarted-numbers [] q = record { next = refl; waiting = λ k. refl }
+restarted-numbers (id ∷ ids) q =
+    let first = one-numbers id q in
+    let rest = restarted-numbers ids (restarted_one id q) in
+    record { next = rest.next ∙ first.next; waiting = λ k. rest.waiting k ∙ first.waiting k }
+
+pub reset-numbers : (q : Queue) → NumbersGoOn q (reset q)
+reset-numbers q =
+    let h = restarted-numbers (keys_of q.streams.entries) q in
+    record { next = h.next; waiting = h.waiting }
+
+pub some-numbers : (q after : Queue) → SomeRestarted q after → NumbersGoOn q after
+some-numbers q after h = subst (λ (t : Queue). NumbersGoOn q t) (sym h.1) (restarted-numbers (take h.0 (keys_of q.streams.entries)) q)

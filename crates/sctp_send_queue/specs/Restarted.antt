@@ -1,5 +1,5 @@
 -- A new association: what waits is sent from its beginning, under numbers that begin again.
-use Rattle.std.specs.Prelude.{◌≡◌, ℕ, None, List, [], ◌∷◌, take}
+use Rattle.std.specs.Prelude.{◌≡◌, ℕ, None, List, [], ◌∷◌, map, take}
 use Rattle.std.specs.Map.{keys_of}
 use Rattle.sctp_serial.specs.Unwrapped.{origin}
 use Rattle.sctp_send_queue.specs.declared.send_queue.stream.PauseState.TheVariants.{NotPaused}
@@ -37,3 +37,13 @@ reset q = unbegun (each_restarted (keys_of q.streams.entries) q)
 -- what is left without memory: the first of the streams restarted, or none of them, and the others not
 abbrev pub SomeRestarted : Queue → Queue → Type 0
 SomeRestarted q after = (count : ℕ) × (after ≡ each_restarted (take count (keys_of q.streams.entries)) q)
+
+-- ---- numbers of messages
+
+abbrev pub numbers_on : (id : ℕ) → Queue → List ℕ
+numbers_on id q = map (λ m. m.number) (stream id q.streams).messages
+
+-- they are never set back: each message has the one that it was accepted with, and the next one is as it was
+pub record NumbersGoOn (q after : Queue) : Type 0 where
+  pub next : after.next_number ≡ q.next_number
+  pub waiting : (id : ℕ) → numbers_on id after ≡ numbers_on id q

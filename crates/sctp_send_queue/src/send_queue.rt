@@ -20,7 +20,7 @@ ghost use Rattle.sctp_send_queue.specs.Interrupted.{Same, Freed, Stopped, Interr
 ghost use Rattle.sctp_state.specs.Handover.{handover_state_of};
 ghost use Rattle.sctp_send_queue.specs.Handover.{written};
 ghost use Rattle.sctp_send_queue.specs.Readiness.{readiness};
-ghost use Rattle.sctp_send_queue.specs.Restarted.{reset, restarted_one, each_restarted, SomeRestarted};
+ghost use Rattle.sctp_send_queue.specs.Restarted.{reset, restarted_one, each_restarted, SomeRestarted, NumbersGoOn};
 ghost use Rattle.sctp_send_queue.specs.Views.{produced_of, queued_of};
 
 pub mod message;
@@ -543,6 +543,7 @@ impl SendQueue {
     /// none.
     pub fn reset(&mut self) -> Result<(), AllocError>
         ensures ok { OnOk result (self.new ≡ reset self.old) }
+        ensures numbers { NumbersGoOn self.old self.new }
         ensures err { OnErr result (SomeRestarted self.old self.new) }
     {
         let ids = self.streams.ids(self.alloc)?;

@@ -1,7 +1,6 @@
 -- What a packet adds to the bytes in flight.
-use Rattle.std.proofs.Common.{◌≡◌, ℕ, zero, suc, ◌+◌, ◌-◌, ◌*◌, ◌/◌, ◌^◌, ◌≤◌, ◌<◌, Bool, true, false, cond, min, max, Option, Some, None, IfSome, List, [], ◌∷◌, ◌++◌, length, refl, ap, sym, subst, ◌∙◌, arith}
-use Rattle.std.specs.Prelude.{◌&&◌, ◌==◌, nat_lt, nat_le, slice_get, if◌then◌else◌}
-use Rattle.std.specs.List.{sum_by}
+use Rattle.std.proofs.Common.{◌≡◌, ℕ, zero, suc, ◌+◌, ◌-◌, ◌*◌, ◌/◌, ◌^◌, ◌≤◌, ◌<◌, Bool, true, false, min, max, Option, Some, None, List, length, refl, ◌∙◌, arith}
+use Rattle.std.specs.Prelude.{◌&&◌, nat_lt, if◌then◌else◌}
 use Rattle.std.proofs.lemmas.Bool.Decides.{nat_tests}
 use Rattle.std.proofs.lemmas.List.Sums.{sum_by_push}
 use Rattle.sctp_state.specs.Events.{Told}
@@ -15,7 +14,7 @@ use Rattle.sctp_tx.specs.Windows.{capped, room_within}
 use Rattle.sctp_tx.specs.Retransmission.{Sender, is_quiet}
 use Rattle.sctp_tx.specs.Resent.{flight, room_of, may_send_new, resent_by, timed_if}
 use Rattle.sctp_tx.specs.Resent as again
-use Rattle.sctp_tx.specs.Sending.{Filling, Turned, offered, item_of, sent_new, appended, asked, turned_if, turned, fill, discard_all, without_discards, filled_with, timed_filling, filled, send}
+use Rattle.sctp_tx.specs.Sending.{Filling, offered, item_of, sent_new, appended, turned_if, turned, fill, discard_all, without_discards, filled_with, send}
 use Rattle.sctp_tx.specs.Flight.{StaysWithin}
 use Rattle.sctp_tx.proofs.SendingLemmas.{Fits, made_fits}
 
@@ -32,7 +31,7 @@ room-left s = within-left (is_quiet s.outstanding.items) (s.windows.cwnd - fligh
 chunk-fits : (left room header payload : ℕ) → 0 < min left room / 4 * 4 - header → payload ≤ min left room / 4 * 4 - header → (header + payload + 3) / 4 * 4 ≤ room
 chunk-fits left room header payload some fits = omega (arith, some, fits)
 
-some-offered : (b : Bool) (n : ℕ) → b && nat_lt 0 n ≡ true → 0 < n
+pub some-offered : (b : Bool) (n : ℕ) → b && nat_lt 0 n ≡ true → 0 < n
 some-offered true n e = grind (arith, nat_tests)
 some-offered false n e = absurd (cc)
 

@@ -1,2 +1,4 @@
+pub mod FitLemmas
 pub mod FlightLemmas
+pub mod PartlyLemmas
 pub mod SendingLemmas

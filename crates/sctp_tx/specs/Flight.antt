@@ -1,9 +1,20 @@
--- What a packet adds to what is in flight (RFC 9260 section 6.1, rule B).
-use Rattle.std.specs.Prelude.{◌≡◌, ◌≤◌, max}
+-- What a packet holds, and adds to what is in flight (RFC 9260 section 6.1, rule B).
+use Rattle.std.specs.Prelude.{◌≡◌, ◌≤◌, ℕ, ◌+◌, max, List}
+use Rattle.sctp_packet.specs.Chunk.{FragmentTree}
 use Rattle.sctp_outstanding.specs.Items.{flight_bytes}
 use Rattle.sctp_tx.specs.Retransmission.{Sender}
+use Rattle.sctp_tx.specs.Resent.{sizes, mixes}
 
 -- the bytes in flight are no more than before, or than the congestion window, which stays
 pub record StaysWithin (s after : Sender) : Type 0 where
   pub flight : flight_bytes after.outstanding.items ≤ max (flight_bytes s.outstanding.items) s.windows.cwnd
   pub cwnd : after.windows.cwnd ≡ s.windows.cwnd
+
+-- the packet that ignores the congestion window adds no more than it holds
+pub record AddsAtMost (most : ℕ) (s after : Sender) : Type 0 where
+  pub flight : flight_bytes after.outstanding.items ≤ flight_bytes s.outstanding.items + most
+  pub cwnd : after.windows.cwnd ≡ s.windows.cwnd
+
+-- chunks with their headers and padding are within the room that was offered
+abbrev pub FitWithin : (most : ℕ) → Sender → List (ℕ × FragmentTree) → Type 0
+FitWithin most s chunks = sizes (mixes s) chunks ≤ most

@@ -4,7 +4,10 @@ use Rattle.sctp_packet.specs.declared.sack.GapAckBlock.{GapAckBlock}
 use Rattle.sctp_state.specs.Events.{Told}
 use Rattle.sctp_state.specs.Timers.{expire}
 use Rattle.sctp_outstanding.specs.Interrupted.{Same, SomeNacked, SomeExpired, SomeHeard}
+use Rattle.sctp_outstanding.specs.Keeps.{Keeps}
 use Rattle.sctp_outstanding.specs.Resending.{SomeResent, empty_packet}
+use Rattle.sctp_send_queue.specs.Queue.{Queue}
+use Rattle.sctp_send_queue.specs.InOrder.{IsInOrder, IsNumbered, HasRests}
 use Rattle.sctp_tx.specs.Windows.{is_open, timed_out}
 use Rattle.sctp_tx.specs.Retransmission.{Sender}
 
@@ -31,3 +34,22 @@ pub record PartlyExpired {P : Type 0} (now : ℕ) (s : Sender) (told : Told P) (
 pub record PartlyResentFast (most : ℕ) (s after : Sender) : Type 0 where
   pub items : SomeResent true (empty_packet most 0 s.outstanding) after.outstanding
   pub alone : ItemsAlone s after
+
+-- ---- a packet that was being filled
+
+-- each item stays at its place, and others may stand behind them; the windows, but for what the peer's has left, and the timer
+-- are as they were
+pub record PartlySent (s after : Sender) : Type 0 where
+  pub items : Keeps s.outstanding.items after.outstanding.items
+  pub rest : after ≡ record s {
+    outstanding = after.outstanding;
+    windows = record s.windows { rwnd = after.windows.rwnd };
+    rtx_packets = after.rtx_packets;
+    rtx_bytes = after.rtx_bytes;
+  }
+
+-- of the send queue fragments and discarded messages may have left; its order holds as before
+pub record PartlyTaken (q after : Queue) : Type 0 where
+  pub order : IsInOrder q → IsInOrder after
+  pub numbers : IsNumbered q → IsNumbered after
+  pub rests : HasRests q → HasRests after

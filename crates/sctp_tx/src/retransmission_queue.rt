@@ -12,8 +12,8 @@ ghost use Rattle.sctp_packet.specs.ChunkView.{chunk_tree};
 ghost use Rattle.sctp_tx.specs.ForwardPoints.{expired, forward_chunk};
 ghost use Rattle.sctp_outstanding.specs.Sack.{is_valid, acked_bytes};
 ghost use Rattle.sctp_tx.specs.Retransmission.{sender, heard, step_of, sender_if, told_if, answer_if, answer_of, windows_after, after_sack, kept_running, is_quiet, timed_out_sender};
-ghost use Rattle.sctp_tx.specs.Interrupted.{PartlyHeard, PartlyTimedOut, PartlyExpired, PartlyResentFast};
-ghost use Rattle.sctp_tx.specs.Flight.{StaysWithin};
+ghost use Rattle.sctp_tx.specs.Interrupted.{PartlyHeard, PartlyTimedOut, PartlyExpired, PartlyResentFast, PartlySent, PartlyTaken};
+ghost use Rattle.sctp_tx.specs.Flight.{StaysWithin, AddsAtMost, FitWithin};
 ghost use Rattle.sctp_tx.specs.Windows.{capped};
 ghost use Rattle.sctp_send_queue.specs.Views.{produced_of};
 ghost use Rattle.sctp_outstanding.specs.Item.{size_of};
@@ -374,6 +374,8 @@ impl RetransmissionQueue {
     ) -> Result<Vec<(Tsn, Data)>, AllocError>
         ensures queue { OnOk result (self.new ≡ send_fast now max_bytes self.old) }
         ensures chunks { IfOk result (λ chunks. map chunk_of chunks.items ≡ (resent_fast max_bytes self.old).chunks) }
+        ensures fits { IfOk result (λ chunks. FitWithin max_bytes self.old (map chunk_of chunks.items)) }
+        ensures flight { OnOk result (AddsAtMost max_bytes self.old self.new) }
         ensures err { OnErr result (PartlyResentFast max_bytes self.old self.new) }
     {
         let chunks = self
@@ -386,8 +388,9 @@ impl RetransmissionQueue {
 
     /// What a packet with room for `max_bytes` of chunks takes, as far as the windows let it go: first the items that
     /// wait to be sent again, ascending, then new fragments. Before that, what is left of messages that were given up
-    /// leaves the send queue. Without memory none is handed out, and how much of this was done is not told: fragments may
-    /// have left the queue or count as sent, and events may tell of some of it. Sender and queue can still be called.
+    /// leaves the send queue. Without memory none is handed out: each item is kept at its place, and what left the queue may
+    /// stand behind them as sent; the windows, but for what the peer's has left, and t3-rtx are as they were; the queue is in
+    /// order as before. Events may tell of some of it.
     pub fn get_chunks_to_send(
         &mut self,
         now: SocketTime,
@@ -400,7 +403,10 @@ impl RetransmissionQueue {
         ensures queue { OnOk result (queue.new ≡ (send now max_bytes self.old queue.old events.old).queue) }
         ensures told { OnOk result (events.new ≡ (send now max_bytes self.old queue.old events.old).told) }
         ensures chunks { IfOk result (λ chunks. map chunk_of chunks.items ≡ (send now max_bytes self.old queue.old events.old).chunks) }
+        ensures fits { IfOk result (λ chunks. FitWithin max_bytes self.old (map chunk_of chunks.items)) }
         ensures flight { OnOk result (StaysWithin self.old self.new) }
+        ensures err { OnErr result (PartlySent self.old self.new) }
+        ensures taken { OnErr result (PartlyTaken queue.old queue.new) }
     {
         let _cwnd = self.cwnd();
         discard_all(&mut self.outstanding, queue, events)?;
@@ -421,6 +427,7 @@ impl RetransmissionQueue {
         ensures sender { OnOk result (self.new ≡ resent_by self.old (resent max_bytes self.old)) }
         ensures chunks { IfOk result (λ r. map chunk_of r.0.items ≡ (resent max_bytes self.old).chunks) }
         ensures bytes { IfOk result (λ r. r.1 ≡ capped (sizes (mixes self.new) (resent max_bytes self.old).chunks)) }
+        ensures partly { PartlySent self.old self.new }
     {
         let flight = self.outstanding.unacked_packet_bytes();
         let room = max_bytes.min(self.windows.cwnd.saturating_sub(flight));
@@ -444,6 +451,8 @@ impl RetransmissionQueue {
         ensures queue { OnOk result (queue.new ≡ (fill (suc left) now (filling self.old queue.old events.old (map chunk_of chunks.old.items) left)).queue) }
         ensures told { OnOk result (events.new ≡ (fill (suc left) now (filling self.old queue.old events.old (map chunk_of chunks.old.items) left)).told) }
         ensures chunks { OnOk result (map chunk_of chunks.new.items ≡ (fill (suc left) now (filling self.old queue.old events.old (map chunk_of chunks.old.items) left)).chunks) }
+        ensures partly { PartlySent self.old self.new }
+        ensures taken { PartlyTaken queue.old queue.new }
     {
         let mut left = left;
         while let Some(rest) = self.add_new(now, left, queue, chunks, events)? {
@@ -469,6 +478,8 @@ impl RetransmissionQueue {
         ensures left { IfOk result (λ more. IfSome more (λ rest. rest ≡ (turned now (filling self.old queue.old events.old (map chunk_of chunks.old.items) left)).filling.left)) }
         ensures more { IfOk result (λ more. is_some more ≡ (turned now (filling self.old queue.old events.old (map chunk_of chunks.old.items) left)).is_more) }
         ensures less { IfOk result (λ more. IfSome more (λ rest. rest < left)) }
+        ensures partly { PartlySent self.old self.new }
+        ensures taken { PartlyTaken queue.old queue.new }
     {
         let max_payload = self.offered(left);
         if !self.can_send_data() || max_payload == 0 {
@@ -504,6 +515,7 @@ impl RetransmissionQueue {
         ensures chunks { OnOk result (map chunk_of chunks.new.items ≡ map chunk_of chunks.old.items
             ++ (written self.old.outstanding (next_number self.old.outstanding.items), fragment_tree fragment.data) ∷ []) }
         ensures size { IfOk result (λ size. size ≡ size_of (mixes self.old) (fragment_tree fragment.data)) }
+        ensures partly { PartlySent self.old self.new }
     {
         let size = chunk_size(&fragment.data, self.outstanding.is_interleaved());
         let copy = copy_of(self.alloc, &fragment.data)?;
@@ -553,6 +565,8 @@ fn discard_all(
     ensures items { OnOk result (outstanding.new ≡ record outstanding.old { items = record outstanding.old.items { discards = [] } }) }
     ensures queue { OnOk result (queue.new ≡ (discard_all outstanding.old.items.discards queue.old events.old).queue) }
     ensures told { OnOk result (events.new ≡ (discard_all outstanding.old.items.discards queue.old events.old).told) }
+    ensures rest { record outstanding.new { items = record outstanding.new.items { discards = [] } } ≡ record outstanding.old { items = record outstanding.old.items { discards = [] } } }
+    ensures taken { PartlyTaken queue.old queue.new }
 {
     while let Some(next) = outstanding.get_unsent_message_to_discard() {
         queue.discard(next.stream_id, next.message_id, events)?;

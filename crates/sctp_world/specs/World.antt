@@ -193,16 +193,15 @@ pub record Gives (x : End) (packet : ℕ) (w v : World) : Type 0 where
   pub told : Told x (Given x (clock (side_of x w).socket) packet) bytes (side_of x w) (side_of x v) w.log v.log
   pub other_side : side_of (other x) v ≡ side_of (other x) w
 
--- the end would refuse the bytes, or not
-pub record IsJudged (bytes : List ℕ) (s : Endpoint (List ℕ)) (is_refused : Bool) : Type 0 where
-  pub word_of : List ℕ → ℕ
-  pub own : s.standing.context.pack ≡ written word_of
-  pub judges : Judges word_of bytes s.standing.context.options s.standing.state is_refused
+-- the end would refuse the bytes, or not, by this checksum function
+abbrev pub IsJudged : (word_of : List ℕ → ℕ) → (bytes : List ℕ) → Endpoint (List ℕ) → (is_refused : Bool) → Type 0
+IsJudged word_of bytes s is_refused = Judges word_of bytes s.standing.context.options s.standing.state is_refused
 
 -- bytes from elsewhere: they are told to an end that refuses them, and else skipped
 pub data ComesTo (x : End) (bytes : List ℕ) (old new : Side) (log longer : List Entry) : Type 0 where
-  told : IsJudged bytes old.socket true → Told x (Foreign x (clock old.socket) (Some bytes)) bytes old new log longer → ComesTo x bytes old new log longer
-  skipped : IsJudged bytes old.socket false → new ≡ old → longer ≡ log ++ Foreign x (clock old.socket) None ∷ [] → ComesTo x bytes old new log longer
+  told : (t : Told x (Foreign x (clock old.socket) (Some bytes)) bytes old new log longer) → IsJudged t.takes.word_of bytes old.socket true → ComesTo x bytes old new log longer
+  skipped : (word_of : List ℕ → ℕ) → old.socket.standing.context.pack ≡ written word_of → IsJudged word_of bytes old.socket false
+      → new ≡ old → longer ≡ log ++ Foreign x (clock old.socket) None ∷ [] → ComesTo x bytes old new log longer
 
 pub record Comes (x : End) (bytes : List ℕ) (w v : World) : Type 0 where
   pub comes : ComesTo x bytes (side_of x w) (side_of x v) w.log v.log

@@ -5,7 +5,7 @@ ghost use Rattle.sctp_serial.specs.Messages.{Message};
 ghost use Rattle.sctp_state.specs.Options.{IsValid, SendOptions, options_of, defaults};
 ghost use Rattle.sctp_association.specs.Socket.{endpoint};
 ghost use Rattle.sctp_world.specs.declared.world.WorldError.TheVariants.{Memory as no_memory};
-ghost use Rattle.sctp_world.specs.World.{Happens, Runs, Lacks, RunsUpToLack, AreShort, fresh_world, side_of, is_at_rest, Told, ComesTo, after_call, after_time, call_entry, time_entry, clock, settled, news_of};
+ghost use Rattle.sctp_world.specs.World.{Comes, Happens, Runs, Lacks, RunsUpToLack, AreShort, fresh_world, side_of, is_at_rest, Told, ComesTo, after_call, after_time, call_entry, time_entry, clock, settled, news_of};
 ghost use Rattle.sctp_association_laws.specs.FirstRun.{IsSmall};
 ghost use Rattle.sctp_world.specs.FirstRun.{opening, crossing, acknowledging, IsFresh, IsOpen, HasCrossed};
 ghost use Rattle.sctp_world.specs.Judge.{A, Given};
@@ -152,6 +152,7 @@ impl<R: Rng, C: Checksum> World<R, C> {
         ensures ok { OnOk result (Happens (action_of event.now) (world_of R.stream C.word_of self.old) (world_of R.stream C.word_of self.new)) }
         ensures works { OnOk result ((self.old.has_failed ≡ false) × (self.new.has_failed ≡ false)) }
         ensures lacks { IfErr result (λ e. e ≡ WorldError.NoSuchPacket → Lacks (action_of event.now) (world_of R.stream C.word_of self.old)) }
+        ensures missing { self.old.has_failed ≡ false → Lacks (action_of event.now) (world_of R.stream C.word_of self.old) → result ≡ Err WorldError.NoSuchPacket }
         ensures same { IfErr result (λ e. e ≡ WorldError.NoSuchPacket → self.new ≡ self.old) }
         ensures memory { IfErr result (λ e. e ≡ WorldError.Memory → self.new.has_failed ≡ true) }
         ensures failed { self.old.has_failed ≡ true → result ≡ Err WorldError.Memory }
@@ -171,6 +172,7 @@ impl<R: Rng, C: Checksum> World<R, C> {
     fn act(&mut self, event: &Event) -> Result<(), WorldError>
         ensures ok { OnOk result (Happens (action_of event.now) (world_of R.stream C.word_of self.old) (world_of R.stream C.word_of self.new)) }
         ensures lacks { IfErr result (λ e. e ≡ WorldError.NoSuchPacket → Lacks (action_of event.now) (world_of R.stream C.word_of self.old)) }
+        ensures missing { Lacks (action_of event.now) (world_of R.stream C.word_of self.old) → result ≡ Err WorldError.NoSuchPacket }
         ensures same { IfErr result (λ e. e ≡ WorldError.NoSuchPacket → self.new ≡ self.old) }
         ensures failed { self.new.has_failed ≡ self.old.has_failed }
     {
@@ -197,12 +199,7 @@ impl<R: Rng, C: Checksum> World<R, C> {
                 &self.a,
                 &mut self.log,
             ),
-            Event::Foreign(End::A, bytes) => {
-                Ok(self.a.come(self.alloc, End::A, bytes, &mut self.log)?)
-            }
-            Event::Foreign(End::B, bytes) => {
-                Ok(self.b.come(self.alloc, End::B, bytes, &mut self.log)?)
-            }
+            Event::Foreign(end, bytes) => Ok(self.come(*end, bytes)?),
             Event::Time(End::A, now) => {
                 Ok(self.a.tell_time(self.alloc, End::A, *now, &mut self.log)?)
             }
@@ -212,12 +209,24 @@ impl<R: Rng, C: Checksum> World<R, C> {
         }
     }
 
-    /// Makes events happen, one after the other, up to the first that doesn't.
+    /// Bytes from elsewhere come to an end.
+    fn come(&mut self, end: End, bytes: &[u8]) -> Result<(), CallError>
+        ensures ok { OnOk result (Comes (end_tree end) bytes.now (world_of R.stream C.word_of self.old) (world_of R.stream C.word_of self.new)) }
+        ensures failed { self.new.has_failed ≡ self.old.has_failed }
+    {
+        match end {
+            End::A => self.a.come(self.alloc, end, bytes, &mut self.log),
+            End::B => self.b.come(self.alloc, end, bytes, &mut self.log),
+        }
+    }
+
+    /// Makes events happen, one after the other, up to the first that doesn't. A world that has failed answers `Memory`.
     pub fn run(&mut self, events: &[Event]) -> Result<(), WorldError>
         ensures ok { OnOk result (Runs (map action_of events.now) (world_of R.stream C.word_of self.old) (world_of R.stream C.word_of self.new)) }
         ensures lacks { IfErr result (λ e. e ≡ WorldError.NoSuchPacket
             → RunsUpToLack (map action_of events.now) (world_of R.stream C.word_of self.old) (world_of R.stream C.word_of self.new)) }
         ensures memory { IfErr result (λ e. e ≡ WorldError.Memory → self.new.has_failed ≡ true) }
+        ensures failed { self.old.has_failed ≡ true → result ≡ Err WorldError.Memory }
         ensures short { OnOk result ((mtu_a mtu_b : ℕ) → AreShort mtu_a mtu_b (world_of R.stream C.word_of self.old)
             → AreShort mtu_a mtu_b (world_of R.stream C.word_of self.new)) }
 
@@ -230,6 +239,9 @@ impl<R: Rng, C: Checksum> World<R, C> {
         ensures nothing_lacks { IfErr result (λ e. (m : Message) (options : SendOptions) → IsSmall m → IsFresh (world_of R.stream C.word_of self.old)
             → map action_of events.now ≡ opening ++ (crossing m options ++ acknowledging) → e ≡ WorldError.Memory) }
     {
+        if self.has_failed {
+            return Err(WorldError::Memory);
+        }
         self.run_each(events)
     }
 
@@ -258,6 +270,7 @@ fn give<R: Rng, C: Checksum>(
     ensures ok { OnOk result ((bytes : List ℕ) × (slice_get from.now.packets number ≡ Some bytes)
         × Told (end_tree end) (Given (end_tree end) (clock (side_in R.stream C.word_of to.old).socket) number) bytes (side_in R.stream C.word_of to.old) (side_in R.stream C.word_of to.new) (map entry_tree log.old.items) (map entry_tree log.new.items)) }
     ensures lacks { IfErr result (λ e. e ≡ WorldError.NoSuchPacket → slice_get from.now.packets number ≡ None) }
+    ensures missing { slice_get from.now.packets number ≡ None → result ≡ Err WorldError.NoSuchPacket }
     ensures side { IfErr result (λ e. e ≡ WorldError.NoSuchPacket → to.new ≡ to.old) }
     ensures log { IfErr result (λ e. e ≡ WorldError.NoSuchPacket → log.new ≡ log.old) }
 {

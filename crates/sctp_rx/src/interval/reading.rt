@@ -11,12 +11,14 @@ impl<K: ReassemblyKey> Interval<K> {
     ghost use Rattle.sctp_rx.specs.Held.{Held, is_complete, is_in_turn, bytes_of, payload_of};
     ghost use Rattle.sctp_rx.specs.Intervals.{held_of, run_of};
 
+    /// The fragment with its least key.
     pub fn first(&self) -> &Entry<K>
         ensures { (h : Held) (hs : List Held) → run_of (held_of K.number K.index) self.now ≡ h ∷ hs → held_of K.number K.index result.now ≡ h }
     {
         &self.entries[0]
     }
 
+    /// The fragment with its greatest key.
     pub fn last(&self) -> &Entry<K>
         ensures { (h : Held) (hs : List Held) → run_of (held_of K.number K.index) self.now ≡ h ∷ hs → held_of K.number K.index result.now ≡ last_of h hs }
     {
@@ -35,11 +37,21 @@ impl<K: ReassemblyKey> Interval<K> {
         bytes
     }
 
-    /// The payloads of its fragments, joined.
+    // How much room the payloads take, where that can be counted.
+    fn room(&self) -> usize {
+        let mut bytes = 0_usize;
+        for index in 0..self.entries.len() {
+            bytes = bytes.saturating_add(self.entries[index].fragment.payload.len());
+        }
+        bytes
+    }
+
+    /// The payloads of its fragments, joined, in room that is made for all of them at once. Fails for want of memory
+    /// alone.
     pub fn collect_payload(&self, alloc: Global) -> Result<Vec<u8>, AllocError>
         ensures { IfOk result (λ payload. payload.items ≡ payload_of (run_of (held_of K.number K.index) self.now)) }
     {
-        let mut payload = Vec::new(alloc);
+        let mut payload = Vec::with_capacity(alloc, self.room())?;
         for index in 0..self.entries.len() {
             payload.extend_from_slice(&self.entries[index].fragment.payload)?;
         }

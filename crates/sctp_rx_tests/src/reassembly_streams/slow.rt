@@ -5,7 +5,7 @@ use sctp_packet::Data;
 use sctp_rx::{
     InterleavedReassemblyStreams, ReadyMessages, ReassemblyStreams, TraditionalReassemblyStreams,
 };
-use sctp_serial::{Message, StreamId, StreamKey};
+use sctp_serial::{Message, PpId, StreamId, StreamKey};
 use std::alloc::{AllocError, Global};
 
 /// A message of the table: each fragment has one byte, and they have the TSNs from the first one on.
@@ -104,9 +104,14 @@ fn fragment_of(alloc: Global, row: &Row, tsn: u32) -> Result<Data, AllocError> {
 
 // Whether it is the message of the row.
 fn is_message_of(message: &Message, row: &Row) -> bool {
-    message.stream_id == StreamId(row.stream)
+    let is_each = (0..row.count).all(|place| {
+        let byte = (row.first.saturating_add(place) % 256) as u8;
+        message.payload.get(place as usize).copied() == Some(byte)
+    });
+    is_each
+        && message.stream_id == StreamId(row.stream)
         && message.payload.len() == row.count as usize
-        && message.payload.first().copied() == Some((row.first % 256) as u8)
+        && message.ppid == PpId(53)
 }
 
 // The message of the row is to be the next one that is ready; its fragments leave the list.

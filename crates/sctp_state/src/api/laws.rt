@@ -1,8 +1,12 @@
-//! What equality of kinds, states and errors means, each the contract of a function, and what a clone is.
+//! What equality of kinds, states and errors means, each the contract of a function, and what a clone and a default are.
 
-ghost use Rattle.std.specs.Prelude.{◌≡◌, ◌↔◌, IsTrue, IfOk};
+ghost use Rattle.std.specs.Prelude.{◌≡◌, ◌↔◌, IsTrue, IfOk, false};
 ghost use Rattle.sctp_state.specs.Options.{options_of, plainly, send_options_of};
 
+use crate::api::handover::{
+    HandoverCapabilities, HandoverOrderedStream, HandoverOutgoingStream, HandoverSocketState,
+    HandoverUnorderedStream,
+};
 use crate::{
     CallError, ErrorKind, HandoverError, HandoverReadiness, Options, ResetStreamsError,
     RestoreError, SctpImplementation, SendError, SendOptions, SocketState,
@@ -73,4 +77,52 @@ pub fn plain_send_options() -> SendOptions
     ensures { send_options_of result ≡ plainly }
 {
     SendOptions::default()
+}
+
+pub fn default_handover_socket_state() -> HandoverSocketState
+    ensures { result ≡ HandoverSocketState.Closed }
+{
+    HandoverSocketState::default()
+}
+
+/// Nothing stands in the way.
+pub fn default_readiness() -> HandoverReadiness
+    ensures { result.0 ≡ 0 }
+{
+    HandoverReadiness::default()
+}
+
+/// Nothing was negotiated.
+pub fn default_handover_capabilities() -> HandoverCapabilities
+    ensures partial_reliability { result.partial_reliability ≡ false }
+    ensures message_interleaving { result.message_interleaving ≡ false }
+    ensures reconfig { result.reconfig ≡ false }
+    ensures zero_checksum { result.zero_checksum ≡ false }
+    ensures incoming { result.negotiated_maximum_incoming_streams ≡ 0 }
+    ensures outgoing { result.negotiated_maximum_outgoing_streams ≡ 0 }
+{
+    HandoverCapabilities::default()
+}
+
+pub fn default_outgoing_stream() -> HandoverOutgoingStream
+    ensures id { result.id ≡ 0 }
+    ensures next_ssn { result.next_ssn ≡ 0 }
+    ensures next_unordered_mid { result.next_unordered_mid ≡ 0 }
+    ensures next_ordered_mid { result.next_ordered_mid ≡ 0 }
+    ensures priority { result.priority ≡ 0 }
+{
+    HandoverOutgoingStream::default()
+}
+
+pub fn default_ordered_stream() -> HandoverOrderedStream
+    ensures id { result.id ≡ 0 }
+    ensures next_ssn { result.next_ssn ≡ 0 }
+{
+    HandoverOrderedStream::default()
+}
+
+pub fn default_unordered_stream() -> HandoverUnorderedStream
+    ensures { result.id ≡ 0 }
+{
+    HandoverUnorderedStream::default()
 }

@@ -40,6 +40,34 @@ fn streams_leave(alloc: Global) -> Result<bool, AllocError> {
     Ok(is_gone && scheduler.peek().is_none())
 }
 
+// Without interleaving each turn costs 1, whatever the bytes and priorities: of the same time the smaller id is next.
+fn smaller_ids_are_first(alloc: Global) -> Result<bool, AllocError> {
+    let mut scheduler = StreamScheduler::new(alloc, 1000);
+    for id in [7, 2, 5] {
+        scheduler.set_bytes_remaining(StreamId(id), 100, id)?;
+    }
+    let is_first = is_next(&scheduler, 2);
+    let is_second = turn_ends(&mut scheduler, 2) && is_next(&scheduler, 5);
+    let is_third = turn_ends(&mut scheduler, 5) && is_next(&scheduler, 7);
+    Ok(is_first && is_second && is_third && !scheduler.is_interleaved())
+}
+
+// The stream's turn comes, and it has nothing to send behind it.
+fn turn_ends(scheduler: &mut StreamScheduler, id: u16) -> bool {
+    if !scheduler.is_active(StreamId(id)) {
+        return false;
+    }
+    scheduler.accept(StreamId(id));
+    !scheduler.is_active(StreamId(id))
+}
+
+#[test]
+fn ties_go_to_the_smaller_id(rt: HostRuntime) -> Result<(), Fail> {
+    assert!(rt; smaller_ids_are_first(rt.alloc())?);
+    assert!(rt; StreamScheduler::new(rt.alloc(), 1000).max_payload() == 1000);
+    Ok(())
+}
+
 #[test]
 fn turns_are_taken_by_finish_time(rt: HostRuntime) -> Result<(), Fail> {
     assert!(rt; turns_alternate(rt.alloc())?);

@@ -1,6 +1,4 @@
-use Rattle.std.proofs.Common.{◌≡◌, length, arith, sym, ap, ◌∙◌, rules}
-use Rattle.std.specs.Prelude.{nat_le}
-use Rattle.sctp_packet.specs.Written.{chunk_bytes, chunk_item}
+use Rattle.std.proofs.Common.{rules}
 use Rattle.sctp_packet.specs.ChunkView.{chunk_tree}
 use Rattle.sctp_packet.proofs.BuilderLemmas.{size_of_chunk}
 use Rattle.sctp_packet.proofs.builder.has_room.Goals as goal

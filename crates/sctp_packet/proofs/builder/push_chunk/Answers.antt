@@ -1,4 +1,4 @@
-use Rattle.std.proofs.Common.{◌≡◌, [], length, vec_len, refl}
+use Rattle.std.proofs.Common.{vec_len, refl}
 use Rattle.std.proofs.lemmas.Result.{IfOk-equal}
 use Rattle.sctp_packet.specs.Written.{chunk_bytes}
 use Rattle.sctp_packet.specs.PacketView.{header_tree}

@@ -1,4 +1,4 @@
-use Rattle.std.proofs.Common.{◌++◌, List, ℕ, take, drop, ap, ◌∙◌, append_assoc}
+use Rattle.std.proofs.Common.{◌++◌, List, ℕ, take, drop, ap, ◌∙◌}
 use Rattle.sctp_wire.specs.Fields.{be32}
 use Rattle.sctp_packet.proofs.BuilderLemmas.{twelve}
 use Rattle.sctp_packet.proofs.builder.write_word.Goals as goal

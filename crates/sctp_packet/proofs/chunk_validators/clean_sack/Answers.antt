@@ -1,4 +1,4 @@
-use Rattle.std.proofs.Common.{rules, ◌≡◌, ◌∙◌, sym, refl}
+use Rattle.std.proofs.Common.{◌∙◌, sym}
 use Rattle.sctp_packet.proofs.CoveredOnceLemmas.{runs_are_maximal, one_form, shortest}
 use Rattle.sctp_packet.proofs.chunk_validators.clean_sack.Goals as goal
 

@@ -1,4 +1,4 @@
-use Rattle.std.proofs.Common.{◌≡◌, ◌++◌, List, ℕ, refl, ap, sym, ◌∙◌, append_assoc, rules}
+use Rattle.std.proofs.Common.{◌++◌, ℕ, ap, sym}
 use Rattle.sctp_wire.specs.Fields.{be16, be32}
 use Rattle.sctp_packet.proofs.SkipLemmas.{three_fields}
 use Rattle.sctp_packet.proofs.forward_tsn.mid_skip_at.Goals as goal

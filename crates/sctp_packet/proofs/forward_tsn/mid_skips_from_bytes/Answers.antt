@@ -1,4 +1,4 @@
-use Rattle.std.proofs.Common.{◌≡◌, ◌++◌, ◌+◌, ◌*◌, List, [], ◌∷◌, ℕ, length, sym, ap, ◌∙◌, append_assoc, length-append, arith}
+use Rattle.std.proofs.Common.{◌++◌, [], ◌∷◌, length-append, arith}
 use Rattle.sctp_packet.specs.Grammar.{FitsSkip}
 use Rattle.sctp_packet.proofs.SkipLemmas.{SaysSkips-push, Each-push, behind_part}
 use Rattle.sctp_packet.proofs.forward_tsn.mid_skips_from_bytes.Goals as goal

@@ -1,4 +1,4 @@
-use Rattle.std.proofs.Common.{◌+◌, ◌≤◌, length, take, get_or, rules, arith}
+use Rattle.std.proofs.Common.{◌+◌, ◌≤◌, length, take, get_or, rules}
 use Rattle.std.specs.List.{flat_map}
 use Rattle.sctp_packet.specs.declared.forward_tsn.SkippedStream.{SkippedStream}
 use Rattle.sctp_packet.specs.declared.forward_tsn.SkippedStream.TheVariants as skips

@@ -1,4 +1,4 @@
-use Rattle.std.proofs.Common.{rules, inr, refl}
+use Rattle.std.proofs.Common.{rules, inr}
 use Rattle.std.proofs.lemmas.Result.{err_from_is_err_and}
 use Rattle.sctp_packet.proofs.SkipLemmas.{cut_short_skip}
 use Rattle.sctp_packet.proofs.forward_tsn.ssn_skips_from_bytes.Goals as goal

@@ -1,4 +1,4 @@
-use Rattle.std.proofs.Common.{◌≡◌, true, take, map}
+use Rattle.std.proofs.Common.{◌≡◌, true, take}
 use Rattle.std.specs.List.{list_all}
 use Rattle.sctp_wire.specs.Parameter.{parameter_is_whole}
 use Rattle.sctp_wire.specs.ParameterViews.{parameter_tree}

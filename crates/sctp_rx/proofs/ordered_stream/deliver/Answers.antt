@@ -1,10 +1,11 @@
-use Rattle.std.proofs.Common.{◌≡◌, ◌+◌, ◌++◌, length, suc, ap, sym, ◌∙◌, arith}
+use Rattle.std.proofs.Common.{◌≡◌, ◌+◌, ◌++◌, length, suc, ap, sym, subst, ◌∙◌, arith}
 use Rattle.sctp_serial.specs.Messages.{message_of}
-use Rattle.sctp_rx.specs.Held.{bytes_of, intervals_of, is_in_turn}
+use Rattle.sctp_rx.specs.Held.{bytes_of, intervals_of, is_in_turn, NoneInTurn}
 use Rattle.sctp_rx.specs.Intervals.{held_of, run_of}
 use Rattle.sctp_rx.specs.Delivery.{deliver, preceded_by, message_of_run}
 use Rattle.sctp_rx.proofs.ExtendsLemmas.{extends_both}
 use Rattle.sctp_rx.proofs.FindLemmas.{left_unfound}
+use Rattle.sctp_rx.proofs.SettledRunsLemmas.{find_none}
 use Rattle.sctp_rx.proofs.DeliverLemmas.{length_found, found_passes, turn_number, deliver_step, deliver_ends, one_earlier, ready_pushed}
 use Rattle.sctp_rx.proofs.ordered_stream.deliver.Goals as goal
 
@@ -41,3 +42,9 @@ returns-clause-bytes g c =
     let none = sym c.in_default.ensures.taken in
     let same = ap bytes_of (c.in_default.ensures.value ∙ left_unfound (is_in_turn c.loop-interval.next) c.loop-interval.list none) in
     omega (arith, same, c.loop-interval.invariant.bytes)
+
+pub returns-clause-settled : goal.returns-clause-settled
+returns-clause-settled g c =
+    let none = sym c.in_default.ensures.taken in
+    let same = c.in_default.ensures.value ∙ left_unfound (is_in_turn c.loop-interval.next) c.loop-interval.list none in
+    subst (λ hs. NoneInTurn c.loop-interval.next (intervals_of hs)) (sym same) (find_none (is_in_turn c.loop-interval.next) (intervals_of c.loop-interval.list) none)

@@ -1,4 +1,5 @@
 use Rattle.std.proofs.Common.{◌≡◌, [], length}
+use Rattle.sctp_tx.specs.Interrupted.{PartlyTaken}
 use Rattle.sctp_tx.specs.Sending.{discard_all}
 use Rattle.sctp_tx.proofs.retransmission_queue.discard_all.Given as goal
 
@@ -6,6 +7,7 @@ abbrev pub invariant-loop-next : goal.invariant-loop-next
 invariant-loop-next l = record {
   items : record l.outstanding { items = record l.outstanding.items { discards = [] } } ≡ record l.initial.outstanding { items = record l.initial.outstanding.items { discards = [] } };
   rest : discard_all l.outstanding.items.discards l.queue l.events ≡ discard_all l.initial.outstanding.items.discards l.initial.queue l.initial.events;
+  taken : PartlyTaken l.initial.queue l.queue;
 }
 
 abbrev pub decreases-loop-next : goal.decreases-loop-next

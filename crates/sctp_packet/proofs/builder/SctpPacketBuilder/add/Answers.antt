@@ -1,6 +1,4 @@
-use Rattle.std.proofs.Common.{◌≡◌, ◌<◌, ◌++◌, [], List, ℕ, length, drop, ap, sym, ◌∙◌, rules}
-use Rattle.sctp_packet.specs.Written.{chunk_bytes}
-use Rattle.sctp_packet.specs.Packet.{unsummed_bytes}
+use Rattle.std.proofs.Common.{drop, ap, ◌∙◌}
 use Rattle.sctp_packet.specs.Builder.{BuilderTree}
 use Rattle.sctp_packet.specs.BuilderView.{builder_header}
 use Rattle.sctp_packet.specs.ChunkView.{chunk_tree}

@@ -1,4 +1,4 @@
-use Rattle.std.proofs.Common.{◌≡◌, ◌<◌, ◌≤◌, ◌++◌, length, take, drop, arith, List, ℕ, Vec, Global, ap, ◌∙◌, refl, vec_len}
+use Rattle.std.proofs.Common.{◌≡◌, ◌<◌, ◌≤◌, ◌++◌, length, take, drop, arith, List, ℕ, Vec, Global, ap, ◌∙◌, vec_len}
 use Rattle.sctp_wire.specs.Fields.{be32}
 use Rattle.sctp_packet.specs.BuilderView.{builder_header}
 use Rattle.sctp_packet.proofs.BuilderLemmas.{built_summed, built_short, built_off, built_none, some_bytes, no_bytes, written_whole}

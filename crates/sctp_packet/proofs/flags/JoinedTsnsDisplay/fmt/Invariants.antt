@@ -1,4 +1,4 @@
-use Rattle.std.proofs.Common.{◌++◌, map, take}
+use Rattle.std.proofs.Common.{map, take}
 use Rattle.std.specs.Fmt.{HasWritten, IsPlainFormatter}
 use Rattle.sctp_wire.specs.Show.{behind_slashes}
 use Rattle.sctp_packet.specs.ChunkText.{tsn_text}

@@ -1,4 +1,4 @@
-use Rattle.std.proofs.Common.{◌≡◌, ◌++◌, List, ℕ, drop, refl, ap, sym, ◌∙◌}
+use Rattle.std.proofs.Common.{List, ℕ, drop, ap, sym, ◌∙◌}
 use Rattle.sctp_wire.specs.Fields.{be16, be32}
 use Rattle.sctp_packet.proofs.init.InitFields.at.Goals as goal
 

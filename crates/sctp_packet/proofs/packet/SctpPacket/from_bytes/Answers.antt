@@ -1,9 +1,9 @@
-use Rattle.std.proofs.Common.{◌≡◌, ◌⊎◌, ◌≤◌, ℕ, List, length, drop, sym, ap, subst, ◌∙◌, rules, arith}
+use Rattle.std.proofs.Common.{◌≡◌, ◌⊎◌, ℕ, List, drop, sym, ap, subst, ◌∙◌, rules, arith}
 use Rattle.std.proofs.lemmas.Result.{err_from_is_err_and}
 use Rattle.sctp_wire.specs.Refusal.{BreaksAs}
 use Rattle.sctp_wire.specs.declared.error.ChunkParseError.TheVariants as faults
 use Rattle.sctp_packet.specs.Grammar.{IsChunk, RefusesChunk}
-use Rattle.sctp_packet.specs.Packet.{checksum_field, lets_through, IsSized}
+use Rattle.sctp_packet.specs.Packet.{checksum_field, lets_through}
 use Rattle.sctp_packet.specs.PacketView.{header_tree}
 use Rattle.sctp_packet.proofs.PacketLemmas.{body_at, field_at, chunks_refused}
 use Rattle.sctp_packet.proofs.packet.SctpPacket.from_bytes.Goals as goal

@@ -1,4 +1,4 @@
-use Rattle.std.proofs.Common.{◌≡◌, ◌<◌, ◌^◌, ◌+◌, ◌*◌, ◌++◌, ℕ, List, take, length, rules, arith, inl, inr, refl, ap, sym, ◌∙◌}
+use Rattle.std.proofs.Common.{◌≡◌, ◌*◌, ◌++◌, ℕ, List, take, length, rules, arith, inr, refl, ap, sym, ◌∙◌}
 use Rattle.std.proofs.lemmas.Result.{err_from_is_err_and}
 use Rattle.sctp_wire.specs.Fields.{be16, be32, length_be32}
 use Rattle.sctp_packet.proofs.SackLemmas.{counted_is_long, counted_otherwise, four_fields, counted_entries, sack_read}

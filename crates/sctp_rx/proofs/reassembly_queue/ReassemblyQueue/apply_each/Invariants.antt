@@ -1,4 +1,4 @@
-use Rattle.std.proofs.Common.{◌≡◌, ◌+◌, ◌<◌, ◌^◌, length}
+use Rattle.std.proofs.Common.{◌≡◌, ◌+◌, ◌<◌, ◌≤◌, ◌^◌, length}
 use Rattle.std.specs.List.{sum_by}
 use Rattle.sctp_rx.specs.Delivery.{Extends}
 use Rattle.sctp_rx.specs.ReassemblyQueue.{IsCounted, apply_each, queued_bytes, waiting_bytes}
@@ -10,6 +10,7 @@ invariant-loop-waiting l = record {
   kept : Extends l.fn.self.ready l.self.ready;
   counted : IsCounted l.fn.self l.self;
   room : queued_bytes l.self + sum_by waiting_bytes l.deferred.waiting < 2 ^ 64;
+  bytes : queued_bytes l.self + sum_by waiting_bytes l.deferred.waiting ≤ queued_bytes l.fn.self + sum_by waiting_bytes l.fn.deferred.waiting;
 }
 
 abbrev pub decreases-loop-waiting : goal.decreases-loop-waiting

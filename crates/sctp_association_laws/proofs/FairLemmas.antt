@@ -1,0 +1,125 @@
+-- A chunk whose parts fit is read back as soon as it can be written.
+use Rattle.std.proofs.Common.{◌≡◌, ℕ, ◌+◌, ◌^◌, ◌<◌, ◌&&◌, Bool, true, false, List, [], ◌∷◌, length, map, nat_lt, refl, arith}
+use Rattle.std.specs.Prelude.{All}
+use Rattle.std.specs.List.{list_all}
+use Rattle.std.proofs.lemmas.List.{length-append}
+use Rattle.std.proofs.lemmas.List.Elements.{All-cons, All-nil}
+use Rattle.sctp_wire.specs.Item.{Item}
+use Rattle.sctp_wire.specs.Serialize.{is_encodable, padded_item, inner_items}
+use Rattle.sctp_wire.specs.Parameter.{ParameterTree, parameter_item, parameter_is_whole, IsOfItsVariant, ParameterFits}
+use Rattle.sctp_wire.specs.Cause.{CauseTree, cause_item, CauseIsOfItsVariant, CauseFits}
+use Rattle.sctp_wire.specs.ReadBack.{ParameterReadsBack, CauseReadsBack, IsText}
+use Rattle.sctp_wire.proofs.SerializeLemmas.{length_item_bytes, length_padded_item}
+use Rattle.sctp_packet.specs.Chunk.{ChunkTree, data_chunk, init_chunk, init_ack_chunk, sack_chunk, heartbeat_request_chunk, heartbeat_ack_chunk, abort_chunk, shutdown_chunk, shutdown_ack_chunk, error_chunk, cookie_echo_chunk, cookie_ack_chunk, shutdown_complete_chunk, idata_chunk, re_config_chunk, forward_tsn_chunk, i_forward_tsn_chunk, unknown_chunk}
+use Rattle.sctp_packet.specs.Written.{chunk_item, chunk_value, chunk_is_whole, is_known_chunk}
+use Rattle.sctp_packet.specs.Grammar.{Each, FitsChunk}
+use Rattle.sctp_packet.specs.ReadBack.{ChunkReadsBack, IsReadable}
+use Rattle.sctp_packet.proofs.ValueLemmas.{length_init, length_init_ack}
+
+pub record IsFairParameter (t : ParameterTree) : Type 0 where
+  pub fits : ParameterFits t
+  pub of_its_variant : IsOfItsVariant t
+
+pub record IsFairCause (t : CauseTree) : Type 0 where
+  pub fits : CauseFits t
+  pub text : IsText t
+  pub of_its_variant : CauseIsOfItsVariant t
+
+-- what makes it readable, but for the lengths inside
+abbrev pub IsFairInside : ChunkTree → Type 0
+IsFairInside (init_chunk init) = Each IsFairParameter init.parameters
+IsFairInside (init_ack_chunk init) = Each IsFairParameter init.parameters
+IsFairInside (heartbeat_request_chunk parameters) = Each IsFairParameter parameters
+IsFairInside (heartbeat_ack_chunk parameters) = Each IsFairParameter parameters
+IsFairInside (re_config_chunk parameters) = Each IsFairParameter parameters
+IsFairInside (abort_chunk reflected causes) = Each IsFairCause causes
+IsFairInside (error_chunk causes) = Each IsFairCause causes
+IsFairInside (cookie_echo_chunk cookie) = 0 < length cookie
+IsFairInside (unknown_chunk typ flags value) = is_known_chunk typ ≡ false
+IsFairInside (data_chunk tsn immediate f) = Unit {0}
+IsFairInside (sack_chunk sack) = Unit {0}
+IsFairInside (shutdown_chunk tsn) = Unit {0}
+IsFairInside shutdown_ack_chunk = Unit {0}
+IsFairInside cookie_ack_chunk = Unit {0}
+IsFairInside (shutdown_complete_chunk reflected) = Unit {0}
+IsFairInside (idata_chunk tsn immediate f) = Unit {0}
+IsFairInside (forward_tsn_chunk tsn skipped) = Unit {0}
+IsFairInside (i_forward_tsn_chunk tsn skipped) = Unit {0}
+
+-- ---- items inside are shorter than what is around them
+
+abbrev Fits : Item → Type 0
+Fits i = 4 + length i.value < 2 ^ 16
+
+inner_one : (i : Item) → length (inner_items (i ∷ [])) ≡ 4 + length i.value
+unfolding inner_items
+inner_one i = length_item_bytes i
+
+inner_more : (i j : Item) (is : List Item) → length (inner_items (i ∷ j ∷ is)) ≡ length (padded_item i) + length (inner_items (j ∷ is))
+unfolding inner_items
+inner_more i j is = length-append (padded_item i) (inner_items (j ∷ is))
+
+inner_fit : (is : List Item) → length (inner_items is) < 2 ^ 16 → Each Fits is
+inner_fit [] h = tt
+inner_fit (i ∷ []) h = (omega (arith, inner_one i, h), tt)
+inner_fit (i ∷ j ∷ is) h =
+    (omega (arith, inner_more i j is, length_padded_item i, h), inner_fit (j ∷ is) (omega (arith, inner_more i j is, h)))
+
+split_and : (a b : Bool) → (a && b) ≡ true → (a ≡ true) × (b ≡ true)
+split_and true b h = (refl, h)
+split_and false b h = cc
+
+below : (n m : ℕ) → nat_lt n m ≡ true → n < m
+below n m h = grind (arith)
+
+parameters_read : (ps : List ParameterTree) → length (inner_items (map parameter_item ps)) < 2 ^ 16 → list_all parameter_is_whole ps ≡ true → Each IsFairParameter ps
+    → All ParameterReadsBack ps
+parameters_read ps short whole fair = each ps (inner_fit (map parameter_item ps) short) whole fair
+  where
+    each : (qs : List ParameterTree) → Each Fits (map parameter_item qs) → list_all parameter_is_whole qs ≡ true → Each IsFairParameter qs → All ParameterReadsBack qs
+    each [] h w f = All-nil ParameterReadsBack
+    each (p ∷ qs) h w f =
+        let both = split_and (parameter_is_whole p) (list_all parameter_is_whole qs) w in
+        All-cons ParameterReadsBack p qs (record { encodable = h.0; fits = f.0.fits; whole = both.0; of_its_variant = f.0.of_its_variant })
+        (each qs h.1 both.1 f.1)
+
+causes_read : (cs : List CauseTree) → length (inner_items (map cause_item cs)) < 2 ^ 16 → Each IsFairCause cs → All CauseReadsBack cs
+causes_read cs short fair = each cs (inner_fit (map cause_item cs) short) fair
+  where
+    each : (qs : List CauseTree) → Each Fits (map cause_item qs) → Each IsFairCause qs → All CauseReadsBack qs
+    each [] h f = All-nil CauseReadsBack
+    each (c ∷ qs) h f =
+        All-cons CauseReadsBack c qs (record { encodable = h.0; fits = f.0.fits; text = f.0.text; of_its_variant = f.0.of_its_variant }) (each qs h.1 f.1)
+
+-- ---- the chunk
+
+pub record IsFair (t : ChunkTree) : Type 0 where
+  pub fits : FitsChunk t
+  pub inside : IsFairInside t
+
+readable : (t : ChunkTree) → 4 + length (chunk_value t) < 2 ^ 16 → chunk_is_whole t ≡ true → IsFairInside t → IsReadable t
+unfolding chunk_value
+readable (init_chunk i) h w f = parameters_read i.parameters (omega (arith, h, length_init i)) w f
+readable (init_ack_chunk i) h w f = parameters_read i.parameters (omega (arith, h, length_init_ack i)) w f
+readable (heartbeat_request_chunk ps) h w f = parameters_read ps (omega (arith, h)) w f
+readable (heartbeat_ack_chunk ps) h w f = parameters_read ps (omega (arith, h)) w f
+readable (re_config_chunk ps) h w f = parameters_read ps (omega (arith, h)) w f
+readable (abort_chunk reflected cs) h w f = causes_read cs (omega (arith, h)) f
+readable (error_chunk cs) h w f = causes_read cs (omega (arith, h)) f
+readable (cookie_echo_chunk cookie) h w f = f
+readable (unknown_chunk typ flags value) h w f = f
+readable (data_chunk tsn immediate f) h w k = tt
+readable (sack_chunk sack) h w f = tt
+readable (shutdown_chunk tsn) h w f = tt
+readable shutdown_ack_chunk h w f = tt
+readable cookie_ack_chunk h w f = tt
+readable (shutdown_complete_chunk reflected) h w f = tt
+readable (idata_chunk tsn immediate f) h w k = tt
+readable (forward_tsn_chunk tsn skipped) h w f = tt
+readable (i_forward_tsn_chunk tsn skipped) h w f = tt
+
+pub fair_reads : (t : ChunkTree) → IsFair t → is_encodable (chunk_item t) (chunk_is_whole t) ≡ true → ChunkReadsBack t
+fair_reads t fair h =
+    let both = split_and (nat_lt (4 + length (chunk_item t).value) (2 ^ 16)) (chunk_is_whole t) h in
+    let short : 4 + length (chunk_value t) < 2 ^ 16 = below (4 + length (chunk_value t)) (2 ^ 16) both.0 in
+    record { encodable = short; whole = both.1; fits = fair.fits; readable = readable t short both.1 fair.inside }

@@ -1,0 +1,281 @@
+-- The walk over the rows: the calls that send, the settings, resets of streams, and handover.
+use Rattle.std.proofs.Common.{◌≡◌, ℕ, ◌==◌, ◌&&◌, ◌||◌, Bool, true, false, Option, Some, None, List, [], ◌∷◌, ◌++◌, codes, refl, sym, ap, ◌∙◌, append_assoc}
+use Rattle.std.specs.List.{list_all}
+use Rattle.std.proofs.lemmas.List.Folds.{list_all-append}
+use Rattle.rand_core.specs.Stream.{Stream}
+use Rattle.sctp_serial.specs.Messages.{Message}
+use Rattle.sctp_serial.specs.declared.api.StreamId.{StreamId}
+use Rattle.sctp_serial.specs.declared.types.tsn.Tsn.{Tsn}
+use Rattle.sctp_wire.specs.Parameter.{ParameterTree, outgoing_reset_request, incoming_reset_request, reset_response}
+use Rattle.sctp_packet.specs.Chunk.{re_config_chunk}
+use Rattle.sctp_state.specs.declared.api.ErrorKind.TheVariants.{ProtocolViolation}
+use Rattle.sctp_state.specs.declared.api.errors.SendError.{SendError}
+use Rattle.sctp_state.specs.declared.api.handover.HandoverSocketState.{HandoverSocketState}
+use Rattle.sctp_state.specs.declared.api.handover.HandoverSocketState.TheVariants as handed
+use Rattle.sctp_state.specs.Events.{OnConnected}
+use Rattle.sctp_state.specs.Handover.{HandoverState}
+use Rattle.sctp_state.specs.Options.{SendOptions}
+use Rattle.sctp_state.specs.Rtt.{rto}
+use Rattle.sctp_state.specs.Validity.{is_valid_state}
+use Rattle.sctp_association.specs.Association.{Tcb, Phase, Established, State, Closed, CookieWait, Open, Context, Standing, with_context}
+use Rattle.sctp_association.specs.Packets.{Packet, add, new_packet, say}
+use Rattle.sctp_association.specs.Requests.{is_final, is_last, is_next, is_known}
+use Rattle.sctp_association.specs.Sending.{is_alone, send_in}
+use Rattle.sctp_association.specs.Calls.{shown_state, refusal, refusal_of, offered, offer, sent_if, send, offer_all, send_many, set_low_threshold, set_priority, set_max_message_size, taken_in, take_message}
+use Rattle.sctp_association.specs.Resets.{Handling, handling, respond, is_ahead, resets_if, resets, outgoing_by, on_outgoing, incoming_if, is_outgoing, on_parameter, Handled, handle_next, handle_all, send_responses, finished_if, on_reconfig, unless_supported, reset_refusal, prepared, prepare_all, reset_if, reset_streams}
+use Rattle.sctp_association.specs.Handover.{readiness, left_in, left_if, hand_over, tcb_from, queue_taken, take_up, invalid_unless, refusal_in, taken_as, restored_unless, restore}
+use Rattle.sctp_association.specs.Laws.{Call, SendMany, ResetStreams, TakeMessage, SetLowThreshold, SetPriority, SetMaxMessageSize, HandOver, Restore, Send}
+use Rattle.sctp_course.specs.Acts.{Making, at, idle, IsHeard, IsOffered, alone, among, IsReset, IsAsked, is_response, accepts, refuses, takes_message, sets_low_threshold, sets_priority, sets_max_message_size, prepares, defers, performs, processes, takes_response, adds_responses, leaves, takes_up, Keeps}
+use Rattle.sctp_course.proofs.PacketActsLemmas.{does_out, does_begin, does_complain, does_send_buffered}
+use Rattle.sctp_course.proofs.RowActsLemmas.{placed, OpenActs, does_where_open}
+
+-- the next one of a list stands behind one more
+next_among : {A : Type 0} (before : List A) (x : A) (xs all : List A) → all ≡ before ++ x ∷ xs → all ≡ (before ++ x ∷ []) ++ xs
+next_among before x xs all e = e ∙ sym (append_assoc before (x ∷ []) xs)
+
+module _ {P : Type 0} {call : Call} {R : Making P → Making P → Type 0} (k : Keeps call R) (w : Stream) where
+  -- ---- messages
+
+  does_offered : (o : Option SendError) (m : Message) (how : SendOptions) (s : State) (c : Context P) → IsOffered call m how
+      → refusal m (shown_state s) c ≡ o → R (idle s c w) (idle s (offered o m how c) w)
+  does_offered None m how s c is fine = k.calls (accepts m how (idle s c w) is fine)
+  does_offered (Some e) m how s c is fine = k.calls (refuses m how e (idle s c w) is fine)
+
+  does_offer : (m : Message) (how : SendOptions) (s : State) (c : Context P) → IsOffered call m how → R (idle s c w) (idle s (offer m how (shown_state s) c) w)
+  does_offer m how s c is = does_offered (refusal m (shown_state s) c) m how s c is refl
+
+  does_offer_all : (all before ms : List Message) (how : SendOptions) (s : State) (c : Context P) → call ≡ SendMany all how → all ≡ before ++ ms
+      → R (idle s c w) (idle s (offer_all ms how (shown_state s) c) w)
+  does_offer_all all before [] how s c is e = k.same (idle s c w)
+  does_offer_all all before (m ∷ ms) how s c is e =
+      k.through (does_offer m how s c (among all is (record { before = before; behind = ms; split = e })))
+      (does_offer_all all (before ++ m ∷ []) ms how s (offer m how (shown_state s) c) is (next_among before m ms all e))
+
+  does_send_in : OpenActs R w send_in
+  does_send_in phase t c = does_send_buffered k phase w (is_alone phase) t c
+
+  does_sent_if : (o : Option SendError) (s : Standing P) → R (placed s w) (placed (sent_if o s) w)
+  does_sent_if None s = does_where_open k w send_in s does_send_in
+  does_sent_if (Some e) s = k.same (placed s w)
+
+  pub does_send : (m : Message) (how : SendOptions) (s : Standing P) → call ≡ Send m how → R (placed s w) (placed (send m how s) w)
+  does_send m how s is =
+      let d : Context P = offer m how (shown_state s.state) s.context in
+      k.through (does_offer m how s.state s.context (alone is)) (does_sent_if (refusal_of m s) (with_context s d))
+
+  pub does_send_many : (ms : List Message) (how : SendOptions) (s : Standing P) → call ≡ SendMany ms how → R (placed s w) (placed (send_many ms how s) w)
+  does_send_many ms how s is =
+      let d : Context P = offer_all ms how (shown_state s.state) s.context in
+      k.through (does_offer_all ms [] ms how s.state s.context is refl) (does_where_open k w send_in (with_context s d) does_send_in)
+
+  -- ---- settings, and messages that are handed out
+
+  pub does_low_threshold : (id bytes : ℕ) (s : Standing P) → call ≡ SetLowThreshold id bytes
+      → R (placed s w) (placed (with_context s (set_low_threshold id bytes s.context)) w)
+  does_low_threshold id bytes s is = k.calls (sets_low_threshold id bytes (placed s w) is)
+
+  pub does_priority : (id priority : ℕ) (s : Standing P) → call ≡ SetPriority id priority
+      → R (placed s w) (placed (with_context s (set_priority id priority s.context)) w)
+  does_priority id priority s is = k.calls (sets_priority id priority (placed s w) is)
+
+  pub does_max_message_size : (bytes : ℕ) (s : Standing P) → call ≡ SetMaxMessageSize bytes
+      → R (placed s w) (placed (with_context s (set_max_message_size bytes s.context)) w)
+  does_max_message_size bytes s is = k.calls (sets_max_message_size bytes (placed s w) is)
+
+  does_taken_in : (s : State) (c : Context P) → call ≡ TakeMessage → R (idle s c w) (idle (taken_in s) c w)
+  does_taken_in Closed c is = k.same (idle Closed c w)
+  does_taken_in (CookieWait tag first t1) c is = k.same (idle (CookieWait tag first t1) c w)
+  does_taken_in (Open phase t) c is = k.calls (takes_message phase t (idle (Open phase t) c w) is)
+
+  pub does_take_message : (s : Standing P) → call ≡ TakeMessage → R (placed s w) (placed (take_message s) w)
+  does_take_message s is = does_taken_in s.state s.context is
+
+  -- ---- requests of the peer
+
+  module _ (phase : Phase) where
+    abbrev Handles : (x y : Handling P) → Type 0
+    Handles x y = R (idle (Open phase x.tcb) x.context w) (idle (Open phase y.tcb) y.context w)
+
+    does_resets_if : (b : Bool) (number response : ℕ) (last_tsn : Tsn) (streams : List StreamId) (x : Handling P)
+        → IsAsked call (outgoing_reset_request number response last_tsn streams) → is_known number x.tcb.requests ≡ true → is_ahead last_tsn.0 x.tcb ≡ b
+        → Handles x (resets_if b number last_tsn.0 streams x)
+    does_resets_if true number response last_tsn streams x h known ahead =
+        k.resets (defers number response last_tsn streams phase x.tcb (idle (Open phase x.tcb) x.context w) h known ahead)
+    does_resets_if false number response last_tsn streams x h known ahead =
+        k.resets (performs number response last_tsn streams phase x.tcb (idle (Open phase x.tcb) x.context w) h known ahead)
+
+    does_resets : (number response : ℕ) (last_tsn : Tsn) (streams : List StreamId) (x : Handling P)
+        → IsAsked call (outgoing_reset_request number response last_tsn streams) → is_known number x.tcb.requests ≡ true
+        → Handles x (resets number last_tsn.0 streams x)
+    does_resets number response last_tsn streams x h known = does_resets_if (is_ahead last_tsn.0 x.tcb) number response last_tsn streams x h known refl
+
+    does_outgoing_by : (a b d : Bool) (number response : ℕ) (last_tsn : Tsn) (streams : List StreamId) (x : Handling P)
+        → IsAsked call (outgoing_reset_request number response last_tsn streams) → ((a || b) ≡ true → is_known number x.tcb.requests ≡ true)
+        → Handles x (outgoing_by a b d number last_tsn.0 streams x)
+    does_outgoing_by true b true number response last_tsn streams x h known = k.same (idle (Open phase x.tcb) x.context w)
+    does_outgoing_by true b false number response last_tsn streams x h known = does_resets number response last_tsn streams x h (known refl)
+    does_outgoing_by false true d number response last_tsn streams x h known = does_resets number response last_tsn streams x h (known refl)
+    does_outgoing_by false false d number response last_tsn streams x h known = k.same (idle (Open phase x.tcb) x.context w)
+
+    does_outgoing : (number response : ℕ) (last_tsn : Tsn) (streams : List StreamId) (x : Handling P)
+        → IsAsked call (outgoing_reset_request number response last_tsn streams) → Handles x (on_outgoing number last_tsn.0 streams x)
+    does_outgoing number response last_tsn streams x h =
+        does_outgoing_by (is_last number x.tcb.requests) (is_next number x.tcb.requests) (is_final x.tcb.requests.result) number response last_tsn streams x h
+        (λ e. e)
+
+    does_incoming_if : (b : Bool) (number : ℕ) (streams : List StreamId) (x : Handling P) → IsAsked call (incoming_reset_request number streams)
+        → is_known number x.tcb.requests ≡ b → Handles x (incoming_if b number x)
+    does_incoming_if true number streams x h known = k.resets (processes number streams phase x.tcb (idle (Open phase x.tcb) x.context w) h known)
+    does_incoming_if false number streams x h known = k.same (idle (Open phase x.tcb) x.context w)
+
+    does_parameter : (p : ParameterTree) (x : Handling P) → IsAsked call p → Handles x (on_parameter p x)
+    does_parameter (outgoing_reset_request number response last_tsn streams) x h = does_outgoing number response last_tsn streams x h
+    does_parameter (incoming_reset_request number streams) x h = does_incoming_if (is_known number x.tcb.requests) number streams x h refl
+    does_parameter (reset_response number result sender receiver) x h =
+        k.resets (takes_response (rto x.tcb.rtt) number result sender receiver phase x.tcb (idle (Open phase x.tcb) x.context w) h)
+    does_parameter p x h = k.same (idle (Open phase x.tcb) x.context w)
+
+    does_handle_next : (b : Bool) (rest : Handling P → Handled P) (p : ParameterTree) (x : Handling P) → IsAsked call p
+        → ((y : Handling P) → Handles y (rest y).handling) → Handles x (handle_next b rest p x).handling
+    does_handle_next true rest p x h f = k.same (idle (Open phase x.tcb) x.context w)
+    does_handle_next false rest p x h f = k.through (does_parameter p x h) (f (on_parameter p x))
+
+    does_handle_all : (tag : ℕ) (all before ps : List ParameterTree) (b : Bool) (x : Handling P) → IsHeard call tag (re_config_chunk all)
+        → all ≡ before ++ ps → Handles x (handle_all ps b x).handling
+    does_handle_all tag all before [] b x h e = k.same (idle (Open phase x.tcb) x.context w)
+    does_handle_all tag all before (p ∷ ps) b x h e =
+        does_handle_next (is_outgoing p && b) (handle_all ps (is_outgoing p || b)) p x
+        (record { tag = tag; parameters = all; heard = h; among = record { before = before; behind = ps; split = e } })
+        (λ y. does_handle_all tag all (before ++ p ∷ []) ps (is_outgoing p || b) y h (next_among before p ps all e))
+
+-- ---- what is answered
+
+abbrev AreResponses : {P : Type 0} → Handling P → Type 0
+AreResponses x = list_all is_response x.responses ≡ true
+
+one_more : (rs : List ParameterTree) (number result : ℕ) → list_all is_response rs ≡ true → list_all is_response (rs ++ reset_response number result None None ∷ []) ≡ true
+one_more rs number result e =
+    list_all-append is_response rs (reset_response number result None None ∷ []) ∙ ap (λ (b : Bool). b && true) e
+
+module _ {P : Type 0} where
+  responses_respond : (number result : ℕ) (x : Handling P) → AreResponses x → AreResponses (respond number result x)
+  responses_respond number result x e = one_more x.responses number result e
+
+  responses_resets_if : (b : Bool) (number last_tsn : ℕ) (streams : List StreamId) (x : Handling P) → AreResponses x
+      → AreResponses (resets_if b number last_tsn streams x)
+  responses_resets_if true number last_tsn streams x e = one_more x.responses number _ e
+  responses_resets_if false number last_tsn streams x e = one_more x.responses number _ e
+
+  responses_outgoing_by : (a b d : Bool) (number last_tsn : ℕ) (streams : List StreamId) (x : Handling P) → AreResponses x
+      → AreResponses (outgoing_by a b d number last_tsn streams x)
+  responses_outgoing_by true b true number last_tsn streams x e = one_more x.responses number _ e
+  responses_outgoing_by true b false number last_tsn streams x e = responses_resets_if (is_ahead last_tsn x.tcb) number last_tsn streams x e
+  responses_outgoing_by false true d number last_tsn streams x e = responses_resets_if (is_ahead last_tsn x.tcb) number last_tsn streams x e
+  responses_outgoing_by false false d number last_tsn streams x e = one_more x.responses number _ e
+
+  responses_incoming_if : (b : Bool) (number : ℕ) (x : Handling P) → AreResponses x → AreResponses (incoming_if b number x)
+  responses_incoming_if true number x e = one_more x.responses number _ e
+  responses_incoming_if false number x e = one_more x.responses number _ e
+
+  responses_parameter : (p : ParameterTree) (x : Handling P) → AreResponses x → AreResponses (on_parameter p x)
+  responses_parameter (outgoing_reset_request number response last_tsn streams) x e =
+      responses_outgoing_by (is_last number x.tcb.requests) (is_next number x.tcb.requests) (is_final x.tcb.requests.result) number last_tsn.0 streams x e
+  responses_parameter (incoming_reset_request number streams) x e = responses_incoming_if (is_known number x.tcb.requests) number x e
+  responses_parameter (reset_response number result sender receiver) x e = e
+  responses_parameter p x e = e
+
+  responses_next : (b : Bool) (rest : Handling P → Handled P) (p : ParameterTree) (x : Handling P)
+      → ((y : Handling P) → AreResponses y → AreResponses (rest y).handling) → AreResponses x → AreResponses (handle_next b rest p x).handling
+  responses_next true rest p x f e = e
+  responses_next false rest p x f e = f (on_parameter p x) (responses_parameter p x e)
+
+  responses_all : (ps : List ParameterTree) (b : Bool) (x : Handling P) → AreResponses x → AreResponses (handle_all ps b x).handling
+  responses_all [] b x e = e
+  responses_all (p ∷ ps) b x e =
+      responses_next (is_outgoing p && b) (handle_all ps (is_outgoing p || b)) p x (responses_all ps (is_outgoing p || b)) e
+
+module _ {P : Type 0} {call : Call} {R : Making P → Making P → Type 0} (k : Keeps call R) (w : Stream) where
+  does_send_responses : (rs : List ParameterTree) (phase : Phase) (t : Tcb) (c : Context P) → list_all is_response rs ≡ true
+      → R (idle (Open phase t) c w) (idle (Open phase t) (send_responses rs t c) w)
+  does_send_responses [] phase t c e = k.same (idle (Open phase t) c w)
+  does_send_responses (r ∷ rs) phase t c e =
+      let p : Packet = new_packet c.options t in
+      k.through (does_begin k (Open phase t) c w p refl)
+      (k.through (k.resets (adds_responses (r ∷ rs) phase t (at (Open phase t) c w p) e)) (does_out k (Open phase t) c w (add (re_config_chunk (r ∷ rs)) p)))
+
+  does_finished_if : (b : Bool) (phase : Phase) (x : Handling P) → AreResponses x → R (idle (Open phase x.tcb) x.context w) (placed (finished_if b phase x) w)
+  does_finished_if true phase x e =
+      k.through (does_send_responses x.responses phase x.tcb x.context e)
+      (does_send_buffered k phase w (is_alone phase) x.tcb (send_responses x.responses x.tcb x.context))
+  does_finished_if false phase x e =
+      does_complain k ProtocolViolation (codes "RE-CONFIG chunk must not have multiple Outgoing SSN Reset Request parameters") (Open phase x.tcb) x.context w
+
+  pub does_reconfig : (tag : ℕ) (ps : List ParameterTree) → IsHeard call tag (re_config_chunk ps) → OpenActs R w (on_reconfig ps)
+  does_reconfig tag [] h phase t c = does_complain k ProtocolViolation (codes "RE-CONFIG chunk must have at least one parameter") (Open phase t) c w
+  does_reconfig tag (p ∷ ps) h phase t c =
+      let d : Handled P = handle_all (p ∷ ps) false (handling t c) in
+      k.through (does_handle_all k w phase tag (p ∷ ps) [] (p ∷ ps) false (handling t c) h refl)
+      (does_finished_if d.is_whole phase d.handling (responses_all (p ∷ ps) false (handling t c) refl))
+
+  -- ---- the call that resets streams
+
+  does_prepare_all : (all before ids : List ℕ) (phase : Phase) (t : Tcb) (c : Context P) → call ≡ ResetStreams all → all ≡ before ++ ids
+      → t.capabilities.reconfig ≡ true → R (idle (Open phase t) c w) (idle (Open phase t) (prepare_all ids c) w)
+  does_prepare_all all before [] phase t c is e can = k.same (idle (Open phase t) c w)
+  does_prepare_all all before (id ∷ ids) phase t c is e can =
+      let asked : IsReset call id = record { streams = all; asked = is; among = record { before = before; behind = ids; split = e } } in
+      k.through (k.resets (prepares id phase t (idle (Open phase t) c w) asked can))
+      (does_prepare_all all (before ++ id ∷ []) ids phase t (prepared id c) is (next_among before id ids all e) can)
+
+  does_reset_open : (b : Bool) (ids : List ℕ) (phase : Phase) (t : Tcb) (c : Context P) → call ≡ ResetStreams ids → t.capabilities.reconfig ≡ b
+      → R (idle (Open phase t) c w) (placed (reset_if (unless_supported b) ids (record { state = Open phase t; context = c })) w)
+  does_reset_open true ids phase t c is can =
+      k.through (does_prepare_all ids [] ids phase t c is refl can) (does_send_buffered k phase w (is_alone phase) t (prepare_all ids c))
+  does_reset_open false ids phase t c is can = k.same (idle (Open phase t) c w)
+
+  does_reset_in : (s : State) (ids : List ℕ) (c : Context P) → call ≡ ResetStreams ids
+      → R (idle s c w) (placed (reset_if (reset_refusal s) ids (record { state = s; context = c })) w)
+  does_reset_in Closed ids c is = k.same (idle Closed c w)
+  does_reset_in (CookieWait tag first t1) ids c is = k.same (idle (CookieWait tag first t1) c w)
+  does_reset_in (Open phase t) ids c is = does_reset_open t.capabilities.reconfig ids phase t c is refl
+
+  pub does_reset_streams : (ids : List ℕ) (s : Standing P) → call ≡ ResetStreams ids → R (placed s w) (placed (reset_streams ids s) w)
+  does_reset_streams ids s is = does_reset_in s.state ids s.context is
+
+  -- ---- handover
+
+  does_left_in : (s : State) (c : Context P) → call ≡ HandOver → R (idle s c w) (placed (left_in s c) w)
+  does_left_in Closed c is = k.same (idle Closed c w)
+  does_left_in (CookieWait tag first t1) c is = k.same (idle (CookieWait tag first t1) c w)
+  does_left_in (Open phase t) c is = k.handover (leaves phase t (idle (Open phase t) c w) is)
+
+  does_left_if : (b : Bool) (s : Standing P) → call ≡ HandOver → R (placed s w) (placed (left_if b s) w)
+  does_left_if true s is = does_left_in s.state s.context is
+  does_left_if false s is = k.same (placed s w)
+
+  pub does_hand_over : (s : Standing P) → call ≡ HandOver → R (placed s w) (placed (hand_over s) w)
+  does_hand_over s is = does_left_if (readiness s == 0) s is
+
+  does_take_up : (h : HandoverState) (c : Context P) → call ≡ Restore h → is_valid_state h ≡ true → R (idle Closed c w) (placed (take_up h c) w)
+  does_take_up h c is valid =
+      k.through (k.handover (takes_up h (idle Closed c w) is valid))
+      (does_send_buffered k Established w false (tcb_from c.now c.options h) (say OnConnected (queue_taken h c)))
+
+  does_taken_as : (how : HandoverSocketState) (h : HandoverState) (c : Context P) → call ≡ Restore h → is_valid_state h ≡ true
+      → R (idle Closed c w) (placed (taken_as how h (record { state = Closed; context = c })) w)
+  does_taken_as handed.Closed h c is valid = k.same (idle Closed c w)
+  does_taken_as handed.Connected h c is valid = does_take_up h c is valid
+
+  does_restored_if : (b : Bool) (h : HandoverState) (c : Context P) → call ≡ Restore h → is_valid_state h ≡ b
+      → R (idle Closed c w) (placed (restored_unless (invalid_unless b) h (record { state = Closed; context = c })) w)
+  does_restored_if true h c is valid = does_taken_as h.socket_state h c is valid
+  does_restored_if false h c is valid = k.same (idle Closed c w)
+
+  does_restore_in : (s : State) (h : HandoverState) (c : Context P) → call ≡ Restore h
+      → R (idle s c w) (placed (restored_unless (refusal_in s h) h (record { state = s; context = c })) w)
+  does_restore_in Closed h c is = does_restored_if (is_valid_state h) h c is refl
+  does_restore_in (CookieWait tag first t1) h c is = k.same (idle (CookieWait tag first t1) c w)
+  does_restore_in (Open phase t) h c is = k.same (idle (Open phase t) c w)
+
+  pub does_restore : (h : HandoverState) (s : Standing P) → call ≡ Restore h → R (placed s w) (placed (restore h s) w)
+  does_restore h s is = does_restore_in s.state h s.context is

@@ -1,0 +1,200 @@
+-- What each act tells, and the frame up to the first end of an association.
+use Rattle.std.proofs.Common.{◌≡◌, ◌+◌, true, List, [], ◌∷◌, ◌++◌, refl, sym, ap, ◌∙◌, append_assoc, append-nil, arith}
+use Rattle.sctp_state.specs.Events.{Event, OnConnected, OnConnectionRestarted, OnClosed, OnIncomingStreamReset, OnStreamsResetPerformed, OnStreamsResetFailed, OnError, numbers_of}
+use Rattle.sctp_association.specs.Association.{Context, Endpoint}
+use Rattle.sctp_association.specs.Acknowledging.{cleaned}
+use Rattle.sctp_association.specs.Requests.{Outcome, Unsettled, Done, Denied, outcome}
+use Rattle.sctp_association.specs.Packets.{room}
+use Rattle.sctp_association.specs.Resets.{on_outcome}
+use Rattle.sctp_association.specs.Laws.{Call, called, ending, endings}
+use Rattle.sctp_course.specs.Acts.{Making, calm, PacketAct, begins, adds_plain, emits, complains, counts, before_packets, after_packets, OpeningAct, connects, adds_init, answers_new, answers_waiting, answers_echoed, answers_again, echoes, adds_cookie, establishes, opens, restarts, opens_again, maintains, adds_cookie_ack, before_opening, after_opening, ClosingAct, closes, shuts, shuts_on, before_closing, after_closing, DataAct, takes_data, takes_idata, takes_forward, takes_iforward, before_data, after_data, SackAct, takes_sack, samples, counts_errors, point_of, before_sack, after_sack, SendingAct, asks, adds_ack, expires, adds_forward, forwards_later, asks_no_reset, asks_reset, adds_request, sends, sends_fast, before_sending, after_sending, TimeAct, advances, delay_ends, times_out, beats, times_init, times_cookie, times_request, wakes_request, before_time, after_time, CallAct, accepts, refuses, takes_message, sets_low_threshold, sets_priority, sets_max_message_size, before_call, after_call, ResetAct, prepares, defers, performs, processes, takes_response, adds_responses, before_reset, after_reset, HandoverAct, leaves, takes_up, before_handover, after_handover, InputAct, ends_packet, before_input, after_input, Keeps, HasNoEnd, KeepsUntilEnd}
+use Rattle.sctp_course.proofs.ToldLemmas.{TellsLightly, tells_same, tells_all, tells_nack_all, tells_expired, tells_sack, tells_threshold, tells_sent, tells_prepared, tells_refused}
+use Rattle.sctp_course.proofs.ActsLemmas.{keeps_call}
+
+-- ---- acts that tell nothing of how the association stands
+
+abbrev pub Light : {P : Type 0} → (before after : Making P) → Type 0
+Light a b = TellsLightly a.context.told b.context.told
+
+light_outcome : {P : Type 0} (o : Outcome) (c : Context P) → TellsLightly c.told (on_outcome o c).told
+light_outcome Unsettled c = tells_same c.told
+light_outcome (Done streams) c = tells_all (OnStreamsResetPerformed streams ∷ []) c.told refl
+light_outcome (Denied streams) c = tells_all (OnStreamsResetFailed streams ∷ []) c.told refl
+
+module _ {P : Type 0} {call : Call} where
+  pub light_data : (act : DataAct P call) → Light (before_data act) (after_data act)
+  light_data (takes_data tag tsn is_immediate f phase t m heard right some is) = tells_same m.context.told
+  light_data (takes_idata tag tsn is_immediate f phase t m heard right some is) = tells_same m.context.told
+  light_data (takes_forward tag tsn skipped phase t m heard right valid) = tells_same m.context.told
+  light_data (takes_iforward tag tsn skipped phase t m heard right valid) = tells_same m.context.told
+
+  pub light_sack : (act : SackAct P call) → Light (before_sack act) (after_sack act)
+  light_sack (takes_sack tag k phase t m heard valid) = tells_sack true (point_of k t) (cleaned k.gap_ack_blocks) t.sender m.context.told
+  light_sack (samples r phase t m) = tells_same m.context.told
+  light_sack (counts_errors e m) = tells_same m.context.told
+
+  pub light_sending : (act : SendingAct P call) → Light (before_sending act) (after_sending act)
+  light_sending (expires phase t m) = tells_expired m.context.now t.sender.outstanding.items m.context.told
+  light_sending (sends phase t m) = tells_sent m.context.now (room m.packet) t.sender m.context.queue m.context.told
+  light_sending (asks also_if_delayed phase t m) = tells_same m.context.told
+  light_sending (adds_ack phase t m) = tells_same m.context.told
+  light_sending (adds_forward phase t m due) = tells_same m.context.told
+  light_sending (forwards_later n m) = tells_same m.context.told
+  light_sending (asks_no_reset most m none) = tells_same m.context.told
+  light_sending (asks_reset most stream streams phase t m some free) = tells_same m.context.told
+  light_sending (adds_request r phase t m is) = tells_same m.context.told
+  light_sending (sends_fast phase t m some) = tells_same m.context.told
+
+  pub light_time : (act : TimeAct P call) → Light (before_time act) (after_time act)
+  light_time (times_out phase t m due) = tells_nack_all t.sender.outstanding.items m.context.told
+  light_time (advances now m is on) = tells_same m.context.told
+  light_time (delay_ends phase t m) = tells_same m.context.told
+  light_time (beats h m) = tells_same m.context.told
+  light_time (times_init tag first old new m) = tells_same m.context.told
+  light_time (times_cookie old new cookie t m) = tells_same m.context.told
+  light_time (times_request timer phase t m) = tells_same m.context.told
+  light_time (wakes_request phase t m) = tells_same m.context.told
+
+  pub light_call : (act : CallAct P call) → Light (before_call act) (after_call act)
+  light_call (accepts message o m offered fine) = tells_same m.context.told
+  light_call (refuses message o e m offered is) = tells_refused e o.lifecycle_id m.context.told
+  light_call (takes_message phase t m is) = tells_same m.context.told
+  light_call (sets_low_threshold stream bytes m is) = tells_threshold stream bytes m.context.queue m.context.told
+  light_call (sets_priority stream priority m is) = tells_same m.context.told
+  light_call (sets_max_message_size bytes m is) = tells_same m.context.told
+
+  pub light_reset : (act : ResetAct P call) → Light (before_reset act) (after_reset act)
+  light_reset (prepares stream phase t m asked can) = tells_prepared stream m.context.queue m.context.told
+  light_reset (performs number response last_tsn streams phase t m asked known there) =
+      tells_all (OnIncomingStreamReset (numbers_of streams) ∷ []) m.context.told refl
+  light_reset (takes_response rto number result sender receiver phase t m asked) = light_outcome (outcome number result t.requests.current) m.context
+  light_reset (defers number response last_tsn streams phase t m asked known ahead) = tells_same m.context.told
+  light_reset (processes number streams phase t m asked known) = tells_same m.context.told
+  light_reset (adds_responses responses phase t m are) = tells_same m.context.told
+
+  pub light_input : (act : InputAct P call) → Light (before_input act) (after_input act)
+  light_input (ends_packet phase t m) = tells_same m.context.told
+
+-- ---- what was told stands
+
+pub record Grows {P : Type 0} (before after : Making P) : Type 0 where
+  pub events : List (Event P)
+  pub behind : after.context.told.events ≡ before.context.told.events ++ events
+
+module _ {P : Type 0} where
+  pub grows_light : (a b : Making P) → Light a b → Grows a b
+  grows_light a b h = record { events = h.events; behind = h.behind }
+
+  grows_same : (a b : Making P) → b.context.told.events ≡ a.context.told.events → Grows a b
+  grows_same a b e = record { events = []; behind = e ∙ sym (append-nil a.context.told.events) }
+
+  grows_one : (e : Event P) (a b : Making P) → b.context.told.events ≡ a.context.told.events ++ e ∷ [] → Grows a b
+  grows_one e a b is = record { events = e ∷ []; behind = is }
+
+  grows_through : (a b c : Making P) → Grows a b → Grows b c → Grows a c
+  grows_through a b c g h = record {
+    events = g.events ++ h.events;
+    behind = h.behind ∙ (ap (λ (es : List (Event P)). es ++ h.events) g.behind ∙ append_assoc a.context.told.events g.events h.events);
+  }
+
+module _ {P : Type 0} {call : Call} where
+  grows_packets : (act : PacketAct P call) → Grows (before_packets act) (after_packets act)
+  grows_packets (begins p m new) = grows_same m (after_packets {call = call} (begins p m new)) refl
+  grows_packets (adds_plain chunk m plain) = grows_same m (after_packets {call = call} (adds_plain chunk m plain)) refl
+  grows_packets (emits m some) = grows_one _ m (after_packets {call = call} (emits m some)) refl
+  grows_packets (complains kind text m) = grows_one (OnError kind text) m (after_packets {call = call} (complains kind text m)) refl
+  grows_packets (counts m) = grows_same m (after_packets {call = call} (counts m)) refl
+
+  grows_opening : (act : OpeningAct P call) → Grows (before_opening act) (after_opening act)
+  grows_opening (connects m is) = record { events = []; behind = sym (append-nil m.context.told.events) }
+  grows_opening (adds_init tag first t1 m to) = record { events = []; behind = sym (append-nil m.context.told.events) }
+  grows_opening (answers_new tag i m heard to) = record { events = []; behind = sym (append-nil m.context.told.events) }
+  grows_opening (answers_waiting tag i my_tag first t1 m heard to) = record { events = []; behind = sym (append-nil m.context.told.events) }
+  grows_opening (answers_echoed tag i t1 cookie t m heard to) = record { events = []; behind = sym (append-nil m.context.told.events) }
+  grows_opening (answers_again tag i phase t m heard late to) = record { events = []; behind = sym (append-nil m.context.told.events) }
+  grows_opening (echoes tag i cookie my_tag first t1 m heard brought) = record { events = []; behind = sym (append-nil m.context.told.events) }
+  grows_opening (adds_cookie t1 cookie t m to) = record { events = []; behind = sym (append-nil m.context.told.events) }
+  grows_opening (establishes tag t1 cookie t m heard) = record { events = OnConnected ∷ []; behind = refl }
+  grows_opening (opens tag k m echoed none own) = record { events = OnConnected ∷ []; behind = refl }
+  grows_opening (restarts tag k phase t m echoed verdict) = record {
+    events = OnConnectionRestarted ∷ OnConnected ∷ [];
+    behind = append_assoc m.context.told.events (OnConnectionRestarted ∷ []) (OnConnected ∷ []);
+  }
+  grows_opening (opens_again tag k phase t m echoed verdict) = record { events = OnConnected ∷ []; behind = refl }
+  grows_opening (maintains tag k t1 cookie t m echoed verdict) = record { events = OnConnected ∷ []; behind = refl }
+  grows_opening (adds_cookie_ack phase t m late) = record { events = []; behind = sym (append-nil m.context.told.events) }
+
+  grows_closing : (act : ClosingAct P call) → Grows (before_closing act) (after_closing act)
+  grows_closing (closes e m there is) = record { events = e ∷ []; behind = refl }
+  grows_closing (shuts phase t m is early) = record { events = []; behind = sym (append-nil m.context.told.events) }
+  grows_closing (shuts_on phase next t m late later) = record { events = []; behind = sym (append-nil m.context.told.events) }
+
+  grows_handover : (act : HandoverAct P call) → Grows (before_handover act) (after_handover act)
+  grows_handover (leaves phase t m is) = record { events = OnClosed ∷ []; behind = refl }
+  grows_handover (takes_up h m is valid) = record { events = OnConnected ∷ []; behind = refl }
+
+-- ---- no end so far
+
+pub endings_both : {P : Type 0} (es fs : List (Event P)) → endings (es ++ fs) ≡ endings es + endings fs
+endings_both [] fs = omega arith
+endings_both (e ∷ es) fs = omega (arith, endings_both es fs)
+
+module _ {P : Type 0} where
+  -- none before either
+  pub none_before : (a b : Making P) → Grows a b → HasNoEnd b → HasNoEnd a
+  none_before a b g h = omega (arith, ap endings g.behind, endings_both a.context.told.events g.events, h)
+
+  -- an end that is told is one
+  pub no_end : (a b : Making P) (e : Event P) → b.context.told.events ≡ a.context.told.events ++ e ∷ [] → ending e ≡ 1 → HasNoEnd b → ⊥
+  no_end a b e is one h = omega (arith, ap endings is, endings_both a.context.told.events (e ∷ []), one, h)
+
+  -- as long as there is none
+  abbrev pub Until : (Making P → Making P → Type 0) → Making P → Making P → Type 0
+  Until R a b = Grows a b × (HasNoEnd b → R a b)
+
+  module _ {call : Call} {R : Making P → Making P → Type 0} (k : KeepsUntilEnd call R) where
+    goes_through : (a b c : Making P) → Until R a b → Until R b c → Until R a c
+    goes_through a b c g h = (grows_through a b c g.0 h.0, λ none. k.through (g.1 (none_before b c h.0 none)) (h.1 none))
+
+    frame : Keeps call (Until R)
+    frame = record {
+      same = λ m. (grows_same m m refl, λ none. k.same m);
+      through = λ {a} {b} {c}. goes_through a b c;
+      packets = λ act. (grows_packets act, k.packets act);
+      opening = λ act. (grows_opening act, k.opening act);
+      closing = λ act. (grows_closing act, k.closing act);
+      data_acts = λ act. (grows_light (before_data act) (after_data act) (light_data act), k.data_acts act);
+      acknowledging = λ act. (grows_light (before_sack act) (after_sack act) (light_sack act), k.acknowledging act);
+      sending = λ act. (grows_light (before_sending act) (after_sending act) (light_sending act), k.sending act);
+      time = λ act. (grows_light (before_time act) (after_time act) (light_time act), k.time act);
+      calls = λ act. (grows_light (before_call act) (after_call act) (light_call act), k.calls act);
+      resets = λ act. (grows_light (before_reset act) (after_reset act) (light_reset act), k.resets act);
+      handover = λ act. (grows_handover act, k.handover act);
+      input = λ act. (grows_light (before_input act) (after_input act) (light_input act), k.input act);
+    }
+
+-- What each act keeps as long as no association has ended, each call keeps that tells no end.
+pub until_end : {P : Type 0} (call : Call) {R : Making P → Making P → Type 0} → KeepsUntilEnd call R → (s : Endpoint P) → HasNoEnd (calm (called call s))
+    → R (calm s) (calm (called call s))
+until_end call k s none = (keeps_call call (frame k) s).1 none
+
+-- and what was told before stands
+grows_frame : {P : Type 0} (call : Call) → Keeps call (Grows {P = P})
+grows_frame call = record {
+  same = λ m. grows_same m m refl;
+  through = λ {a} {b} {c}. grows_through a b c;
+  packets = grows_packets;
+  opening = grows_opening;
+  closing = grows_closing;
+  data_acts = λ act. grows_light (before_data act) (after_data act) (light_data act);
+  acknowledging = λ act. grows_light (before_sack act) (after_sack act) (light_sack act);
+  sending = λ act. grows_light (before_sending act) (after_sending act) (light_sending act);
+  time = λ act. grows_light (before_time act) (after_time act) (light_time act);
+  calls = λ act. grows_light (before_call act) (after_call act) (light_call act);
+  resets = λ act. grows_light (before_reset act) (after_reset act) (light_reset act);
+  handover = grows_handover;
+  input = λ act. grows_light (before_input act) (after_input act) (light_input act);
+}
+
+pub grows_call : {P : Type 0} (call : Call) (s : Endpoint P) → Grows (calm s) (calm (called call s))
+grows_call call s = keeps_call call (grows_frame call) s

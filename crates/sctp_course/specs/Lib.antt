@@ -1,0 +1,5 @@
+pub mod Acts
+pub mod Course
+pub mod Taking
+pub mod Opens
+pub mod Handing

@@ -1,0 +1,46 @@
+//! Two ends of an association along all that can happen to them: laws of the table of steps.
+#![tactic(auto)]
+
+ghost use Rattle.sctp_course.specs.Course.{EndsAreJoined};
+ghost use Rattle.sctp_course.specs.Handing.{AssociationsStand, HandedGrows, HandedIsAPrefix, MessagesAreHandedInOrder, OneIsHandedOut, ReadiedGrows};
+ghost use Rattle.sctp_course.specs.Opens.{BothConnect, OneConnects};
+ghost use Rattle.sctp_course.specs.Taking.{InvalidPointsChangeNothing, NewDataIsAdded, PointsReachReassembly, RefusedDataChangesNothing};
+
+/// Two new ends go on by any calls, moments, foreign bytes that they refuse, and packets of the other end, each of which may
+/// come again and in any order. Until an association first ends at one of them, what each end's association can do was
+/// negotiated of the two option sets; and associations that both hold are crossed: tags, first TSNs and stream counts. Before
+/// it was told that it is connected, an end is asked neither for a shutdown, nor to connect once an INIT was given to it
+/// (RFC 9260 sections 5.1, 5.2).
+pub fn ends_are_joined()
+    ensures joined { EndsAreJoined }
+{}
+
+/// A DATA or I-DATA chunk that is refused before its TSN is observed leaves tracker and reassembly as they were; of the others
+/// each whose TSN is new is added to reassembly. A forward point reaches reassembly exactly where it moves the cumulative TSN,
+/// and one that is out of range changes nothing (RFC 9260 section 6.2, RFC 3758 section 3.6).
+pub fn data_is_taken()
+    ensures refused { RefusedDataChangesNothing }
+    ensures added { NewDataIsAdded }
+    ensures invalid { InvalidPointsChangeNothing }
+    ensures passed { PointsReachReassembly }
+{}
+
+/// Along the same courses, at either end and until an association first ends: the messages that became ready are those that
+/// were handed out, in this order, and behind them those that are ready now. So what was handed out is a prefix of what became
+/// ready. Both only grow at their back, and an association that an end holds is not replaced. In one such course, computed, two
+/// messages come and the first is handed out.
+pub fn messages_are_handed_out_in_order()
+    ensures in_order { MessagesAreHandedInOrder }
+    ensures prefix { HandedIsAPrefix }
+    ensures readied_grows { ReadiedGrows }
+    ensures handed_grows { HandedGrows }
+    ensures stands { AssociationsStand }
+    ensures goes { OneIsHandedOut }
+{}
+
+/// There are such courses: with default options four packets connect both ends where one of them connects, and six where both
+/// do at once.
+pub fn courses_open()
+    ensures one { OneConnects }
+    ensures both { BothConnect }
+{}

@@ -1,0 +1,154 @@
+-- A forward point that comes is a few of the rules.
+use Rattle.std.proofs.Common.{◌≡◌, ℕ, suc, ◌+◌, ◌-◌, ◌^◌, ◌<◌, Bool, true, false, inl, inr, Some, None, List, [], ◌∷◌, ◌++◌, map, refl, ap, sym, ◌∙◌, subst, arith, append_assoc, leb}
+use Rattle.std.specs.Prelude.{◌||◌, nat_lt, unwrap_or}
+use Rattle.std.proofs.lemmas.Bool.{cond-false}
+use Rattle.std.proofs.lemmas.Bool.Decides.{nat_tests}
+use Rattle.sctp_serial.specs.Messages as messages
+use Rattle.sctp_serial.specs.Unwrapped.{origin}
+use Rattle.sctp_packet.specs.declared.forward_tsn.SkippedStream.{SkippedStream}
+use Rattle.sctp_packet.specs.declared.forward_tsn.SkippedStream.TheVariants.{ForwardTsn, IForwardTsn}
+use Rattle.sctp_rx.specs.Held.{Held}
+use Rattle.sctp_rx.specs.Settled.{AreSettled}
+use Rattle.sctp_rx.specs.Streams as streams
+use Rattle.sctp_rx.specs.Streams.{Streams, Outcome, is_far, by_stream, dropped_to}
+use Rattle.sctp_rx.specs.ReassemblyQueue.{Reassembly, number_of, came, made, forward, forward_now, forward_or_wait, point_waits, waits, Forwarded}
+use Rattle.sctp_rx.specs.Tracker as tracker
+use Rattle.sctp_rx.specs.Tracker.{Tracker}
+use Rattle.sctp_rx.proofs.SeenOneFormLemmas.{contains-up_to}
+use Rattle.sctp_rx.proofs.SettledQueueLemmas.{settled_passes}
+use Rattle.sctp_rules.specs.State.{Message, Entry, ForwardPoint, Transfer, IsAmong, place_of, ordered_of}
+use Rattle.sctp_rules.specs.Rules.{forward_comes, deliver}
+use Rattle.sctp_rules.specs.Kept.{Kept}
+use Rattle.sctp_rules.specs.Reassembly.{Queue, KeyOf, next_of, key_of, below_of, KeyLaws}
+use Rattle.sctp_rules.proofs.ReceiverRowLemmas.{key_laws, point_comes}
+use Rattle.sctp_rx_rules.specs.View.{IsSeenAs, was_seen, chunk_of_held, key_of_held, unordered_at, held_on, view_with, view_of}
+use Rattle.sctp_rx_rules.specs.Read.{StandsFor, StandForAll, AreApart, shift_after}
+use Rattle.sctp_rx_rules.specs.Receives.{Receives, Goes}
+use Rattle.sctp_rx_rules.proofs.KeyLemmas.{Decided, twice_not}
+use Rattle.sctp_rx_rules.proofs.TakesLemmas.{takes_fewer, takes_readied}
+use Rattle.sctp_rx_rules.proofs.ArrivalLemmas.{rest_of}
+use Rattle.sctp_rx_rules.proofs.EntryLemmas.{put_entries, sorted_stands, sorted_covers, sorted_raised, sorted_apart}
+use Rattle.sctp_rx_rules.proofs.SkipLemmas.{Done, skips, all_still}
+use Rattle.sctp_rx_rules.proofs.ForwardLemmas.{left, point_left, left_fewer, left_seen, unordered_kept}
+use Rattle.sctp_rx_rules.proofs.ReceivesLemmas.{sent_of, none_left, goes_to, seen_after}
+
+-- without interleaving, each entry is of an ordered stream
+all_ordered : (mixed : Bool) (ss : Streams) (xs : List SkippedStream) (es : List Entry) → mixed ≡ false → StandForAll mixed ss xs es → (e : Entry) → IsAmong e es → e.ordered ≡ true
+all_ordered mixed ss [] [] m h e a = absurd a
+all_ordered mixed ss [] (d ∷ es) m h e a = absurd h
+all_ordered mixed ss (x ∷ xs) [] m h e a = absurd h
+all_ordered mixed ss (x ∷ xs) (d ∷ es) m h e (inl s) = ap (λ z. z.ordered) s ∙ go mixed m x h.0
+  where
+    go : (b : Bool) → b ≡ false → (y : SkippedStream) → StandsFor b ss y d → d.ordered ≡ true
+    go true m y h = cc
+    go false m (ForwardTsn id ssn) h = h.0
+    go false m (IForwardTsn key mid) h = absurd h
+all_ordered mixed ss (x ∷ xs) (d ∷ es) m h e (inr a) = all_ordered mixed ss xs es m h.1 e a
+
+-- the tracker's set up to a fragment
+pub point_seen : (t : Tracker) (seen : ℕ → Bool) → ((n : ℕ) → was_seen t n ≡ seen n) → (k upto n : ℕ) → upto ≡ suc k → was_seen (tracker.forward (origin + k) t) n ≡ (nat_lt n upto || seen n)
+point_seen t seen same k upto n e = contains-up_to (origin + k) (origin + n) t.seen ∙ (ap (λ z. leb (origin + n) (origin + k) || z) (same n) ∙ ap (λ z. z || seen n) (by n))
+  where
+    by : (n : ℕ) → leb (origin + n) (origin + k) ≡ nat_lt n upto
+    by n = grind (arith, nat_tests, e)
+
+module _ (message : ℕ → Message) (mixed : Bool) (before : ℕ) (x : Transfer) (kept : Kept message mixed x) (handed : List messages.Message) (t : Tracker) (r : Reassembly) (shown : Receives message mixed before x handed t r)
+    (none : r.deferred ≡ None) (k tsn : ℕ) (xs : List SkippedStream) (f : ForwardPoint) (sent : IsAmong f x.forward_points) (last : f.upto ≡ suc k) (tsn_is : number_of r tsn + shift_after r.first before k ≡ origin + k) (small : k < 2 ^ 62)
+    (stand : StandForAll mixed r.streams xs f.entries) (apart : AreApart f.entries) where
+  abbrev shift : ℕ
+  shift = shift_after r.first before k
+
+  laws : KeyLaws (KeyOf mixed) (next_of mixed) mixed x.sender (key_of mixed message x.sender) (below_of mixed)
+  laws = key_laws message mixed x kept
+
+  abbrev decide : Decided mixed
+  decide = laws.decide
+
+  abbrev q : Queue (KeyOf mixed) (next_of mixed)
+  q = shown.queue
+
+  abbrev n : ℕ
+  n = number_of r tsn
+
+  abbrev ready : List messages.Message
+  ready = handed ++ r.ready
+
+  seen_as : IsSeenAs mixed shift (view_with r.streams ready) q
+  seen_as = seen_after mixed before k handed r q shown.fresh shown.seen_as
+
+  abbrev outcome : Outcome
+  outcome = streams.forward n xs r.streams
+
+  -- the entries in order
+  abbrev es : List Entry
+  es = put_entries f.entries []
+
+  sorted : StandForAll mixed r.streams (by_stream xs) es
+  sorted = sorted_stands mixed r.streams xs f.entries [] [] stand tt
+
+  es_apart : AreApart es
+  es_apart = sorted_apart f.entries [] apart tt (λ e d a b. absurd b)
+
+  -- unordered DATA has no number
+  unnumbered : mixed ≡ false → (s : ℕ) (h : Held) → IsAmong h (held_on r.streams false s) → h.number ≡ origin
+  unnumbered m s h a =
+      let file = seen_as.filed false s h a in
+      let there = seen_as.holds false s h a in
+      let c = sent_of message mixed shift x kept q shown.shows (key_of_held mixed shift h) (chunk_of_held there.0 h) there.1 in
+      let kind : ordered_of message (place_of x.sender c.0) ≡ false = sym (ap (λ z. z.ordered) c.3) ∙ twice_not h.fragment.is_unordered false file.kind_is in
+      let number : h.number - origin ≡ 0 = ap (λ z. z.number) c.3 ∙ cond-false (ordered_of message (place_of x.sender c.0) || mixed) (x.sender.number (place_of x.sender c.0)) 0 (ap (λ z. z || mixed) kind ∙ m) in
+      let from = file.number_from in
+      omega (arith, number, from)
+
+  upto_is : n + shift + 1 ≡ origin + f.upto
+  upto_is = omega (arith, tsn_is, last)
+
+  abbrev m : Queue (KeyOf mixed) (next_of mixed)
+  m = left mixed shift r.streams ready q seen_as shown.mode n f es (λ kind s j. sorted_covers kind s j f.entries) (λ kind s j. sorted_raised kind s f.entries j) upto_is (λ b. all_ordered mixed r.streams (by_stream xs) es b sorted) unnumbered
+
+  done : Done mixed shift decide m ready outcome
+  done =
+      let p = left_seen mixed shift r.streams ready q seen_as shown.mode n f es (λ kind s j. sorted_covers kind s j f.entries) (λ kind s j. sorted_raised kind s f.entries j) upto_is (λ b. all_ordered mixed r.streams (by_stream xs) es b sorted) unnumbered in
+      skips mixed shift decide (by_stream xs) es (dropped_to n r.streams) ready m
+      (all_still mixed r.streams (dropped_to n r.streams) (by_stream xs) es (record { ordered = λ e a o. refl; unordered = λ e a o. untouched mixed refl e a o }) sorted) es_apart shown.mode
+      (λ e a o. (rest_of r.streams [] shown.settled).order true e.stream) p
+    where
+      untouched : (b : Bool) → mixed ≡ b → (e : Entry) → IsAmong e es → e.ordered ≡ false → unordered_at (dropped_to n r.streams) e.stream ≡ unordered_at r.streams e.stream
+      untouched true c e a o = unordered_kept r.streams n true (shown.mode ∙ c) e.stream
+      untouched false c e a o = absurd (no (sym (all_ordered mixed r.streams (by_stream xs) es c sorted e a) ∙ o))
+        where
+          no : true ≡ false → ⊥
+          no p = cc
+
+  view_is : view_of handed (made outcome (came tsn r)) ≡ view_with outcome.streams (ready ++ outcome.messages)
+  view_is = ap (λ z. view_with outcome.streams z) (sym (append_assoc handed r.ready outcome.messages))
+
+  near : is_far n ≡ false
+  near = by n shift tsn_is small
+    where
+      by : (a b : ℕ) → a + b ≡ origin + k → k < 2 ^ 62 → is_far a ≡ false
+      by a b e l = grind (arith, nat_tests)
+
+  pub call_is : forward tsn xs r ≡ made outcome (came tsn r)
+  call_is =
+      cond-false (is_far n) r (forward_or_wait n xs (came tsn r)) near
+      ∙ cond-false (point_waits n r.deferred) (waits (Forwarded n xs) (came tsn r)) (forward_now n xs (came tsn r)) (ap (point_waits n) none)
+
+  pub first_is : (forward tsn xs r).first ≡ Some (unwrap_or r.first tsn)
+  first_is = ap (λ z. z.first) call_is
+
+  pub row_point : (ps : List ℕ) × Goes message mixed shift x (forward_comes f ∷ map deliver ps) handed (tracker.forward (origin + k) t) (forward tsn xs r)
+  row_point =
+      let d = done in
+      let settled = subst (λ z. AreSettled z.streams) call_is (settled_passes r shown.settled tsn xs) in
+      let point = point_left mixed shift r.streams ready q seen_as shown.mode n f es (λ kind s j. sorted_covers kind s j f.entries) (λ kind s j. sorted_raised kind s f.entries j) upto_is (λ b. all_ordered mixed r.streams (by_stream xs) es b sorted) unnumbered in
+      let fewer = left_fewer mixed shift r.streams ready q seen_as shown.mode n f es (λ kind s j. sorted_covers kind s j f.entries) (λ kind s j. sorted_raised kind s f.entries j) upto_is (λ b. all_ordered mixed r.streams (by_stream xs) es b sorted) unnumbered in
+      let none_more = none_left message mixed shift x kept outcome.streams (ready ++ outcome.messages) d.leads.queue d.leads.seen_as settled
+      (λ κ w e. sent_of message mixed shift x kept q shown.shows κ w (fewer κ w (takes_fewer mixed d.leads.takes κ w e))) in
+      let l = point_comes (KeyOf mixed) (next_of mixed) message mixed x kept (key_of mixed message x.sender) (below_of mixed) laws q shown.shows m d.leads.queue f sent point (takes_readied mixed d.leads.takes none_more) in
+      let p' : IsSeenAs mixed shift (view_of handed (made outcome (came tsn r))) d.leads.queue = subst (λ z. IsSeenAs mixed shift z d.leads.queue) (sym view_is) d.leads.seen_as in (
+        l.0,
+        subst (λ z. Goes message mixed shift x (forward_comes f ∷ map deliver l.0) handed (tracker.forward (origin + k) t) z) (sym call_is)
+            (goes_to message mixed shift x kept (forward_comes f) (map deliver l.0) d.leads.queue l.1 handed (tracker.forward (origin + k) t) (made outcome (came tsn r)) p'
+            (λ i. point_seen t x.receiver.seen shown.seen k f.upto i last) d.mode settled (λ e. cc) none),
+      )

@@ -1,0 +1,171 @@
+-- A fragment of the sender that comes.
+use Rattle.std.proofs.Common.{◌≡◌, ℕ, ◌+◌, ◌-◌, ◌^◌, ◌<◌, ◌≤◌, Bool, true, false, cond, inl, inr, None, List, refl, ap, sym, ◌∙◌, subst, arith}
+use Rattle.std.specs.Prelude.{not, ◌&&◌, ◌||◌, nat_lt}
+use Rattle.std.proofs.lemmas.Bool.{cond-true, cond-false, eqb-true, and_parts, or_right}
+use Rattle.std.proofs.lemmas.Bool.Decides.{nat_tests}
+use Rattle.sctp_serial.specs.Messages as messages
+use Rattle.sctp_serial.specs.Unwrapped.{origin}
+use Rattle.sctp_packet.specs.Chunk.{FragmentTree}
+use Rattle.sctp_rx.specs.Held.{Held}
+use Rattle.sctp_rx.specs.Streams as streams
+use Rattle.sctp_rx.specs.Streams.{Streams, Outcome, is_far, held_as, place_of, add_in_order}
+use Rattle.sctp_rx.specs.ReassemblyQueue.{Reassembly, number_of, came, made, add, add_now, add_or_wait, fragment_waits, waits, Added}
+use Rattle.sctp_rules.specs.State as rules
+use Rattle.sctp_rules.specs.State.{Message, Transfer, Sender, Receiver, IsAmong, fragment, count, ordered_of, stream_of, put}
+use Rattle.sctp_rules.specs.Rules.{floor}
+use Rattle.sctp_rules.specs.Joints.{Shows}
+use Rattle.sctp_rules.specs.Reassembly.{Queue, KeyOf, next_of, key_of, chunk_of, IsLate}
+use Rattle.sctp_rx_rules.specs.View.{IsFiled, IsSeenAs, chunk_of_held, key_of_held, ordered_at, unordered_at, view_of}
+use Rattle.sctp_rx_rules.specs.Read.{Carries, IsRead, number_read, is_behind}
+
+-- ---- what is read
+
+-- the fragment as it would be held
+abbrev pub item : Reassembly → ℕ → FragmentTree → Held
+item r tsn f = held_as r.streams.is_interleaved (number_read f.is_unordered f r.streams) (number_of r tsn) f
+
+back : (b : Bool) → not (not b) ≡ b
+back true = refl
+back false = refl
+
+module _ (message : ℕ → Message) (mixed : Bool) (shift : ℕ) (o : Sender) (r : Reassembly) (k tsn : ℕ) (f : FragmentTree) (carries : Carries message mixed o k f) (read : IsRead message mixed shift o r k tsn f) (mode : r.streams.is_interleaved ≡ mixed) where
+  kind_is : not f.is_unordered ≡ ordered_of message (rules.place_of o k)
+  kind_is = ap not carries.kind ∙ back (ordered_of message (rules.place_of o k))
+
+  number_is : number_read f.is_unordered f r.streams - origin ≡ (chunk_of message mixed o k).number
+  number_is = let e = read.number_is in omega (arith, e)
+
+  pub chunk_is : chunk_of_held (chunk_of message mixed o k).protocol_id (item r tsn f) ≡ chunk_of message mixed o k
+  chunk_is =
+      let a = kind_is in
+      let b = carries.stream in
+      let c = number_is in
+      let d = carries.begins in
+      let e = carries.ends in
+      let h = carries.payload in
+      λ i. record { ordered = a i; stream = b i; number = c i; is_beginning = d i; is_end = e i; protocol_id = (chunk_of message mixed o k).protocol_id; payload = h i }
+
+  -- its place in its message
+  fsn_is : (m : Bool) → mixed ≡ m → m ≡ true → place_of m (number_of r tsn) f ≡ (fragment o k).index
+  fsn_is false e t = cc
+  fsn_is true e t = go f.is_beginning refl
+    where
+      go : (b : Bool) → f.is_beginning ≡ b → cond b 0 f.fsn ≡ (fragment o k).index
+      go true s = sym (eqb-true ((fragment o k).index) 0 (sym carries.begins ∙ s))
+      go false s = carries.fsn e s
+
+  item_key : (m : Bool) → mixed ≡ m → key_of_held m shift (held_as m (number_read f.is_unordered f r.streams) (number_of r tsn) f) ≡ key_of m message o k
+  item_key false e = let h = read.tsn_is in omega (arith, h)
+  item_key true e =
+      let a = kind_is in
+      let b = carries.stream in
+      let c : number_read f.is_unordered f r.streams - origin ≡ o.number (rules.place_of o k) =
+      number_is ∙ cond-true (ordered_of message (rules.place_of o k) || mixed) (o.number (rules.place_of o k)) 0 (or_right (ordered_of message (rules.place_of o k)) mixed e) in
+      let d = fsn_is true e refl in
+      λ i. record { ordered = a i; stream = b i; number = c i; index = d i }
+
+  pub key_is : key_of_held mixed shift (item r tsn f) ≡ key_of mixed message o k
+  key_is = subst (λ z. key_of_held mixed shift (held_as z (number_read f.is_unordered f r.streams) (number_of r tsn) f) ≡ key_of mixed message o k) (sym mode) (item_key mixed refl)
+
+  index_from : (m : Bool) → m ≡ false → origin ≤ place_of m (number_of r tsn) f + shift
+  index_from false e = let h = read.tsn_is in omega (arith, h)
+  index_from true e = cc
+
+  index_below : (m : Bool) → mixed ≡ m → place_of m (number_of r tsn) f < 2 ^ 63
+  index_below false e = let b = read.tsn_below in let h = read.tsn_is in omega (arith, b, h)
+  index_below true e = let b = read.index_below in let i = fsn_is true e refl in omega (arith, b, i)
+
+  pub filed : (kind : Bool) → f.is_unordered ≡ not kind → IsFiled mixed shift kind f.stream_id (item r tsn f)
+  filed kind is = record {
+    kind_is = is;
+    stream_is = refl;
+    number_from = let e = read.number_is in omega (arith, e);
+    index_from = λ m. subst (λ z. origin ≤ place_of z (number_of r tsn) f + shift) (sym mode) (index_from mixed m);
+    index_below = subst (λ z. place_of z (number_of r tsn) f < 2 ^ 63) (sym mode) (index_below mixed refl);
+  }
+
+  far_is : (a n : ℕ) → a ≤ origin + n → n < 2 ^ 62 → is_far a ≡ false
+  far_is a n e l = grind (arith, nat_tests)
+
+  pub number_near : is_far (item r tsn f).number ≡ false
+  number_near = let e = read.number_is in far_is (number_read f.is_unordered f r.streams) (chunk_of message mixed o k).number (omega (arith, e)) read.number_below
+
+  -- the call
+  pub added_now : r.deferred ≡ None → add tsn f r ≡ made (streams.add (number_of r tsn) f r.streams) (came tsn r)
+  added_now none =
+      cond-false (is_far (number_of r tsn)) r (add_or_wait (number_of r tsn) f (came tsn r)) (let e = read.tsn_is in far_is (number_of r tsn) k (omega (arith, e)) read.tsn_below)
+      ∙ cond-false (fragment_waits (number_of r tsn) f.stream_id r.deferred) (waits (Added (number_of r tsn) f) (came tsn r)) (add_now (number_of r tsn) f (came tsn r)) (ap (fragment_waits (number_of r tsn) f.stream_id) none)
+
+-- ---- is it late?
+
+module _ (message : ℕ → Message) (mixed : Bool) (shift : ℕ) (x : Transfer) (handed : List messages.Message) (r : Reassembly) (k tsn : ℕ) (f : FragmentTree) (carries : Carries message mixed x.sender k f) (read : IsRead message mixed shift x.sender r k tsn f)
+    (q : Queue (KeyOf mixed) (next_of mixed)) (shows : Shows message mixed x q) (p : IsSeenAs mixed shift (view_of handed r) q) where
+  abbrev place : ℕ
+  place = rules.place_of x.sender k
+
+  abbrev number : ℕ
+  number = x.sender.number place
+
+  abbrev own : ℕ
+  own = (chunk_of message mixed x.sender k).number
+
+  below : (a b c d : ℕ) → a ≡ origin + c → b ≡ origin + d → nat_lt a b ≡ nat_lt c d
+  below a b c d e g = grind (arith, nat_tests)
+
+  below_passed : (a b c d : ℕ) → a ≡ origin + c → d ≡ b - origin → nat_lt a b ≡ nat_lt c d
+  below_passed a b c d e g = grind (arith, nat_tests)
+
+  not_below : (a b c : ℕ) → a ≡ origin + c → c ≡ 0 → b ≤ origin → nat_lt a b ≡ false
+  not_below a b c e g l = grind (arith, nat_tests)
+
+  ordered_is : (b : Bool) → f.is_unordered ≡ b → ordered_of message place ≡ not b
+  ordered_is b e = sym (back (ordered_of message place)) ∙ (ap not (sym carries.kind) ∙ ap not e)
+
+  behind : Bool → Bool → Bool
+  behind m b = (b || m) && nat_lt number (floor x.receiver b (stream_of message place))
+
+  pub ordered_behind : f.is_unordered ≡ false → nat_lt (item r tsn f).number (ordered_at r.streams f.stream_id).next ≡ is_behind message mixed x.sender x.receiver k
+  ordered_behind e =
+      let o = ordered_is false e in
+      let own_is : own ≡ number = cond-true (ordered_of message place || mixed) number 0 (ap (λ z. z || mixed) o) in
+      let next_is : (ordered_at r.streams f.stream_id).next ≡ origin + x.receiver.next (stream_of message place) = p.next f.stream_id ∙ (ap (λ z. origin + z) (shows.next_is f.stream_id) ∙ ap (λ z. origin + x.receiver.next z) carries.stream) in
+      below (item r tsn f).number (ordered_at r.streams f.stream_id).next number (x.receiver.next (stream_of message place)) (read.number_is ∙ ap (λ z. origin + z) own_is) next_is
+      ∙ sym (ap (λ b. (b || mixed) && nat_lt number (floor x.receiver b (stream_of message place))) o)
+
+  pub unordered_behind : f.is_unordered ≡ true → nat_lt (item r tsn f).number (unordered_at r.streams f.stream_id).passed ≡ is_behind message mixed x.sender x.receiver k
+  unordered_behind e = go mixed refl ∙ sym (ap (λ b. (b || mixed) && nat_lt number (floor x.receiver b (stream_of message place))) o)
+    where
+      o : ordered_of message place ≡ false
+      o = ordered_is true e
+
+      go : (m : Bool) → mixed ≡ m → nat_lt (item r tsn f).number (unordered_at r.streams f.stream_id).passed ≡ ((false || m) && nat_lt number (x.receiver.passed_below (stream_of message place)))
+      go false m =
+          let own_is : own ≡ 0 = cond-false (ordered_of message place || mixed) number 0 (ap (λ z. z || mixed) o ∙ m) in
+          not_below (item r tsn f).number (unordered_at r.streams f.stream_id).passed own read.number_is own_is (p.none_passed m f.stream_id)
+      go true m =
+          let own_is : own ≡ number = cond-true (ordered_of message place || mixed) number 0 (ap (λ z. z || mixed) o ∙ m) in
+          let passed_is : x.receiver.passed_below (stream_of message place) ≡ (unordered_at r.streams f.stream_id).passed - origin =
+          sym (shows.passed_is m (stream_of message place)) ∙ (ap q.passed_below (sym carries.stream) ∙ p.passed m f.stream_id) in
+          below_passed (item r tsn f).number (unordered_at r.streams f.stream_id).passed number (x.receiver.passed_below (stream_of message place)) (read.number_is ∙ ap (λ z. origin + z) own_is) passed_is
+
+  -- as the queue sees it
+  pub late_in : is_behind message mixed x.sender x.receiver k ≡ true → IsLate (KeyOf mixed) (next_of mixed) mixed q (chunk_of message mixed x.sender k)
+  late_in h = go (ordered_of message place) refl
+    where
+      go : (b : Bool) → ordered_of message place ≡ b → IsLate (KeyOf mixed) (next_of mixed) mixed q (chunk_of message mixed x.sender k)
+      go true o =
+          let t : nat_lt number (x.receiver.next (stream_of message place)) ≡ true = sym (ap (λ b. (b || mixed) && nat_lt number (floor x.receiver b (stream_of message place))) o) ∙ h in
+          let own_is : own ≡ number = cond-true (ordered_of message place || mixed) number 0 (ap (λ z. z || mixed) o) in
+          let n = shows.next_is (stream_of message place) in
+          inl (o, less own (q.next (stream_of message place)) number (x.receiver.next (stream_of message place)) own_is n t)
+        where
+          less : (a b c d : ℕ) → a ≡ c → b ≡ d → nat_lt c d ≡ true → a < b
+          less a b c d e g t = grind (arith, nat_tests)
+      go false o =
+          let t = and_parts mixed (nat_lt number (x.receiver.passed_below (stream_of message place))) (sym (ap (λ b. (b || mixed) && nat_lt number (floor x.receiver b (stream_of message place))) o) ∙ h) in
+          let own_is : own ≡ number = cond-true (ordered_of message place || mixed) number 0 (ap (λ z. z || mixed) o ∙ t.0) in
+          let n = shows.passed_is t.0 (stream_of message place) in
+          inr (t.0, o, less own (q.passed_below (stream_of message place)) number (x.receiver.passed_below (stream_of message place)) own_is n t.1)
+        where
+          less : (a b c d : ℕ) → a ≡ c → b ≡ d → nat_lt c d ≡ true → a < b
+          less a b c d e g t = grind (arith, nat_tests)

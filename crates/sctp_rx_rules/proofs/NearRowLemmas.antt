@@ -1,0 +1,96 @@
+-- What comes is read as it was meant, and so is what comes after it.
+use Rattle.std.proofs.Common.{◌≡◌, ℕ, suc, ◌+◌, ◌^◌, ◌<◌, ◌≤◌, Bool, true, false, None, List, sym, ap, ◌∙◌, subst, arith}
+use Rattle.sctp_serial.specs.Messages as messages
+use Rattle.sctp_serial.specs.Unwrapped.{origin, words, wire}
+use Rattle.sctp_packet.specs.Chunk.{FragmentTree}
+use Rattle.sctp_packet.specs.declared.forward_tsn.SkippedStream.{SkippedStream}
+use Rattle.sctp_rx.specs.Tracker.{Tracker, IsTracker, moves_on}
+use Rattle.sctp_rx.specs.ReassemblyQueue.{Reassembly, number_of, add, forward, reassembly}
+use Rattle.sctp_rules.specs.State.{Message, ForwardPoint, Transfer, IsAmong, place_of, count, start}
+use Rattle.sctp_rules.specs.Rules.{Event, IsAllowed, after, run}
+use Rattle.sctp_rules.specs.Windows.{Windows}
+use Rattle.sctp_rules.specs.Kept.{Kept}
+use Rattle.sctp_rules.proofs.StepLemmas.{later}
+use Rattle.sctp_rx_rules.specs.View.{was_seen}
+use Rattle.sctp_rx_rules.specs.Read.{Carries, IsRead, AreApart, StandForAll, number_read, shift_after}
+use Rattle.sctp_rx_rules.specs.Receives.{Receives, Goes}
+use Rattle.sctp_rx_rules.specs.Near.{IsWritten, AreFew, IsNearQueue}
+use Rattle.sctp_rx_rules.proofs.FragmentLemmas.{added_now}
+use Rattle.sctp_rx_rules.proofs.ForwardRowLemmas.{call_is}
+use Rattle.sctp_rx_rules.proofs.NearTsnLemmas.{not_acknowledged, tsn_is_read, near_after, above_front}
+use Rattle.sctp_rx_rules.proofs.NearNumberLemmas.{number_is_read, number_is_below, index_below}
+
+-- the last fragment that a forward point passes is numbered
+point_numbered : (message : ℕ → Message) (mixed : Bool) (x : Transfer) → Kept message mixed x → (k : ℕ) (f : ForwardPoint) → IsAmong f x.forward_points → f.upto ≡ suc k → k < count x.sender
+point_numbered message mixed x kept k f sent last = let w = (kept.forwards_true f sent).within in omega (arith, w, last)
+
+pub point_below : (message : ℕ → Message) (mixed : Bool) (x : Transfer) → Kept message mixed x → AreFew x.sender → (k : ℕ) (f : ForwardPoint) → IsAmong f x.forward_points → f.upto ≡ suc k → k < 2 ^ 62
+point_below message mixed x kept few k f sent last = let a = point_numbered message mixed x kept k f sent last in let b = few.fragments in omega (arith, a, b)
+
+pub is_ahead : (message : ℕ → Message) (mixed : Bool) (shift : ℕ) (x : Transfer) (kept : Kept message mixed x) (handed : List messages.Message) (t : Tracker) (r : Reassembly) (shown : Receives message mixed shift x handed t r) → IsTracker t
+    → (k : ℕ) (f : ForwardPoint) → f.upto ≡ suc k → moves_on (origin + k) t ≡ true → x.acknowledged < f.upto
+is_ahead message mixed shift x kept handed t r shown is_tracker k f last moves = let a = above_front message mixed shift x kept handed t r shown is_tracker k moves in omega (arith, a, last)
+
+module _ (message : ℕ → Message) (mixed : Bool) (first shift : ℕ) (x : Transfer) (kept : Kept message mixed x) (windows : Windows message x) (handed : List messages.Message) (t : Tracker) (r : Reassembly) (shown : Receives message mixed shift x handed t r)
+    (near : IsNearQueue first shift x r) where
+  -- ---- a fragment
+
+  module _ (k tsn : ℕ) (f : FragmentTree) (tsn_is : tsn ≡ wire words first (origin + k)) (carries : Carries message mixed x.sender k f) (unseen : was_seen t k ≡ false) where
+    pub kept_yet : x.acknowledged ≤ k
+    kept_yet = not_acknowledged message mixed x kept k (sym (shown.seen k) ∙ unseen)
+
+    pub fragment_is_read : AreFew x.sender → IsWritten message mixed x.sender k f → (mixed ≡ true → f.is_unordered ≡ true → number_read true f r.streams ≡ origin + x.sender.number (place_of x.sender k))
+        → IsRead message mixed (shift_after r.first shift k) x.sender r k tsn f
+    fragment_is_read few written unordered = record {
+      tsn_is = tsn_is_read message mixed x kept windows first shift r near k tsn tsn_is kept_yet carries.numbered;
+      tsn_below = let a = carries.numbered in let b = few.fragments in omega (arith, a, b);
+      number_is = number_is_read message mixed shift x kept windows handed t r shown k f carries written kept_yet unordered;
+      number_below = number_is_below message mixed shift x kept windows handed t r shown k f carries written kept_yet unordered few;
+      index_below = index_below message mixed x kept few k carries.numbered;
+    }
+
+    pub fragment_keeps : r.deferred ≡ None → IsRead message mixed (shift_after r.first shift k) x.sender r k tsn f → (es : List Event) (u : Tracker) → Goes message mixed (shift_after r.first shift k) x es handed u (add tsn f r)
+        → IsNearQueue first (shift_after r.first shift k) (run message mixed x es) (add tsn f r)
+    fragment_keeps none read es u goes =
+        subst (λ z. IsNearQueue first (shift_after r.first shift k) (run message mixed x es) z) (sym (added_now message mixed (shift_after r.first shift k) x.sender r k tsn f carries read shown.mode none))
+        (near_after message mixed x kept windows first shift r near k tsn tsn_is kept_yet carries.numbered (run message mixed x es) goes.kept (ap (λ z. z.sender) goes.rest_stays))
+
+  -- ---- a forward point
+
+  module _ (is_tracker : IsTracker t) (k tsn : ℕ) (f : ForwardPoint) (sent : IsAmong f x.forward_points) (last : f.upto ≡ suc k) (moves : moves_on (origin + k) t ≡ true) (tsn_is : tsn ≡ wire words first (origin + k)) where
+    unpassed : x.acknowledged ≤ k
+    unpassed = above_front message mixed shift x kept handed t r shown is_tracker k moves
+
+    pub point_is_read : number_of r tsn + shift_after r.first shift k ≡ origin + k
+    point_is_read = tsn_is_read message mixed x kept windows first shift r near k tsn tsn_is unpassed (point_numbered message mixed x kept k f sent last)
+
+    pub point_keeps : r.deferred ≡ None → AreFew x.sender → (entries : List SkippedStream) → StandForAll mixed r.streams entries f.entries → AreApart f.entries
+        → (es : List Event) (u : Tracker) → Goes message mixed (shift_after r.first shift k) x es handed u (forward tsn entries r)
+        → IsNearQueue first (shift_after r.first shift k) (run message mixed x es) (forward tsn entries r)
+    point_keeps none few entries stand apart es u goes =
+        subst (λ z. IsNearQueue first (shift_after r.first shift k) (run message mixed x es) z)
+        (sym (call_is message mixed shift x kept handed t r shown none k tsn entries f sent last point_is_read (point_below message mixed x kept few k f sent last) stand apart))
+        (near_after message mixed x kept windows first shift r near k tsn tsn_is unpassed (point_numbered message mixed x kept k f sent last) (run message mixed x es) goes.kept (ap (λ z. z.sender) goes.rest_stays))
+
+-- ---- the rest
+
+pub new_is_near : (mixed : Bool) (first shift max_size : ℕ) → IsNearQueue first shift start (reassembly max_size mixed)
+new_is_near mixed first shift max_size w e = cc
+
+pub sender_keeps : (message : ℕ → Message) (mixed : Bool) (first shift : ℕ) (x : Transfer) (e : Event) (r : Reassembly) → Kept message mixed x → IsAllowed message mixed x e → (after message mixed x e).receiver ≡ x.receiver
+    → IsNearQueue first shift x r → IsNearQueue first shift (after message mixed x e) r
+sender_keeps message mixed first shift x e r kept may same near w h =
+    let q = near w h in
+    let c = (later message mixed x kept e may).count_grows in
+    let n = q.numbered in
+    record {
+      written = q.written;
+      last = q.last;
+      upto = q.upto;
+      near_is = q.near_is;
+      from = q.from;
+      ahead = q.ahead;
+      window = q.window;
+      numbered = omega (arith, n, c);
+      seen = λ k s. q.seen k (sym (ap (λ z. z.seen k) same) ∙ s);
+    }

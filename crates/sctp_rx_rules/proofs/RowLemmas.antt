@@ -1,0 +1,117 @@
+-- The start, what is not new, a SACK, and a sender's step.
+use Rattle.std.proofs.Common.{◌≡◌, ℕ, suc, ◌+◌, ◌-◌, ◌<◌, Bool, true, false, inl, inr, None, List, [], refl, ap, sym, ◌∙◌, arith, leb}
+use Rattle.std.specs.Prelude.{◌||◌, ◌==◌, nat_lt, nat_le}
+use Rattle.std.proofs.lemmas.Bool.{cases_eq, cond-true, cond-false, eq-eqb, ne_eqb}
+use Rattle.std.proofs.lemmas.Bool.Decides.{nat_tests}
+use Rattle.sctp_serial.specs.Messages as messages
+use Rattle.sctp_serial.specs.Unwrapped.{origin}
+use Rattle.sctp_state.specs.Options.{Options}
+use Rattle.sctp_rx.specs.Held.{Held}
+use Rattle.sctp_rx.specs.Seen.{in_runs}
+use Rattle.sctp_rx.specs.Tracker.{Tracker, IsTracker, tracker, observe, forward, moves_on}
+use Rattle.sctp_rx.specs.ReassemblyQueue.{Reassembly, reassembly}
+use Rattle.sctp_rx.proofs.SeenOneFormLemmas.{contains-up_to}
+use Rattle.sctp_rx.proofs.SettledQueueLemmas.{settled_new}
+use Rattle.sctp_rules.specs.State.{Message, Transfer, IsAmong, start, put}
+use Rattle.sctp_rules.specs.Rules.{Event, IsAllowed, after, send_sack}
+use Rattle.sctp_rules.specs.Kept.{Kept}
+use Rattle.sctp_rules.specs.Reassembly.{Queue, KeyOf, next_of, key_of, below_of}
+use Rattle.sctp_rules.proofs.ReceiverRowLemmas.{key_laws, sack_made, still_sees}
+use Rattle.sctp_rx_rules.specs.View.{IsSeenAs, was_seen, held_on, view_of}
+use Rattle.sctp_rx_rules.specs.Receives.{Receives}
+use Rattle.sctp_rx_rules.proofs.KeyLemmas.{none_some}
+use Rattle.sctp_rx_rules.proofs.FragmentRowLemmas.{observed_seen}
+use Rattle.sctp_rx_rules.proofs.ReceivesLemmas.{none_ready}
+
+module _ (message : ℕ → Message) (mixed : Bool) (shift : ℕ) where
+  -- ---- the start
+
+  abbrev first_queue : Queue (KeyOf mixed) (next_of mixed)
+  first_queue = record { chunks = λ κ. None; next = λ s. 0; passed_below = λ s. 0; ready = [] }
+
+  empty : (max_size : ℕ) (kind : Bool) (s : ℕ) (h : Held) → IsAmong h (held_on (reassembly max_size mixed).streams kind s) → ⊥
+  empty max_size true s h a = a
+  empty max_size false s h a = a
+
+  first_seen : (max_size : ℕ) → IsSeenAs mixed shift (view_of [] (reassembly max_size mixed)) first_queue
+  first_seen max_size = record {
+    filed = λ kind s h a. absurd (empty max_size kind s h a);
+    holds = λ kind s h a. absurd (empty max_size kind s h a);
+    found = λ κ w e. absurd (none_some w e);
+    next = λ s. refl;
+    passed = λ m s. refl;
+    none_passed = λ m s. omega arith;
+    ready = refl;
+  }
+
+  pub first_receives : (options : Options) (max_size : ℕ) → Receives message mixed shift start [] (tracker options origin) (reassembly max_size mixed)
+  first_receives options max_size = record {
+    queue = first_queue;
+    shows = record {
+      holds = λ t h. cc;
+      held = λ κ w e. absurd (none_some w e);
+      next_is = λ s. refl;
+      passed_is = λ m s. refl;
+      ready_is = refl;
+    };
+    seen_as = first_seen max_size;
+    seen = λ n. above n;
+    mode = refl;
+    settled = settled_new max_size mixed;
+    fresh = λ e kind s h a. empty max_size kind s h a;
+  }
+    where
+      above : (n : ℕ) → (nat_le (origin + n) (origin - 1) || false) ≡ false
+      above n = grind (arith, nat_tests)
+
+  module _ (x : Transfer) (handed : List messages.Message) (t : Tracker) (r : Reassembly) (shown : Receives message mixed shift x handed t r) where
+    -- with another tracker that has seen the same
+    same_seen : (u : Tracker) → ((n : ℕ) → was_seen u n ≡ was_seen t n) → Receives message mixed shift x handed u r
+    same_seen u same = record { queue = shown.queue; shows = shown.shows; seen_as = shown.seen_as; seen = λ n. same n ∙ shown.seen n; mode = shown.mode; settled = shown.settled; fresh = shown.fresh }
+
+    -- ---- nothing new
+
+    pub old_point : (last : ℕ) → moves_on last t ≡ false → Receives message mixed shift x handed (forward last t) r
+    old_point last old = same_seen (forward last t) (λ n. contains-up_to last (origin + n) t.seen ∙ below n)
+      where
+        below : (n : ℕ) → (leb (origin + n) last || (leb (origin + n) t.seen.front || in_runs t.seen.runs (origin + n))) ≡ (leb (origin + n) t.seen.front || in_runs t.seen.runs (origin + n))
+        below n = by (in_runs t.seen.runs (origin + n)) t.seen.front old
+          where
+            by : (b : Bool) (c : ℕ) → nat_lt c last ≡ false → (leb (origin + n) last || (leb (origin + n) c || b)) ≡ (leb (origin + n) c || b)
+            by b c e = grind (arith, nat_tests)
+
+    pub again : (k : ℕ) (now : Bool) → IsTracker t → was_seen t k ≡ true → Receives message mixed shift x handed (observe (origin + k) now t) r
+    again k now i seen = same_seen (observe (origin + k) now t) (λ n. observed_seen t i (was_seen t) (λ m. refl) k n now ∙ there n)
+      where
+        there : (n : ℕ) → put (was_seen t) k true n ≡ was_seen t n
+        there n =
+            elim (cases_eq n k) [
+              | inl e ↦ cond-true (n == k) true (was_seen t n) (eq-eqb n k e) ∙ sym (ap (was_seen t) e ∙ seen)
+              | inr d ↦ cond-false (n == k) true (was_seen t n) (ne_eqb n k d)
+            ]
+
+    -- ---- a SACK
+
+    pub sack_allowed : Kept message mixed x → (c : ℕ) → origin + c ≡ suc t.seen.front → IsAllowed message mixed x (send_sack c)
+    sack_allowed kept c at =
+        sack_made (KeyOf mixed) (next_of mixed) message mixed x kept (key_of mixed message x.sender) (below_of mixed) (key_laws message mixed x kept) shown.queue shown.shows c
+        (λ n l. sym (shown.seen n) ∙ below n l) (none_ready message mixed shift x kept handed t r shown)
+      where
+        below : (n : ℕ) → n < c → was_seen t n ≡ true
+        below n l = by (in_runs t.seen.runs (origin + n)) t.seen.front at l
+          where
+            by : (b : Bool) (d : ℕ) → origin + c ≡ suc d → n < c → (leb (origin + n) d || b) ≡ true
+            by b d e l = grind (arith, nat_tests)
+
+    -- ---- the sender goes on
+
+    pub sender_goes : (e : Event) → Kept message mixed x → IsAllowed message mixed x e → (after message mixed x e).receiver ≡ x.receiver → Receives message mixed shift (after message mixed x e) handed t r
+    sender_goes e kept may same = record {
+      queue = shown.queue;
+      shows = still_sees message mixed x e kept may same shown.queue shown.shows;
+      seen_as = shown.seen_as;
+      seen = λ n. shown.seen n ∙ ap (λ z. z.seen n) (sym same);
+      mode = shown.mode;
+      settled = shown.settled;
+      fresh = shown.fresh;
+    }

@@ -1,0 +1,5 @@
+use Rattle.sctp_rx_rules.proofs.NearComesLemmas.{is_read}
+use Rattle.sctp_rx_rules.proofs.near.fragments_are_read.Goals as goal
+
+pub returns : goal.returns
+returns c = record { read = λ message mixed first shift x handed t r k tsn f kept windows few shown near tsn_is carries written unseen. is_read message mixed first shift x kept windows handed t r shown near k tsn f tsn_is carries unseen few written }

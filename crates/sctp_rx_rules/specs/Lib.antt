@@ -1,0 +1,5 @@
+pub mod View
+pub mod Read
+pub mod Receives
+pub mod Runs
+pub mod Near

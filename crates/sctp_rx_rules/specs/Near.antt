@@ -1,0 +1,103 @@
+-- Wire numbers as the sender writes them, and what keeps the receiver near enough to read them.
+use Rattle.std.specs.Prelude.{◌≡◌, ℕ, ◌+◌, ◌^◌, ◌<◌, ◌≤◌, Bool, true, false, ◌⊎◌, Some, List, [], ◌∷◌}
+use Rattle.sctp_serial.specs.Messages as messages
+use Rattle.sctp_serial.specs.Unwrapped.{origin, words, halves, wire}
+use Rattle.sctp_serial.specs.declared.types.StreamKey.TheVariants.{Ordered, Unordered}
+use Rattle.sctp_packet.specs.Chunk.{FragmentTree}
+use Rattle.sctp_packet.specs.declared.forward_tsn.SkippedStream.{SkippedStream}
+use Rattle.sctp_packet.specs.declared.forward_tsn.SkippedStream.TheVariants.{ForwardTsn, IForwardTsn}
+use Rattle.sctp_rx.specs.Tracker.{Tracker}
+use Rattle.sctp_rx.specs.ReassemblyQueue.{Reassembly}
+use Rattle.sctp_rules.specs.State.{Message, Entry, ForwardPoint, Sender, Transfer, IsAmong, place_of, count, ordered_of, stream_of}
+use Rattle.sctp_rules.specs.Rules.{Event, covers, run}
+use Rattle.sctp_rx_rules.specs.View.{unordered_at}
+use Rattle.sctp_rx_rules.specs.Receives.{Goes}
+
+-- ---- on the wire. The peer's first TSN is `first`
+
+-- an ordered message's number as DATA carries it (SSN) and as I-DATA does (MID). Unordered I-DATA has a MID too
+pub record IsWritten (message : ℕ → Message) (mixed : Bool) (o : Sender) (k : ℕ) (f : FragmentTree) : Type 0 where
+  pub ssn : mixed ≡ false → ordered_of message (place_of o k) ≡ true → f.ssn ≡ wire halves 0 (origin + o.number (place_of o k))
+  pub mid : mixed ≡ true → f.mid ≡ wire words 0 (origin + o.number (place_of o k))
+
+-- an entry of a forward point
+abbrev pub IsEntry : Bool → SkippedStream → Entry → Type 0
+IsEntry false (ForwardTsn id ssn) e = (e.ordered ≡ true) × (e.stream ≡ id.0) × (ssn.0 ≡ wire halves 0 (origin + e.number))
+IsEntry false (IForwardTsn key mid) e = ⊥
+IsEntry true (ForwardTsn id ssn) e = ⊥
+IsEntry true (IForwardTsn (Ordered id) mid) e = (e.ordered ≡ true) × (e.stream ≡ id.0) × (mid.0 ≡ wire words 0 (origin + e.number))
+IsEntry true (IForwardTsn (Unordered id) mid) e = (e.ordered ≡ false) × (e.stream ≡ id.0) × (mid.0 ≡ wire words 0 (origin + e.number))
+
+-- one by one
+abbrev pub AreEntries : Bool → List SkippedStream → List Entry → Type 0
+AreEntries mixed [] [] = Unit {0}
+AreEntries mixed [] (e ∷ es) = ⊥
+AreEntries mixed (x ∷ xs) [] = ⊥
+AreEntries mixed (x ∷ xs) (e ∷ es) = IsEntry mixed x e × AreEntries mixed xs es
+
+-- no number is out of bounds
+pub record AreFew (o : Sender) : Type 0 where
+  pub fragments : count o < 2 ^ 62
+  pub messages : o.accepted < 2 ^ 62
+
+-- ---- near
+
+-- a queue that was told the TSN w of fragment `shift` first reads TSNs near the fragment `last`. When that came, all
+-- fragments that were seen, and itself, were below `upto`, which was at most 2^30 further on
+pub record IsNearLast (first shift : ℕ) (x : Transfer) (near w : ℕ) : Type 0 where
+  pub written : w ≡ wire words first (origin + shift)
+  pub last : ℕ
+  pub upto : ℕ
+  pub near_is : near + shift ≡ origin + last
+  pub from : shift ≤ last
+  pub ahead : last < upto
+  pub window : upto ≤ last + 2 ^ 30
+  pub numbered : upto ≤ count x.sender
+  pub seen : (t : ℕ) → x.receiver.seen t ≡ true → t < upto
+
+-- the queue reads TSNs as they were meant. Before a first one came, there is nothing to read them by
+abbrev pub IsNearQueue : (first shift : ℕ) → Transfer → Reassembly → Type 0
+IsNearQueue first shift x r = (w : ℕ) → r.first ≡ Some w → IsNearLast first shift x r.near w
+
+-- ---- unordered messages with I-DATA
+
+-- fragment t is one of an unordered message on stream s
+pub record IsOn (message : ℕ → Message) (o : Sender) (s t : ℕ) : Type 0 where
+  pub numbered : t < count o
+  pub unordered : ordered_of message (place_of o t) ≡ false
+  pub stream : stream_of message (place_of o t) ≡ s
+
+-- such a fragment of message n
+pub record IsOf (message : ℕ → Message) (o : Sender) (s n t : ℕ) : Type 0 where
+  pub on : IsOn message o s t
+  pub number : o.number (place_of o t) ≡ n
+
+-- the stream reads MIDs near message n: the first, or one that was met. Each of which a fragment was seen is less than
+-- 2^30 above it
+pub record IsNearStream (message : ℕ → Message) (s : ℕ) (x : Transfer) (near : ℕ) : Type 0 where
+  pub number : ℕ
+  pub near_is : near ≡ origin + number
+  pub met : (number ≡ 0) ⊎ ((t : ℕ) × IsOf message x.sender s number t)
+  pub seen : (t : ℕ) → x.receiver.seen t ≡ true → IsOn message x.sender s t → x.sender.number (place_of x.sender t) < number + 2 ^ 30
+
+-- what a forward point says of unordered messages: it names those of which it passes a fragment that is not seen; and
+-- where it names a number, then that of a fragment among the last 2^30 that it passes
+pub record IsNamed (message : ℕ → Message) (x : Transfer) (f : ForwardPoint) : Type 0 where
+  pub unseen : (s t : ℕ) → IsOn message x.sender s t → t < f.upto → (x.receiver.seen t ≡ true) ⊎ (covers f.entries false s (x.sender.number (place_of x.sender t)) ≡ true)
+  pub near : (s n : ℕ) → covers f.entries false s n ≡ true → (t : ℕ) × IsOn message x.sender s t × (t < f.upto) × (f.upto ≤ t + 2 ^ 30)
+      × (n ≤ x.sender.number (place_of x.sender t)) × (covers f.entries false s (x.sender.number (place_of x.sender t)) ≡ true)
+
+pub record AreNearStreams (message : ℕ → Message) (x : Transfer) (r : Reassembly) : Type 0 where
+  pub streams : (s : ℕ) → IsNearStream message s x (unordered_at r.streams s).near
+  pub points : (f : ForwardPoint) → IsAmong f x.forward_points → IsNamed message x f
+
+-- what comes is read as it was meant: TSNs, and with I-DATA the MIDs of unordered messages. Numbers of ordered ones are
+-- read near their stream's next number, which the rules know
+pub record ReadsNear (message : ℕ → Message) (mixed : Bool) (first shift : ℕ) (x : Transfer) (r : Reassembly) : Type 0 where
+  pub tsns : IsNearQueue first shift x r
+  pub mids : mixed ≡ true → AreNearStreams message x r
+
+-- these events lead to these values, and what comes next is read as it was meant too
+pub record GoesNear (message : ℕ → Message) (mixed : Bool) (first shift : ℕ) (x : Transfer) (es : List Event) (handed : List messages.Message) (t : Tracker) (r : Reassembly) : Type 0 where
+  pub goes : Goes message mixed shift x es handed t r
+  pub near : ReadsNear message mixed first shift (run message mixed x es) r

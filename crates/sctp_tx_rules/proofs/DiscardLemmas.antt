@@ -1,0 +1,176 @@
+-- What is left of messages that were given up leaves the send queue.
+use Rattle.std.proofs.Common.{◌≡◌, ◌≢◌, ℕ, Bool, true, false, cond, inl, inr, ◌⊎◌, Option, Some, None, List, [], ◌∷◌, refl, sym, ap, ◌∙◌, subst, arith}
+use Rattle.std.specs.Prelude.{is_some, ◌==◌}
+use Rattle.std.specs.List.{list_all}
+use Rattle.std.proofs.lemmas.Bool.{cases_eq, ne_eqb, and_parts}
+use Rattle.std.proofs.lemmas.Bool.Decides.{nat_tests}
+use Rattle.sctp_state.specs.Events.{Told}
+use Rattle.sctp_send_queue.specs.Queue as queue
+use Rattle.sctp_send_queue.specs.Queue.{Queued, Queue, Stream, Streams, blank, stream}
+use Rattle.sctp_send_queue.specs.Produced.{settled}
+use Rattle.sctp_send_queue.specs.Settings.{front_discarded, without_front, streams_discarded, discard_from, discard}
+use Rattle.sctp_send_queue.specs.InOrder.{is_waiting, is_begun_or_waiting, are_in_order, are_rising}
+use Rattle.sctp_send_queue.proofs.InOrderLemmas.{hears_mode, put_elsewhere, discard_streams, discarded_in_order}
+use Rattle.sctp_send_queue.proofs.NumberLemmas.{calls_number}
+use Rattle.sctp_send_queue.proofs.RestLemmas.{calls_leave_rests}
+use Rattle.sctp_outstanding.specs.Items.{Discard}
+use Rattle.sctp_rules.specs.State.{Message, Sender, IsAmong, put}
+use Rattle.sctp_rules.proofs.ToolsLemmas.{not_both}
+use Rattle.sctp_tx.specs.Sending.{discard_all}
+use Rattle.sctp_tx_rules.specs.Shown.{found, messages_of, queue_of, IsNext, AreDiscards, QueueShows}
+use Rattle.sctp_tx_rules.proofs.FoundLemmas.{none_some, found_off, once}
+use Rattle.sctp_tx_rules.proofs.QueuedLemmas.{queue_given, queue_as, change}
+use Rattle.sctp_tx_rules.proofs.FreshLemmas.{put_here}
+use Rattle.sctp_tx_rules.proofs.ProduceLemmas.{stream_changed, is_other, behind_waits}
+
+module _ (message : ℕ → Message) (lifecycle : ℕ → Option ℕ) (mixed : Bool) (o : Sender) (q : Queue) (id number : ℕ) (told : Told (List ℕ)) where
+  abbrev s0 : Stream
+  s0 = stream id q.streams
+
+  abbrev after : Queue
+  after = (discard id number q told).queue
+
+  abbrev dropped : Stream → Stream
+  dropped s = without_front number s.messages s
+
+  streams_are : after.streams ≡ queue.put id (dropped s0) q.streams
+  streams_are = discard_streams id (streams_discarded id number q.streams) (front_discarded number s0.messages) q told
+
+  there : stream id after.streams ≡ dropped s0
+  there = ap (λ (z : Streams). stream id z) streams_are ∙ stream_changed id dropped q.streams refl
+
+  elsewhere : (j : ℕ) → j ≢ id → stream j after.streams ≡ stream j q.streams
+  elsewhere j d = ap (λ (z : Streams). stream j z) streams_are ∙ put_elsewhere j id (dropped s0) q.streams (is_other j id d)
+
+  mode_stays : after.scheduler.is_interleaved ≡ q.scheduler.is_interleaved
+  mode_stays = go (front_discarded number s0.messages)
+    where
+      go : (f : Option (Option ℕ)) → (discard_from id (streams_discarded id number q.streams) f q told).queue.scheduler.is_interleaved ≡ q.scheduler.is_interleaved
+      go None = refl
+      go (Some l) = hears_mode id _ _ q.scheduler
+
+  count_stays : after.next_number ≡ q.next_number
+  count_stays = go (front_discarded number s0.messages)
+    where
+      go : (f : Option (Option ℕ)) → (discard_from id (streams_discarded id number q.streams) f q told).queue.next_number ≡ q.next_number
+      go None = refl
+      go (Some l) = refl
+
+  next_stays : IsNext o id s0 → IsNext o id (dropped s0)
+  next_stays h = go s0.messages
+    where
+      go : (ms : List Queued) → IsNext o id (without_front number ms s0)
+      go [] = h
+      go (m ∷ rest) = by (m.number == number)
+        where
+          by : (b : Bool) → IsNext o id (cond b (record s0 { messages = rest; pause = settled s0.pause }) s0)
+          by true = record { ssn = h.ssn; ordered_mid = h.ordered_mid; unordered_mid = h.unordered_mid }
+          by false = h
+
+  -- the first message leaves, if it is this one
+  front_off : (ms : List Queued) → s0.messages ≡ ms → (r : ℕ) → r ≢ number → found r (without_front number ms s0).messages ≡ found r ms
+  front_off [] e r d = ap (found r) e
+  front_off (m ∷ rest) e r d = by (m.number == number) refl
+    where
+      is : (a b : ℕ) → (a == b) ≡ true → a ≡ b
+      is a b h = grind (arith, nat_tests)
+
+      by : (b : Bool) → (m.number == number) ≡ b → found r (let t : Stream = cond b (record s0 { messages = rest; pause = settled s0.pause }) s0 in t).messages ≡ found r (m ∷ rest)
+      by true h = sym (found_off r m rest (λ c. d (sym c ∙ is m.number number h)))
+      by false h = ap (found r) e
+
+  -- it isn't there any more, where only the first of a stream has its numbers
+  front_gone : (ms : List Queued) → s0.messages ≡ ms → (least most : ℕ) → are_rising least most ms ≡ true → are_in_order ms ≡ true
+      → ((m : Queued) → found number ms ≡ Some m → is_some m.numbers ≡ true) → found number (without_front number ms s0).messages ≡ None
+  front_gone [] e least most r h has = ap (found number) e
+  front_gone (m ∷ rest) e least most r h has = by (cases_eq m.number number)
+    where
+      is_here : (a b : ℕ) → a ≡ b → (a == b) ≡ true
+      is_here a b c = grind (arith, nat_tests)
+
+      left : Bool → Stream
+      left b = cond b (record s0 { messages = rest; pause = settled s0.pause }) s0
+
+      behind_none : (f : Option Queued) → found number rest ≡ f → m.number ≢ number → found number rest ≡ None
+      behind_none None g d = g
+      behind_none (Some n) g d =
+          absurd (not_both (has n (found_off number m rest d ∙ g)) (behind_waits number rest n (and_parts (is_begun_or_waiting m) (list_all is_waiting rest) h).1 g))
+
+      by : (m.number ≡ number) ⊎ (m.number ≢ number) → found number (left (m.number == number)).messages ≡ None
+      by (inl c) = ap (λ b. found number (left b).messages) (is_here m.number number c) ∙ (ap (λ n. found n rest) (sym c) ∙ once least most m rest r)
+      by (inr d) =
+          ap (λ b. found number (left b).messages) (ne_eqb m.number number d)
+          ∙ (ap (found number) e ∙ (found_off number m rest d ∙ behind_none (found number rest) refl d))
+
+  module _ (h : QueueShows message lifecycle mixed o q) (gone : o.given_up number ≡ true) where
+    same_found : (k r : ℕ) → r ≢ number → found r (messages_of after k) ≡ found r (messages_of q k)
+    same_found k r d =
+        elim (cases_eq k id) [
+          | inl e ↦ ap (λ z. found r (messages_of after z)) e ∙ (ap (λ (t : Stream). found r t.messages) there ∙ (front_off s0.messages refl r d ∙ ap (λ z. found r (messages_of q z)) (sym e)))
+          | inr n ↦ ap (λ (t : Stream). found r t.messages) (elsewhere k n)
+        ]
+
+    not_there : found number (messages_of after id) ≡ None
+    not_there =
+        ap (λ (t : Stream). found number t.messages) there
+        ∙ front_gone s0.messages refl 0 q.next_number (h.rising.rising id) (h.order.order id) (λ m f. (h.messages.entries id number m f).partly_sent gone)
+
+    was_found : (k : ℕ) (m : Queued) → found number (messages_of after k) ≡ Some m → found number (messages_of q k) ≡ Some m
+    was_found k m f =
+        elim (cases_eq k id) [
+          | inl e ↦ absurd (none_some (found number (messages_of after id)) m (ap (λ z. found number (messages_of after z)) (sym e) ∙ f) not_there)
+          | inr n ↦ ap (λ (t : Stream). found number t.messages) (sym (elsewhere k n)) ∙ f
+        ]
+
+    pub discard_queue : QueueShows message lifecycle mixed o after
+    discard_queue = record {
+      mode = mode_stays ∙ h.mode;
+      order = discarded_in_order id number q told h.order;
+      rising = calls_number.discarded id number q told h.rising;
+      rests = calls_leave_rests.discarded id number q told h.rests;
+      accepted = count_stays ∙ h.accepted;
+      few = h.few;
+      next = λ k. elim (cases_eq k id) [
+        | inl e ↦ subst (λ z. IsNext o z (stream z after.streams)) (sym e) (subst (λ (t : Stream). IsNext o id t) (sym there) (next_stays (h.next id)))
+        | inr n ↦ subst (λ (t : Stream). IsNext o k t) (sym (elsewhere k n)) (h.next k)
+      ];
+      messages =
+          change message lifecycle o o (messages_of q) (messages_of after) number same_found (λ r d. record { number = refl; given_up = refl; parts_are = refl }) (omega arith)
+          (λ k m f. h.messages.entries k number m (was_found k m f)) None (queue_given message o (messages_of after) number gone)
+          (queue_as message o (queue_of message o (messages_of q)) (put (queue_of message o (messages_of q)) number None) out h.messages.queued) h.messages;
+    }
+      where
+        out : (r : ℕ) → put (queue_of message o (messages_of q)) number None r ≡ queue_of message o (messages_of q) r
+        out r = ap (λ f. f r) (put_here (queue_of message o (messages_of q)) number None (queue_given message o (messages_of q) number gone))
+
+    -- one less is to be discarded
+    pub discard_named : (ds : List Discard) → AreDiscards o (messages_of q) (record { stream = id; number = number } ∷ ds) → AreDiscards o (messages_of after) ds
+    discard_named ds a = record { named = named; given_up = λ d m. a.given_up d (inr m) }
+      where
+        named : (k p : ℕ) (m : Queued) → found p (messages_of after k) ≡ Some m → o.given_up p ≡ true → IsAmong (record { stream = k; number = p }) ds
+        named k p m f g =
+            elim (cases_eq p number) [
+              | inl e ↦
+                  let fn : found number (messages_of after k) ≡ Some m = ap (λ z. found z (messages_of after k)) (sym e) ∙ f in
+                  elim (a.named k number m (was_found k m fn) gone) [
+                    | inl c ↦ absurd (none_some (found number (messages_of after id)) m (ap (λ (d : Discard). found number (messages_of after d.stream)) (sym c) ∙ fn) not_there)
+                    | inr b ↦ subst (λ z. IsAmong (record { stream = k; number = z }) ds) (sym e) b
+                  ]
+              | inr d ↦
+                  elim (a.named k p m (sym (same_found k p d) ∙ f) g) [
+                    | inl c ↦ absurd (d (ap (λ (z : Discard). z.number) c))
+                    | inr b ↦ b
+                  ]
+            ]
+
+pub record Discarded (message : ℕ → Message) (lifecycle : ℕ → Option ℕ) (mixed : Bool) (o : Sender) (q : Queue) : Type 0 where
+  pub queue_is : QueueShows message lifecycle mixed o q
+  pub none_left : AreDiscards o (messages_of q) []
+
+pub discards_all : (message : ℕ → Message) (lifecycle : ℕ → Option ℕ) (mixed : Bool) (o : Sender) (ds : List Discard) (q : Queue) (told : Told (List ℕ))
+    → QueueShows message lifecycle mixed o q → AreDiscards o (messages_of q) ds → Discarded message lifecycle mixed o (discard_all ds q told).queue
+discards_all message lifecycle mixed o [] q told h a = record { queue_is = h; none_left = a }
+discards_all message lifecycle mixed o (d ∷ ds) q told h a =
+    let gone = a.given_up d (inl refl) in
+    let x = discard d.stream d.number q told in
+    discards_all message lifecycle mixed o ds x.queue x.told (discard_queue message lifecycle mixed o q d.stream d.number told h gone) (discard_named message lifecycle mixed o q d.stream d.number told h gone ds a)

@@ -1,0 +1,205 @@
+-- Messages at the front of a stream that expired are given up.
+use Rattle.std.proofs.Common.{◌≡◌, ◌≢◌, ℕ, ◌+◌, Bool, true, false, not, cond, inl, inr, Option, Some, None, List, [], ◌∷◌, ◌++◌, refl, sym, ap, ◌∙◌, subst, arith, append_assoc, append-nil}
+use Rattle.std.specs.Prelude.{is_some}
+use Rattle.std.proofs.lemmas.Bool.{cases_eq, and_parts, not-true, false_from_ne_true}
+use Rattle.std.proofs.lemmas.List.{map-append}
+use Rattle.sctp_state.specs.Events as events
+use Rattle.sctp_state.specs.Events.{Told, tell_all, expiry}
+use Rattle.sctp_state.specs.declared.api.GivenUpCause.TheVariants.{Lifetime}
+use Rattle.sctp_send_queue.specs.Queue.{Queued}
+use Rattle.sctp_send_queue.specs.Produced.{is_stale, is_due, fresh, dropped}
+use Rattle.sctp_send_queue.specs.InOrder.{are_rising}
+use Rattle.sctp_outstanding.specs.Items.{Items}
+use Rattle.sctp_rules.specs.State.{Message, Sender, Transfer, place_of, put, stream_of}
+use Rattle.sctp_rules.specs.Rules.{Waits, give_up, after, gives_up}
+use Rattle.sctp_rules.specs.Kept.{Kept}
+use Rattle.sctp_rules.proofs.ToolsLemmas.{put_at, put_off, put_keeps, not_both}
+use Rattle.sctp_rules.proofs.SenderRowLemmas.{unsent_dropped}
+use Rattle.sctp_tx_rules.specs.Shown.{found, waiting_of, queue_of, IsEntry, AreKept, AreQueued, AreDiscards}
+use Rattle.sctp_tx_rules.specs.Led.{recorded, Leads}
+use Rattle.sctp_tx_rules.proofs.FoundLemmas.{funext, none_some, found_at, found_off, rises, once}
+use Rattle.sctp_tx_rules.proofs.QueuedLemmas.{Frame, queue_some, queue_given, change, change_discards}
+use Rattle.sctp_tx_rules.proofs.ItemsLemmas.{kept_moves}
+use Rattle.sctp_tx_rules.proofs.LedLemmas.{leads_none, leads_on}
+
+pub put_here : {A : Type 0} (f : ℕ → A) (k : ℕ) (v : A) → f k ≡ v → put f k v ≡ f
+put_here f k v e = funext (put f k v) f same
+  where
+    same : (n : ℕ) → put f k v n ≡ f n
+    same n = elim (cases_eq n k) [ inl c ↦ put_at f k v n c ∙ (sym e ∙ ap f (sym c)) | inr d ↦ put_off f k v n d ]
+
+pub put_over : {A : Type 0} (f : ℕ → A) (k : ℕ) (v w : A) → put (put f k v) k w ≡ put f k w
+put_over f k v w = funext (put (put f k v) k w) (put f k w) same
+  where
+    same : (n : ℕ) → put (put f k v) k w n ≡ put f k w n
+    same n =
+        elim (cases_eq n k) [
+          | inl c ↦ put_at (put f k v) k w n c ∙ sym (put_at f k w n c)
+          | inr d ↦ put_off (put f k v) k w n d ∙ (put_off f k v n d ∙ sym (put_off f k w n d))
+        ]
+
+-- the list of a stream changes in the first message alone
+pub put_elsewhere : (ms : ℕ → List Queued) (id : ℕ) (m : Queued) (rest new : List Queued) → ms id ≡ m ∷ rest → ((r : ℕ) → r ≢ m.number → found r new ≡ found r rest)
+    → (k r : ℕ) → r ≢ m.number → found r (put ms id new k) ≡ found r (ms k)
+put_elsewhere ms id m rest new h same k r d =
+    elim (cases_eq k id) [
+      | inl e ↦ ap (found r) (put_at ms id new k e) ∙ (same r d ∙ (sym (found_off r m rest (λ c. d (sym c))) ∙ ap (found r) (sym (ap ms e ∙ h))))
+      | inr n ↦ ap (found r) (put_off ms id new k n)
+    ]
+
+module _ (message : ℕ → Message) (lifecycle : ℕ → Option ℕ) where
+  -- the first message of a stream, as the rules see it
+  module _ (o : Sender) (ms : ℕ → List Queued) (a : AreQueued message lifecycle o ms) (id : ℕ) (m : Queued) (rest : List Queued) (h : ms id ≡ m ∷ rest) where
+    pub first_found : found m.number (ms id) ≡ Some m
+    first_found = ap (found m.number) h ∙ found_at m.number m rest refl
+
+    pub first_entry : IsEntry message lifecycle o id m.number m
+    first_entry = a.entries id m.number m first_found
+
+    pub first_own : found m.number (ms (stream_of message m.number)) ≡ Some m
+    first_own = ap (λ z. found m.number (ms z)) first_entry.on_stream ∙ first_found
+
+    -- it is on no other stream
+    pub first_there : (new : List Queued) (k : ℕ) (n : Queued) → found m.number (put ms id new k) ≡ Some n → k ≡ id
+    first_there new k n f =
+        elim (cases_eq k id) [
+          | inl e ↦ e
+          | inr d ↦ let e = a.entries k m.number n (sym (ap (found m.number) (put_off ms id new k d)) ∙ f) in absurd (d (sym e.on_stream ∙ first_entry.on_stream))
+        ]
+
+  -- a message of which nothing was sent is dropped
+  module _ (mixed : Bool) (x : Transfer) (k : Kept message mixed x) (ms : ℕ → List Queued) (a : AreQueued message lifecycle x.sender ms) (s : Items)
+      (kept : AreKept message lifecycle x.sender x.acknowledged s.kept) (discards : AreDiscards x.sender ms s.discards)
+      (id : ℕ) (m : Queued) (rest : List Queued) (h : ms id ≡ m ∷ rest) (none : found m.number rest ≡ None) (unsent : is_some m.numbers ≡ false) where
+    abbrev p : ℕ
+    p = m.number
+
+    live : x.sender.given_up p ≡ false
+    live = false_from_ne_true (x.sender.given_up p) (λ g. not_both ((first_entry x.sender ms a id m rest h).partly_sent g) unsent)
+
+    queued_here : queue_of message x.sender ms p ≡ Some (waiting_of m)
+    queued_here = queue_some message x.sender ms p m live (first_own x.sender ms a id m rest h)
+
+    waits : Waits x.sender p
+    waits = a.queued.waits p (waiting_of m) queued_here unsent
+
+    pub record Drops : Type 0 where
+      pub leads : Leads message mixed x (after message mixed x (give_up p)) (p ∷ [])
+      pub kept_is : Kept message mixed (after message mixed x (give_up p))
+      pub queued : AreQueued message lifecycle (gives_up x.sender p) (put ms id rest)
+      pub items : AreKept message lifecycle (gives_up x.sender p) x.acknowledged s.kept
+      pub discards_are : AreDiscards (gives_up x.sender p) (put ms id rest) s.discards
+
+    frame : (r : ℕ) → r ≢ p → Frame x.sender (gives_up x.sender p) r
+    frame r d = record { number = refl; given_up = put_off x.sender.given_up p true r d; parts_are = refl }
+
+    elsewhere : (k r : ℕ) → r ≢ p → found r (put ms id rest k) ≡ found r (ms k)
+    elsewhere k r d = put_elsewhere ms id m rest rest h (λ r d. refl) k r d
+
+    gone : (k : ℕ) (n : Queued) → found p (put ms id rest k) ≡ Some n → ⊥
+    gone k n f = none_some (found p rest) n (sym (ap (found p) (put_at ms id rest k (first_there x.sender ms a id m rest h rest k n f))) ∙ f) none
+
+    pub drops : Drops
+    drops =
+        let r = unsent_dropped message mixed x k (queue_of message x.sender ms) a.queued p (waiting_of m) queued_here unsent in
+        record {
+          leads = record { events = give_up p ∷ []; may = r.may; leads = refl; given_up = refl; rest_stays = refl };
+          kept_is = r.kept;
+          queued =
+              change message lifecycle x.sender (gives_up x.sender p) ms (put ms id rest) p elsewhere frame (omega arith) (λ k n f. absurd (gone k n f)) None
+              (queue_given message (gives_up x.sender p) (put ms id rest) p (put_at x.sender.given_up p true p refl)) r.queued a;
+          items =
+              kept_moves message lifecycle x.sender (gives_up x.sender p)
+              (record { same = λ t l. refl; number = λ t l. refl; given_up = λ t l. put_off x.sender.given_up p true (place_of x.sender t) (λ e. not_both (sym (ap x.sender.begun e) ∙ k.outgoing.place_begun t l) waits.not_begun) })
+              refl x.acknowledged s.kept kept;
+          discards_are = change_discards message lifecycle x.sender (gives_up x.sender p) ms (put ms id rest) p elsewhere frame s.discards discards (λ k n f g. absurd (gone k n f)) (λ r g. put_keeps x.sender.given_up p r g);
+        }
+
+  -- all that expired at the front of a stream
+  pub record Freshened {P : Type 0} (mixed : Bool) (x : Transfer) (s : Items) (ms : ℕ → List Queued) (now id : ℕ) (front : List Queued) (told : Told P) : Type 0 where
+    pub after : Transfer
+    pub places : List ℕ
+    pub leads : Leads message mixed x after places
+    pub kept_is : Kept message mixed after
+    pub queued : AreQueued message lifecycle after.sender (put ms id (fresh now front))
+    pub items : AreKept message lifecycle after.sender after.acknowledged s.kept
+    pub discards_are : AreDiscards after.sender (put ms id (fresh now front)) s.discards
+    pub counts_stay : after.sender.counts ≡ x.sender.counts
+    pub accepted_stays : after.sender.accepted ≡ x.sender.accepted
+    pub told_of : recorded (dropped now front told) ≡ recorded told ++ places
+
+  pub freshens : {P : Type 0} (mixed : Bool) (now id least most : ℕ) (front : List Queued) (x : Transfer) (k : Kept message mixed x) (s : Items) (ms : ℕ → List Queued) → ms id ≡ front → are_rising least most front ≡ true
+      → AreQueued message lifecycle x.sender ms → AreKept message lifecycle x.sender x.acknowledged s.kept → AreDiscards x.sender ms s.discards → (told : Told P)
+      → Freshened mixed x s ms now id front told
+  freshens mixed now id least most [] x k s ms h r a kept d told = record {
+    after = x;
+    places = [];
+    leads = leads_none message mixed x;
+    kept_is = k;
+    queued = subst (λ (z : ℕ → List Queued). AreQueued message lifecycle x.sender z) (sym (put_here ms id [] h)) a;
+    items = kept;
+    discards_are = subst (λ (z : ℕ → List Queued). AreDiscards x.sender z s.discards) (sym (put_here ms id [] h)) d;
+    counts_stay = refl;
+    accepted_stays = refl;
+    told_of = sym (append-nil (recorded told));
+  }
+  freshens {P} mixed now id least most (m ∷ rest) x k s ms h r a kept d told =
+      go (is_stale now m) refl (λ y ky my hy ay ty dy told. freshens mixed now id (m.number + 1) most rest y ky s my hy (rises least most m rest r).behind ay ty dy told)
+    where
+      Goal : Bool → Type 0
+      Goal b = (after : Transfer) × (places : List ℕ) × Leads message mixed x after places × Kept message mixed after
+          × AreQueued message lifecycle after.sender (put ms id (cond b (fresh now rest) (m ∷ rest))) × AreKept message lifecycle after.sender after.acknowledged s.kept
+          × AreDiscards after.sender (put ms id (cond b (fresh now rest) (m ∷ rest))) s.discards
+          × (after.sender.counts ≡ x.sender.counts) × (after.sender.accepted ≡ x.sender.accepted)
+          × (recorded (cond b (dropped now rest (tell_all (expiry m.lifecycle) (events.give_up m.number Lifetime told))) told) ≡ recorded told ++ places)
+
+      done : (b : Bool) → is_stale now m ≡ b → Goal b → Freshened mixed x s ms now id (m ∷ rest) told
+      done b e g = record {
+        after = g.0;
+        places = g.1;
+        leads = g.2;
+        kept_is = g.3;
+        queued = subst (λ z. AreQueued message lifecycle g.0.sender (put ms id (cond z (fresh now rest) (m ∷ rest)))) (sym e) g.4;
+        items = g.5;
+        discards_are = subst (λ z. AreDiscards g.0.sender (put ms id (cond z (fresh now rest) (m ∷ rest))) s.discards) (sym e) g.6;
+        counts_stay = g.7;
+        accepted_stays = g.8;
+        told_of = ap (λ z. recorded (cond z (dropped now rest (tell_all (expiry m.lifecycle) (events.give_up m.number Lifetime told))) told)) e ∙ g.9;
+      }
+
+      go : (b : Bool) → is_stale now m ≡ b
+          → ((y : Transfer) (ky : Kept message mixed y) (my : ℕ → List Queued) → my id ≡ rest → AreQueued message lifecycle y.sender my → AreKept message lifecycle y.sender y.acknowledged s.kept → AreDiscards y.sender my s.discards
+          → (told : Told P) → Freshened mixed y s my now id rest told)
+          → Freshened mixed x s ms now id (m ∷ rest) told
+      go false e ih =
+          done false e (
+            x,
+            [],
+            leads_none message mixed x,
+            k,
+            subst (λ (z : ℕ → List Queued). AreQueued message lifecycle x.sender z) (sym (put_here ms id (m ∷ rest) h)) a,
+            kept,
+            subst (λ (z : ℕ → List Queued). AreDiscards x.sender z s.discards) (sym (put_here ms id (m ∷ rest) h)) d,
+            refl,
+            refl,
+            sym (append-nil (recorded told)),
+          )
+      go true e ih =
+          let unsent = not-true (is_some m.numbers) (and_parts (not (is_some m.numbers)) (is_due now m.expires) e).0 in
+          let one = drops mixed x k ms a s kept d id m rest h (once least most m rest r) unsent in
+          let x1 : Transfer = after message mixed x (give_up m.number) in
+          let later : Told P = tell_all (expiry m.lifecycle) (events.give_up m.number Lifetime told) in
+          let f = ih x1 one.kept_is (put ms id rest) (put_at ms id rest id refl) one.queued one.items one.discards_are later in
+          let over = put_over ms id rest (fresh now rest) in
+          done true e (
+            f.after,
+            m.number ∷ f.places,
+            leads_on message mixed x x1 f.after (m.number ∷ []) f.places one.leads f.leads,
+            f.kept_is,
+            subst (λ (z : ℕ → List Queued). AreQueued message lifecycle f.after.sender z) over f.queued,
+            f.items,
+            subst (λ (z : ℕ → List Queued). AreDiscards f.after.sender z s.discards) over f.discards_are,
+            f.counts_stay,
+            f.accepted_stays,
+            f.told_of ∙ (ap (λ z. z ++ f.places) (map-append (λ g. g.number) told.gone (record { number = m.number; cause = Lifetime } ∷ [])) ∙ append_assoc (recorded told) (m.number ∷ []) f.places),
+          )

@@ -1,0 +1,53 @@
+-- One run of the rules after another.
+use Rattle.std.proofs.Common.{◌≡◌, ℕ, Bool, Option, List, [], ◌∷◌, ◌++◌, refl, sym, ap, ◌∙◌, subst, append_assoc, append-nil}
+use Rattle.sctp_state.specs.Events.{Told}
+use Rattle.sctp_send_queue.specs.Queue.{Queue}
+use Rattle.sctp_outstanding.specs.Items.{Items}
+use Rattle.sctp_rules.specs.State.{Message, Transfer}
+use Rattle.sctp_rules.specs.Rules.{Event, Happens, after, run}
+use Rattle.sctp_rules.specs.Kept.{Kept}
+use Rattle.sctp_tx_rules.specs.Shown.{Shows}
+use Rattle.sctp_tx_rules.specs.Led.{given_up_by, given_ups, recorded, Leads, LeadsTo}
+
+module _ (message : ℕ → Message) (mixed : Bool) where
+  happens_more : (es fs : List Event) (x : Transfer) → Happens message mixed x es → Happens message mixed (run message mixed x es) fs → Happens message mixed x (es ++ fs)
+  happens_more [] fs x a b = b
+  happens_more (e ∷ es) fs x a b = (a.0, happens_more es fs (after message mixed x e) a.1 b)
+
+  run_more : (es fs : List Event) (x : Transfer) → run message mixed x (es ++ fs) ≡ run message mixed (run message mixed x es) fs
+  run_more [] fs x = refl
+  run_more (e ∷ es) fs x = run_more es fs (after message mixed x e)
+
+  given_more : (es fs : List Event) → given_ups (es ++ fs) ≡ given_ups es ++ given_ups fs
+  given_more [] fs = refl
+  given_more (e ∷ es) fs = ap (λ z. given_up_by e ++ z) (given_more es fs) ∙ sym (append_assoc (given_up_by e) (given_ups es) (given_ups fs))
+
+  pub leads_none : (x : Transfer) → Leads message mixed x x []
+  leads_none x = record { events = []; may = tt; leads = refl; given_up = refl; rest_stays = refl }
+
+  pub leads_on : (x y z : Transfer) (ps qs : List ℕ) → Leads message mixed x y ps → Leads message mixed y z qs → Leads message mixed x z (ps ++ qs)
+  leads_on x y z ps qs a b = record {
+    events = a.events ++ b.events;
+    may = happens_more a.events b.events x a.may (subst (λ w. Happens message mixed w b.events) (sym a.leads) b.may);
+    leads = run_more a.events b.events x ∙ (ap (λ w. run message mixed w b.events) a.leads ∙ b.leads);
+    given_up = given_more a.events b.events ∙ (ap (λ w. w ++ given_ups b.events) a.given_up ∙ ap (λ w. ps ++ w) b.given_up);
+    rest_stays = b.rest_stays ∙ ap with_sender a.rest_stays;
+  }
+    where
+      with_sender : Transfer → Transfer
+      with_sender w = record w { sender = z.sender }
+
+unfoldable pub led_on : {P : Type 0} (message : ℕ → Message) (lifecycle : ℕ → Option ℕ) (mixed : Bool) (x : Transfer) (told later last : Told P) (q r : Queue) (s t : Items)
+    → (a : LeadsTo message lifecycle mixed x told q s later) → LeadsTo message lifecycle mixed a.after later r t last → LeadsTo message lifecycle mixed x told r t last
+led_on message lifecycle mixed x told later last q r s t a b = record {
+  after = b.after;
+  places = a.places ++ b.places;
+  leads = leads_on message mixed x a.after b.after a.places b.places a.leads b.leads;
+  kept = b.kept;
+  shows = b.shows;
+  told_of = b.told_of ∙ (ap (λ z. z ++ b.places) a.told_of ∙ append_assoc (recorded told) a.places b.places);
+}
+
+pub led_none : {P : Type 0} (message : ℕ → Message) (lifecycle : ℕ → Option ℕ) (mixed : Bool) (x : Transfer) (told : Told P) (q : Queue) (s : Items) → Kept message mixed x → Shows message lifecycle mixed x q s
+    → LeadsTo message lifecycle mixed x told q s told
+led_none message lifecycle mixed x told q s k h = record { after = x; places = []; leads = leads_none message mixed x; kept = k; shows = h; told_of = sym (append-nil (recorded told)) }

@@ -1,0 +1,85 @@
+-- Where the rules of a sender lead, and what is told meanwhile.
+use Rattle.std.specs.Prelude.{◌≡◌, ℕ, Bool, Option, Some, None, List, [], ◌∷◌, ◌++◌, map}
+use Rattle.sctp_state.specs.Events as events
+use Rattle.sctp_state.specs.Events.{Told}
+use Rattle.sctp_send_queue.specs.Queue.{Queue}
+use Rattle.sctp_outstanding.specs.Items.{Items}
+use Rattle.sctp_rules.specs.State.{Message, Transfer}
+use Rattle.sctp_rules.specs.Rules.{Event, accept, begin, number, close, give_up, data_comes, late_comes, deliver, send_sack, leave, send_forward, forward_comes, forget, Happens, run}
+use Rattle.sctp_rules.specs.Kept.{Kept}
+use Rattle.sctp_tx_rules.specs.Shown.{Shows}
+
+-- the place that a rule gives up
+abbrev pub given_up_by : Event → List ℕ
+given_up_by accept = []
+given_up_by (begin p) = []
+given_up_by (number p bytes more) = []
+given_up_by (close p) = []
+given_up_by (give_up p) = p ∷ []
+given_up_by (data_comes t) = []
+given_up_by (late_comes t) = []
+given_up_by (deliver p) = []
+given_up_by (send_sack c) = []
+given_up_by (leave c) = []
+given_up_by (send_forward f) = []
+given_up_by (forward_comes f) = []
+given_up_by (forget s c) = []
+
+abbrev pub given_ups : List Event → List ℕ
+given_ups [] = []
+given_ups (e ∷ es) = given_up_by e ++ given_ups es
+
+-- the messages of which a record tells that they were given up
+abbrev pub recorded : {P : Type 0} → Told P → List ℕ
+recorded told = map (λ g. g.number) told.gone
+
+-- rules that change the sender alone lead from x to y, and give these places up
+pub record Leads (message : ℕ → Message) (mixed : Bool) (x y : Transfer) (places : List ℕ) : Type 0 where
+  pub events : List Event
+  pub may : Happens message mixed x events
+  pub leads : run message mixed x events ≡ y
+  pub given_up : given_ups events ≡ places
+  pub rest_stays : y ≡ record x { sender = y.sender }
+
+-- such rules lead from x to a state that the values show, and each message given up meanwhile is told by one record
+pub record LeadsTo {P : Type 0} (message : ℕ → Message) (lifecycle : ℕ → Option ℕ) (mixed : Bool) (x : Transfer) (told : Told P) (q : Queue) (s : Items) (later : Told P) : Type 0 where
+  pub after : Transfer
+  pub places : List ℕ
+  pub leads : Leads message mixed x after places
+  pub kept : Kept message mixed after
+  pub shows : Shows message lifecycle mixed after q s
+  pub told_of : recorded later ≡ recorded told ++ places
+
+-- ---- what is told of messages that leave
+
+abbrev pub delivered_by : {P : Type 0} → events.Event P → List ℕ
+delivered_by (events.SendPacket p) = []
+delivered_by events.OnConnected = []
+delivered_by events.OnClosed = []
+delivered_by events.OnConnectionRestarted = []
+delivered_by (events.OnAborted kind text) = []
+delivered_by (events.OnError kind text) = []
+delivered_by (events.OnBufferedAmountLow id) = []
+delivered_by events.OnTotalBufferedAmountLow = []
+delivered_by (events.OnStreamsResetFailed ids) = []
+delivered_by (events.OnStreamsResetPerformed ids) = []
+delivered_by (events.OnIncomingStreamReset ids) = []
+delivered_by (events.OnLifecycleMessageFullySent id) = []
+delivered_by (events.OnLifecycleMessageMaybeExpired id) = []
+delivered_by (events.OnLifecycleMessageExpired id) = []
+delivered_by (events.OnLifecycleMessageDelivered id) = id ∷ []
+delivered_by (events.OnLifecycleEnd id) = []
+
+-- the lifecycle ids that are told as delivered
+abbrev pub delivered : {P : Type 0} → List (events.Event P) → List ℕ
+delivered [] = []
+delivered (e ∷ es) = delivered_by e ++ delivered es
+
+abbrev pub id_of : Option ℕ → List ℕ
+id_of None = []
+id_of (Some id) = id ∷ []
+
+-- the lifecycle ids of the messages at these places
+abbrev pub ids_at : (ℕ → Option ℕ) → List ℕ → List ℕ
+ids_at lifecycle [] = []
+ids_at lifecycle (p ∷ ps) = id_of (lifecycle p) ++ ids_at lifecycle ps

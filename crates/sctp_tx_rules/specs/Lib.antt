@@ -1,0 +1,4 @@
+pub mod Led
+pub mod Points
+pub mod Rows
+pub mod Shown

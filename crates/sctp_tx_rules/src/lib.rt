@@ -1,0 +1,77 @@
+//! What the sender of an SCTP association does is a run of the rules of the transfer, as laws over its values: the send
+//! queue, the items and the windows. Each law is the contract of a function with an empty body.
+#![tactic(auto)]
+
+ghost use Rattle.sctp_tx_rules.specs.Rows.{Accepts, BeginningsShow, CarryingStays, DiscardsShow, Expires, FastPacketsAreSent, GivesUp, LifetimesEnd, Loses, NewShow, OffersAreQueued, OthersAreNotShown, PacketsAreSent, PointsAreDue, Produces, RecordsAreExact, ResetsShow, RestIsRest, SacksAreHeard, SettingsShow, TimesOut};
+
+/// A new queue, and no item, show the start. Where messages were accepted and nothing was sent, an association may begin, in
+/// either mode, and the queue may begin anew: all that was accepted waits.
+pub fn new_values_show_the_start()
+    ensures new { NewShow }
+    ensures beginning { BeginningsShow }
+    ensures reset { ResetsShow }
+{}
+
+/// The values show the rules' sender, and how many fragments have left it. What the receiver does, and what is under way,
+/// changes nothing.
+pub fn the_receiver_is_not_shown()
+    ensures { OthersAreNotShown }
+{}
+
+/// A message that is queued is accepted, as long as there are fewer than 2^32. Settings of streams change nothing.
+pub fn messages_are_accepted()
+    ensures offered { OffersAreQueued }
+    ensures accepted { Accepts }
+    ensures settings { SettingsShow }
+{}
+
+/// Where nothing waits to be discarded, `produce` gives up the messages that expired before their first fragment, each with
+/// its record; and the fragment that it answers, if it answers one, takes the next TSN as it is inserted. The first one of
+/// a message gives the message its number.
+pub fn fragments_are_numbered()
+    ensures { Produces }
+{}
+
+/// A valid SACK whose cumulative TSN the peer sent lets the fragments below leave, one by one. What is told as delivered are
+/// the lifecycle ids of what the rules report. Blocks, missing reports, windows and timers change nothing else, but that
+/// a message may be given up of which a fragment is lost.
+pub fn sacks_are_heard()
+    ensures { SacksAreHeard }
+{}
+
+/// A message of which an item is kept is given up with one record. Where its end was not sent, a placeholder takes the next
+/// TSN, and what is left of it in the queue is discarded later, which changes nothing more. Of missing reports, timeouts
+/// and lifetimes nothing else is seen.
+pub fn messages_are_given_up()
+    ensures message { GivesUp }
+    ensures discards { DiscardsShow }
+    ensures losses { Loses }
+    ensures timeout { TimesOut }
+    ensures lifetimes { Expires }
+    ensures expiry { LifetimesEnd }
+{}
+
+/// What a run of rules gives up are the messages that its records name.
+pub fn records_are_exact()
+    ensures { RecordsAreExact }
+{}
+
+/// A forward point that is due may be sent: it passes fragments of messages given up alone, from the acknowledged ones on
+/// without a hole, and names each stream and kind that it touches once, with its greatest number. The chunk is written of
+/// it.
+pub fn points_are_due()
+    ensures { PointsAreDue }
+{}
+
+/// What a packet takes: discards, items that are sent again, and new fragments. Each chunk carries a numbered fragment that is
+/// no placeholder, so that it may come at any later time.
+pub fn packets_carry_fragments()
+    ensures packets { PacketsAreSent }
+    ensures fast { FastPacketsAreSent }
+    ensures stays { CarryingStays }
+{}
+
+/// With nothing queued and no item kept, the rules are at rest.
+pub fn rest_is_rest()
+    ensures { RestIsRest }
+{}

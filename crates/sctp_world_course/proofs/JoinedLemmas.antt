@@ -1,0 +1,72 @@
+-- Worlds are joined, since their courses are.
+use Rattle.std.proofs.Common.{◌≡◌, ℕ, Option, Some, None, List, length, refl, sym, ap, ◌∙◌}
+use Rattle.std.specs.List.{flat_map}
+use Rattle.sctp_state.specs.Options.{Options, IsValid}
+use Rattle.sctp_association.specs.Association.{Identity, Tcb, Phase, State, Closed, CookieWait, Open, Endpoint}
+use Rattle.sctp_association.specs.Laws.{endings}
+use Rattle.sctp_association.specs.Socket.{Association, association_in}
+use Rattle.sctp_association_laws.specs.Mapped.{as_written}
+use Rattle.sctp_association_laws.specs.Sound.{OptionsFit}
+use Rattle.sctp_course.specs.Course as course
+use Rattle.sctp_course.specs.Course.{Pair, AreGiven, AreCrossed, EndsAreJoined, run, start}
+use Rattle.sctp_world.specs.Judge.{End, A, B, Entry, crossed, held}
+use Rattle.sctp_world.specs.World.{Side, fresh_world}
+use Rattle.sctp_world_course.specs.Joined.{ended_by, times_ended, WorldsAreJoined}
+use Rattle.sctp_world_course.proofs.EventLemmas.{ended_told}
+use Rattle.sctp_world_course.proofs.NewsLemmas.{ended_by_told}
+use Rattle.sctp_world_course.proofs.SidesLemmas.{Good}
+use Rattle.sctp_world_course.proofs.RunsLemmas.{Ran, ran, fresh_both}
+
+given_of : (o : Options) → IsValid o → OptionsFit o → AreGiven o
+given_of o valid fits = record { valid = valid; incoming = fits.incoming_streams; outgoing = fits.outgoing_streams; method = fits.zero_checksum_method }
+
+abbrev of : Identity → Association
+of i = record { my_tag = i.my_tag; my_initial_tsn = i.my_first; peer_tag = i.peer_tag; peer_initial_tsn = i.peer_first }
+
+-- an association is held by an open end
+opened : (s : State) (i : Association) → association_in s ≡ Some i → (phase : Phase) × (t : Tcb) × (s ≡ Open phase t) × (i ≡ of t.identity)
+opened Closed i e = cc
+opened (CookieWait tag first t1) i e = cc
+opened (Open phase t) i e = (phase, t, refl, sym (ap (λ (o : Option Association). elim o [ None ↦ i | Some z ↦ z ]) e))
+
+abbrev of_numbers : (i j k l : ℕ) → Association
+of_numbers i j k l = record { my_tag = i; my_initial_tsn = j; peer_tag = k; peer_initial_tsn = l }
+
+same_numbers : (i j k l m n o p : ℕ) → i ≡ m → j ≡ n → k ≡ o → l ≡ p → of_numbers i j k l ≡ of_numbers m n o p
+same_numbers i j k l m n o p a b c d = cc
+
+crossed_of : (i j : Identity) → AreCrossed i j → of j ≡ crossed (of i)
+crossed_of i j c = same_numbers j.my_tag j.my_first j.peer_tag j.peer_first i.peer_tag i.peer_first i.my_tag i.my_first (sym c.peer_tag) (sym c.peer_first) (sym c.tag) (sym c.first)
+
+module _ (word_of : List ℕ → ℕ) (x : End) (log : List Entry) (others : List (List ℕ)) (side : Side) (end : course.Side) (g : Good word_of x log others side end) where
+  none_ended : times_ended x log ≡ 0 → endings end.told ≡ 0
+  none_ended h =
+      ended_told (as_written word_of) x 0 end.told
+      (ap (λ (l : List Entry). length (flat_map (ended_by x) l)) (sym g.image.told) ∙ (ap (λ (l : List End). length l) (sym (ended_by_told x log)) ∙ h))
+
+  state_of : side.socket.standing.state ≡ end.end.standing.state
+  state_of = ap (λ (z : Endpoint (List ℕ)). z.standing.state) g.image.socket
+
+  held_open : (i : Association) → held x log ≡ Some i → (phase : Phase) × (t : Tcb) × (end.end.standing.state ≡ Open phase t) × (i ≡ of t.identity)
+  held_open i e = opened end.end.standing.state i (ap association_in (sym state_of) ∙ (sym g.held ∙ e))
+
+pub are_joined : EndsAreJoined → WorldsAreJoined
+are_joined law a b words_a words_b word_of_a word_of_b actions w valid_a valid_b fits_a fits_b fit runs small rules none =
+    let r : Ran word_of_a word_of_b actions (fresh_world a b words_a words_b word_of_a word_of_b) w (start a b words_a words_b) =
+    ran word_of_a word_of_b actions (fresh_world a b words_a words_b word_of_a word_of_b) w (start a b words_a words_b) fit runs small
+    (fresh_both a b words_a words_b word_of_a word_of_b fits_a fits_b) in
+    let c : Pair = run r.turns (start a b words_a words_b) in
+    let good_a : Good word_of_a A w.log w.b.packets w.a c.a = r.both.a in
+    let good_b : Good word_of_b B w.log w.a.packets w.b c.b = r.both.b in
+    let joined : course.AreJoined a b c =
+    law a b words_a words_b r.turns (given_of a valid_a fits_a) (given_of b valid_b fits_b) (r.follows rules)
+    (record { a = none_ended word_of_a A w.log w.b.packets w.a c.a good_a (none A); b = none_ended word_of_b B w.log w.a.packets w.b c.b good_b (none B) }) in
+    record {
+      a_negotiated = λ phase t e. joined.a_negotiated phase t (sym (state_of word_of_a A w.log w.b.packets w.a c.a good_a) ∙ e);
+      b_negotiated = λ phase t e. joined.b_negotiated phase t (sym (state_of word_of_b B w.log w.a.packets w.b c.b good_b) ∙ e);
+      are_crossed = λ i j e f.
+          let own = held_open word_of_a A w.log w.b.packets w.a c.a good_a i e in
+          let other = held_open word_of_b B w.log w.a.packets w.b c.b good_b j f in
+          other.3 ∙ (crossed_of own.1.identity other.1.identity (joined.crossed own.0 other.0 own.1 other.1 own.2 other.2) ∙ ap crossed (sym own.3));
+      counts = joined.counts;
+    }

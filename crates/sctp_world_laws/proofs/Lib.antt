@@ -1,0 +1,2 @@
+pub mod ReadableLemmas
+pub mod EndedLemmas
