@@ -47,6 +47,33 @@ fn streams_take_turns_by_message(rt: HostRuntime) -> Result<(), Fail> {
     all_hold(&rt, rt.alloc(), &steps)
 }
 
+// Priorities don't matter without interleaving: a fragment costs 1, whatever its stream and its bytes, and a message of two
+// is ended before another begins. The finish times are, in order, 1 (stream 1), 1 (2), 2 (2, before its turn, as it is begun),
+// 1 (3), which sets the virtual time back, 2 (1), 2 (3) and 3 (2).
+#[test]
+fn streams_of_other_priorities_take_turns_by_message(rt: HostRuntime) -> Result<(), Fail> {
+    let steps = [
+        Priority(1, 1),
+        Priority(2, 2),
+        Priority(3, 3),
+        Accept(3, 100),
+        Accept(3, 100),
+        Accept(2, 60),
+        Accept(2, 100),
+        Accept(1, 100),
+        Accept(1, 100),
+        Gives(0, 100, (1, 4, 0, 0, 0, 100)),
+        Gives(0, 50, (2, 2, 0, 0, 0, 50)),
+        Gives(0, 50, (2, 2, 0, 1, 50, 10)),
+        Gives(0, 100, (3, 0, 0, 0, 0, 100)),
+        Gives(0, 100, (1, 5, 1, 0, 0, 100)),
+        Gives(0, 100, (3, 1, 1, 0, 0, 100)),
+        Gives(0, 100, (2, 3, 1, 0, 0, 100)),
+        IsEmpty(true),
+    ];
+    all_hold(&rt, rt.alloc(), &steps)
+}
+
 // 100 bytes cost 6553600 on stream 1 with priority 1, half of it on stream 2 with priority 2, and a third on stream 3 with
 // priority 3: 2184533. So the finish times are, in order, 2184533 (3), 3276800 (2), 4369066 (3), 6553599 (3), 6553600 (1),
 // 6553600 (2), 9830400 (2), 13107200 (1), 19660800 (1).

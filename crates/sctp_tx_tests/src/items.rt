@@ -156,6 +156,33 @@ fn timed_out(alloc: Global) -> Result<bool, AllocError> {
     )
 }
 
+// Whether it is the rest of this message on stream 1.
+fn is_rest(rest: Option<Discarded>, message: u32) -> bool {
+    match rest {
+        Some(rest) => rest.stream_id == StreamId(1)
+            && rest.message_id == OutgoingMessageId(message),
+        None => false,
+    }
+}
+
+// The rests of two messages are to leave the queue, in the order in which these were given up.
+fn discarded(alloc: Global) -> Result<bool, AllocError> {
+    let mut data = OutstandingData::new(alloc, Tsn(10), true, true);
+    let mut events = Events::new(alloc);
+    send(alloc, &mut data, 0, 0, false)?;
+    send(alloc, &mut data, 1, 0, false)?;
+    data.nack_all(&mut events)?;
+    let mut rests = data.get_unsent_messages_to_discard();
+    let is_first = is_rest(rests.pop_front(), 0);
+    let is_second = is_rest(rests.pop_front(), 1);
+    Ok(is_first && is_second && rests.is_empty() && !data.has_unsent_messages_to_discard())
+}
+
+#[test]
+fn rests_of_messages_are_to_be_discarded(rt: HostRuntime) {
+    assert!(rt; discarded(rt.alloc()) == Ok(true));
+}
+
 #[test]
 fn a_timeout_gives_up(rt: HostRuntime) {
     assert!(rt; timed_out(rt.alloc()) == Ok(true));

@@ -3,8 +3,8 @@
 use crate::steps::{Answer, Heard, Step, walk};
 use Step::{
     Accept, AcceptOnce, AcceptShort, BeginReset, CanSend, Expires, Flight, GivenUp, HandOver,
-    HasFast, Hears, IsDue, NoneGivenUp, Point, QueueIsEmpty, Readiness, Resent, Rto, Sack, Sends,
-    SendsFast, SendsNothing, SendsNothingFast, SetWindow, TimesOut, Tsns, Windows,
+    HasFast, Hears, IsDue, NoneGivenUp, NoneIsKept, Point, QueueIsEmpty, Readiness, Resent, Rto,
+    Sack, Sends, SendsFast, SendsNothing, SendsNothingFast, SetWindow, TimesOut, Tsns, Windows,
 };
 use sctp_state::GivenUpCause;
 use std::process::Abort;
@@ -55,8 +55,10 @@ fn sacks(rt: HostRuntime) -> Result<(), Fail> {
         Sack(100, 9, 0, 0, Answer::Nothing),
         Flight(3, 2548),
         Windows(11_910, 5_240_380),
+        NoneIsKept(false),
         Sack(100, 12, 0, 0, Answer::RoundTrip(100)),
         Flight(0, 0),
+        NoneIsKept(true),
     ];
     all_hold(&rt, &steps)
 }

@@ -70,6 +70,8 @@ pub enum Step {
     NoneGivenUp,
     Hears(Heard),
     QueueIsEmpty(bool),
+    /// Whether no item is kept.
+    NoneIsKept(bool),
     Readiness(bool, u32),
     /// At a moment another sender takes this one's record up, and the steps go on with it.
     HandOver(u64),
@@ -263,6 +265,7 @@ fn answers(sender: &Sender, step: Step) -> bool {
         Step::Tsns(last, next) => items.last_assigned_tsn() == Tsn(last)
             && items.next_tsn() == Tsn(next),
         Step::QueueIsEmpty(want) => sender.queue.is_empty() == want,
+        Step::NoneIsKept(want) => items.is_empty() == want,
         Step::Readiness(is_strict, want) => items.get_handover_readiness(is_strict).0 == want,
         _ => false,
     }
