@@ -41,20 +41,20 @@ module _ {P : Type 0} {call : Call} {R : Making P → Making P → Type 0} (k : 
   does_offered None m how s c is fine = k.calls (accepts m how (idle s c w) is fine)
   does_offered (Some e) m how s c is fine = k.calls (refuses m how e (idle s c w) is fine)
 
-  does_offer : (m : Message) (how : SendOptions) (s : State) (c : Context P) → IsOffered call m how → R (idle s c w) (idle s (offer m how (shown_state s) c) w)
+  pub does_offer : (m : Message) (how : SendOptions) (s : State) (c : Context P) → IsOffered call m how → R (idle s c w) (idle s (offer m how (shown_state s) c) w)
   does_offer m how s c is = does_offered (refusal m (shown_state s) c) m how s c is refl
 
-  does_offer_all : (all before ms : List Message) (how : SendOptions) (s : State) (c : Context P) → call ≡ SendMany all how → all ≡ before ++ ms
+  pub does_offer_all : (all before ms : List Message) (how : SendOptions) (s : State) (c : Context P) → call ≡ SendMany all how → all ≡ before ++ ms
       → R (idle s c w) (idle s (offer_all ms how (shown_state s) c) w)
   does_offer_all all before [] how s c is e = k.same (idle s c w)
   does_offer_all all before (m ∷ ms) how s c is e =
       k.through (does_offer m how s c (among all is (record { before = before; behind = ms; split = e })))
       (does_offer_all all (before ++ m ∷ []) ms how s (offer m how (shown_state s) c) is (next_among before m ms all e))
 
-  does_send_in : OpenActs R w send_in
+  pub does_send_in : OpenActs R w send_in
   does_send_in phase t c = does_send_buffered k phase w (is_alone phase) t c
 
-  does_sent_if : (o : Option SendError) (s : Standing P) → R (placed s w) (placed (sent_if o s) w)
+  pub does_sent_if : (o : Option SendError) (s : Standing P) → R (placed s w) (placed (sent_if o s) w)
   does_sent_if None s = does_where_open k w send_in s does_send_in
   does_sent_if (Some e) s = k.same (placed s w)
 

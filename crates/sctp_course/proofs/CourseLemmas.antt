@@ -48,13 +48,13 @@ abbrev pub seen : Side → View
 seen x = view_of (state_of x)
 
 pub record Half (o q : Options) (x y : Side) : Type 0 where
-  stands : Stands o q (seen x) (seen y) x.is_asked y.is_asked
-  size : ℕ
-  options : x.end.standing.context.options ≡ record o { max_message_size = size }
-  packing : x.end.standing.context.pack ≡ as_carried
-  quiet : x.end.standing.context.told.events ≡ []
-  connected : has_connected x.told ≡ true → (seen x).is_late ≡ true
-  said : All (SaysAll o q (seen x) (seen y) x.is_asked) (packets_in x.told)
+  pub stands : Stands o q (seen x) (seen y) x.is_asked y.is_asked
+  pub size : ℕ
+  pub options : x.end.standing.context.options ≡ record o { max_message_size = size }
+  pub packing : x.end.standing.context.pack ≡ as_carried
+  pub quiet : x.end.standing.context.told.events ≡ []
+  pub connected : has_connected x.told ≡ true → (seen x).is_late ≡ true
+  pub said : All (SaysAll o q (seen x) (seen y) x.is_asked) (packets_in x.told)
 
 abbrev pub setting : (o q : Options) (x y : Side) (asked : Bool) → Setting
 setting o q x y asked = record {
@@ -104,10 +104,10 @@ module _ (o q : Options) (x y : Side) (asked : Bool) where
       subst (λ (es : List (Event Carried)). Inv g v x.end.standing.context.options x.end.standing.context.pack es nothing.tag []) (sym h.quiet) inv
 
   -- and ends
-  abbrev after : Endpoint Carried → Side
+  abbrev pub after : Endpoint Carried → Side
   after e = record (took e x) { is_asked = asked }
 
-  ends_own : (e : Endpoint Carried) → InvAt (setting o q x y asked) (calm e) → Half o q (after e) y
+  pub ends_own : (e : Endpoint Carried) → InvAt (setting o q x y asked) (calm e) → Half o q (after e) y
   ends_own e inv = record {
     stands = inv.stands;
     size = inv.size;
@@ -118,7 +118,7 @@ module _ (o q : Options) (x y : Side) (asked : Bool) where
     said = inv.said;
   }
 
-  ends_other : (e : Endpoint Carried) → InvAt (setting o q x y asked) (calm e) → Half q o y x → Half q o y (after e)
+  pub ends_other : (e : Endpoint Carried) → InvAt (setting o q x y asked) (calm e) → Half q o y x → Half q o y (after e)
   ends_other e inv k = record {
     stands = record {
       faces = inv.stands.faced;
@@ -224,10 +224,10 @@ none_past : (past es : List (Event Carried)) → endings (past ++ es) ≡ 0 → 
 none_past past es h = omega (arith, endings_both past es, h)
 
 module _ (o q : Options) (x y : Side) (own : AreGiven o) (other : AreGiven q) (h : Halves o q x y) where
-  ends_turn : (asked : Bool) (e : Endpoint Carried) → InvAt (setting o q x y asked) (calm e) → Halves o q (record (took e x) { is_asked = asked }) y
+  pub ends_turn : (asked : Bool) (e : Endpoint Carried) → InvAt (setting o q x y asked) (calm e) → Halves o q (record (took e x) { is_asked = asked }) y
   ends_turn asked e inv = record { own = ends_own o q x y asked e inv; other = ends_other o q x y asked e inv h.other }
 
-  turns_call : (call : Call) → MayCall call x → endings (turned (Calls call) x y).told ≡ 0 → Halves o q (turned (Calls call) x y) y
+  pub turns_call : (call : Call) → MayCall call x → endings (turned (Calls call) x y).told ≡ 0 → Halves o q (turned (Calls call) x y) y
   turns_call call may none =
       let g : Setting = setting o q x y x.is_asked in
       let e : Endpoint Carried = called call x.end in
@@ -235,7 +235,7 @@ module _ (o q : Options) (x y : Side) (own : AreGiven o) (other : AreGiven q) (h
       (until_end call (joins g call (rules_call o q x y own other call may)) x.end (none_of x.told e.standing.context.told.events none)
       (begins o q x y x.is_asked (λ z. z) h.own h.other))
 
-  turns_given : (p : Option Carried) (checksum n : ℕ) → slice_get (emitted y) n ≡ p → endings (given p checksum x).told ≡ 0
+  pub turns_given : (p : Option Carried) (checksum n : ℕ) → slice_get (emitted y) n ≡ p → endings (given p checksum x).told ≡ 0
       → Halves o q (given p checksum x) y
   turns_given None checksum n there none = h
   turns_given (Some p) checksum n there none =
@@ -247,7 +247,7 @@ module _ (o q : Options) (x y : Side) (own : AreGiven o) (other : AreGiven q) (h
       (until_end call (joins g call (rules_given o q x y own other p checksum n there)) x.end (none_of x.told e.standing.context.told.events none)
       (begins o q x y now (or_left x.is_asked (p.header.verification_tag == 0)) h.own h.other))
 
-  turns_refused : (r : Option (List ℕ)) (p : PacketTree) → refusal p.header.verification_tag p.chunks (state_of x) ≡ r → Halves o q (foreign_if r p x) y
+  pub turns_refused : (r : Option (List ℕ)) (p : PacketTree) → refusal p.header.verification_tag p.chunks (state_of x) ≡ r → Halves o q (foreign_if r p x) y
   turns_refused None p is = h
   turns_refused (Some text) p is =
       let g : Setting = setting o q x y x.is_asked in
@@ -260,7 +260,7 @@ module _ (o q : Options) (x y : Side) (own : AreGiven o) (other : AreGiven q) (h
       (s.standing.context.told.events ++ OnError ParseFailed text ∷ []) refl refl in
       ends_turn x.is_asked (called (Packet p) s) (subst (λ (e : Endpoint Carried). InvAt g (calm e)) (sym same) there)
 
-  turns : (t : Turn) → MayTurn t x → endings (turned t x y).told ≡ 0 → Halves o q (turned t x y) y
+  pub turns : (t : Turn) → MayTurn t x → endings (turned t x y).told ≡ 0 → Halves o q (turned t x y) y
   turns (Calls call) may none = turns_call call may none
   turns (Gives which checksum) may none = turns_given (slice_get (emitted y) which) checksum which refl none
   turns (Refuses p) may none = turns_refused (refusal p.header.verification_tag p.chunks (state_of x)) p refl
@@ -277,12 +277,12 @@ module _ (x y : Side) where
   before_foreign None p none = none
   before_foreign (Some text) p none = none_past x.told _ none
 
-  before_turn : (t : Turn) → endings (turned t x y).told ≡ 0 → endings x.told ≡ 0
+  pub before_turn : (t : Turn) → endings (turned t x y).told ≡ 0 → endings x.told ≡ 0
   before_turn (Calls call) none = none_past x.told _ none
   before_turn (Gives which checksum) none = before_given (slice_get (emitted y) which) checksum none
   before_turn (Refuses p) none = before_foreign (refusal p.header.verification_tag p.chunks (state_of x)) p none
 
-before_goes : (at_a : Bool) (t : Turn) (w : Pair) → HasNotEnded (goes at_a t w) → HasNotEnded w
+pub before_goes : (at_a : Bool) (t : Turn) (w : Pair) → HasNotEnded (goes at_a t w) → HasNotEnded w
 before_goes true t w h = record { a = before_turn w.a w.b t h.a; b = h.b }
 before_goes false t w h = record { a = h.a; b = before_turn w.b w.a t h.b }
 
@@ -297,7 +297,7 @@ module _ (o q : Options) (own : AreGiven o) (other : AreGiven q) where
   goes_joined false t w may none h =
       swapped q o (turned t w.b w.a) w.a (turns q o w.b w.a other own (swapped o q w.a w.b h) t may none.b)
 
-  run_joined : (es : List (Bool × Turn)) (w : Pair) → FollowsTheRules es w → HasNotEnded (run es w) → Halves o q w.a w.b
+  pub run_joined : (es : List (Bool × Turn)) (w : Pair) → FollowsTheRules es w → HasNotEnded (run es w) → Halves o q w.a w.b
       → Halves o q (run es w).a (run es w).b
   run_joined [] w follows none h = h
   run_joined (e ∷ es) w follows none h =

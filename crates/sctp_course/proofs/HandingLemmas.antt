@@ -49,14 +49,14 @@ in_turn before new later out rest now last h k =
 
 -- What is ready, and what is new behind it, is what is handed out, and what is ready then. An association that stands is not
 -- replaced.
-record Hands (out : List Message) (s t : State) : Type 0 where
-  all : ready_in s ++ new_behind (ready_in s) (ready_in t) ≡ out ++ ready_in t
-  stands : (a : Association) → association_in s ≡ Some a → association_in t ≡ Some a
+pub record Hands (out : List Message) (s t : State) : Type 0 where
+  pub all : ready_in s ++ new_behind (ready_in s) (ready_in t) ≡ out ++ ready_in t
+  pub stands : (a : Association) → association_in s ≡ Some a → association_in t ≡ Some a
 
 hands_none : (s t : State) → GoesOn s t → Hands [] s t
 hands_none s t h = record { all = seam (ready_in s) (ready_in t) h.ready; stands = h.stands }
 
-hands_still : (s : State) → Hands [] s s
+pub hands_still : (s : State) → Hands [] s s
 hands_still s = hands_none s s (goes_nowhere s)
 
 hands_taken : (s : State) → Hands (take 1 (ready_in s)) s (taken_in s)
@@ -99,7 +99,7 @@ module _ (o q : Options) (x y : Side) (own : AreGiven o) (other : AreGiven q) (h
       ap (λ (r : Option (List ℕ)). taken_if r p.header.verification_tag p.chunks (counts s)) is in
       subst (λ (t : State). Hands [] (state_of x) t) (sym (ap (λ (e : Endpoint Carried). e.standing.state) same)) (hands_still (state_of x))
 
-  hands : (t : Turn) → MayTurn t x → endings (turned t x y).told ≡ 0 → Hands (handed_by t x) (state_of x) (state_of (turned t x y))
+  pub hands : (t : Turn) → MayTurn t x → endings (turned t x y).told ≡ 0 → Hands (handed_by t x) (state_of x) (state_of (turned t x y))
   hands (Calls call) may none = hands_call call may none
   hands (Gives which checksum) may none = hands_given (slice_get (emitted y) which) checksum which refl none
   hands (Refuses p) may none = hands_refused (refusal p.header.verification_tag p.chunks (state_of x)) p refl
@@ -110,7 +110,7 @@ abbrev held : (x : Bool) → Pair → Option Association
 held x w = association_in (state_of (side_of x w))
 
 module _ (o q : Options) (own : AreGiven o) (other : AreGiven q) where
-  hands_at : (x acts : Bool) (t : Turn) (w : Pair) → MayTurn t (side_of acts w) → HasNotEnded (goes acts t w) → Halves o q w.a w.b
+  pub hands_at : (x acts : Bool) (t : Turn) (w : Pair) → MayTurn t (side_of acts w) → HasNotEnded (goes acts t w) → Halves o q w.a w.b
       → Hands (handed_at x acts t w) (state_of (side_of x w)) (state_of (side_of x (goes acts t w)))
   hands_at true true t w may none h = hands o q w.a w.b own other h t may none.a
   hands_at false false t w may none h = hands q o w.b w.a other own (swapped o q w.a w.b h) t may none.b
@@ -144,7 +144,7 @@ module _ (o q : Options) (own : AreGiven o) (other : AreGiven q) where
       let not_yet : HasNotEnded v = before_run (es ++ more) v none in
       later_stands x p es more v follows.1 none (goes_joined o q own other e.0 e.1 w follows.0 not_yet h) is
 
-first_halves : (a b : Options) (words_a words_b : Stream) → Halves a b (start a b words_a words_b).a (start a b words_a words_b).b
+pub first_halves : (a b : Options) (words_a words_b : Stream) → Halves a b (start a b words_a words_b).a (start a b words_a words_b).b
 first_halves a b words_a words_b = record { own = first_half a b words_a words_b; other = first_half b a words_b words_a }
 
 pub associations_stand : (a b : Options) (words_a words_b : Stream) (es more : List (Bool × Turn)) → AreGiven a → AreGiven b
@@ -154,7 +154,7 @@ pub associations_stand : (a b : Options) (words_a words_b : Stream) (es more : L
 associations_stand a b words_a words_b es more own other follows none x p is =
     later_stands a b own other x p es more (start a b words_a words_b) follows none (first_halves a b words_a words_b) is
 
-nothing_ready : (x : Bool) (a b : Options) (words_a words_b : Stream) → ready_at (side_of x (start a b words_a words_b)) ≡ []
+pub nothing_ready : (x : Bool) (a b : Options) (words_a words_b : Stream) → ready_at (side_of x (start a b words_a words_b)) ≡ []
 nothing_ready true a b words_a words_b = refl
 nothing_ready false a b words_a words_b = refl
 

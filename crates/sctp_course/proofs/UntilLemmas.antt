@@ -156,7 +156,7 @@ module _ {P : Type 0} where
     goes_through : (a b c : Making P) → Until R a b → Until R b c → Until R a c
     goes_through a b c g h = (grows_through a b c g.0 h.0, λ none. k.through (g.1 (none_before b c h.0 none)) (h.1 none))
 
-    frame : Keeps call (Until R)
+    pub frame : Keeps call (Until R)
     frame = record {
       same = λ m. (grows_same m m refl, λ none. k.same m);
       through = λ {a} {b} {c}. goes_through a b c;

@@ -7,7 +7,8 @@ use Rattle.sctp_packet.specs.declared.forward_tsn.SkippedStream.TheVariants.{For
 use Rattle.sctp_rx.specs.Streams.{Streams, skipped_id, put_skip, put_each}
 use Rattle.sctp_rules.specs.State.{Entry, IsAmong}
 use Rattle.sctp_rules.specs.Rules.{same, covers, raised}
-use Rattle.sctp_rx_rules.specs.Read.{StandsFor, StandForAll, IsApart, AreApart}
+use Rattle.sctp_rx_rules.specs.Read.{StandsFor, StandForAll}
+use Rattle.sctp_rules.specs.Points.{AreApart, IsApart}
 
 abbrev pub put_entry : Entry → List Entry → List Entry
 put_entry e [] = e ∷ []

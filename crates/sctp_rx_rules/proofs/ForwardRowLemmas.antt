@@ -22,7 +22,8 @@ use Rattle.sctp_rules.specs.Kept.{Kept}
 use Rattle.sctp_rules.specs.Reassembly.{Queue, KeyOf, next_of, key_of, below_of, KeyLaws}
 use Rattle.sctp_rules.proofs.ReceiverRowLemmas.{key_laws, point_comes}
 use Rattle.sctp_rx_rules.specs.View.{IsSeenAs, was_seen, chunk_of_held, key_of_held, unordered_at, held_on, view_with, view_of}
-use Rattle.sctp_rx_rules.specs.Read.{StandsFor, StandForAll, AreApart, shift_after}
+use Rattle.sctp_rx_rules.specs.Read.{StandsFor, StandForAll, shift_after}
+use Rattle.sctp_rules.specs.Points.{AreApart}
 use Rattle.sctp_rx_rules.specs.Receives.{Receives, Goes}
 use Rattle.sctp_rx_rules.proofs.KeyLemmas.{Decided, twice_not}
 use Rattle.sctp_rx_rules.proofs.TakesLemmas.{takes_fewer, takes_readied}

@@ -12,7 +12,8 @@ use Rattle.sctp_rules.specs.Rules.{Event, data_comes, late_comes, deliver, forwa
 use Rattle.sctp_rules.specs.Windows.{Windows}
 use Rattle.sctp_rules.specs.Kept.{Kept}
 use Rattle.sctp_rx_rules.specs.View.{was_seen}
-use Rattle.sctp_rx_rules.specs.Read.{Carries, IsRead, AreApart, StandForAll, is_behind, shift_after}
+use Rattle.sctp_rx_rules.specs.Read.{Carries, IsRead, StandForAll, is_behind, shift_after}
+use Rattle.sctp_rules.specs.Points.{AreApart}
 use Rattle.sctp_rx_rules.specs.Receives.{Receives, Goes}
 use Rattle.sctp_rx_rules.specs.Near.{IsWritten, AreEntries, AreFew, ReadsNear, GoesNear}
 use Rattle.sctp_rx_rules.proofs.FragmentRowLemmas.{row_held, row_late}

@@ -1,5 +1,5 @@
 -- The MIDs of unordered streams stay near as the rules go on.
-use Rattle.std.proofs.Common.{◌≡◌, ℕ, suc, ◌+◌, ◌-◌, ◌^◌, ◌<◌, ◌≤◌, Bool, true, false, ◌⊎◌, inl, inr, None, List, refl, sym, ap, ◌∙◌, subst, arith}
+use Rattle.std.proofs.Common.{◌≡◌, ◌≢◌, ℕ, zero, suc, ◌+◌, ◌-◌, ◌^◌, ◌<◌, ◌≤◌, Bool, true, false, ◌⊎◌, inl, inr, None, List, refl, sym, ap, ◌∙◌, subst, arith}
 use Rattle.std.specs.Prelude.{◌||◌, not, nat_lt}
 use Rattle.std.proofs.lemmas.Bool.{cases_eq, cases_lt, cond-true, or_cases, or_right, ltb-true}
 use Rattle.sctp_serial.specs.Messages as messages
@@ -10,7 +10,7 @@ use Rattle.sctp_rx.specs.Streams.{is_far}
 use Rattle.sctp_rx.specs.Tracker as tracker
 use Rattle.sctp_rx.specs.Tracker.{Tracker, IsTracker, observe}
 use Rattle.sctp_rx.specs.ReassemblyQueue.{Reassembly, number_of, add, forward, reassembly}
-use Rattle.sctp_rules.specs.State.{Message, ForwardPoint, Receiver, Transfer, IsAmong, place_of, count, start, put, ordered_of, stream_of}
+use Rattle.sctp_rules.specs.State.{Message, ForwardPoint, Sender, Receiver, Transfer, IsAmong, place_of, count, start, put, ordered_of, stream_of}
 use Rattle.sctp_rules.specs.Rules.{Event, accept, begin, number, close, give_up, data_comes, late_comes, deliver, send_sack, leave, send_forward, forward_comes, forget, IsAllowed, IsDue, after, run, covers, raised}
 use Rattle.sctp_rules.specs.Windows.{Windows}
 use Rattle.sctp_rules.specs.Kept.{Kept}
@@ -18,7 +18,8 @@ use Rattle.sctp_rules.proofs.LaterLemmas.{Later}
 use Rattle.sctp_rules.proofs.StepLemmas.{later}
 use Rattle.sctp_rules.proofs.ToolsLemmas.{not_both, put_true, put_keeps, raised_up, raised_covers, raised_cases}
 use Rattle.sctp_rx_rules.specs.View.{was_seen, unordered_at}
-use Rattle.sctp_rx_rules.specs.Read.{Carries, IsRead, AreApart, StandForAll, number_read, shift_after}
+use Rattle.sctp_rx_rules.specs.Read.{Carries, IsRead, StandForAll, number_read, shift_after}
+use Rattle.sctp_rules.specs.Points.{AreApart}
 use Rattle.sctp_rx_rules.specs.Receives.{Receives, Goes}
 use Rattle.sctp_rx_rules.specs.Near.{IsOn, IsOf, IsNearStream, IsNamed, AreNearStreams}
 use Rattle.sctp_rx_rules.proofs.KeyLemmas.{twice_not}
@@ -26,7 +27,7 @@ use Rattle.sctp_rx_rules.proofs.FragmentLemmas.{added_now, number_near}
 use Rattle.sctp_rx_rules.proofs.FragmentRowLemmas.{observed_seen}
 use Rattle.sctp_rx_rules.proofs.ForwardRowLemmas.{call_is, point_seen}
 use Rattle.sctp_rx_rules.proofs.NearTsnLemmas.{not_acknowledged}
-use Rattle.sctp_rx_rules.proofs.NearMidLemmas.{few_ahead}
+use Rattle.sctp_rx_rules.proofs.NearMidLemmas.{rising, few_ahead}
 use Rattle.sctp_rx_rules.proofs.NearStreamLemmas.{ordered_leaves, near_here, near_off, point_nears}
 
 -- ---- the receiver goes on
@@ -37,7 +38,7 @@ with_receiver x i = record x { receiver = i }
 still_named : (message : ℕ → Message) (x : Transfer) (i : Receiver) (f : ForwardPoint) → ((t : ℕ) → x.receiver.seen t ≡ true → i.seen t ≡ true) → IsNamed message x f → IsNamed message (with_receiver x i) f
 still_named message x i f stays q = record {
   unseen = λ s t on l. elim (q.unseen s t on l) [ inl h ↦ inl (stays t h) | inr c ↦ inr c ];
-  near = q.near;
+  last = q.last;
 }
 
 -- a stream of which nothing came
@@ -121,7 +122,7 @@ module _ (message : ℕ → Message) (mixed : Bool) (before : ℕ) (x : Transfer
           elim (raised_cases f.entries false s (suc q.number) (top s - 1) (omega (arith, up))) [
             | inl l ↦ let e : q.number ≡ top s - 1 = omega (arith, up, l) in subst (λ n. (n ≡ 0) ⊎ ((u : ℕ) × IsOf message x.sender s n u)) e q.met
             | inr c ↦
-                let z = (near.points f sent).near s (top s - 1) c in
+                let z = (near.points f sent).last s (top s - 1) c in
                 let lo = z.4 in
                 let hi = raised_covers f.entries false s (suc q.number) (x.sender.number (place_of x.sender z.0)) z.5 in
                 inr (z.0, record { on = z.1; number = omega (arith, lo, hi) })
@@ -158,7 +159,52 @@ module _ (message : ℕ → Message) (mixed : Bool) (before : ℕ) (x : Transfer
 
 -- ---- the sender goes on
 
-module _ (message : ℕ → Message) (mixed : Bool) (x : Transfer) (kept : Kept message mixed x) (windows : Windows message x) (is_mixed : mixed ≡ true) where
+-- of the stream, from fragment t on
+module _ (message : ℕ → Message) (o : Sender) (s t : ℕ) (on : IsOn message o s t) where
+  record IsLast (upto : ℕ) : Type 0 where
+    at : ℕ
+    on_it : IsOn message o s at
+    from : t ≤ at
+    below : at < upto
+    none : (u : ℕ) → IsOn message o s u → at < u → u < upto → ⊥
+
+  last_below : (n : ℕ) → t + suc n ≤ count o → IsLast (t + suc n)
+  last_below zero h = record { at = t; on_it = on; from = omega arith; below = omega arith; none = λ u a l b. omega (arith, l, b) }
+  last_below (suc n) h =
+      go (ordered_of message (place_of o (t + suc n))) refl (cases_eq (stream_of message (place_of o (t + suc n))) s) (last_below n (omega (arith, h)))
+    where
+      not_here : IsLast (t + suc n) → (IsOn message o s (t + suc n) → ⊥) → IsLast (t + suc (suc n))
+      not_here r off =
+          let f = r.from in
+          let b = r.below in
+          record {
+            at = r.at;
+            on_it = r.on_it;
+            from = f;
+            below = omega (arith, b);
+            none = λ u a l h. elim (cases_eq u (t + suc n)) [
+              | inl e ↦ off (subst (λ (z : ℕ). IsOn message o s z) e a)
+              | inr d ↦ r.none u a l (elim (cases_lt u (t + suc n)) [ inl k ↦ k | inr g ↦ absurd (d (omega (arith, g, h))) ])
+            ];
+          }
+
+      go : (b : Bool) → ordered_of message (place_of o (t + suc n)) ≡ b → (stream_of message (place_of o (t + suc n)) ≡ s) ⊎ (stream_of message (place_of o (t + suc n)) ≢ s) → IsLast (t + suc n) → IsLast (t + suc (suc n))
+      go true e i r = not_here r (λ a. not_both e a.unordered)
+      go false e (inr d) r = not_here r (λ a. d a.stream)
+      go false e (inl i) r = record {
+        at = t + suc n;
+        on_it = record { numbered = omega (arith, h); unordered = e; stream = i };
+        from = omega arith;
+        below = omega arith;
+        none = λ u a l b. omega (arith, l, b);
+      }
+
+  last_on : (upto : ℕ) → t < upto → upto ≤ count o → IsLast upto
+  last_on upto l h =
+      let e : t + suc (upto - suc t) ≡ upto = omega (arith, l) in
+      subst IsLast e (last_below (upto - suc t) (omega (arith, e, h)))
+
+module _ (message : ℕ → Message) (mixed : Bool) (x : Transfer) (kept : Kept message mixed x) (is_mixed : mixed ≡ true) where
   -- one that may be sent now
   due_named : (f : ForwardPoint) → IsDue message mixed x.sender x.acknowledged f → IsNamed message x f
   due_named f due = record {
@@ -166,14 +212,17 @@ module _ (message : ℕ → Message) (mixed : Bool) (x : Transfer) (kept : Kept 
       | inl a ↦ inl (kept.acknowledged_true.all_seen t a)
       | inr g ↦ inr (named s t on g l)
     ];
-    near = λ s n c.
+    last = λ s n c.
         let z = due.sound false s n c in
         let a = z.1 in
         let b = z.2 in
         let w = due.within in
+        let le = z.5 in
         let on : IsOn message x.sender s z.0 = record { numbered = omega (arith, b, w); unordered = z.3; stream = z.4 } in
-        let i = windows.items (omega (arith, a, b, w)) in
-        (z.0, on, z.2, omega (arith, a, w, i), z.5, named s z.0 on z.1 z.2);
+        let l = last_on message x.sender s z.0 on f.upto b w in
+        let from = l.from in
+        let up = rising message x.sender kept.outgoing s z.0 l.at on l.on_it from in
+        (l.at, l.on_it, l.below, λ u h v. rising message x.sender kept.outgoing s u l.at h l.on_it (up_to f.upto s z.0 on l u h v), omega (arith, le, up), named s l.at l.on_it (omega (arith, a, from)) l.below);
   }
     where
       named : (s t : ℕ) → IsOn message x.sender s t → x.acknowledged ≤ t → t < f.upto → covers f.entries false s (x.sender.number (place_of x.sender t)) ≡ true
@@ -181,6 +230,9 @@ module _ (message : ℕ → Message) (mixed : Bool) (x : Transfer) (kept : Kept 
           subst (λ z. covers f.entries false z (x.sender.number (place_of x.sender t)) ≡ true) on.stream
           (subst (λ z. covers f.entries z (stream_of message (place_of x.sender t)) (x.sender.number (place_of x.sender t)) ≡ true) on.unordered
           (due.touched t a b (or_right (ordered_of message (place_of x.sender t)) mixed is_mixed)))
+
+      up_to : (upto s t : ℕ) (on : IsOn message x.sender s t) (l : IsLast message x.sender s t on upto) (u : ℕ) → IsOn message x.sender s u → u < upto → u ≤ l.at
+      up_to upto s t on l u h v = elim (cases_lt l.at u) [ inr g ↦ g | inl k ↦ absurd (l.none u h k v) ]
 
   point_within : (e : Event) → IsAllowed message mixed x e → (f : ForwardPoint) → IsAmong f (after message mixed x e).forward_points → IsAmong f x.forward_points ⊎ IsDue message mixed x.sender x.acknowledged f
   point_within accept may f a = inl a
@@ -236,11 +288,22 @@ module _ (message : ℕ → Message) (mixed : Bool) (x : Transfer) (kept : Kept 
             | inl a ↦ inl (ap (λ z. z.seen t) same ∙ a)
             | inr c ↦ inr (ap (λ z. covers f.entries false s z) (number_same t below) ∙ c)
           ];
-      near = λ s n c.
-          let z = q.near s n c in
+      last = λ s n c.
+          let z = q.last s n c in
+          let b = z.2 in
           let m = number_same z.0 z.1.numbered in
-          let le = z.4 in
-          (z.0, on_after s z.0 z.1, z.2, z.3, omega (arith, le, m), ap (λ b. covers f.entries false s b) m ∙ z.5);
+          let le = z.4 in (
+            z.0,
+            on_after s z.0 z.1,
+            z.2,
+            λ u on h.
+                let below : u < count x.sender = omega (arith, h, within) in
+                let up = z.3 u (on_before s u below on) h in
+                let k = number_same u below in
+                omega (arith, up, k, m),
+            omega (arith, le, m),
+            ap (λ b. covers f.entries false s b) m ∙ z.5,
+          );
     }
 
     pub sender_keeps_mids : (r : Reassembly) → AreNearStreams message x r → AreNearStreams message y r

@@ -14,7 +14,8 @@ use Rattle.sctp_rules.proofs.DeliverLemmas.{lower_place}
 use Rattle.sctp_rules.proofs.SackLemmas.{end_before}
 use Rattle.sctp_rules.proofs.WindowsLemmas.{words_read}
 use Rattle.sctp_rx_rules.specs.View.{unordered_at}
-use Rattle.sctp_rx_rules.specs.Read.{AreApart, Carries, number_read}
+use Rattle.sctp_rx_rules.specs.Read.{Carries, number_read}
+use Rattle.sctp_rules.specs.Points.{AreApart}
 use Rattle.sctp_rx_rules.specs.Near.{IsOn, IsNearStream, AreNearStreams, IsWritten}
 use Rattle.sctp_rx_rules.proofs.KeyLemmas.{twice_not}
 use Rattle.sctp_rx_rules.proofs.NearTsnLemmas.{not_acknowledged, counted_from}
@@ -105,9 +106,10 @@ module _ (message : ℕ → Message) (mixed : Bool) (x : Transfer) (kept : Kept 
       unseen v a e false h = refl
       unseen v a e true h = let q = seen v h a in absurd (omega (arith, q, e))
 
-  -- nor behind
-  not_behind : (near : ℕ) (q : IsNearStream message s x near) (k : ℕ) → IsOn message x.sender s k → count x.sender ≤ k + 2 ^ 31 → q.number < number_at k + 2 ^ 31
-  not_behind near q k on c =
+  -- nor behind, where of the stream no greater number is passed below `upto`, and little is numbered from there on
+  not_behind : (near : ℕ) (q : IsNearStream message s x near) (k upto : ℕ) → IsOn message x.sender s k → ((u : ℕ) → IsOn message x.sender s u → u < upto → number_at u ≤ number_at k)
+      → count x.sender < upto + 2 ^ 30 → q.number < number_at k + 2 ^ 31
+  not_behind near q k upto on last c =
       elim q.met [
         | inl z ↦ omega (arith, z)
         | inr m ↦
@@ -115,16 +117,35 @@ module _ (message : ℕ → Message) (mixed : Bool) (x : Transfer) (kept : Kept 
             let a = m.1.on in
             let n = m.1.number in
             let h = a.numbered in
-            elim (cases_lt k t) [
-              | inl l ↦ let w = stepped message x.sender kept.outgoing s k t on a (omega (arith, l)) in omega (arith, w, n, h, c)
-              | inr g ↦ let w = rising message x.sender kept.outgoing s t k a on g in omega (arith, w, n)
+            elim (cases_lt (number_at k) (number_at t)) [
+              | inr g ↦ omega (arith, g, n)
+              | inl l ↦ let w = passed t a l in omega (arith, w, n, h, c)
             ]
       ]
+    where
+      passed : (t : ℕ) → IsOn message x.sender s t → number_at k < number_at t → number_at t + upto ≤ suc (number_at k) + t
+      passed t a l = elim (cases_lt (suc (number_at k)) (number_at t)) [
+        | inr g ↦ let b = behind t a l in omega (arith, b, g)
+        | inl more ↦
+            let v = part_before message x.sender kept.outgoing s (suc (number_at k)) t a more in
+            let vl = v.2 in
+            let vn = v.3 in
+            let b = behind v.0 v.1 (omega (arith, vn)) in
+            let w = stepped message x.sender kept.outgoing s v.0 t v.1 a (omega (arith, vl)) in
+            omega (arith, w, vn, b)
+      ]
+        where
+          behind : (v : ℕ) → IsOn message x.sender s v → number_at k < number_at v → upto ≤ v
+          behind v a l = elim (cases_lt v upto) [
+            | inr g ↦ g
+            | inl b ↦ let w = last v a b in absurd (omega (arith, w, l))
+          ]
 
-  pub mid_read : (near : ℕ) → IsNearStream message s x near → (k : ℕ) → IsOn message x.sender s k → count x.sender ≤ k + 2 ^ 31 → nearest words 0 near (wire words 0 (origin + number_at k)) ≡ origin + number_at k
-  mid_read near q k on c =
+  pub mid_read : (near : ℕ) → IsNearStream message s x near → (k upto : ℕ) → IsOn message x.sender s k → ((u : ℕ) → IsOn message x.sender s u → u < upto → number_at u ≤ number_at k)
+      → count x.sender < upto + 2 ^ 30 → nearest words 0 near (wire words 0 (origin + number_at k)) ≡ origin + number_at k
+  mid_read near q k upto on last c =
       let a = not_ahead q.number q.seen k on in
-      let b = not_behind near q k on c in
+      let b = not_behind near q k upto on last c in
       let e = q.near_is in
       words_read 0 near (origin + number_at k) (omega (arith, b, e), omega (arith, a, e)) (omega (arith, e))
 
@@ -142,24 +163,25 @@ module _ (message : ℕ → Message) (mixed : Bool) (x : Transfer) (kept : Kept 
   -- a fragment that is not acknowledged
   pub fragment_mid : (k : ℕ) → x.acknowledged ≤ k → (s : ℕ) → IsOn message x.sender s k
       → nearest words 0 (unordered_at r.streams s).near (wire words 0 (origin + x.sender.number (place_of x.sender k))) ≡ origin + x.sender.number (place_of x.sender k)
-  fragment_mid k a s on = let c = counted_from message mixed x kept windows k a on.numbered in mid_read message mixed x kept windows s (unordered_at r.streams s).near (near.streams s) k on (omega (arith, c))
+  fragment_mid k a s on =
+      let c = counted_from message mixed x kept windows k a on.numbered in
+      mid_read message mixed x kept windows s (unordered_at r.streams s).near (near.streams s) k (suc k) on
+      (λ u b l. rising message x.sender kept.outgoing s u k b on (omega (arith, l))) (omega (arith, c))
 
   -- an entry of a forward point that is ahead
   pub entry_mid : (f : ForwardPoint) → IsAmong f x.forward_points → x.acknowledged < f.upto → AreApart f.entries → (e : Entry) → IsAmong e f.entries → e.ordered ≡ false
       → nearest words 0 (unordered_at r.streams e.stream).near (wire words 0 (origin + e.number)) ≡ origin + e.number
   entry_mid f sent ahead apart e a u =
       let named = near.points f sent in
-      let z = named.near e.stream e.number (subst (λ z. covers f.entries z e.stream e.number ≡ true) u (among_covers e f.entries a)) in
+      let z = named.last e.stream e.number (subst (λ z. covers f.entries z e.stream e.number ≡ true) u (among_covers e f.entries a)) in
       let on = z.1 in
-      let below = z.2 in
-      let window = z.3 in
       let lo = z.4 in
       let hi = greatest f.entries apart e a (x.sender.number (place_of x.sender z.0)) (subst (λ b. covers f.entries b e.stream (x.sender.number (place_of x.sender z.0)) ≡ true) (sym u) z.5) in
       let within = (kept.forwards_true f sent).within in
       let c = windows.items (omega (arith, ahead, within)) in
       let n : x.sender.number (place_of x.sender z.0) ≡ e.number = omega (arith, lo, hi) in
       subst (λ b. nearest words 0 (unordered_at r.streams e.stream).near (wire words 0 (origin + b)) ≡ origin + b) n
-      (mid_read message mixed x kept windows e.stream (unordered_at r.streams e.stream).near (near.streams e.stream) z.0 on (omega (arith, c, ahead, window)))
+      (mid_read message mixed x kept windows e.stream (unordered_at r.streams e.stream).near (near.streams e.stream) z.0 f.upto on z.3 (omega (arith, c, ahead)))
 
   -- as the queue reads it
   pub fragment_number : (k : ℕ) (f : FragmentTree) → Carries message mixed x.sender k f → IsWritten message mixed x.sender k f → x.acknowledged ≤ k → mixed ≡ true → r.streams.is_interleaved ≡ mixed → f.is_unordered ≡ true

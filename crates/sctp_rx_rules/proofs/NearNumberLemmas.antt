@@ -20,7 +20,8 @@ use Rattle.sctp_rules.proofs.ToolsLemmas.{same_is, same_self}
 use Rattle.sctp_rules.proofs.DeliverLemmas.{lower_place}
 use Rattle.sctp_rules.proofs.WindowsLemmas.{number_window, named_window, words_read, halves_read}
 use Rattle.sctp_rx_rules.specs.View.{ordered_at, unordered_at}
-use Rattle.sctp_rx_rules.specs.Read.{Carries, AreApart, StandsFor, StandForAll, number_read}
+use Rattle.sctp_rx_rules.specs.Read.{Carries, StandsFor, StandForAll, number_read}
+use Rattle.sctp_rules.specs.Points.{AreApart}
 use Rattle.sctp_rx_rules.specs.Receives.{Receives}
 use Rattle.sctp_rx_rules.specs.Near.{IsWritten, IsEntry, AreEntries, AreFew}
 use Rattle.sctp_rx_rules.proofs.KeyLemmas.{twice_not}
@@ -28,7 +29,7 @@ use Rattle.sctp_rx_rules.proofs.KeyLemmas.{twice_not}
 -- ---- bounds
 
 -- a message has at least as many before it as its number says
-number_le_place : (message : ℕ → Message) (o : Sender) → Outgoing message o → (n p : ℕ) → o.begun p ≡ true → o.number p ≡ n → n ≤ p
+pub number_le_place : (message : ℕ → Message) (o : Sender) → Outgoing message o → (n p : ℕ) → o.begun p ≡ true → o.number p ≡ n → n ≤ p
 number_le_place message o out zero p b e = omega arith
 number_le_place message o out (suc n) p b e =
     let c = out.counted p b in

@@ -12,7 +12,8 @@ use Rattle.sctp_rules.specs.Windows.{Windows}
 use Rattle.sctp_rules.specs.Kept.{Kept}
 use Rattle.sctp_rules.proofs.StepLemmas.{later}
 use Rattle.sctp_rx_rules.specs.View.{was_seen}
-use Rattle.sctp_rx_rules.specs.Read.{Carries, IsRead, AreApart, StandForAll, number_read, shift_after}
+use Rattle.sctp_rx_rules.specs.Read.{Carries, IsRead, StandForAll, number_read, shift_after}
+use Rattle.sctp_rules.specs.Points.{AreApart}
 use Rattle.sctp_rx_rules.specs.Receives.{Receives, Goes}
 use Rattle.sctp_rx_rules.specs.Near.{IsWritten, AreFew, IsNearQueue}
 use Rattle.sctp_rx_rules.proofs.FragmentLemmas.{added_now}

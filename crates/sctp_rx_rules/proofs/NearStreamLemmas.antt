@@ -14,7 +14,8 @@ use Rattle.sctp_rx.specs.Delivery.{ordered_arrival}
 use Rattle.sctp_rules.specs.State.{Entry}
 use Rattle.sctp_rules.specs.Rules.{same, raised}
 use Rattle.sctp_rx_rules.specs.View.{ordered_at, unordered_at}
-use Rattle.sctp_rx_rules.specs.Read.{StandForAll, AreApart, number_read}
+use Rattle.sctp_rx_rules.specs.Read.{StandForAll, number_read}
+use Rattle.sctp_rules.specs.Points.{AreApart}
 use Rattle.sctp_rx_rules.proofs.StreamLemmas.{changed_here, changed_off}
 use Rattle.sctp_rx_rules.proofs.SkipLemmas.{Does, in_order, out_of_order, does, AreLike, all_still, passed_on}
 use Rattle.sctp_rx_rules.proofs.ForwardLemmas.{unordered_kept}

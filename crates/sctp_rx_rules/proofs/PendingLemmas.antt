@@ -12,7 +12,7 @@ use Rattle.sctp_rules.specs.State.{Entry, IsAmong}
 use Rattle.sctp_rules.specs.Rules.{same, covers, raised}
 use Rattle.sctp_rules.proofs.ToolsLemmas.{same_is, same_self}
 use Rattle.sctp_rx_rules.specs.View.{View}
-use Rattle.sctp_rx_rules.specs.Read.{IsApart}
+use Rattle.sctp_rules.specs.Points.{IsApart}
 use Rattle.sctp_rx_rules.proofs.AmongLemmas.{from_cases, from_kept}
 use Rattle.sctp_rx_rules.proofs.KeyLemmas.{place_cases}
 use Rattle.sctp_rx_rules.proofs.TakesLemmas.{AreAlike, is_place, is_here, is_off, moved}

@@ -17,7 +17,8 @@ use Rattle.sctp_rx.proofs.SettledRunsLemmas.{from_order}
 use Rattle.sctp_rules.specs.State.{Entry, IsAmong}
 use Rattle.sctp_rules.specs.Reassembly.{Queue, KeyOf, next_of}
 use Rattle.sctp_rx_rules.specs.View.{IsSeenAs, ordered_at, unordered_at, held_on, view_with}
-use Rattle.sctp_rx_rules.specs.Read.{StandsFor, StandForAll, IsApart, AreApart}
+use Rattle.sctp_rx_rules.specs.Read.{StandsFor, StandForAll}
+use Rattle.sctp_rules.specs.Points.{AreApart, IsApart}
 use Rattle.sctp_rx_rules.proofs.KeyLemmas.{Decided}
 use Rattle.sctp_rx_rules.proofs.TakesLemmas.{none, Leads, AreAlike, alike_same, moved, seen_alike, leads_alike, leads_on, after_delivery, delivers}
 use Rattle.sctp_rx_rules.proofs.StreamLemmas.{changed_here, changed_off}

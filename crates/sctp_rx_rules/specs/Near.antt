@@ -81,10 +81,11 @@ pub record IsNearStream (message : ℕ → Message) (s : ℕ) (x : Transfer) (ne
   pub seen : (t : ℕ) → x.receiver.seen t ≡ true → IsOn message x.sender s t → x.sender.number (place_of x.sender t) < number + 2 ^ 30
 
 -- what a forward point says of unordered messages: it names those of which it passes a fragment that is not seen; and
--- where it names a number, then that of a fragment among the last 2^30 that it passes
+-- where it names a number, then that of a fragment that it passes, and none of a greater number on this stream
 pub record IsNamed (message : ℕ → Message) (x : Transfer) (f : ForwardPoint) : Type 0 where
   pub unseen : (s t : ℕ) → IsOn message x.sender s t → t < f.upto → (x.receiver.seen t ≡ true) ⊎ (covers f.entries false s (x.sender.number (place_of x.sender t)) ≡ true)
-  pub near : (s n : ℕ) → covers f.entries false s n ≡ true → (t : ℕ) × IsOn message x.sender s t × (t < f.upto) × (f.upto ≤ t + 2 ^ 30)
+  pub last : (s n : ℕ) → covers f.entries false s n ≡ true → (t : ℕ) × IsOn message x.sender s t × (t < f.upto)
+      × ((u : ℕ) → IsOn message x.sender s u → u < f.upto → x.sender.number (place_of x.sender u) ≤ x.sender.number (place_of x.sender t))
       × (n ≤ x.sender.number (place_of x.sender t)) × (covers f.entries false s (x.sender.number (place_of x.sender t)) ≡ true)
 
 pub record AreNearStreams (message : ℕ → Message) (x : Transfer) (r : Reassembly) : Type 0 where

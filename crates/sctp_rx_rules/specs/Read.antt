@@ -7,7 +7,7 @@ use Rattle.sctp_packet.specs.declared.forward_tsn.SkippedStream.{SkippedStream}
 use Rattle.sctp_packet.specs.declared.forward_tsn.SkippedStream.TheVariants.{ForwardTsn, IForwardTsn}
 use Rattle.sctp_rx.specs.Streams.{Streams, ordered_number, unordered_number}
 use Rattle.sctp_rx.specs.ReassemblyQueue.{Reassembly, number_of}
-use Rattle.sctp_rules.specs.State.{Message, Entry, Sender, Receiver, IsAmong, fragment, place_of, count, ordered_of, stream_of}
+use Rattle.sctp_rules.specs.State.{Message, Entry, Sender, Receiver, fragment, place_of, count, ordered_of, stream_of}
 use Rattle.sctp_rules.specs.Rules.{floor}
 use Rattle.sctp_rules.specs.Reassembly.{chunk_of}
 use Rattle.sctp_rx_rules.specs.View.{ordered_at, unordered_at}
@@ -70,11 +70,3 @@ StandForAll mixed ss [] [] = Unit {0}
 StandForAll mixed ss [] (e ∷ es) = ⊥
 StandForAll mixed ss (x ∷ xs) [] = ⊥
 StandForAll mixed ss (x ∷ xs) (e ∷ es) = StandsFor mixed ss x e × StandForAll mixed ss xs es
-
--- not of one kind and stream
-abbrev pub IsApart : Entry → Entry → Type 0
-IsApart d e = d.ordered ≡ e.ordered → d.stream ≡ e.stream → ⊥
-
-abbrev pub AreApart : List Entry → Type 0
-AreApart [] = Unit {0}
-AreApart (e ∷ es) = ((d : Entry) → IsAmong d es → IsApart e d) × AreApart es

@@ -21,7 +21,8 @@ ghost use Rattle.sctp_rules.specs.Kept.{Kept};
 ghost use Rattle.sctp_rules.specs.Reassembly.{NoneReady};
 ghost use Rattle.sctp_rules.specs.Rules.{Event, IsAllowed, after, data_comes, deliver, forward_comes, late_comes, send_sack};
 ghost use Rattle.sctp_rules.specs.State.{ForwardPoint, IsAmong, Message, Transfer, start};
-ghost use Rattle.sctp_rx_rules.specs.Read.{AreApart, Carries, IsRead, StandForAll, is_behind, shift_after};
+ghost use Rattle.sctp_rx_rules.specs.Read.{Carries, IsRead, StandForAll, is_behind, shift_after};
+ghost use Rattle.sctp_rules.specs.Points.{AreApart};
 ghost use Rattle.sctp_rx_rules.specs.Receives.{Goes, Receives};
 ghost use Rattle.sctp_rx_rules.specs.View.{was_seen};
 

@@ -15,7 +15,8 @@ ghost use Rattle.sctp_rules.specs.Rules.{Event, IsAllowed, after, data_comes, de
 ghost use Rattle.sctp_rules.specs.State.{ForwardPoint, IsAmong, Message, Transfer, start};
 ghost use Rattle.sctp_rules.specs.Windows.{IsTimely, Windows};
 ghost use Rattle.sctp_rx_rules.specs.Near.{AreEntries, AreFew, GoesNear, IsWritten, ReadsNear};
-ghost use Rattle.sctp_rx_rules.specs.Read.{AreApart, Carries, IsRead, StandForAll, is_behind, shift_after};
+ghost use Rattle.sctp_rx_rules.specs.Read.{Carries, IsRead, StandForAll, is_behind, shift_after};
+ghost use Rattle.sctp_rules.specs.Points.{AreApart};
 ghost use Rattle.sctp_rx_rules.specs.Receives.{Goes, Receives};
 ghost use Rattle.sctp_rx_rules.specs.View.{was_seen};
 
@@ -50,7 +51,7 @@ pub fn points_are_read()
 {}
 
 /// A new queue is near, and it stays so: when a fragment comes, or a forward point that moves the tracker's front, when a
-/// message is taken, and while the sender goes on.
+/// message is taken, and while the sender goes on, with no premise of its windows.
 pub fn nearness_is_kept()
     ensures new_queue { (message : ℕ → Message) (mixed : Bool) (first shift max_size : ℕ) → ReadsNear message mixed first shift start (reassembly max_size mixed) }
     ensures fragment { (message : ℕ → Message) (mixed : Bool) (first shift : ℕ) (x : Transfer) (handed : List messages.Message) (t : Tracker) (r : Reassembly) (k tsn : ℕ) (f : FragmentTree) (now : Bool) (es : List Event) →
@@ -67,7 +68,7 @@ pub fn nearness_is_kept()
     ensures message_is_taken { (message : ℕ → Message) (mixed : Bool) (first shift : ℕ) (x : Transfer) (r : Reassembly) (ms : List messages.Message) →
         ReadsNear message mixed first shift x r → ReadsNear message mixed first shift x (record r { ready = ms }) }
     ensures sender_goes_on { (message : ℕ → Message) (mixed : Bool) (first shift : ℕ) (x : Transfer) (e : Event) (r : Reassembly) →
-        Kept message mixed x → Windows message x → IsAllowed message mixed x e → (after message mixed x e).receiver ≡ x.receiver →
+        Kept message mixed x → IsAllowed message mixed x e → (after message mixed x e).receiver ≡ x.receiver →
         ReadsNear message mixed first shift x r → ReadsNear message mixed first shift (after message mixed x e) r }
 {}
 

@@ -5,7 +5,8 @@ ghost use Rattle.sctp_serial.specs.Unwrapped.{origin, wire, words};
 ghost use Rattle.sctp_rules.specs.Runs.{over_two, three, woven};
 ghost use Rattle.sctp_rules.specs.Windows.{Windows};
 ghost use Rattle.sctp_rx_rules.specs.Near.{AreEntries, AreFew, IsWritten};
-ghost use Rattle.sctp_rx_rules.specs.Read.{AreApart, Carries, IsRead, StandForAll, is_behind};
+ghost use Rattle.sctp_rx_rules.specs.Read.{Carries, IsRead, StandForAll, is_behind};
+ghost use Rattle.sctp_rules.specs.Points.{AreApart};
 ghost use Rattle.sctp_rx_rules.specs.Runs.{after_first, after_point, after_second, after_third, empty, first_part, numbered, point_sent, second_message, skipped, third_message, tracked, woven_empty, woven_numbered, woven_part};
 
 /// DATA: fragment 2 comes first, so the queue counts from it; fragments 3 and 0 come, and a forward point passes 0 and 1.

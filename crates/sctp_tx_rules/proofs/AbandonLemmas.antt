@@ -1,6 +1,7 @@
 -- A message is given up of which an item is kept.
 use Rattle.std.proofs.Common.{◌≡◌, ◌≢◌, ℕ, zero, suc, ◌+◌, ◌%◌, ◌^◌, ◌<◌, ◌≤◌, Bool, true, false, cond, inl, inr, ◌⊎◌, Option, Some, None, List, [], ◌∷◌, ◌++◌, map, refl, sym, ap, ◌∙◌, subst, arith, eqb, length-append, append-nil}
 use Rattle.std.specs.Prelude.{◌-◌, ◌==◌, slice_get, is_some}
+use Rattle.std.specs.List.{list_all}
 use Rattle.std.proofs.lemmas.Bool.{cases_eq, cases_Bool, cases_order, eq-eqb, ne_eqb, false_from_ne_true}
 use Rattle.std.proofs.lemmas.Bool.Decides.{nat_tests}
 use Rattle.std.proofs.lemmas.List.{get_or_push, get_or_append_left, map-append}
@@ -18,7 +19,7 @@ use Rattle.sctp_rules.proofs.ToolsLemmas.{put_at, put_off, put_keeps, not_both}
 use Rattle.sctp_rules.proofs.IndexedLemmas.{parts_off}
 use Rattle.sctp_rules.proofs.SenderRowLemmas.{rest_dropped, sent_given_up}
 use Rattle.sctp_tx_rules.specs.Shown.{found, waiting_of, queue_of, tree_of, StandsFor, AreKept, IsEntry, AreQueued, AreDiscards}
-use Rattle.sctp_tx_rules.specs.Led.{given_ups}
+use Rattle.sctp_tx_rules.specs.Led.{is_sending, given_ups}
 use Rattle.sctp_tx_rules.proofs.FoundLemmas.{none_some, one_value}
 use Rattle.sctp_tx_rules.proofs.QueuedLemmas.{Frame, queue_some, queue_given, queue_as, change, change_discards}
 use Rattle.sctp_tx_rules.proofs.ItemsLemmas.{Stays, kept_push}
@@ -374,9 +375,9 @@ module _ (message : ℕ → Message) (lifecycle : ℕ → Option ℕ) (mixed : B
               | inr e ↦ put_at o.given_up p true d.number (ap (λ (z : Discard). z.number) e)
             ]
 
-  pub gives : (es : List Event) × GivesUp message lifecycle mixed x ms s p es × (given_ups es ≡ p ∷ [])
+  pub gives : (es : List Event) × GivesUp message lifecycle mixed x ms s p es × (given_ups es ≡ p ∷ []) × (list_all is_sending es ≡ true)
   gives = go f.is_end refl
     where
-      go : (b : Bool) → f.is_end ≡ b → (es : List Event) × GivesUp message lifecycle mixed x ms s p es × (given_ups es ≡ p ∷ [])
-      go true e = (give_up p ∷ [], ended_row e, refl)
-      go false e = (close p ∷ give_up p ∷ [], open_row e, refl)
+      go : (b : Bool) → f.is_end ≡ b → (es : List Event) × GivesUp message lifecycle mixed x ms s p es × (given_ups es ≡ p ∷ []) × (list_all is_sending es ≡ true)
+      go true e = (give_up p ∷ [], ended_row e, refl, refl)
+      go false e = (close p ∷ give_up p ∷ [], open_row e, refl, refl)

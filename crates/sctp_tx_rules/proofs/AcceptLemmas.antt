@@ -12,7 +12,7 @@ use Rattle.std.specs.Duration.{as_nanos}
 use Rattle.sctp_serial.specs.declared.api.Message as given
 use Rattle.sctp_state.specs.declared.api.options.SendOptions.{SendOptions}
 use Rattle.sctp_send_queue.specs.Views.{queued_of}
-use Rattle.sctp_state.specs.Events.{Told}
+use Rattle.sctp_state.specs.Events.{Told, silent}
 use Rattle.sctp_send_queue.specs.declared.send_queue.message.MessageNumbers.{MessageNumbers}
 use Rattle.sctp_send_queue.specs.Queue as queue
 use Rattle.sctp_send_queue.specs.Queue.{expiry_of, Queued, Queue, Stream, Streams, Entries, blank, opened, pushed, stream, added}
@@ -117,13 +117,13 @@ module _ (message : ℕ → Message) (lifecycle : ℕ → Option ℕ) (mixed : B
       all : messages_of after ≡ messages_of q
       all = funext (messages_of after) (messages_of q) each
 
-  pub with_settings : (id n : ℕ) (told : Told (List ℕ)) → Shows message lifecycle mixed x (set_priority id n q) s × Shows message lifecycle mixed x (set_low_threshold id n q told).queue s
+  pub with_settings : {P : Type 0} (id n : ℕ) (told : Told P) → Shows message lifecycle mixed x (set_priority id n q) s × Shows message lifecycle mixed x (set_low_threshold id n q told).queue s
   with_settings id n told =
       let next = sh.queue.next id in (
         set id (with_priority n (stream id q.streams)) (set_priority id n q) refl refl (record { ssn = next.ssn; ordered_mid = next.ordered_mid; unordered_mid = next.unordered_mid }) refl refl
             (priority_in_order id n q sh.queue.order) (calls_number.priority id n q sh.queue.rising) (calls_leave_rests.priority id n q sh.queue.rests),
         set id (with_threshold n (stream id q.streams)) (set_low_threshold id n q told).queue refl refl (record { ssn = next.ssn; ordered_mid = next.ordered_mid; unordered_mid = next.unordered_mid }) refl refl
-            (threshold_in_order id n q told sh.queue.order) (calls_number.threshold id n q told sh.queue.rising) (calls_leave_rests.threshold id n q told sh.queue.rests),
+            (threshold_in_order id n q told sh.queue.order) (calls_number.threshold id n q silent sh.queue.rising) (calls_leave_rests.threshold id n q silent sh.queue.rests),
       )
 
   -- ---- acceptance

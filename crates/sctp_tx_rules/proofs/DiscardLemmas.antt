@@ -4,12 +4,12 @@ use Rattle.std.specs.Prelude.{is_some, ◌==◌}
 use Rattle.std.specs.List.{list_all}
 use Rattle.std.proofs.lemmas.Bool.{cases_eq, ne_eqb, and_parts}
 use Rattle.std.proofs.lemmas.Bool.Decides.{nat_tests}
-use Rattle.sctp_state.specs.Events.{Told}
+use Rattle.sctp_state.specs.Events.{Told, silent}
 use Rattle.sctp_send_queue.specs.Queue as queue
 use Rattle.sctp_send_queue.specs.Queue.{Queued, Queue, Stream, Streams, blank, stream}
 use Rattle.sctp_send_queue.specs.Produced.{settled}
 use Rattle.sctp_send_queue.specs.Settings.{front_discarded, without_front, streams_discarded, discard_from, discard}
-use Rattle.sctp_send_queue.specs.InOrder.{is_waiting, is_begun_or_waiting, are_in_order, are_rising}
+use Rattle.sctp_send_queue.specs.InOrder.{IsNumbered, HasRests, is_waiting, is_begun_or_waiting, are_in_order, are_rising}
 use Rattle.sctp_send_queue.proofs.InOrderLemmas.{hears_mode, put_elsewhere, discard_streams, discarded_in_order}
 use Rattle.sctp_send_queue.proofs.NumberLemmas.{calls_number}
 use Rattle.sctp_send_queue.proofs.RestLemmas.{calls_leave_rests}
@@ -23,7 +23,7 @@ use Rattle.sctp_tx_rules.proofs.QueuedLemmas.{queue_given, queue_as, change}
 use Rattle.sctp_tx_rules.proofs.FreshLemmas.{put_here}
 use Rattle.sctp_tx_rules.proofs.ProduceLemmas.{stream_changed, is_other, behind_waits}
 
-module _ (message : ℕ → Message) (lifecycle : ℕ → Option ℕ) (mixed : Bool) (o : Sender) (q : Queue) (id number : ℕ) (told : Told (List ℕ)) where
+module _ {P : Type 0} (message : ℕ → Message) (lifecycle : ℕ → Option ℕ) (mixed : Bool) (o : Sender) (q : Queue) (id number : ℕ) (told : Told P) where
   abbrev s0 : Stream
   s0 = stream id q.streams
 
@@ -53,6 +53,14 @@ module _ (message : ℕ → Message) (lifecycle : ℕ → Option ℕ) (mixed : B
   count_stays = go (front_discarded number s0.messages)
     where
       go : (f : Option (Option ℕ)) → (discard_from id (streams_discarded id number q.streams) f q told).queue.next_number ≡ q.next_number
+      go None = refl
+      go (Some l) = refl
+
+  -- whatever was told before
+  same_after : (discard id number q (silent {P = List ℕ})).queue ≡ after
+  same_after = go (front_discarded number s0.messages)
+    where
+      go : (f : Option (Option ℕ)) → (discard_from id (streams_discarded id number q.streams) f q (silent {P = List ℕ})).queue ≡ (discard_from id (streams_discarded id number q.streams) f q told).queue
       go None = refl
       go (Some l) = refl
 
@@ -126,8 +134,8 @@ module _ (message : ℕ → Message) (lifecycle : ℕ → Option ℕ) (mixed : B
     discard_queue = record {
       mode = mode_stays ∙ h.mode;
       order = discarded_in_order id number q told h.order;
-      rising = calls_number.discarded id number q told h.rising;
-      rests = calls_leave_rests.discarded id number q told h.rests;
+      rising = subst IsNumbered same_after (calls_number.discarded id number q silent h.rising);
+      rests = subst HasRests same_after (calls_leave_rests.discarded id number q silent h.rests);
       accepted = count_stays ∙ h.accepted;
       few = h.few;
       next = λ k. elim (cases_eq k id) [
@@ -167,7 +175,7 @@ pub record Discarded (message : ℕ → Message) (lifecycle : ℕ → Option ℕ
   pub queue_is : QueueShows message lifecycle mixed o q
   pub none_left : AreDiscards o (messages_of q) []
 
-pub discards_all : (message : ℕ → Message) (lifecycle : ℕ → Option ℕ) (mixed : Bool) (o : Sender) (ds : List Discard) (q : Queue) (told : Told (List ℕ))
+pub discards_all : {P : Type 0} (message : ℕ → Message) (lifecycle : ℕ → Option ℕ) (mixed : Bool) (o : Sender) (ds : List Discard) (q : Queue) (told : Told P)
     → QueueShows message lifecycle mixed o q → AreDiscards o (messages_of q) ds → Discarded message lifecycle mixed o (discard_all ds q told).queue
 discards_all message lifecycle mixed o [] q told h a = record { queue_is = h; none_left = a }
 discards_all message lifecycle mixed o (d ∷ ds) q told h a =

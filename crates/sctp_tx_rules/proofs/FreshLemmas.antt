@@ -103,7 +103,7 @@ module _ (message : ℕ → Message) (lifecycle : ℕ → Option ℕ) where
     drops =
         let r = unsent_dropped message mixed x k (queue_of message x.sender ms) a.queued p (waiting_of m) queued_here unsent in
         record {
-          leads = record { events = give_up p ∷ []; may = r.may; leads = refl; given_up = refl; rest_stays = refl };
+          leads = record { events = give_up p ∷ []; may = r.may; leads = refl; sends = refl; given_up = refl; rest_stays = refl };
           kept_is = r.kept;
           queued =
               change message lifecycle x.sender (gives_up x.sender p) ms (put ms id rest) p elsewhere frame (omega arith) (λ k n f. absurd (gone k n f)) None

@@ -1,5 +1,7 @@
 -- One run of the rules after another.
-use Rattle.std.proofs.Common.{◌≡◌, ℕ, Bool, Option, List, [], ◌∷◌, ◌++◌, refl, sym, ap, ◌∙◌, subst, append_assoc, append-nil}
+use Rattle.std.proofs.Common.{◌≡◌, ℕ, Bool, ◌&&◌, Option, List, [], ◌∷◌, ◌++◌, refl, sym, ap, ◌∙◌, subst, append_assoc, append-nil}
+use Rattle.std.specs.List.{list_all}
+use Rattle.std.proofs.lemmas.List.Folds.{list_all-append}
 use Rattle.sctp_state.specs.Events.{Told}
 use Rattle.sctp_send_queue.specs.Queue.{Queue}
 use Rattle.sctp_outstanding.specs.Items.{Items}
@@ -7,29 +9,30 @@ use Rattle.sctp_rules.specs.State.{Message, Transfer}
 use Rattle.sctp_rules.specs.Rules.{Event, Happens, after, run}
 use Rattle.sctp_rules.specs.Kept.{Kept}
 use Rattle.sctp_tx_rules.specs.Shown.{Shows}
-use Rattle.sctp_tx_rules.specs.Led.{given_up_by, given_ups, recorded, Leads, LeadsTo}
+use Rattle.sctp_tx_rules.specs.Led.{is_sending, given_up_by, given_ups, recorded, Leads, LeadsTo}
 
 module _ (message : ℕ → Message) (mixed : Bool) where
-  happens_more : (es fs : List Event) (x : Transfer) → Happens message mixed x es → Happens message mixed (run message mixed x es) fs → Happens message mixed x (es ++ fs)
+  pub happens_more : (es fs : List Event) (x : Transfer) → Happens message mixed x es → Happens message mixed (run message mixed x es) fs → Happens message mixed x (es ++ fs)
   happens_more [] fs x a b = b
   happens_more (e ∷ es) fs x a b = (a.0, happens_more es fs (after message mixed x e) a.1 b)
 
-  run_more : (es fs : List Event) (x : Transfer) → run message mixed x (es ++ fs) ≡ run message mixed (run message mixed x es) fs
+  pub run_more : (es fs : List Event) (x : Transfer) → run message mixed x (es ++ fs) ≡ run message mixed (run message mixed x es) fs
   run_more [] fs x = refl
   run_more (e ∷ es) fs x = run_more es fs (after message mixed x e)
 
-  given_more : (es fs : List Event) → given_ups (es ++ fs) ≡ given_ups es ++ given_ups fs
+  pub given_more : (es fs : List Event) → given_ups (es ++ fs) ≡ given_ups es ++ given_ups fs
   given_more [] fs = refl
   given_more (e ∷ es) fs = ap (λ z. given_up_by e ++ z) (given_more es fs) ∙ sym (append_assoc (given_up_by e) (given_ups es) (given_ups fs))
 
   pub leads_none : (x : Transfer) → Leads message mixed x x []
-  leads_none x = record { events = []; may = tt; leads = refl; given_up = refl; rest_stays = refl }
+  leads_none x = record { events = []; may = tt; leads = refl; sends = refl; given_up = refl; rest_stays = refl }
 
   pub leads_on : (x y z : Transfer) (ps qs : List ℕ) → Leads message mixed x y ps → Leads message mixed y z qs → Leads message mixed x z (ps ++ qs)
   leads_on x y z ps qs a b = record {
     events = a.events ++ b.events;
     may = happens_more a.events b.events x a.may (subst (λ w. Happens message mixed w b.events) (sym a.leads) b.may);
     leads = run_more a.events b.events x ∙ (ap (λ w. run message mixed w b.events) a.leads ∙ b.leads);
+    sends = list_all-append is_sending a.events b.events ∙ (ap (λ z. z && list_all is_sending b.events) a.sends ∙ b.sends);
     given_up = given_more a.events b.events ∙ (ap (λ w. w ++ given_ups b.events) a.given_up ∙ ap (λ w. ps ++ w) b.given_up);
     rest_stays = b.rest_stays ∙ ap with_sender a.rest_stays;
   }

@@ -11,6 +11,7 @@ pub mod ProduceLemmas
 pub mod QueuedLemmas
 pub mod SackLemmas
 pub mod TurnLemmas
+pub mod WholeLemmas
 pub mod DiscardLemmas
 pub mod AcceptLemmas
 pub mod SendLemmas

@@ -1,6 +1,7 @@
 -- Missing reports, timeouts and lifetimes.
 use Rattle.std.proofs.Common.{◌≡◌, ℕ, zero, suc, ◌+◌, ◌<◌, Bool, true, false, cond, Option, Some, None, List, [], ◌∷◌, ◌++◌, refl, sym, ap, ◌∙◌, subst, arith, append_assoc}
 use Rattle.std.specs.Prelude.{◌^◌, slice_get, option_map, unwrap_or, ◌&&◌, ◌||◌, ◌-◌}
+use Rattle.std.specs.List.{list_all}
 use Rattle.std.proofs.lemmas.Bool.{and_parts}
 use Rattle.std.proofs.lemmas.List.{map-append}
 use Rattle.sctp_serial.specs.Unwrapped.{origin}
@@ -19,7 +20,7 @@ use Rattle.sctp_rules.specs.State.{Message, Sender, Transfer, fragment}
 use Rattle.sctp_rules.specs.Rules.{Event, run}
 use Rattle.sctp_rules.proofs.KeepsLemmas.{all_kept}
 use Rattle.sctp_tx_rules.specs.Shown.{StandsFor, AreKept, QueueShows, AreQueued, messages_of}
-use Rattle.sctp_tx_rules.specs.Led.{given_ups, recorded, LeadsTo}
+use Rattle.sctp_tx_rules.specs.Led.{is_sending, given_ups, recorded, LeadsTo}
 use Rattle.sctp_tx_rules.proofs.ItemsLemmas.{Alike, by_nack, kept_changed}
 use Rattle.sctp_tx_rules.proofs.LedLemmas.{leads_on}
 use Rattle.sctp_tx_rules.proofs.AbandonLemmas.{GivesUp, gives, some_last}
@@ -80,7 +81,7 @@ module _ {P : Type 0} (message : ℕ → Message) (lifecycle : ℕ → Option �
   abandoned p k s later cause i here number lives a = record {
     after = z;
     places = a.places ++ p ∷ [];
-    leads = leads_on message mixed x y z a.places (p ∷ []) a.leads (record { events = r.0; may = r.1.may; leads = refl; given_up = r.2; rest_stays = r.1.rest_stays });
+    leads = leads_on message mixed x y z a.places (p ∷ []) a.leads (record { events = r.0; may = r.1.may; leads = refl; sends = r.3; given_up = r.2; rest_stays = r.1.rest_stays });
     kept = all_kept message mixed r.0 y a.kept r.1.may;
     shows = record {
       queue = queue_stays message lifecycle mixed y.sender z.sender q r.1.counts_stay r.1.accepted_stays r.1.messages a.shows.queue;
@@ -108,7 +109,7 @@ module _ {P : Type 0} (message : ℕ → Message) (lifecycle : ℕ → Option �
       l : (g : FragmentTree) × (later_of p None s.kept ≡ Some g)
       l = some_last message lifecycle p k None s.kept i here number
 
-      r : (es : List Event) × GivesUp message lifecycle mixed y (messages_of q) s p es × (given_ups es ≡ p ∷ [])
+      r : (es : List Event) × GivesUp message lifecycle mixed y (messages_of q) s p es × (given_ups es ≡ p ∷ []) × (list_all is_sending es ≡ true)
       r = gives message lifecycle mixed y a.kept (messages_of q) s a.shows.items.kept a.shows.queue.messages a.shows.discards p live l.0 l.1
 
       z : Transfer

@@ -25,7 +25,8 @@ use Rattle.sctp_rules.specs.Rules.{same, covers}
 use Rattle.sctp_rules.specs.Kept.{Outgoing, Kept}
 use Rattle.sctp_rules.proofs.ToolsLemmas.{same_is, same_self, not_both}
 use Rattle.sctp_tx_rules.specs.Shown.{StandsFor, AreKept, Shows}
-use Rattle.sctp_tx_rules.specs.Points.{skip_of, chunk_of, AreApart, IsSendable}
+use Rattle.sctp_tx_rules.specs.Points.{skip_of, chunk_of, IsSendable}
+use Rattle.sctp_rules.specs.Points.{AreApart}
 use Rattle.sctp_tx_rules.proofs.ItemsLemmas.{kept_below}
 
 -- ---- entries
@@ -123,7 +124,7 @@ before_apart a b false false h e f = grind (arith, nat_tests)
 
 ascend_apart : (mixed : Bool) (es : List Entry) → Ascend (map (skip_of mixed) es) → AreApart es
 ascend_apart mixed [] a = tt
-ascend_apart mixed (e ∷ es) a = (λ d m s k. behind es a.0 d m s k, ascend_apart mixed es a.1)
+ascend_apart mixed (e ∷ es) a = (λ d m k s. behind es a.0 d m s k, ascend_apart mixed es a.1)
   where
     behind : (ds : List Entry) → list_all (is_before (skip_of mixed e)) (map (skip_of mixed) ds) ≡ true → (d : Entry) → IsAmong d ds → e.stream ≡ d.stream → e.ordered ≡ d.ordered → ⊥
     behind [] h d m s k = absurd m

@@ -101,7 +101,7 @@ is_le a b e = grind (arith, nat_tests)
 is_lt : (a b : ℕ) → nat_lt a b ≡ true → a < b
 is_lt a b e = grind (arith, nat_tests)
 
-module _ (message : ℕ → Message) (lifecycle : ℕ → Option ℕ) (mixed : Bool) (x : Transfer) (q : Queue) (s : Items) (cumulative c : ℕ) (blocks : List GapAckBlock) (fast : Bool) (told : Told (List ℕ))
+module _ {P : Type 0} (message : ℕ → Message) (lifecycle : ℕ → Option ℕ) (mixed : Bool) (x : Transfer) (q : Queue) (s : Items) (cumulative c : ℕ) (blocks : List GapAckBlock) (fast : Bool) (told : Told P)
     (k : Kept message mixed x) (sh : Shows message lifecycle mixed x q s) (valid : is_valid cumulative blocks s ≡ true) (upto : cumulative + 1 ≡ origin + c) (sent : IsAmong c x.sacks) where
   abbrev n : ℕ
   n = leaving cumulative s
@@ -141,7 +141,7 @@ module _ (message : ℕ → Message) (lifecycle : ℕ → Option ℕ) (mixed : B
     discards = sh.discards;
   }
 
-  abbrev first : Step (List ℕ)
+  abbrev first : Step P
   first = heard_first cumulative blocks s told
 
   at_first : LeadsTo message lifecycle mixed x1 told q first.items first.told
@@ -154,6 +154,6 @@ module _ (message : ℕ → Message) (lifecycle : ℕ → Option ℕ) (mixed : B
     upto = point_is;
     reported =
         ap delivered (below_quiet false (not fast) (reported_below blocks (staying cumulative s)) first)
-        ∙ (delivered_more told.events (reports (take n s.kept)) ∙ ap (λ z. delivered told.events ++ z) (all_reports (List ℕ) message lifecycle x.sender x.acknowledged n s.kept enough sh.items.kept));
+        ∙ (delivered_more told.events (reports (take n s.kept)) ∙ ap (λ z. delivered told.events ++ z) (all_reports P message lifecycle x.sender x.acknowledged n s.kept enough sh.items.kept));
     losses = losses message lifecycle mixed x1 told q false (not fast) (reported_below blocks (staying cumulative s)) first at_first;
   }

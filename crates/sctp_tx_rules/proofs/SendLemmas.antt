@@ -1,5 +1,5 @@
 -- What a packet takes, and what its chunks carry.
-use Rattle.std.proofs.Common.{◌≡◌, ℕ, zero, suc, ◌+◌, ◌-◌, ◌<◌, Bool, true, false, cond, Option, Some, None, List, [], ◌∷◌, ◌++◌, length, length-append, append-nil, refl, sym, ap, ◌∙◌, subst, arith}
+use Rattle.std.proofs.Common.{◌≡◌, ℕ, zero, suc, ◌+◌, ◌-◌, ◌<◌, ◌≤◌, Bool, true, false, cond, Option, Some, None, List, [], ◌∷◌, ◌++◌, length, length-append, append-nil, refl, sym, ap, ◌∙◌, subst, arith}
 use Rattle.std.specs.Prelude.{slice_get, nat_lt, nat_le, ◌&&◌, min}
 use Rattle.std.proofs.lemmas.Bool.{and_parts, false_from_ne_true}
 use Rattle.std.proofs.lemmas.Bool.Decides.{nat_tests}
@@ -38,7 +38,7 @@ use Rattle.sctp_tx_rules.proofs.DiscardLemmas.{discards_all}
 
 module _ (message : ℕ → Message) (mixed : Bool) (first : ℕ) where
   pub carries_once : (x : Transfer) (k : Kept message mixed x) (e : Event) → (l : IsAllowed message mixed x e) → (c : ℕ × FragmentTree)
-      → Carries message first x.sender c → Carries message first (after message mixed x e).sender c
+      → (a : Carries message first x.sender c) → (b : Carries message first (after message mixed x e).sender c) × (b.at ≡ a.at)
   carries_once x k e l c a =
       let o = x.sender in
       let o' = (after message mixed x e).sender in
@@ -46,7 +46,7 @@ module _ (message : ℕ → Message) (mixed : Bool) (first : ℕ) where
       let grows = n.count_grows in
       let below = a.below in
       let same = n.same_fragment a.at a.below in
-      record {
+      let b : Carries message first o' c = record {
         at = a.at;
         below = omega (arith, below, grows);
         real = ap (λ (f : rules.Fragment). f.placeholder) same ∙ a.real;
@@ -55,22 +55,36 @@ module _ (message : ℕ → Message) (mixed : Bool) (first : ℕ) where
             a.tree
             ∙ (ap (λ (m : ℕ). tree_of message (record o { number = λ q. m }) (fragment o a.at)) (sym (n.number_stays (place_of o a.at) (k.outgoing.place_begun a.at a.below)))
             ∙ ap (λ (f : rules.Fragment). tree_of message o' f) (sym same));
-      }
+      } in
+      (b, refl)
 
-  carries_along : (es : List Event) (x : Transfer) → Kept message mixed x → Happens message mixed x es → (c : ℕ × FragmentTree) → Carries message first x.sender c → Carries message first (run message mixed x es).sender c
-  carries_along [] x k h c a = a
-  carries_along (e ∷ es) x k h c a = carries_along es (after message mixed x e) (keeps message mixed x k e h.0) h.1 c (carries_once x k e h.0 c a)
+  pub carries_along : (es : List Event) (x : Transfer) → Kept message mixed x → Happens message mixed x es → (c : ℕ × FragmentTree)
+      → (a : Carries message first x.sender c) → (b : Carries message first (run message mixed x es).sender c) × (b.at ≡ a.at)
+  carries_along [] x k h c a = (a, refl)
+  carries_along (e ∷ es) x k h c a =
+      let one = carries_once x k e h.0 c a in
+      let rest = carries_along es (after message mixed x e) (keeps message mixed x k e h.0) h.1 c one.0 in
+      (rest.0, rest.1 ∙ one.1)
 
-  pub carries_on : (x y : Transfer) (ps : List ℕ) → Kept message mixed x → Leads message mixed x y ps → (c : ℕ × FragmentTree) → Carries message first x.sender c → Carries message first y.sender c
-  carries_on x y ps k l c a = subst (λ (z : Transfer). Carries message first z.sender c) l.leads (carries_along l.events x k l.may c a)
+  -- a chunk, and where its fragment is
+  abbrev pub CarriesFrom : (least : ℕ) → rules.Sender → ℕ × FragmentTree → Type 0
+  CarriesFrom least o c = (carries : Carries message first o c) × (least ≤ carries.at)
 
-  pub all_on : (x y : Transfer) (ps : List ℕ) → Kept message mixed x → Leads message mixed x y ps → (cs : List (ℕ × FragmentTree)) → AllCarry message first x.sender cs → AllCarry message first y.sender cs
-  all_on x y ps k l [] a = tt
-  all_on x y ps k l (c ∷ cs) a = (carries_on x y ps k l c a.0, all_on x y ps k l cs a.1)
+  pub carries_on : (least : ℕ) (x y : Transfer) (ps : List ℕ) → Kept message mixed x → Leads message mixed x y ps → (c : ℕ × FragmentTree)
+      → CarriesFrom least x.sender c → CarriesFrom least y.sender c
+  carries_on least x y ps k l c a =
+      let b = carries_along l.events x k l.may c a.0 in
+      subst (λ (z : Transfer). CarriesFrom least z.sender c) l.leads (b.0, subst (λ n. least ≤ n) (sym b.1) a.1)
 
-pub all_push : (message : ℕ → Message) (first : ℕ) (o : rules.Sender) (cs : List (ℕ × FragmentTree)) (c : ℕ × FragmentTree) → AllCarry message first o cs → Carries message first o c → AllCarry message first o (cs ++ c ∷ [])
-all_push message first o [] c a b = (b, tt)
-all_push message first o (d ∷ cs) c a b = (a.0, all_push message first o cs c a.1 b)
+  pub all_on : (least : ℕ) (x y : Transfer) (ps : List ℕ) → Kept message mixed x → Leads message mixed x y ps → (cs : List (ℕ × FragmentTree))
+      → AllCarry message first least x.sender cs → AllCarry message first least y.sender cs
+  all_on least x y ps k l [] a = tt
+  all_on least x y ps k l (c ∷ cs) a = (carries_on least x y ps k l c a.0, all_on least x y ps k l cs a.1)
+
+pub all_push : (message : ℕ → Message) (first least : ℕ) (o : rules.Sender) (cs : List (ℕ × FragmentTree)) (c : ℕ × FragmentTree) → AllCarry message first least o cs
+    → (b : Carries message first o c) → least ≤ b.at → AllCarry message first least o (cs ++ c ∷ [])
+all_push message first least o [] c a b l = ((b, l), tt)
+all_push message first least o (d ∷ cs) c a b l = (a.0, all_push message first least o cs c a.1 b l)
 
 -- ---- items that are sent again
 
@@ -121,23 +135,25 @@ module _ (message : ℕ → Message) (lifecycle : ℕ → Option ℕ) (mixed : B
   pub record Shown (x : Resent) : Type 0 where
     pub items : ItemsShow message lifecycle mixed o acknowledged x.outstanding.items
     pub first_is : x.outstanding.first ≡ first
-    pub chunks_are : AllCarry message first o x.chunks
+    pub chunks_are : AllCarry message first acknowledged o x.chunks
 
   altered : (x : Resent) (k : ℕ) (g : Item → Item) → ((i : Item) → Alike i (g i)) → Shown x → ItemsShow message lifecycle mixed o acknowledged (change_items k g x.outstanding.items)
   altered x k g alike a = record { mode = a.items.mode; point = a.items.point; kept = kept_changed message lifecycle o g alike k acknowledged x.outstanding.items.kept a.items.kept }
 
   one_sent : (k : ℕ) (x : Resent) → Shown x → (i : Item) → slice_get x.outstanding.items.kept k ≡ Some i → is_abandoned i ≡ false → Shown (again_at k x)
-  one_sent k x a i f lives = subst (λ (o : Option Item). Shown (again_of k o x)) (sym f) (record {
-    items = altered x k mark_as_retransmitted by_resending a;
-    first_is = a.first_is;
-    chunks_are = all_push message first o x.chunks (written x.outstanding (x.outstanding.items.acked + 1 + k), i.fragment) a.chunks_are (record {
-      at = acknowledged + k;
-      below = below;
-      real = false_from_ne_true ((fragment o (acknowledged + k)).placeholder) (λ h. not_both (s.gone ∙ s.placeholder h) lives);
-      tsn = ap (λ z. wire words z (x.outstanding.items.acked + 1 + k)) a.first_is ∙ ap (wire words first) (let p = a.items.point in let n : x.outstanding.items.acked + 1 + k ≡ origin + (acknowledged + k) = omega (arith, p) in n);
-      tree = s.carried;
-    });
-  })
+  one_sent k x a i f lives =
+      let c : Carries message first o (written x.outstanding (x.outstanding.items.acked + 1 + k), i.fragment) = record {
+        at = acknowledged + k;
+        below = below;
+        real = false_from_ne_true ((fragment o (acknowledged + k)).placeholder) (λ h. not_both (s.gone ∙ s.placeholder h) lives);
+        tsn = ap (λ z. wire words z (x.outstanding.items.acked + 1 + k)) a.first_is ∙ ap (wire words first) (let p = a.items.point in let n : x.outstanding.items.acked + 1 + k ≡ origin + (acknowledged + k) = omega (arith, p) in n);
+        tree = s.carried;
+      } in
+      subst (λ (o : Option Item). Shown (again_of k o x)) (sym f) (record {
+        items = altered x k mark_as_retransmitted by_resending a;
+        first_is = a.first_is;
+        chunks_are = all_push message first acknowledged o x.chunks (written x.outstanding (x.outstanding.items.acked + 1 + k), i.fragment) a.chunks_are c (omega arith);
+      })
     where
       s : StandsFor message lifecycle o (fragment o (acknowledged + k)) i
       s = kept_at message lifecycle o acknowledged k x.outstanding.items.kept i f a.items.kept
@@ -158,20 +174,20 @@ last_there : (i : Item) (is : List Item) → slice_get (is ++ i ∷ []) (length 
 last_there i [] = refl
 last_there i (j ∷ is) = last_there i is
 
-module _ (message : ℕ → Message) (lifecycle : ℕ → Option ℕ) (mixed : Bool) (x : Transfer) (told : Told (List ℕ)) (now first : ℕ) where
-  pub record Filled (f : Filling (List ℕ)) : Type 0 where
+module _ {P : Type 0} (message : ℕ → Message) (lifecycle : ℕ → Option ℕ) (mixed : Bool) (x : Transfer) (told : Told P) (now first : ℕ) where
+  pub record Filled (f : Filling P) : Type 0 where
     pub leads : LeadsTo message lifecycle mixed x told f.queue f.sender.outstanding.items f.told
     pub none_left : f.sender.outstanding.items.discards ≡ []
     pub first_is : f.sender.outstanding.first ≡ first
-    pub carried : AllCarry message first leads.after.sender f.chunks
+    pub carried : AllCarry message first x.acknowledged leads.after.sender f.chunks
 
   -- the chunk of a new fragment
   new_carries : (o : rules.Sender) (acknowledged : ℕ) (s : Items) (d : Outstanding) (p : Produced) → d.first ≡ first → d.items ≡ s → ItemsShow message lifecycle mixed o acknowledged (inserted (item_of now p) s)
-      → Carries message first o (written d (next_number d.items), p.fragment)
+      → (b : Carries message first o (written d (next_number d.items), p.fragment)) × (acknowledged ≤ b.at)
   new_carries o acknowledged s d p f e a =
       let i = item_of now p in
       let st = kept_at message lifecycle o acknowledged (length s.kept) (s.kept ++ i ∷ []) i (last_there i s.kept) a.kept in
-      record {
+      let b : Carries message first o (written d (next_number d.items), p.fragment) = record {
         at = acknowledged + length s.kept;
         below = (let c = kept_count message lifecycle o acknowledged (s.kept ++ i ∷ []) a.kept in let l = length-append s.kept (i ∷ []) in omega (arith, c, l));
         real = false_from_ne_true ((fragment o (acknowledged + length s.kept)).placeholder) (λ h. no (st.gone ∙ st.placeholder h));
@@ -179,19 +195,20 @@ module _ (message : ℕ → Message) (lifecycle : ℕ → Option ℕ) (mixed : B
             ap (λ z. wire words z (next_number d.items)) f
             ∙ (ap (λ (z : Items). wire words first (next_number z)) e ∙ ap (wire words first) (let q = a.point in let n : s.acked + 1 + length s.kept ≡ origin + (acknowledged + length s.kept) = omega (arith, q) in n));
         tree = st.carried;
-      }
+      } in
+      (b, omega arith)
     where
       no : false ≡ true → ⊥
       no e = cc
 
-  made_carries : (f : Filling (List ℕ)) (size : ℕ) → 0 < size → Filled f → Filled (asked now (produce now size f.queue f.told) f).filling
+  made_carries : (f : Filling P) (size : ℕ) → 0 < size → Filled f → Filled (asked now (produce now size f.queue f.told) f).filling
   unfolding led_on
   made_carries f size some a = go (produce now size f.queue f.told).made refl
     where
       s : Items
       s = f.sender.outstanding.items
 
-      t : Turn (List ℕ)
+      t : Turn P
       t = produce now size f.queue f.told
 
       b : LeadsTo message lifecycle mixed a.leads.after f.told t.queue (with_made now t.made s) t.told
@@ -202,11 +219,14 @@ module _ (message : ℕ → Message) (lifecycle : ℕ → Option ℕ) (mixed : B
       one : LeadsTo message lifecycle mixed x told t.queue (with_made now t.made s) t.told
       one = led_on message lifecycle mixed x told f.told t.told f.queue t.queue s (with_made now t.made s) a.leads b
 
-      step : Option Produced → Filling (List ℕ)
+      step : Option Produced → Filling P
       step made = appended now made (record f { queue = t.queue; told = t.told })
 
-      before : AllCarry message first one.after.sender f.chunks
-      before = all_on message mixed first a.leads.after b.after b.places a.leads.kept b.leads f.chunks a.carried
+      before : AllCarry message first x.acknowledged one.after.sender f.chunks
+      before = all_on message mixed first x.acknowledged a.leads.after b.after b.places a.leads.kept b.leads f.chunks a.carried
+
+      stays : one.after.acknowledged ≡ x.acknowledged
+      stays = ap (λ (z : Transfer). z.acknowledged) one.leads.rest_stays
 
       go : (made : Option Produced) → t.made ≡ made → Filled (step t.made)
       go None e =
@@ -218,13 +238,14 @@ module _ (message : ℕ → Message) (lifecycle : ℕ → Option ℕ) (mixed : B
           })
       go (Some p) e =
           let sh = subst (λ (m : Option Produced). Shows message lifecycle mixed one.after t.queue (with_made now m s)) e one.shows in
+          let c = new_carries one.after.sender one.after.acknowledged s f.sender.outstanding p a.first_is refl sh.items in
           subst (λ (m : Option Produced). Filled (step m)) (sym e) (record {
             leads = record { after = one.after; places = one.places; leads = one.leads; kept = one.kept; shows = sh; told_of = one.told_of };
             none_left = a.none_left;
             first_is = a.first_is;
             carried =
-                all_push message first one.after.sender f.chunks (written f.sender.outstanding (next_number s), p.fragment) before
-                (new_carries one.after.sender one.after.acknowledged s f.sender.outstanding p a.first_is refl sh.items);
+                all_push message first x.acknowledged one.after.sender f.chunks (written f.sender.outstanding (next_number s), p.fragment) before c.0
+                (subst (λ n. n ≤ c.0.at) stays c.1);
           })
 
   is_some_size : (b : Bool) (n : ℕ) → (b && nat_lt 0 n) ≡ true → 0 < n
@@ -233,14 +254,14 @@ module _ (message : ℕ → Message) (lifecycle : ℕ → Option ℕ) (mixed : B
       lt : (n : ℕ) → nat_lt 0 n ≡ true → 0 < n
       lt n e = grind (arith, nat_tests)
 
-  turn_fills : (f : Filling (List ℕ)) → Filled f → Filled (turned now f).filling
+  turn_fills : (f : Filling P) → Filled f → Filled (turned now f).filling
   turn_fills f a = go (may_send_new f.sender && nat_lt 0 (offered f.left f.sender)) refl
     where
       go : (b : Bool) → (may_send_new f.sender && nat_lt 0 (offered f.left f.sender)) ≡ b → Filled (turned_if b now f).filling
       go true e = made_carries f (offered f.left f.sender) (is_some_size (may_send_new f.sender) (offered f.left f.sender) e) a
       go false e = a
 
-  pub fills : (n : ℕ) (f : Filling (List ℕ)) → Filled f → Filled (fill n now f)
+  pub fills : (n : ℕ) (f : Filling P) → Filled f → Filled (fill n now f)
   fills zero f a = a
   fills (suc n) f a = go (turned now f).is_more (turn_fills f a) (λ b. fills n (turned now f).filling b)
     where
@@ -250,14 +271,14 @@ module _ (message : ℕ → Message) (lifecycle : ℕ → Option ℕ) (mixed : B
 
 -- ---- the whole
 
-one_quiet : (id number : ℕ) (q : Queue) (told : Told (List ℕ)) → recorded (discard id number q told).told ≡ recorded told
+one_quiet : {P : Type 0} (id number : ℕ) (q : Queue) (told : Told P) → recorded (discard id number q told).told ≡ recorded told
 one_quiet id number q told = go (front_discarded number (stream id q.streams).messages)
   where
     go : (f : Option (Option ℕ)) → recorded (discard_from id (streams_discarded id number q.streams) f q told).told ≡ recorded told
     go None = refl
     go (Some l) = refl
 
-quiet_told : (ds : List Discard) (q : Queue) (told : Told (List ℕ)) → recorded (discard_all ds q told).told ≡ recorded told
+quiet_told : {P : Type 0} (ds : List Discard) (q : Queue) (told : Told P) → recorded (discard_all ds q told).told ≡ recorded told
 quiet_told [] q told = refl
 quiet_told (d ∷ ds) q told =
     let one = discard d.stream d.number q told in
@@ -282,7 +303,7 @@ module _ (message : ℕ → Message) (lifecycle : ℕ → Option ℕ) (mixed : B
       one : (r : Resent) → (step_at fast n r).outstanding.items.discards ≡ r.outstanding.items.discards
       one r = by_turn (λ (z : Resent). z.outstanding.items.discards ≡ r.outstanding.items.discards) n r (λ i h l. again_same n (slice_get r.outstanding.items.kept n) r) refl refl fast
 
-  pub fast_row : (now most : ℕ) → Shows message lifecycle mixed x q (send_fast now most s).outstanding.items × AllCarry message s.outstanding.first x.sender (resent_fast most s).chunks
+  pub fast_row : (now most : ℕ) → Shows message lifecycle mixed x q (send_fast now most s).outstanding.items × AllCarry message s.outstanding.first x.acknowledged x.sender (resent_fast most s).chunks
   fast_row now most =
       let r = resent_again true most 0 s.outstanding sh.items in
       let same = timed_same (nat_lt 0 (length (resent_fast most s).chunks)) now (resent_by s (resent_fast most s)) in (
@@ -295,7 +316,7 @@ module _ (message : ℕ → Message) (lifecycle : ℕ → Option ℕ) (mixed : B
       )
 
   -- what a message that is given up leaves in the queue
-  pub discard_row : (told : Told (List ℕ)) → Shows message lifecycle mixed x (discard_all s.outstanding.items.discards q told).queue (without_discards s).outstanding.items
+  pub discard_row : {P : Type 0} (told : Told P) → Shows message lifecycle mixed x (discard_all s.outstanding.items.discards q told).queue (without_discards s).outstanding.items
       × (recorded (discard_all s.outstanding.items.discards q told).told ≡ recorded told)
   discard_row told =
       let d = discards_all message lifecycle mixed x.sender s.outstanding.items.discards q told sh.queue sh.discards in (
@@ -303,13 +324,13 @@ module _ (message : ℕ → Message) (lifecycle : ℕ → Option ℕ) (mixed : B
         quiet_told s.outstanding.items.discards q told,
       )
 
-  pub send_row : Kept message mixed x → (now most : ℕ) (told : Told (List ℕ)) → Sends message lifecycle mixed x now most s q told
-  send_row k now most told =
+  pub send_row : {P : Type 0} → Kept message mixed x → (now most : ℕ) (told : Told P) → Sends message lifecycle mixed x now most s q told
+  send_row {P} k now most told =
       let quiet = without_discards s in
       let d = discards_all message lifecycle mixed x.sender s.outstanding.items.discards q told sh.queue sh.discards in
       let left = discard_all s.outstanding.items.discards q told in
       let again = resent most quiet in
-      let begun : Filling (List ℕ) = filled_with most quiet again left in
+      let begun : Filling P = filled_with most quiet again left in
       let r = resent_again false (min most (quiet.windows.cwnd - flight quiet)) quiet.windows.rwnd quiet.outstanding (record { mode = sh.items.mode; point = sh.items.point; kept = sh.items.kept }) in
       let none = discards_same false (length s.outstanding.items.kept) (empty_packet (min most (quiet.windows.cwnd - flight quiet)) quiet.windows.rwnd quiet.outstanding) in
       let start : Filled message lifecycle mixed x told now s.outstanding.first begun = record {

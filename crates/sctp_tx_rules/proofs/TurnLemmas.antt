@@ -1,6 +1,7 @@
 -- A turn of one stream, and turns until there is a fragment.
 use Rattle.std.proofs.Common.{◌≡◌, ◌≢◌, ℕ, zero, suc, ◌+◌, ◌^◌, ◌<◌, Bool, true, false, cond, inl, inr, ◌⊎◌, Option, Some, None, List, [], ◌∷◌, ◌++◌, take, drop, refl, sym, ap, ◌∙◌, subst, arith, append-nil, take-append-drop}
 use Rattle.std.specs.Prelude.{is_some, unwrap_or, ◌==◌, ◌&&◌}
+use Rattle.std.specs.List.{list_all}
 use Rattle.std.proofs.lemmas.Bool.{cases_eq, false_from_ne_true}
 use Rattle.sctp_serial.specs.Unwrapped.{origin}
 use Rattle.sctp_state.specs.Events.{Told}
@@ -22,7 +23,7 @@ use Rattle.sctp_rules.specs.Joints.{Sends}
 use Rattle.sctp_rules.proofs.ToolsLemmas.{put_at, put_off, not_both}
 use Rattle.sctp_rules.proofs.SenderRowLemmas as sends
 use Rattle.sctp_tx_rules.specs.Shown.{found, messages_of, waiting_of, queue_of, numbers_at, IsEntry, IsNext, AreQueued, AreDiscards, QueueShows, Shows}
-use Rattle.sctp_tx_rules.specs.Led.{given_ups, recorded, LeadsTo}
+use Rattle.sctp_tx_rules.specs.Led.{is_sending, given_ups, recorded, LeadsTo}
 use Rattle.sctp_tx_rules.specs.Rows.{with_made}
 use Rattle.sctp_tx_rules.proofs.CountLemmas.{counts_within}
 use Rattle.sctp_tx_rules.proofs.FoundLemmas.{funext, once, first_least}
@@ -215,16 +216,16 @@ module _ {P : Type 0} (message : ℕ → Message) (lifecycle : ℕ → Option �
       o' = numbers o1 (part o1 p bytes more)
 
       finish : Sends message mixed y events (put (queue_of message y.sender ms1) p (cond (is_empty more) None (Some (record { begun = true; rest = more }))))
-          → run message mixed y events ≡ record y { sender = o' } → given_ups events ≡ [] → n ≡ numbers_at message o1 p
+          → run message mixed y events ≡ record y { sender = o' } → given_ups events ≡ [] → list_all is_sending events ≡ true → n ≡ numbers_at message o1 p
           → IsNext o' id (advanced size t) → ((j : ℕ) → j ≢ id → IsNext o' j (stream j q.streams)) → To (Some (made_of id size n m))
-      finish r run_is quiet named next_here next_off =
+      finish r run_is quiet sending_all named next_here next_off =
           let z1 : Transfer = record y { sender = o' } in
           let new_queue = subst (λ (w : Transfer). sending.Queued message w.sender (put (queue_of message y.sender ms1) p (cond (is_empty more) None (Some (record { begun = true; rest = more }))))) run_is r.queued in
           let b = rows.numbered message lifecycle y.sender ms1 a id m rest here (once 0 q.next_number m rest rising) live size some begun partly number counts number_off number_begun n named new_queue now y.acknowledged s f.items f.discards_are in
           record {
             after = z1;
             places = f.places ++ [];
-            leads = leads_on message mixed x y z1 f.places [] f.leads (record { events = events; may = r.may; leads = run_is; given_up = quiet; rest_stays = refl });
+            leads = leads_on message mixed x y z1 f.places [] f.leads (record { events = events; may = r.may; leads = run_is; sends = sending_all; given_up = quiet; rest_stays = refl });
             kept = subst (λ (w : Transfer). Kept message mixed w) run_is r.kept;
             shows = record {
               queue = shown o' f.accepted_stays front new_is b.queued (subst (λ (w : Stream). IsNext o' id (advanced size w)) (sym t_is) next_here) next_off;
@@ -239,7 +240,7 @@ module _ {P : Type 0} (message : ℕ → Message) (lifecycle : ℕ → Option �
     goes_on was has =
         let r = sends.next_fragment message mixed y f.kept_is (queue_of message y.sender ms1) a.queued p (waiting_of m) bytes more queued_here (ap is_some has) split in
         let same : n ≡ was = ap (λ (o : Option MessageNumbers). unwrap_or o fresh_numbers) has in
-        finish y.sender.begun y.sender.partly y.sender.number y.sender.counts y (number p bytes more ∷ []) (λ r d. refl) (λ u l. refl) r refl refl (same ∙ entry.numbers live was has)
+        finish y.sender.begun y.sender.partly y.sender.number y.sender.counts y (number p bytes more ∷ []) (λ r d. refl) (λ u l. refl) r refl refl refl (same ∙ entry.numbers live was has)
         (let nx = next_y id in record { ssn = ap (λ (o : Option MessageNumbers). (with_numbers o).next_ssn) has ∙ nx.ssn; ordered_mid = ap (λ (o : Option MessageNumbers). (with_numbers o).next_ordered_mid) has ∙ nx.ordered_mid; unordered_mid = ap (λ (o : Option MessageNumbers). (with_numbers o).next_unordered_mid) has ∙ nx.unordered_mid })
         (λ j d. let nx = next_y j in record { ssn = nx.ssn; ordered_mid = nx.ordered_mid; unordered_mid = nx.unordered_mid })
       where
@@ -285,7 +286,7 @@ module _ {P : Type 0} (message : ℕ → Message) (lifecycle : ℕ → Option �
         let waits = a.queued.waits p (waiting_of m) queued_here (ap is_some none) in
         let few : ((kind : Bool) → o.counts kind id < 2 ^ 32) = (λ kind. let c = counts_within message o f.kept_is.outgoing kind id in let l = sh.queue.few in let same = f.accepted_stays in omega (arith, c, l, same)) in
         finish b.begun b.partly b.number b.counts y (begin p ∷ number p bytes more ∷ [])
-        (λ r d. put_off o.number p _ r d) (λ u l. put_off o.number p _ (place_of o u) (λ c. not_both (sym (ap o.begun c) ∙ f.kept_is.outgoing.place_begun u l) waits.not_begun)) r refl refl
+        (λ r d. put_off o.number p _ r d) (λ u l. put_off o.number p _ (place_of o u) (λ c. not_both (sym (ap o.begun c) ∙ f.kept_is.outgoing.place_begun u l) waits.not_begun)) r refl refl refl
         (took_numbers message o id m t none entry.kind entry.on_stream (let nx = next_y id in record { ssn = nx.ssn; ordered_mid = nx.ordered_mid; unordered_mid = nx.unordered_mid }))
         (let nx = took_next message o id m t none entry.kind entry.on_stream few (let nx = next_y id in record { ssn = nx.ssn; ordered_mid = nx.ordered_mid; unordered_mid = nx.unordered_mid }) in
         record { ssn = nx.ssn; ordered_mid = nx.ordered_mid; unordered_mid = nx.unordered_mid })

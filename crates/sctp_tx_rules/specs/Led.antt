@@ -1,5 +1,6 @@
 -- Where the rules of a sender lead, and what is told meanwhile.
-use Rattle.std.specs.Prelude.{◌≡◌, ℕ, Bool, Option, Some, None, List, [], ◌∷◌, ◌++◌, map}
+use Rattle.std.specs.Prelude.{◌≡◌, ℕ, Bool, true, false, Option, Some, None, List, [], ◌∷◌, ◌++◌, map}
+use Rattle.std.specs.List.{list_all}
 use Rattle.sctp_state.specs.Events as events
 use Rattle.sctp_state.specs.Events.{Told}
 use Rattle.sctp_send_queue.specs.Queue.{Queue}
@@ -25,6 +26,22 @@ given_up_by (send_forward f) = []
 given_up_by (forward_comes f) = []
 given_up_by (forget s c) = []
 
+-- the rules of a sender, but for acceptance
+abbrev pub is_sending : Event → Bool
+is_sending accept = false
+is_sending (begin p) = true
+is_sending (number p bytes more) = true
+is_sending (close p) = true
+is_sending (give_up p) = true
+is_sending (data_comes t) = false
+is_sending (late_comes t) = false
+is_sending (deliver p) = false
+is_sending (send_sack c) = false
+is_sending (leave c) = true
+is_sending (send_forward f) = true
+is_sending (forward_comes f) = false
+is_sending (forget s c) = false
+
 abbrev pub given_ups : List Event → List ℕ
 given_ups [] = []
 given_ups (e ∷ es) = given_up_by e ++ given_ups es
@@ -33,11 +50,12 @@ given_ups (e ∷ es) = given_up_by e ++ given_ups es
 abbrev pub recorded : {P : Type 0} → Told P → List ℕ
 recorded told = map (λ g. g.number) told.gone
 
--- rules that change the sender alone lead from x to y, and give these places up
+-- rules of a sender, which change it alone, lead from x to y, and give these places up
 pub record Leads (message : ℕ → Message) (mixed : Bool) (x y : Transfer) (places : List ℕ) : Type 0 where
   pub events : List Event
   pub may : Happens message mixed x events
   pub leads : run message mixed x events ≡ y
+  pub sends : list_all is_sending events ≡ true
   pub given_up : given_ups events ≡ places
   pub rest_stays : y ≡ record x { sender = y.sender }
 

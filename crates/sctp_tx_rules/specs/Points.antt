@@ -1,13 +1,14 @@
 -- A forward point of the items, as the rules have it (RFC 3758 section 3.5, RFC 8260 section 2.3).
-use Rattle.std.specs.Prelude.{◌≡◌, ℕ, ◌+◌, ◌-◌, not, Bool, true, false, if◌then◌else◌, List, [], ◌∷◌, map}
+use Rattle.std.specs.Prelude.{◌≡◌, ℕ, ◌+◌, ◌-◌, not, Bool, true, false, if◌then◌else◌, map}
 use Rattle.sctp_serial.specs.Unwrapped.{origin, words, halves, wire}
 use Rattle.sctp_packet.specs.Chunk.{ChunkTree, forward_tsn_chunk, i_forward_tsn_chunk}
 use Rattle.sctp_outstanding.specs.declared.skips.SkipEntry.{SkipEntry}
 use Rattle.sctp_outstanding.specs.Entries.{ssn_skip, mid_skip}
 use Rattle.sctp_tx.specs.Retransmission.{Sender}
 use Rattle.sctp_tx.specs.ForwardPoints.{point_of, forward_chunk}
-use Rattle.sctp_rules.specs.State.{Message, Entry, ForwardPoint, Transfer, IsAmong}
+use Rattle.sctp_rules.specs.State.{Message, Entry, ForwardPoint, Transfer}
 use Rattle.sctp_rules.specs.Rules.{IsAllowed, send_forward}
+use Rattle.sctp_rules.specs.Points.{AreApart}
 
 -- an entry as it is written: with its MID, or without interleaving with its SSN
 abbrev pub skip_of : (mixed : Bool) → Entry → SkipEntry
@@ -21,11 +22,6 @@ skip_of mixed e = record {
 abbrev pub chunk_of : (mixed : Bool) → (first : ℕ) → ForwardPoint → ChunkTree
 chunk_of true first f = i_forward_tsn_chunk (wire words first (origin + f.upto - 1)) (map mid_skip (map (skip_of true) f.entries))
 chunk_of false first f = forward_tsn_chunk (wire words first (origin + f.upto - 1)) (map ssn_skip (map (skip_of false) f.entries))
-
--- of one stream and kind there is one entry at most
-abbrev pub AreApart : List Entry → Type 0
-AreApart [] = Unit {0}
-AreApart (e ∷ es) = ((d : Entry) → IsAmong d es → e.stream ≡ d.stream → e.ordered ≡ d.ordered → ⊥) × AreApart es
 
 -- the point that the sender tells may be sent, by the rules
 pub record IsSendable (message : ℕ → Message) (mixed : Bool) (x : Transfer) (s : Sender) : Type 0 where

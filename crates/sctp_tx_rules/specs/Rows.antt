@@ -119,7 +119,7 @@ abbrev pub left : ℕ → Transfer → Transfer
 left n x = record x { acknowledged = x.acknowledged + n; reports = x.reports ++ reports_of x.sender x.acknowledged n }
 
 -- n fragments leave, up to c, with the reports of the rules; then messages are given up that lost a fragment
-pub record Hears (message : ℕ → Message) (lifecycle : ℕ → Option ℕ) (mixed : Bool) (x : Transfer) (q : Queue) (n c : ℕ) (told : Told (List ℕ)) (s : Items) (later : Told (List ℕ)) : Type 0 where
+pub record Hears {P : Type 0} (message : ℕ → Message) (lifecycle : ℕ → Option ℕ) (mixed : Bool) (x : Transfer) (q : Queue) (n c : ℕ) (told : Told P) (s : Items) (later : Told P) : Type 0 where
   pub may : Happens message mixed x (replicate n (leave c))
   pub leaves : run message mixed x (replicate n (leave c)) ≡ left n x
   pub upto : (left n x).acknowledged ≡ c
@@ -191,18 +191,19 @@ pub record Carries (message : ℕ → Message) (first : ℕ) (o : rules.Sender) 
   pub tsn : chunk.0 ≡ wire words first (origin + at)
   pub tree : chunk.1 ≡ tree_of message o (fragment o at)
 
-abbrev pub AllCarry : (ℕ → Message) → ℕ → rules.Sender → List (ℕ × FragmentTree) → Type 0
-AllCarry message first o [] = Unit {0}
-AllCarry message first o (c ∷ cs) = Carries message first o c × AllCarry message first o cs
+-- each of these carries a fragment that is kept: those below `least` were acknowledged
+abbrev pub AllCarry : (ℕ → Message) → (first least : ℕ) → rules.Sender → List (ℕ × FragmentTree) → Type 0
+AllCarry message first least o [] = Unit {0}
+AllCarry message first least o (c ∷ cs) = ((carries : Carries message first o c) × (least ≤ carries.at)) × AllCarry message first least o cs
 
--- and so after each rule, whichever it is
+-- a chunk carries its fragment after each rule too, whichever it is
 abbrev pub CarryingStays : Type 0
 CarryingStays = (message : ℕ → Message) (mixed : Bool) (first : ℕ) (x : Transfer) (e : Event) (chunk : ℕ × FragmentTree)
     → Kept message mixed x → IsAllowed message mixed x e → Carries message first x.sender chunk → Carries message first (after message mixed x e).sender chunk
 
-pub record Sends (message : ℕ → Message) (lifecycle : ℕ → Option ℕ) (mixed : Bool) (x : Transfer) (now most : ℕ) (s : Sender) (q : Queue) (told : Told (List ℕ)) : Type 0 where
+pub record Sends {P : Type 0} (message : ℕ → Message) (lifecycle : ℕ → Option ℕ) (mixed : Bool) (x : Transfer) (now most : ℕ) (s : Sender) (q : Queue) (told : Told P) : Type 0 where
   pub leads : LeadsTo message lifecycle mixed x told (send now most s q told).queue (send now most s q told).sender.outstanding.items (send now most s q told).told
-  pub carried : AllCarry message s.outstanding.first leads.after.sender (send now most s q told).chunks
+  pub carried : AllCarry message s.outstanding.first x.acknowledged leads.after.sender (send now most s q told).chunks
 
 -- a whole packet: discards, what is sent again, and new fragments
 abbrev pub PacketsAreSent : Type 0
@@ -211,7 +212,7 @@ PacketsAreSent = InEachState (λ message lifecycle mixed x q s. (now most : ℕ)
 -- the packet that ignores the congestion window
 abbrev pub FastPacketsAreSent : Type 0
 FastPacketsAreSent = InEachState (λ message lifecycle mixed x q s.
-    (now most : ℕ) → Shows message lifecycle mixed x q (send_fast now most s).outstanding.items × AllCarry message s.outstanding.first x.sender (resent_fast most s).chunks)
+    (now most : ℕ) → Shows message lifecycle mixed x q (send_fast now most s).outstanding.items × AllCarry message s.outstanding.first x.acknowledged x.sender (resent_fast most s).chunks)
 
 -- ---- rest
 

@@ -64,7 +64,7 @@ pub fn points_are_due()
 {}
 
 /// What a packet takes: discards, items that are sent again, and new fragments. Each chunk carries a numbered fragment that is
-/// no placeholder, so that it may come at any later time.
+/// kept and no placeholder, so that it may come at any later time.
 pub fn packets_carry_fragments()
     ensures packets { PacketsAreSent }
     ensures fast { FastPacketsAreSent }

@@ -17,7 +17,7 @@ use Rattle.sctp_world_course.proofs.NewsLemmas.{ended_by_told}
 use Rattle.sctp_world_course.proofs.SidesLemmas.{Good}
 use Rattle.sctp_world_course.proofs.RunsLemmas.{Ran, ran, fresh_both}
 
-given_of : (o : Options) → IsValid o → OptionsFit o → AreGiven o
+pub given_of : (o : Options) → IsValid o → OptionsFit o → AreGiven o
 given_of o valid fits = record { valid = valid; incoming = fits.incoming_streams; outgoing = fits.outgoing_streams; method = fits.zero_checksum_method }
 
 abbrev of : Identity → Association
@@ -39,7 +39,7 @@ crossed_of : (i j : Identity) → AreCrossed i j → of j ≡ crossed (of i)
 crossed_of i j c = same_numbers j.my_tag j.my_first j.peer_tag j.peer_first i.peer_tag i.peer_first i.my_tag i.my_first (sym c.peer_tag) (sym c.peer_first) (sym c.tag) (sym c.first)
 
 module _ (word_of : List ℕ → ℕ) (x : End) (log : List Entry) (others : List (List ℕ)) (side : Side) (end : course.Side) (g : Good word_of x log others side end) where
-  none_ended : times_ended x log ≡ 0 → endings end.told ≡ 0
+  pub none_ended : times_ended x log ≡ 0 → endings end.told ≡ 0
   none_ended h =
       ended_told (as_written word_of) x 0 end.told
       (ap (λ (l : List Entry). length (flat_map (ended_by x) l)) (sym g.image.told) ∙ (ap (λ (l : List End). length l) (sym (ended_by_told x log)) ∙ h))

@@ -6,3 +6,9 @@ pub mod WorldLemmas
 pub mod RunsLemmas
 pub mod JoinedLemmas
 pub mod FollowsLemmas
+pub mod LoggedLemmas
+pub mod TellingLemmas
+pub mod PrefixLemmas
+pub mod BlockLemmas
+pub mod DeliveredLemmas
+pub mod ComposedLemmas

@@ -61,7 +61,7 @@ comes_b : (bytes : List ℕ) (w u : World) → ComesTo B bytes w.b u.b w.log u.l
 comes_b bytes w u (told t judged) same = grows_b w u _ t.after t.logged t.side same
 comes_b bytes w u (skipped by own judged stays logged) same = grows_log w u _ logged same stays
 
-happens_extends : (action : Action) (w u : World) → Happens action w u → Extends w u
+pub happens_extends : (action : Action) (w u : World) → Happens action w u → Extends w u
 happens_extends (CallOf A call) w u e = grows_a w u _ (after_call call w.a.socket) (ap (λ (z : World). z.log) e) (ap (λ (z : World). z.a) e) (ap (λ (z : World). z.b) e)
 happens_extends (CallOf B call) w u e = grows_b w u _ (after_call call w.b.socket) (ap (λ (z : World). z.log) e) (ap (λ (z : World). z.b) e) (ap (λ (z : World). z.a) e)
 happens_extends (Give n A) w u g = grows_a w u _ g.told.after g.told.logged g.told.side g.other_side
@@ -71,7 +71,7 @@ happens_extends (GiveForeign B bytes) w u g = comes_b bytes w u g.comes g.other_
 happens_extends (TellTime A now) w u e = grows_a w u _ (after_time now w.a.socket) (ap (λ (z : World). z.log) e) (ap (λ (z : World). z.a) e) (ap (λ (z : World). z.b) e)
 happens_extends (TellTime B now) w u e = grows_b w u _ (after_time now w.b.socket) (ap (λ (z : World). z.log) e) (ap (λ (z : World). z.b) e) (ap (λ (z : World). z.a) e)
 
-runs_extends : (actions : List Action) (w v : World) → Runs actions w v → Extends w v
+pub runs_extends : (actions : List Action) (w v : World) → Runs actions w v → Extends w v
 runs_extends [] w v e = subst (Extends w) (sym e) (extends_same w)
 runs_extends (action ∷ actions) w v r = extends_then w r.0 v (happens_extends action w r.0 r.1) (runs_extends actions r.0 v r.2)
 
@@ -138,7 +138,7 @@ module _ (word_of_a word_of_b : List ℕ → ℕ) where
   may_refuse turn bytes end (inl x) = subst (λ (t : Turn). MayTurn t end) (sym x.2) tt
   may_refuse turn bytes end (inr e) = subst (λ (t : Turn). MayTurn t end) (sym e) tt
 
-  may_turn : (action : Action) (w u v : World) (c : Pair) (turn : Turn) → Happens action w u → Extends w u → Extends u v → Both word_of_a word_of_b w c → IsTurnOf word_of_a word_of_b action turn c → FollowsTheRules v
+  pub may_turn : (action : Action) (w u v : World) (c : Pair) (turn : Turn) → Happens action w u → Extends w u → Extends u v → Both word_of_a word_of_b w c → IsTurnOf word_of_a word_of_b action turn c → FollowsTheRules v
       → MayTurn turn (course.side_of (is_a (end_of action)) c)
   may_turn (CallOf x call) w u v c turn happens e f h is rules =
       subst (λ (t : Turn). MayTurn t (course.side_of (is_a x) c)) (sym is)
@@ -156,7 +156,7 @@ module _ (word_of_a word_of_b : List ℕ → ℕ) where
     pub both : Both word_of_a word_of_b v (run turns c)
     pub follows : FollowsTheRules v → course.FollowsTheRules turns c
 
-  pub ran : (actions : List Action) (w v : World) (c : Pair) → All ActionFits actions → Runs actions w v → IsInBytes v → Both word_of_a word_of_b w c → Ran actions w v c
+  unfoldable pub ran : (actions : List Action) (w v : World) (c : Pair) → All ActionFits actions → Runs actions w v → IsInBytes v → Both word_of_a word_of_b w c → Ran actions w v c
   ran [] w v c fit e small h = record {
     turns = [];
     are = tt;

@@ -1,2 +1,4 @@
 pub mod Courses
 pub mod Joined
+pub mod Delivered
+pub mod Composed

@@ -1,8 +1,17 @@
 //! Worlds are courses: each run of two sockets is a run of two ends by the table, and what is proved of courses holds of worlds.
 #![tactic(auto)]
 
-ghost use Rattle.sctp_world_course.specs.Courses.{WorldsHaveCourses};
+ghost use Rattle.std.specs.Prelude.{All, OnOk, map};
+ghost use Rattle.sctp_world.specs.World.{Happens, Runs};
+ghost use Rattle.sctp_world.specs.WorldView.{action_of, world_of};
+ghost use Rattle.sctp_world_course.specs.Composed.{Composes, IsLed, IsUndisturbed};
+ghost use Rattle.sctp_world_course.specs.Courses.{ActionFits, WorldsHaveCourses};
+ghost use Rattle.sctp_world_course.specs.Delivered.{HandedOutIsAPrefix, OffersAreAccepted, WorldsDeliver};
 ghost use Rattle.sctp_world_course.specs.Joined.{OpeningFollows, WorldsAreJoined};
+
+use rand_core::Rng;
+use sctp_wire::Checksum;
+use sctp_world::{Event, World, WorldError};
 
 /// Each run of a new world is a course of two new ends, by one turn an event, for any options, words and checksum functions, calls
 /// whose arguments fit, and bytes from elsewhere. The world's sockets are the course's ends with each packet written, its packets
@@ -19,3 +28,46 @@ pub fn worlds_are_joined()
     ensures joined { WorldsAreJoined }
     ensures can_be_kept { OpeningFollows }
 {}
+
+/// Until an end tells that an association is over, what was handed out at an end, in order, is a prefix of what became ready there,
+/// at each point of the log. The messages of the offers are those that were accepted.
+pub fn messages_are_handed_out_in_order()
+    ensures prefix { HandedOutIsAPrefix }
+    ensures offers { OffersAreAccepted }
+{}
+
+/// And as long as the run keeps its bounds, in either direction and at each point of the log, the messages that became ready at one
+/// end are messages that the other one accepted, byte for byte, each at most once, and on each stream ordered ones in the order of
+/// acceptance (RFC 9260 sections 6.5, 6.6; RFC 8260 section 2.2; RFC 3758 section 3.6). One list of places says which, and grows
+/// at its back. The bounds are read off the log and the values of the sockets between events: those of `messages_are_delivered`
+/// of `sctp_delivery`.
+pub fn worlds_deliver()
+    ensures delivered { WorldsDeliver }
+{}
+
+/// [`World::step`]. A world that a new one was led to is led on; and as long as the opening rules are followed and no association
+/// is over, its ends are joined and deliver.
+pub fn step<R: Rng + Drop, C: Checksum + Drop>(
+    world: &mut World<R, C>,
+    event: &Event,
+) -> Result<(), WorldError>
+    ensures happens { OnOk result (Happens (action_of event.now) (world_of R.stream C.word_of world.old) (world_of R.stream C.word_of world.new)) }
+    ensures leads { OnOk result (IsLed (world_of R.stream C.word_of world.old) → ActionFits (action_of event.now) → IsLed (world_of R.stream C.word_of world.new)) }
+    ensures composes { OnOk result ((l : IsLed (world_of R.stream C.word_of world.new)) → IsUndisturbed (world_of R.stream C.word_of world.new)
+        → Composes (world_of R.stream C.word_of world.new) l) }
+{
+    world.step(event)
+}
+
+/// [`World::run`], likewise.
+pub fn run<R: Rng + Drop, C: Checksum + Drop>(
+    world: &mut World<R, C>,
+    events: &[Event],
+) -> Result<(), WorldError>
+    ensures runs { OnOk result (Runs (map action_of events.now) (world_of R.stream C.word_of world.old) (world_of R.stream C.word_of world.new)) }
+    ensures leads { OnOk result (IsLed (world_of R.stream C.word_of world.old) → All ActionFits (map action_of events.now) → IsLed (world_of R.stream C.word_of world.new)) }
+    ensures composes { OnOk result ((l : IsLed (world_of R.stream C.word_of world.new)) → IsUndisturbed (world_of R.stream C.word_of world.new)
+        → Composes (world_of R.stream C.word_of world.new) l) }
+{
+    world.run(events)
+}

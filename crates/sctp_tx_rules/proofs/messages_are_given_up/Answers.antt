@@ -1,8 +1,8 @@
-use Rattle.std.proofs.Common.{true, false, length}
 use Rattle.sctp_outstanding.specs.Losses.{first_step}
 use Rattle.sctp_tx_rules.proofs.LedLemmas.{led_none}
 use Rattle.sctp_tx_rules.proofs.LossLemmas.{abandoned, losses, lifetimes}
 use Rattle.sctp_tx_rules.proofs.SendLemmas.{discard_row}
+use Rattle.sctp_tx_rules.proofs.WholeLemmas.{timeout_row, expiry_row}
 use Rattle.sctp_tx_rules.proofs.messages_are_given_up.Goals as goal
 
 pub returns : goal.returns
@@ -12,10 +12,8 @@ returns c = record {
   discards = λ message lifecycle mixed x q s k sh told. discard_row message lifecycle mixed x s q sh told;
   losses = λ message lifecycle mixed x q s k sh at_once fast n told.
       losses message lifecycle mixed x told q at_once fast n (first_step s.outstanding.items told) (led_none message lifecycle mixed x told q s.outstanding.items k sh);
-  timeout = λ message lifecycle mixed x q s k sh now told.
-      losses message lifecycle mixed x told q true false (length s.outstanding.items.kept) (first_step s.outstanding.items told) (led_none message lifecycle mixed x told q s.outstanding.items k sh);
+  timeout = λ message lifecycle mixed x q s k sh now told. timeout_row message lifecycle mixed x q s k sh told now;
   lifetimes = λ message lifecycle mixed x q s k sh now n told.
       lifetimes message lifecycle mixed x told q now n (first_step s.outstanding.items told) (led_none message lifecycle mixed x told q s.outstanding.items k sh);
-  expiry = λ message lifecycle mixed x q s k sh now told.
-      lifetimes message lifecycle mixed x told q now (length s.outstanding.items.kept) (first_step s.outstanding.items told) (led_none message lifecycle mixed x told q s.outstanding.items k sh);
+  expiry = λ message lifecycle mixed x q s k sh now told. expiry_row message lifecycle mixed x q s k sh told now;
 }

@@ -18,7 +18,7 @@ pub returns-clause-message_is_taken : goal.returns-clause-message_is_taken
 returns-clause-message_is_taken c message mixed first shift x r ms near = record { tsns = near.tsns; mids = λ m. record { streams = (near.mids m).streams; points = (near.mids m).points } }
 
 pub returns-clause-sender_goes_on : goal.returns-clause-sender_goes_on
-returns-clause-sender_goes_on c message mixed first shift x e r kept windows may same near = record {
+returns-clause-sender_goes_on c message mixed first shift x e r kept may same near = record {
   tsns = sender_keeps message mixed first shift x e r kept may same near.tsns;
-  mids = λ m. sender_keeps_mids message mixed x kept windows m e may same r (near.mids m);
+  mids = λ m. sender_keeps_mids message mixed x kept m e may same r (near.mids m);
 }

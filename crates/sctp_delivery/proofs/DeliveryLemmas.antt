@@ -1,0 +1,236 @@
+-- Along a course each direction is a run of the rules, turn by turn, and at each point what became ready fits.
+use Rattle.std.proofs.Common.{◌≡◌, ℕ, ◌+◌, ◌^◌, ◌<◌, ◌||◌, not, Bool, true, false, Option, Some, None, List, [], ◌∷◌, ◌++◌, length, map, take, slice_get, refl, sym, ap, subst, ◌∙◌, append-nil, append_assoc, length-append, arith}
+use Rattle.std.specs.List.{list_any}
+use Rattle.sctp_serial.specs.Messages as messages
+use Rattle.sctp_packet.specs.Packet.{PacketTree}
+use Rattle.sctp_state.specs.Options.{Options}
+use Rattle.sctp_state.specs.Capabilities.{agreed}
+use Rattle.sctp_state.proofs.CapabilitiesLemmas.{agreed-exchanged}
+use Rattle.sctp_rx_rules.specs.View.{ready_of}
+use Rattle.sctp_rules.specs.State.{Message, Transfer}
+use Rattle.sctp_rules.specs.Claims.{Grows}
+use Rattle.sctp_association_laws.specs.Mapped.{Carried}
+use Rattle.sctp_association.specs.Input.{refusal}
+use Rattle.sctp_course.specs.Course.{Side, Pair, emitted, Turn, Calls, Gives, Refuses, given, foreign_if, turned, goes, run, MayTurn, side_of, FollowsTheRules, HasNotEnded, AreGiven, state_of}
+use Rattle.sctp_course.specs.Handing.{ready_at, handed_by, handed_at, new_behind, readied}
+use Rattle.sctp_course.proofs.CourseLemmas.{Halves, swapped, before_run, goes_joined}
+use Rattle.sctp_course.proofs.HandingLemmas.{Hands, hands_at}
+use Rattle.sctp_delivery.specs.Accepted.{Offer, accepted_in, accepted_at, accepted}
+use Rattle.sctp_delivery.specs.Windows.{Stamp, stamp, Stamps, stamps_after, stamps_for, IsTimely, AreWithin, KeepsWindows, resets, KeepsStreams}
+use Rattle.sctp_delivery.specs.Delivery.{Fits}
+use Rattle.sctp_delivery.proofs.DirectionLemmas.{Flows, IsSilent}
+use Rattle.sctp_delivery.proofs.GoingLemmas.{AreOffered, Parts, turn_out}
+use Rattle.sctp_delivery.proofs.ComingLemmas.{turn_in}
+use Rattle.sctp_delivery.proofs.FitsLemmas.{message_of, lifecycle_of, offered_from, accepted_there, ready_is, places_fit_first}
+
+-- ---- what was told is taken after each turn
+
+pub record AreSilent (w : Pair) : Type 0 where
+  pub a : IsSilent w.a
+  pub b : IsSilent w.b
+
+silent_given : (p : Option Carried) (checksum : ℕ) (x : Side) → IsSilent x → IsSilent (given p checksum x)
+silent_given None checksum x h = h
+silent_given (Some p) checksum x h = record { told = refl }
+
+silent_foreign : (text : Option (List ℕ)) (p : PacketTree) (x : Side) → IsSilent x → IsSilent (foreign_if text p x)
+silent_foreign None p x h = h
+silent_foreign (Some text) p x h = record { told = refl }
+
+silent_turn : (t : Turn) (x y : Side) → IsSilent x → IsSilent (turned t x y)
+silent_turn (Calls call) x y h = record { told = refl }
+silent_turn (Gives which checksum) x y h = silent_given (slice_get (emitted y) which) checksum x h
+silent_turn (Refuses p) x y h = silent_foreign (refusal p.header.verification_tag p.chunks (state_of x)) p x h
+
+silent_goes : (at_a : Bool) (t : Turn) (w : Pair) → AreSilent w → AreSilent (goes at_a t w)
+silent_goes true t w h = record { a = silent_turn t w.a w.b h.a; b = h.b }
+silent_goes false t w h = record { a = h.a; b = silent_turn t w.b w.a h.b }
+
+-- ---- one direction: true is from a to b
+
+-- how many fragments its sender had numbered
+abbrev pub of_end : Bool → Stamp → ℕ
+of_end true s = s.a
+of_end false s = s.b
+
+-- the stamps of the packets that an end emitted
+abbrev pub stamps_of : Bool → Stamps → List Stamp
+stamps_of true s = s.of_a
+stamps_of false s = s.of_b
+
+abbrev pub FlowsFrom : (ℕ → Message) → (ℕ → Option ℕ) → (mixed from_a : Bool) → Pair → Stamps → (accepted : ℕ) → (handed : List messages.Message) → Transfer → Type 0
+FlowsFrom message lifecycle mixed from_a w stamps n handed x =
+    Flows message lifecycle mixed (of_end from_a) (side_of from_a w) (side_of (not from_a) w) n handed (stamps_of from_a stamps) (stamps_of (not from_a) stamps) x
+
+pub record Stepped (message : ℕ → Message) (lifecycle : ℕ → Option ℕ) (mixed from_a : Bool) (w : Pair) (stamps : Stamps) (n : ℕ) (handed : List messages.Message) (x : Transfer) : Type 0 where
+  pub to : Transfer
+  pub flows : FlowsFrom message lifecycle mixed from_a w stamps n handed to
+  pub grows : Grows x to
+
+module _ (message : ℕ → Message) (lifecycle : ℕ → Option ℕ) (mixed : Bool) (parts : Parts message lifecycle mixed) (a b : Options) (own : AreGiven a) (other : AreGiven b)
+    (mode : mixed ≡ (agreed a b).message_interleaving) where
+  mode_back : mixed ≡ (agreed b a).message_interleaving
+  mode_back = mode ∙ sym (ap (λ c. c.message_interleaving) (agreed-exchanged a b))
+
+  more_by_none : (n : ℕ) → n ≡ n + 0
+  more_by_none n = omega arith
+
+  pub stepped : (from_a at_a : Bool) (t : Turn) (w : Pair) (stamps : Stamps) → Halves a b w.a w.b → AreSilent w → AreWithin w → MayTurn t (side_of at_a w) → resets t ≡ false
+      → IsTimely t (stamp w) (stamps_for at_a stamps) → HasNotEnded (goes at_a t w) → (n : ℕ) (handed : List messages.Message)
+      → AreOffered message lifecycle n (accepted_at from_a at_a t w) → n + length (accepted_at from_a at_a t w) < 2 ^ 32
+      → (x : Transfer) → FlowsFrom message lifecycle mixed from_a w stamps n handed x
+      → Stepped message lifecycle mixed from_a (goes at_a t w) (stamps_after at_a t w stamps) (n + length (accepted_at from_a at_a t w)) (handed ++ handed_at (not from_a) at_a t w) x
+  stepped true true t w stamps h quiet within may no_reset timely none n handed are few x f =
+      let r = turn_out message lifecycle mixed (of_end true) parts a b own other mode w.a w.b h quiet.a quiet.b within.a n handed stamps.of_a stamps.of_b x f (stamp w) refl
+      (λ old y. y.a) t may no_reset timely none.a are few in
+      record {
+        to = r.to;
+        flows = subst (λ (ms : List messages.Message).
+            FlowsFrom message lifecycle mixed true (goes true t w) (stamps_after true t w stamps) (n + length (accepted_in t w.a)) ms r.to) (sym (append-nil handed)) r.flows;
+        grows = r.grows;
+      }
+  stepped true false t w stamps h quiet within may no_reset timely none n handed are few x f =
+      let r = turn_in message lifecycle mixed (of_end true) parts a b own other mode w.a w.b h quiet.a quiet.b within.a n handed stamps.of_a stamps.of_b x f (stamp w) refl
+      (λ old y. y.a) t may no_reset timely none.b in
+      record {
+        to = r.to;
+        flows = subst (λ (k : ℕ). FlowsFrom message lifecycle mixed true (goes false t w) (stamps_after false t w stamps) k (handed ++ handed_by t w.b) r.to) (more_by_none n) r.flows;
+        grows = r.grows;
+      }
+  stepped false false t w stamps h quiet within may no_reset timely none n handed are few x f =
+      let r = turn_out message lifecycle mixed (of_end false) parts b a other own mode_back w.b w.a (swapped a b w.a w.b h) quiet.b quiet.a within.b n handed stamps.of_b stamps.of_a x f
+      (stamp w) refl (λ old y. y.b) t may no_reset timely none.b are few in
+      record {
+        to = r.to;
+        flows = subst (λ (ms : List messages.Message).
+            FlowsFrom message lifecycle mixed false (goes false t w) (stamps_after false t w stamps) (n + length (accepted_in t w.b)) ms r.to) (sym (append-nil handed)) r.flows;
+        grows = r.grows;
+      }
+  stepped false true t w stamps h quiet within may no_reset timely none n handed are few x f =
+      let r = turn_in message lifecycle mixed (of_end false) parts b a other own mode_back w.b w.a (swapped a b w.a w.b h) quiet.b quiet.a within.b n handed stamps.of_b stamps.of_a x f
+      (stamp w) refl (λ old y. y.b) t may no_reset timely none.a in
+      record {
+        to = r.to;
+        flows = subst (λ (k : ℕ). FlowsFrom message lifecycle mixed false (goes true t w) (stamps_after true t w stamps) k (handed ++ handed_by t w.a) r.to) (more_by_none n) r.flows;
+        grows = r.grows;
+      }
+
+-- ---- courses
+
+-- where this was accepted and this became ready before, one list of places serves all along
+pub record DeliversOn (from_a : Bool) (es : List (Bool × Turn)) (w : Pair) (done : List Offer) (ready : List messages.Message) (x : Transfer) : Type 0 where
+  pub places : List ℕ
+  pub more : List ℕ
+  pub grown : places ≡ x.receiver.places ++ more
+  pub fits : (early late : List (Bool × Turn)) → es ≡ early ++ late
+      → Fits (done ++ accepted from_a early w) (ready ++ readied (not from_a) early w) (take (length (ready ++ readied (not from_a) early w)) places)
+
+abbrev first_turn : List (Bool × Turn) → (Bool × Turn) → Bool × Turn
+first_turn [] d = d
+first_turn (e ∷ es) d = e
+
+abbrev other_turns : List (Bool × Turn) → List (Bool × Turn)
+other_turns [] = []
+other_turns (e ∷ es) = es
+
+or_parts : (p q : Bool) → (p || q) ≡ false → (p ≡ false) × (q ≡ false)
+or_parts true q h = cc
+or_parts false q h = (refl, h)
+
+module _ (all : List Offer) (mixed : Bool) (parts : Parts (message_of all) (lifecycle_of all) mixed) (a b : Options) (own : AreGiven a) (other : AreGiven b)
+    (mode : mixed ≡ (agreed a b).message_interleaving) (few : length all < 2 ^ 32) (from_a : Bool) where
+  abbrev From : Pair → Stamps → ℕ → List messages.Message → Transfer → Type 0
+  From w stamps n handed x = FlowsFrom (message_of all) (lifecycle_of all) mixed from_a w stamps n handed x
+
+  -- now
+  fits_now : (w : Pair) (stamps : Stamps) (done later : List Offer) → all ≡ done ++ later → (handed ready : List messages.Message)
+      → ready ≡ handed ++ ready_at (side_of (not from_a) w) → (x : Transfer) → From w stamps (length done) handed x → (places more : List ℕ)
+      → places ≡ x.receiver.places ++ more → Fits done ready (take (length ready) places)
+  fits_now w stamps done later e handed ready r x f places more grown =
+      places_fit_first (message_of all) done (accepted_there all done later e) mixed x ready f.kept f.accepted_is
+      (subst (λ (ms : List messages.Message). x.receiver.ready ≡ map ready_of ms) (sym r)
+      (ready_is (message_of all) mixed (state_of (side_of (not from_a) w)) handed x f.receives)) places more grown
+
+  -- one turn, then the others
+  on_then : (e : Bool × Turn) (es : List (Bool × Turn)) (w : Pair) (done : List Offer) (ready : List messages.Message) (x y : Transfer) → Grows x y
+      → ((places more : List ℕ) → places ≡ x.receiver.places ++ more → Fits done ready (take (length ready) places))
+      → DeliversOn from_a es (goes e.0 e.1 w) (done ++ accepted_at from_a e.0 e.1 w)
+      (ready ++ new_behind (ready_at (side_of (not from_a) w)) (ready_at (side_of (not from_a) (goes e.0 e.1 w)))) y
+      → DeliversOn from_a (e ∷ es) w done ready x
+  on_then e es w done ready x y g now d = record {
+    places = d.places;
+    more = g.0 ++ d.more;
+    grown = grown;
+    fits = fits;
+  }
+    where
+      v : Pair
+      v = goes e.0 e.1 w
+
+      new : List messages.Message
+      new = new_behind (ready_at (side_of (not from_a) w)) (ready_at (side_of (not from_a) v))
+
+      grown : d.places ≡ x.receiver.places ++ (g.0 ++ d.more)
+      grown = d.grown ∙ (ap (λ (l : List ℕ). l ++ d.more) g.1 ∙ append_assoc x.receiver.places g.0 d.more)
+
+      fits_later : (early late : List (Bool × Turn)) → es ≡ early ++ late
+          → Fits (done ++ (accepted_at from_a e.0 e.1 w ++ accepted from_a early v)) (ready ++ (new ++ readied (not from_a) early v))
+          (take (length (ready ++ (new ++ readied (not from_a) early v))) d.places)
+      fits_later early late is =
+          subst (λ (ms : List messages.Message). Fits (done ++ (accepted_at from_a e.0 e.1 w ++ accepted from_a early v)) ms (take (length ms) d.places))
+          (append_assoc ready new (readied (not from_a) early v))
+          (subst (λ (os : List Offer). Fits os ((ready ++ new) ++ readied (not from_a) early v) (take (length ((ready ++ new) ++ readied (not from_a) early v)) d.places))
+          (append_assoc done (accepted_at from_a e.0 e.1 w) (accepted from_a early v)) (d.fits early late is))
+
+      fits : (early late : List (Bool × Turn)) → (e ∷ es) ≡ early ++ late
+          → Fits (done ++ accepted from_a early w) (ready ++ readied (not from_a) early w) (take (length (ready ++ readied (not from_a) early w)) d.places)
+      fits [] late is =
+          subst (λ (os : List Offer). Fits os (ready ++ []) (take (length (ready ++ [])) d.places)) (sym (append-nil done))
+          (subst (λ (ms : List messages.Message). Fits done ms (take (length ms) d.places)) (sym (append-nil ready)) (now d.places (g.0 ++ d.more) grown))
+      fits (f ∷ early) late is =
+          subst (λ (z : Bool × Turn). Fits (done ++ accepted from_a (z ∷ early) w) (ready ++ readied (not from_a) (z ∷ early) w)
+          (take (length (ready ++ readied (not from_a) (z ∷ early) w)) d.places)) (ap (λ (z : List (Bool × Turn)). first_turn z e) is)
+          (fits_later early late (ap other_turns is))
+
+  pub delivers_on : (es : List (Bool × Turn)) (w : Pair) (stamps : Stamps) → FollowsTheRules es w → HasNotEnded (run es w) → KeepsWindows es w stamps → KeepsStreams es
+      → Halves a b w.a w.b → AreSilent w → (done : List Offer) → all ≡ done ++ accepted from_a es w → (handed ready : List messages.Message)
+      → ready ≡ handed ++ ready_at (side_of (not from_a) w) → (x : Transfer) → From w stamps (length done) handed x → DeliversOn from_a es w done ready x
+  delivers_on [] w stamps follows none windows streams h quiet done is handed ready r x f = record {
+    places = x.receiver.places;
+    more = [];
+    grown = sym (append-nil x.receiver.places);
+    fits = fits;
+  }
+    where
+      fits : (early late : List (Bool × Turn)) → [] ≡ early ++ late
+          → Fits (done ++ accepted from_a early w) (ready ++ readied (not from_a) early w) (take (length (ready ++ readied (not from_a) early w)) x.receiver.places)
+      fits [] late e =
+          subst (λ (os : List Offer). Fits os (ready ++ []) (take (length (ready ++ [])) x.receiver.places)) (sym (append-nil done))
+          (subst (λ (ms : List messages.Message). Fits done ms (take (length ms) x.receiver.places)) (sym (append-nil ready))
+          (fits_now w stamps done [] is handed ready r x f x.receiver.places [] (sym (append-nil x.receiver.places))))
+      fits (e ∷ early) late is = cc
+  delivers_on (e ∷ es) w stamps follows none windows streams h quiet done is handed ready r x f =
+      let v : Pair = goes e.0 e.1 w in
+      let os : List Offer = accepted_at from_a e.0 e.1 w in
+      let new : List messages.Message = new_behind (ready_at (side_of (not from_a) w)) (ready_at (side_of (not from_a) v)) in
+      let not_yet : HasNotEnded v = before_run es v none in
+      let no_resets = or_parts (resets e.1) (list_any (λ (e : Bool × Turn). resets e.1) es) streams in
+      let s = stepped (message_of all) (lifecycle_of all) mixed parts a b own other mode from_a e.0 e.1 w stamps h quiet windows.0 follows.0 no_resets.0 windows.1 not_yet (length done) handed
+      (offered_from all done os (accepted from_a es v) is) (below done os (accepted from_a es v) is) x f in
+      let hand : Hands (handed_at (not from_a) e.0 e.1 w) (state_of (side_of (not from_a) w)) (state_of (side_of (not from_a) v)) =
+      hands_at a b own other (not from_a) e.0 e.1 w follows.0 not_yet h in
+      let now_ready : ready ++ new ≡ (handed ++ handed_at (not from_a) e.0 e.1 w) ++ ready_at (side_of (not from_a) v) =
+      ap (λ (ms : List messages.Message). ms ++ new) r
+      ∙ (append_assoc handed (ready_at (side_of (not from_a) w)) new
+      ∙ (ap (λ (ms : List messages.Message). handed ++ ms) hand.all ∙ sym (append_assoc handed (handed_at (not from_a) e.0 e.1 w) (ready_at (side_of (not from_a) v))))) in
+      on_then e es w done ready x s.to s.grows (fits_now w stamps done (accepted from_a (e ∷ es) w) is handed ready r x f)
+      (delivers_on es v (stamps_after e.0 e.1 w stamps) follows.1 none windows.2 no_resets.1 (goes_joined a b own other e.0 e.1 w follows.0 not_yet h)
+      (silent_goes e.0 e.1 w quiet) (done ++ os) (is ∙ sym (append_assoc done os (accepted from_a es v))) (handed ++ handed_at (not from_a) e.0 e.1 w) (ready ++ new) now_ready s.to
+      (subst (λ (n : ℕ). From v (stamps_after e.0 e.1 w stamps) n (handed ++ handed_at (not from_a) e.0 e.1 w) s.to) (sym (length-append done os)) s.flows))
+    where
+      below : (done os later : List Offer) → all ≡ done ++ (os ++ later) → length done + length os < 2 ^ 32
+      below done os later e =
+          let n = ap (λ (z : List Offer). length z) e in
+          let m = length-append done (os ++ later) in
+          let k = length-append os later in
+          omega (arith, few, n, m, k)

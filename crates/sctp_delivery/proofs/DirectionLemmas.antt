@@ -1,0 +1,213 @@
+-- Between turns, one direction of two ends: the sender's values, the receiver's, and all packets that either ever emitted, at a
+-- state of the rules.
+use Rattle.std.proofs.Common.{◌≡◌, ℕ, zero, suc, ◌+◌, ◌-◌, ◌^◌, ◌≤◌, Bool, true, false, Option, Some, None, List, [], ◌∷◌, ◌++◌, length, replicate, slice_get, All, refl, sym, ap, subst, ◌∙◌, arith}
+use Rattle.std.proofs.lemmas.List.{length-append}
+use Rattle.std.proofs.lemmas.List.Elements.{All-head, All-tail, All-weaker}
+use Rattle.std.specs.Prelude.{⊤}
+use Rattle.sctp_serial.specs.Messages as messages
+use Rattle.sctp_packet.specs.Chunk.{ChunkTree, data_chunk, idata_chunk, sack_chunk, re_config_chunk, forward_tsn_chunk, i_forward_tsn_chunk}
+use Rattle.sctp_state.specs.Events.{silent}
+use Rattle.sctp_rules.specs.State.{Message, Transfer, IsAmong, count}
+use Rattle.sctp_rules.specs.Rules.{Event}
+use Rattle.sctp_rules.specs.Kept.{Kept}
+use Rattle.sctp_association.specs.Association.{State, Closed, CookieWait, Open}
+use Rattle.sctp_association.specs.Socket.{Association, association_in}
+use Rattle.sctp_association_laws.specs.Mapped.{Carried}
+use Rattle.sctp_course.specs.Course.{Side, emitted, state_of}
+use Rattle.sctp_delivery.specs.Windows.{Stamp, queue_of}
+use Rattle.sctp_delivery.proofs.ClaimLemmas.{GoesOn, SaysOut, SaysIn, first_out, first_in, IsFlowing, SendsIn, ReceivesIn}
+use Rattle.sctp_delivery.proofs.SenderToolLemmas.{Grows, goes_grows, all_out_stay, all_in_stay}
+
+-- ---- packets and their stamps, one by one
+
+abbrev pub Each : (Stamp → Carried → Type 0) → List Carried → List Stamp → Type 0
+Each P [] [] = ⊤
+Each P [] (s ∷ ss) = ⊥
+Each P (p ∷ ps) [] = ⊥
+Each P (p ∷ ps) (s ∷ ss) = P s p × Each P ps ss
+
+pub each_weaker : (P Q : Stamp → Carried → Type 0) → ((s : Stamp) (p : Carried) → P s p → Q s p) → (ps : List Carried) (ss : List Stamp) → Each P ps ss → Each Q ps ss
+each_weaker P Q f [] [] h = tt
+each_weaker P Q f [] (s ∷ ss) h = absurd h
+each_weaker P Q f (p ∷ ps) [] h = absurd h
+each_weaker P Q f (p ∷ ps) (s ∷ ss) h = (f s p h.0, each_weaker P Q f ps ss h.1)
+
+-- all with one stamp
+each_alike : (P : Stamp → Carried → Type 0) (s : Stamp) (ps : List Carried) → All (P s) ps → Each P ps (replicate (length ps) s)
+each_alike P s [] h = tt
+each_alike P s (p ∷ ps) h = (All-head (P s) p ps h, each_alike P s ps (All-tail (P s) p ps h))
+
+each_both : (P : Stamp → Carried → Type 0) (ps qs : List Carried) (ss us : List Stamp) → Each P ps ss → Each P qs us → Each P (ps ++ qs) (ss ++ us)
+each_both P [] qs [] us h k = k
+each_both P [] qs (s ∷ ss) us h k = absurd h
+each_both P (p ∷ ps) qs [] us h k = absurd h
+each_both P (p ∷ ps) qs (s ∷ ss) us h k = (h.0, each_both P ps qs ss us h.1 k)
+
+behind_length : (ps qs : List Carried) → length (ps ++ qs) - length ps ≡ length qs
+behind_length ps qs = let e = length-append ps qs in omega (arith, e)
+
+-- more of them with one stamp
+pub each_behind : (P : Stamp → Carried → Type 0) (s : Stamp) (ps qs : List Carried) (ss : List Stamp) → Each P ps ss → All (P s) qs
+    → Each P (ps ++ qs) (ss ++ replicate (length (ps ++ qs) - length ps) s)
+each_behind P s ps qs ss h k =
+    subst (λ (n : ℕ). Each P (ps ++ qs) (ss ++ replicate n s)) (sym (behind_length ps qs)) (each_both P ps qs ss (replicate (length qs) s) h (each_alike P s qs k))
+
+-- the packet with this number
+pub record AtStamp (P : Stamp → Carried → Type 0) (ss : List Stamp) (n : ℕ) (p : Carried) : Type 0 where
+  pub stamp : Stamp
+  pub there : slice_get ss n ≡ Some stamp
+  pub holds : P stamp p
+
+some_packet : (p q : Carried) → Some p ≡ Some q → p ≡ q
+some_packet p q e = ap (λ (o : Option Carried). elim o [ None ↦ p | Some z ↦ z ]) e
+
+pub each_at : (P : Stamp → Carried → Type 0) (ps : List Carried) (ss : List Stamp) (n : ℕ) (p : Carried) → slice_get ps n ≡ Some p → Each P ps ss → AtStamp P ss n p
+each_at P [] ss n p e h = cc
+each_at P (q ∷ ps) [] n p e h = absurd h
+each_at P (q ∷ ps) (s ∷ ss) zero p e h = record { stamp = s; there = refl; holds = subst (λ (z : Carried). P s z) (some_packet q p e) h.0 }
+each_at P (q ∷ ps) (s ∷ ss) (suc n) p e h = let r = each_at P ps ss n p e h.1 in record { stamp = r.stamp; there = r.there; holds = r.holds }
+
+-- ---- what packets say
+
+-- of what was acknowledged, and numbered, when a packet was emitted
+abbrev pub Saying : Type 1
+Saying = (least most : ℕ) → Transfer → ChunkTree → Type 0
+
+pub record IsUnderWay (Says : Saying) (x : Transfer) (most : ℕ) (p : Carried) : Type 0 where
+  pub least : ℕ
+  pub past : least ≤ x.acknowledged
+  pub near : most ≤ least + 2 ^ 30
+  pub below : most ≤ count x.sender
+  pub says : All (Says least most x) p.chunks
+
+abbrev pub AllUnderWay : Saying → (of : Stamp → ℕ) → Transfer → List Carried → List Stamp → Type 0
+AllUnderWay Says of x ps ss = Each (λ stamp p. IsUnderWay Says x (of stamp) p) ps ss
+
+module _ (message : ℕ → Message) (mixed : Bool) where
+  abbrev pub says_out : (first : ℕ) → Saying
+  says_out first = λ least most x chunk. SaysOut message mixed first least x chunk
+
+  abbrev pub says_in : (first : ℕ) → Saying
+  says_in first = λ least most x chunk. SaysIn first least most x chunk
+
+  under_way_on : (Says New : Saying) (x y : Transfer) → Grows message mixed x y
+      → ((least most : ℕ) (chunks : List ChunkTree) → All (Says least most x) chunks → All (New least most y) chunks) → (most : ℕ) (p : Carried)
+      → IsUnderWay Says x most p → IsUnderWay New y most p
+  under_way_on Says New x y g f most p h =
+      let l = h.past in
+      let b = h.below in
+      let m = g.left in
+      let c = g.numbered in
+      record {
+        least = h.least;
+        past = omega (arith, l, m);
+        near = h.near;
+        below = omega (arith, b, c);
+        says = f h.least most p.chunks h.says;
+      }
+
+  -- what was said stays true along rules
+  pub out_on : (kind : Event → Bool) (x y : Transfer) → Kept message mixed x → GoesOn message mixed kind x y → (first : ℕ) (of : Stamp → ℕ) (ps : List Carried) (ss : List Stamp)
+      → AllUnderWay (says_out first) of x ps ss → AllUnderWay (says_out first) of y ps ss
+  out_on kind x y k g first of ps ss h =
+      each_weaker (λ stamp p. IsUnderWay (says_out first) x (of stamp) p) (λ stamp p. IsUnderWay (says_out first) y (of stamp) p)
+      (λ stamp p. under_way_on (says_out first) (says_out first) x y (goes_grows message mixed kind x y k g)
+      (λ least most chunks. all_out_stay message mixed kind x y k g first least chunks) (of stamp) p) ps ss h
+
+  pub in_on : (kind : Event → Bool) (x y : Transfer) → Kept message mixed x → GoesOn message mixed kind x y → (first : ℕ) (of : Stamp → ℕ) (ps : List Carried) (ss : List Stamp)
+      → AllUnderWay (says_in first) of x ps ss → AllUnderWay (says_in first) of y ps ss
+  in_on kind x y k g first of ps ss h =
+      each_weaker (λ stamp p. IsUnderWay (says_in first) x (of stamp) p) (λ stamp p. IsUnderWay (says_in first) y (of stamp) p)
+      (λ stamp p. under_way_on (says_in first) (says_in first) x y (goes_grows message mixed kind x y k g)
+      (λ least most chunks. all_in_stay message mixed kind x y k g first least most chunks) (of stamp) p) ps ss h
+
+  -- ---- the first TSN is that of the association, which stands
+
+  -- where nothing was sent, whichever it is
+  out_anew : (x : Transfer) → count x.sender ≡ 0 → x.forward_points ≡ [] → (first new least : ℕ) (chunk : ChunkTree)
+      → SaysOut message mixed first least x chunk → SaysOut message mixed new least x chunk
+  out_anew x none no_points first new least (data_chunk tsn is_immediate f) h = let b = h.1.carries.below in absurd (omega (arith, none, b))
+  out_anew x none no_points first new least (idata_chunk tsn is_immediate f) h = let b = h.1.carries.below in absurd (omega (arith, none, b))
+  out_anew x none no_points first new least (forward_tsn_chunk tsn skipped) h = absurd (subst (λ z. IsAmong h.point z) no_points h.sent)
+  out_anew x none no_points first new least (i_forward_tsn_chunk tsn skipped) h = absurd (subst (λ z. IsAmong h.point z) no_points h.sent)
+  out_anew x none no_points first new least (re_config_chunk parameters) h = h
+  out_anew x none no_points first new least chunk h = h
+
+  in_anew : (x : Transfer) → x.sacks ≡ [] → (first new least most : ℕ) (chunk : ChunkTree) → SaysIn first least most x chunk → SaysIn new least most x chunk
+  in_anew x no_sacks first new least most (sack_chunk k) h = absurd (subst (λ z. IsAmong h.point z) no_sacks h.sent)
+  in_anew x no_sacks first new least most chunk h = h
+
+  anew : (Says New : Saying) (x : Transfer) → ((least most : ℕ) (chunk : ChunkTree) → Says least most x chunk → New least most x chunk) → (of : Stamp → ℕ)
+      (ps : List Carried) (ss : List Stamp) → AllUnderWay Says of x ps ss → AllUnderWay New of x ps ss
+  anew Says New x f of ps ss h =
+      each_weaker (λ stamp p. IsUnderWay Says x (of stamp) p) (λ stamp p. IsUnderWay New x (of stamp) p)
+      (λ stamp p u. record {
+        least = u.least;
+        past = u.past;
+        near = u.near;
+        below = u.below;
+        says = All-weaker (Says u.least (of stamp) x) (New u.least (of stamp) x) (λ chunk. f u.least (of stamp) chunk) p.chunks u.says;
+      }) ps ss h
+
+-- an association that stands is not replaced
+abbrev pub Stands : (before after : State) → Type 0
+Stands s t = (a : Association) → association_in s ≡ Some a → association_in t ≡ Some a
+
+abbrev initial : (mine : Bool) → Option Association → ℕ
+initial mine None = 0
+initial true (Some a) = a.my_initial_tsn
+initial false (Some a) = a.peer_initial_tsn
+
+module _ (message : ℕ → Message) (lifecycle : ℕ → Option ℕ) (mixed : Bool) (of : Stamp → ℕ) (x : Transfer) where
+  -- after a turn of the sender
+  pub out_first : (s t : State) (q r : _) (y : Transfer) → SendsIn message lifecycle mixed s q x → SendsIn message lifecycle mixed t r y → Stands s t
+      → (ps : List Carried) (ss : List Stamp) → AllUnderWay (says_out message mixed (first_out s)) of x ps ss → AllUnderWay (says_out message mixed (first_out t)) of x ps ss
+  out_first Closed t q r y h k f ps ss a =
+      anew message mixed (says_out message mixed 0) (says_out message mixed (first_out t)) x (λ least most. out_anew message mixed x (ap count h.sender) h.no_points 0 (first_out t) least) of ps ss a
+  out_first (CookieWait tag first t1) t q r y h k f ps ss a =
+      anew message mixed (says_out message mixed 0) (says_out message mixed (first_out t)) x (λ least most. out_anew message mixed x (ap count h.sender) h.no_points 0 (first_out t) least) of ps ss a
+  out_first (Open phase t) Closed q r y h k f ps ss a = absurd (none_some (f _ refl))
+    where
+      none_some : {a : Association} → None ≡ Some a → ⊥
+      none_some e = cc
+  out_first (Open phase t) (CookieWait tag first t1) q r y h k f ps ss a = absurd (none_some (f _ refl))
+    where
+      none_some : {a : Association} → None ≡ Some a → ⊥
+      none_some e = cc
+  out_first (Open phase t) (Open next u) q r y h k f ps ss a =
+      subst (λ (n : ℕ). AllUnderWay (says_out message mixed n) of x ps ss) (h.first ∙ (sym (ap (initial true) (f _ refl)) ∙ sym k.first)) a
+
+  -- and of the receiver
+  pub in_first : (s t : State) (before after : List messages.Message) (y : Transfer) → ReceivesIn message mixed s before x → ReceivesIn message mixed t after y → Stands s t
+      → (ps : List Carried) (ss : List Stamp) → AllUnderWay (says_in message mixed (first_in s)) of x ps ss → AllUnderWay (says_in message mixed (first_in t)) of x ps ss
+  in_first Closed t before after y h k f ps ss a =
+      anew message mixed (says_in message mixed 0) (says_in message mixed (first_in t)) x (λ least most. in_anew message mixed x h.no_sacks 0 (first_in t) least most) of ps ss a
+  in_first (CookieWait tag first t1) t before after y h k f ps ss a =
+      anew message mixed (says_in message mixed 0) (says_in message mixed (first_in t)) x (λ least most. in_anew message mixed x h.no_sacks 0 (first_in t) least most) of ps ss a
+  in_first (Open phase t) Closed before after y h k f ps ss a = absurd (none_some (f _ refl))
+    where
+      none_some : {a : Association} → None ≡ Some a → ⊥
+      none_some e = cc
+  in_first (Open phase t) (CookieWait tag first t1) before after y h k f ps ss a = absurd (none_some (f _ refl))
+    where
+      none_some : {a : Association} → None ≡ Some a → ⊥
+      none_some e = cc
+  in_first (Open phase t) (Open next u) before after y h k f ps ss a =
+      subst (λ (n : ℕ). AllUnderWay (says_in message mixed n) of x ps ss) (h.first ∙ (sym (ap (initial false) (f _ refl)) ∙ sym k.first)) a
+
+-- ---- the direction from s to r
+
+module _ (message : ℕ → Message) (lifecycle : ℕ → Option ℕ) (mixed : Bool) (of : Stamp → ℕ) where
+  -- where so many messages were accepted, these were handed out, and all packets have these stamps
+  pub record Flows (s r : Side) (accepted : ℕ) (handed : List messages.Message) (stamps_s stamps_r : List Stamp) (x : Transfer) : Type 0 where
+    pub kept : Kept message mixed x
+    pub sends : SendsIn message lifecycle mixed (state_of s) (queue_of s) x
+    pub flows : IsFlowing (queue_of s)
+    pub receives : ReceivesIn message mixed (state_of r) handed x
+    pub accepted_is : x.sender.accepted ≡ accepted
+    pub out : AllUnderWay (says_out message mixed (first_out (state_of s))) of x (emitted s) stamps_s
+    pub answers : AllUnderWay (says_in message mixed (first_in (state_of r))) of x (emitted r) stamps_r
+
+-- what it told was taken
+pub record IsSilent (x : Side) : Type 0 where
+  pub told : x.end.standing.context.told ≡ silent

@@ -1,0 +1,145 @@
+-- What became ready fits: these are the messages that the rules made ready, read off what was accepted.
+use Rattle.std.proofs.Common.{◌≡◌, ℕ, zero, suc, ◌+◌, ◌<◌, not, Bool, false, Option, Some, None, inl, inr, List, [], ◌∷◌, ◌++◌, length, map, take, slice_get, slice_index, refl, sym, ap, subst, ◌∙◌, append_assoc, arith}
+use Rattle.std.specs.Prelude.{option_map}
+use Rattle.std.proofs.lemmas.List.{length-map}
+use Rattle.std.proofs.lemmas.Option.{slice_get_cases}
+use Rattle.std.proofs.Math.Seq.{take-append_seam}
+use Rattle.sctp_serial.specs.Messages as messages
+use Rattle.sctp_state.specs.Options.{defaults}
+use Rattle.sctp_rx_rules.specs.View.{ready_of}
+use Rattle.sctp_rules.specs.State.{Message, ReadyMessage, Transfer}
+use Rattle.sctp_rules.specs.Claims.{ready_message, Claims}
+use Rattle.sctp_rules.specs.Claims as rules
+use Rattle.sctp_rules.specs.Kept.{Kept}
+use Rattle.sctp_rules.proofs.ClaimsLemmas.{claimed}
+use Rattle.sctp_association.specs.Association.{State, Closed, CookieWait, Open}
+use Rattle.sctp_association.specs.Calls.{ready_in}
+use Rattle.sctp_delivery.specs.Accepted.{Offer}
+use Rattle.sctp_delivery.specs.Delivery.{message_at, Fits}
+use Rattle.sctp_delivery.proofs.ClaimLemmas.{ReceivesIn, IsFresh}
+use Rattle.sctp_delivery.proofs.GoingLemmas.{message_in, AreOffered}
+
+-- ---- what was accepted, by place
+
+-- and nothing beyond
+abbrev pub message_of : List Offer → ℕ → Message
+message_of os p = elim (slice_get os p) [ None ↦ record { stream = 0; ordered = false; protocol_id = 0; payload = [] } | Some o ↦ message_in o ]
+
+abbrev pub lifecycle_of : List Offer → ℕ → Option ℕ
+lifecycle_of os p = elim (slice_get os p) [ None ↦ None | Some o ↦ o.options.lifecycle_id ]
+
+get_behind : (xs ys : List Offer) (n : ℕ) (o : Offer) → slice_get xs n ≡ Some o → slice_get (xs ++ ys) n ≡ Some o
+get_behind [] ys n o e = cc
+get_behind (x ∷ xs) ys zero o e = e
+get_behind (x ∷ xs) ys (suc n) o e = get_behind xs ys n o e
+
+get_next : (xs ys : List Offer) (o : Offer) → slice_get (xs ++ o ∷ ys) (length xs) ≡ Some o
+get_next [] ys o = refl
+get_next (x ∷ xs) ys o = get_next xs ys o
+
+one_more : (xs : List Offer) (o : Offer) → length (xs ++ o ∷ []) ≡ length xs + 1
+one_more [] o = refl
+one_more (x ∷ xs) o = let e = one_more xs o in omega (arith, e)
+
+module _ (all : List Offer) where
+  message_there : (p : ℕ) (o : Offer) → slice_get all p ≡ Some o → message_of all p ≡ message_in o
+  message_there p o e =
+      ap (λ (z : Option Offer). elim z [ None ↦ record { stream = 0; ordered = false; protocol_id = 0; payload = [] } | Some o ↦ message_in o ]) e
+
+  lifecycle_there : (p : ℕ) (o : Offer) → slice_get all p ≡ Some o → lifecycle_of all p ≡ o.options.lifecycle_id
+  lifecycle_there p o e = ap (λ (z : Option Offer). elim z [ None ↦ None | Some o ↦ o.options.lifecycle_id ]) e
+
+  -- behind what was accepted before
+  pub offered_from : (done rest later : List Offer) → all ≡ done ++ (rest ++ later) → AreOffered (message_of all) (lifecycle_of all) (length done) rest
+  offered_from done [] later e = tt
+  offered_from done (o ∷ rest) later e =
+      let there : slice_get all (length done) ≡ Some o = ap (λ (z : List Offer). slice_get z (length done)) e ∙ get_next done (rest ++ later) o in
+      let next : all ≡ (done ++ o ∷ []) ++ (rest ++ later) = e ∙ sym (append_assoc done (o ∷ []) (rest ++ later)) in (
+        message_there (length done) o there,
+        lifecycle_there (length done) o there,
+        subst (λ (n : ℕ). AreOffered (message_of all) (lifecycle_of all) n rest) (one_more done o) (offered_from (done ++ o ∷ []) rest later next),
+      )
+
+  pub accepted_there : (done later : List Offer) → all ≡ done ++ later → (p : ℕ) (o : Offer) → slice_get done p ≡ Some o → message_of all p ≡ message_in o
+  accepted_there done later e p o there = message_there p o (ap (λ (z : List Offer). slice_get z p) e ∙ get_behind done later p o there)
+
+-- ---- what the values show of what became ready
+
+pub ready_is : (message : ℕ → Message) (mixed : Bool) (s : State) (handed : List messages.Message) (x : Transfer) → ReceivesIn message mixed s handed x
+    → x.receiver.ready ≡ map ready_of (handed ++ ready_in s)
+ready_is message mixed Closed handed x h = fresh_ready handed h
+  where
+    fresh_ready : (handed : List messages.Message) → IsFresh message mixed handed x → x.receiver.ready ≡ map ready_of (handed ++ [])
+    fresh_ready handed h =
+        let r = h.receives defaults 0 in
+        subst (λ (ms : List messages.Message). x.receiver.ready ≡ map ready_of (ms ++ [])) (sym h.none_handed) (sym r.shows.ready_is ∙ r.seen_as.ready)
+ready_is message mixed (CookieWait tag first t1) handed x h = fresh_ready handed h
+  where
+    fresh_ready : (handed : List messages.Message) → IsFresh message mixed handed x → x.receiver.ready ≡ map ready_of (handed ++ [])
+    fresh_ready handed h =
+        let r = h.receives defaults 0 in
+        subst (λ (ms : List messages.Message). x.receiver.ready ≡ map ready_of (ms ++ [])) (sym h.none_handed) (sym r.shows.ready_is ∙ r.seen_as.ready)
+ready_is message mixed (Open phase t) handed x h = sym h.receives.shows.ready_is ∙ h.receives.seen_as.ready
+
+-- ---- it fits
+
+-- as it was accepted
+abbrev given_back : ReadyMessage → messages.Message
+given_back m = record { stream = m.stream; ppid = m.protocol_id; payload = m.payload }
+
+abbrev first_ready : (xs : List ReadyMessage) → ReadyMessage → ReadyMessage
+first_ready [] d = d
+first_ready (x ∷ xs) d = x
+
+abbrev other_ready : List ReadyMessage → List ReadyMessage
+other_ready [] = []
+other_ready (x ∷ xs) = xs
+
+module _ (message : ℕ → Message) (os : List Offer) (there : (p : ℕ) (o : Offer) → slice_get os p ≡ Some o → message p ≡ message_in o) where
+  one_alike : (p : ℕ) (m : messages.Message) → p < length os → ready_of m ≡ ready_message message p → message_at os p ≡ Some m
+  one_alike p m l e =
+      elim (slice_get_cases os p).1 [
+        | inl a ↦
+            let o : Offer = a.0 in
+            let is : message p ≡ message_in o = there p o a.2 in
+            let same : m ≡ o.message =
+            ap given_back e ∙ ap (λ (z : Message). given_back (record { stream = z.stream; protocol_id = z.protocol_id; payload = z.payload })) is in
+            ap (λ (z : Option Offer). option_map (λ (o : Offer). o.message) z) a.2 ∙ ap (λ (z : messages.Message). Some z) (sym same)
+        | inr b ↦ let past = b.0 in absurd (omega (arith, past, l))
+      ]
+
+  all_alike : (ps : List ℕ) (ms : List messages.Message) → ((k : ℕ) → k < length ps → slice_index ps k < length os) → map ready_of ms ≡ map (ready_message message) ps
+      → map (message_at os) ps ≡ map (λ (m : messages.Message). Some m) ms
+  all_alike [] [] below e = refl
+  all_alike [] (m ∷ ms) below e = cc
+  all_alike (p ∷ ps) [] below e = cc
+  all_alike (p ∷ ps) (m ∷ ms) below e =
+      let head : message_at os p ≡ Some m = one_alike p m (below 0 (omega arith)) (ap (λ (z : List ReadyMessage). first_ready z (ready_of m)) e) in
+      let rest : map (message_at os) ps ≡ map (λ (m : messages.Message). Some m) ms =
+      all_alike ps ms (λ k l. below (suc k) (omega (arith, l))) (ap other_ready e) in
+      ap (λ (z : Option messages.Message). z ∷ map (message_at os) ps) head ∙ ap (λ (z : List (Option messages.Message)). Some m ∷ z) rest
+
+  pub places_fit : (mixed : Bool) (x : Transfer) (ready : List messages.Message) → Kept message mixed x → x.sender.accepted ≡ length os → x.receiver.ready ≡ map ready_of ready
+      → Fits os ready x.receiver.places
+  places_fit mixed x ready k few is =
+      let c : rules.Fits message x = (claimed message mixed x k).fits in
+      record {
+        alike = all_alike x.receiver.places ready (λ n l. let b = c.accepted n l in omega (arith, b, few)) (sym is ∙ c.alike);
+        distinct = c.distinct;
+        rising = λ j n l b o p at_j at_n line.
+            let first : message (slice_index x.receiver.places j) ≡ message_in o = there (slice_index x.receiver.places j) o at_j in
+            let second : message (slice_index x.receiver.places n) ≡ message_in p = there (slice_index x.receiver.places n) p at_n in
+            c.rising j n l b (ap (λ (z : Message). z.ordered) first ∙ ap not line.first) (ap (λ (z : Message). z.ordered) second ∙ ap not line.second)
+            (ap (λ (z : Message). z.stream) first ∙ (line.stream ∙ sym (ap (λ (z : Message). z.stream) second)));
+      }
+
+  -- also where more became ready since
+  pub places_fit_first : (mixed : Bool) (x : Transfer) (ready : List messages.Message) → Kept message mixed x → x.sender.accepted ≡ length os
+      → x.receiver.ready ≡ map ready_of ready → (places more : List ℕ) → places ≡ x.receiver.places ++ more → Fits os ready (take (length ready) places)
+  places_fit_first mixed x ready k few is places more e =
+      let c : rules.Fits message x = (claimed message mixed x k).fits in
+      let count : length ready ≡ length x.receiver.places =
+      sym (length-map ready ready_of) ∙ (ap (λ (z : List ReadyMessage). length z) (sym is ∙ c.alike) ∙ length-map x.receiver.places (ready_message message)) in
+      let first : take (length ready) places ≡ x.receiver.places =
+      ap (λ (n : ℕ). take n places) count ∙ (ap (λ (z : List ℕ). take (length x.receiver.places) z) e ∙ take-append_seam x.receiver.places more) in
+      subst (λ (ps : List ℕ). Fits os ready ps) (sym first) (places_fit mixed x ready k few is)

@@ -1,0 +1,276 @@
+-- Each turn of a course leaves one direction at a later state of the rules.
+use Rattle.std.proofs.Common.{◌≡◌, ℕ, ◌+◌, ◌-◌, ◌^◌, ◌<◌, ◌≤◌, ◌==◌, ◌||◌, not, Bool, true, false, Option, Some, None, List, [], ◌∷◌, ◌++◌, length, replicate, take, slice_get, All, refl, sym, ap, subst, ◌∙◌, append-nil, append_assoc, arith}
+use Rattle.std.specs.Prelude.{⊤}
+use Rattle.std.proofs.lemmas.List.Elements.{All-nil}
+use Rattle.sctp_serial.specs.Messages as messages
+use Rattle.sctp_packet.specs.Chunk.{ChunkTree}
+use Rattle.sctp_packet.specs.Packet.{PacketTree}
+use Rattle.sctp_state.specs.declared.api.ErrorKind.TheVariants.{ParseFailed}
+use Rattle.sctp_state.specs.Options.{Options}
+use Rattle.sctp_state.specs.Capabilities.{agreed}
+use Rattle.sctp_state.specs.Events.{Told, OnError}
+use Rattle.sctp_state.proofs.CapabilitiesLemmas.{agreed-exchanged}
+use Rattle.sctp_send_queue.specs.Queue.{Queue}
+use Rattle.sctp_rules.specs.State.{Message, Transfer, count}
+use Rattle.sctp_rules.specs.Rules as rules
+use Rattle.sctp_rules.specs.Claims.{Grows}
+use Rattle.sctp_rules.proofs.GrowsLemmas.{one}
+use Rattle.sctp_tx_rules.specs.Led.{recorded, is_sending}
+use Rattle.sctp_association.specs.Association.{State, Endpoint}
+use Rattle.sctp_association.specs.Calls.{ready_in, taken_in}
+use Rattle.sctp_association.specs.Opening.{complains}
+use Rattle.sctp_association.specs.Input.{refusal, counts, taken_if}
+use Rattle.sctp_association.specs.Laws.{Call, Connect, Close, Shutdown, Send, SendMany, ResetStreams, TakeMessage, SetLowThreshold, SetPriority, SetMaxMessageSize, Advance, HandOver, Restore, Packet, NoPacket, called, endings}
+use Rattle.sctp_association_laws.specs.Mapped.{Carried}
+use Rattle.sctp_course.specs.Acts.{Making, calm, HasNoEnd}
+use Rattle.sctp_course.specs.Course.{Side, packets_in, emitted, Turn, Calls, Gives, Refuses, as_heard, given, foreign_if, turned, MayCall, MayTurn, AreGiven, state_of}
+use Rattle.sctp_course.proofs.JoinActsLemmas.{Setting, InvAt}
+use Rattle.sctp_course.proofs.JoinKeepsLemmas.{Rules}
+use Rattle.sctp_course.proofs.CourseLemmas.{setting, begins, rules_call, rules_given, or_left, Halves, none_of}
+use Rattle.sctp_course.proofs.HandingLemmas.{hands}
+use Rattle.sctp_delivery.specs.Accepted.{Offer, accepted_by, accepted_in}
+use Rattle.sctp_delivery.specs.Windows.{Stamp, IsYoung, IsTimely, IsWithin, queue_of, numbered, stamped, resets}
+use Rattle.sctp_delivery.proofs.ClaimLemmas.{GoesOn, IsFlowing, SaysOut, first_out, first_in, SendsIn, ReceivesIn, SenderClaim, HearsSacks, SenderGoes, SenderPremises, ReceiverGoes, ReceiverPremises}
+use Rattle.sctp_delivery.proofs.FrameLemmas.{is_other, KeepsJoined, joined_call}
+use Rattle.sctp_delivery.proofs.WithinLemmas.{numbered_is, Holds}
+use Rattle.sctp_delivery.proofs.DirectionLemmas.{AtStamp, each_at, IsUnderWay, says_in, Stands, Flows, IsSilent}
+use Rattle.sctp_delivery.proofs.PremisesLemmas.{in_window, IsNoPacket, hears_no_sacks, hears_sacks, holds_of, sender_premises, begins_out}
+use Rattle.sctp_delivery.proofs.TurnLemmas.{Offers, offers_none, Stay, is_outgoing, after_turn, ends_out}
+
+-- ---- what becomes ready only grows
+
+module _ (message : ℕ → Message) (mixed : Bool) where
+  places_grow : (es : List rules.Event) (x : Transfer) → Grows x (rules.run message mixed x es)
+  places_grow [] x = ([], sym (append-nil x.receiver.places))
+  places_grow (e ∷ es) x =
+      let a = one message mixed x e in
+      let b = places_grow es (rules.after message mixed x e) in
+      (a.0 ++ b.0, b.1 ∙ (ap (λ (z : List ℕ). z ++ b.0) a.1 ∙ append_assoc x.receiver.places a.0 b.0))
+
+  pub goes_places : (kind : rules.Event → Bool) (x y : Transfer) → GoesOn message mixed kind x y → Grows x y
+  goes_places kind x y g = subst (λ (z : Transfer). Grows x z) g.leads (places_grow g.events x)
+
+pub grow_both : (x y z : Transfer) → Grows x y → Grows y z → Grows x z
+grow_both x y z a b = (a.0 ++ b.0, b.1 ∙ (ap (λ (l : List ℕ). l ++ b.0) a.1 ∙ append_assoc x.receiver.places a.0 b.0))
+
+pub grow_none : (x : Transfer) → Grows x x
+grow_none x = ([], sym (append-nil x.receiver.places))
+
+-- ---- what is offered
+
+-- the messages of these places, from this one on
+abbrev pub message_in : Offer → Message
+message_in o = record { stream = o.message.stream; ordered = not o.options.unordered; protocol_id = o.message.ppid; payload = o.message.payload }
+
+abbrev pub AreOffered : (ℕ → Message) → (ℕ → Option ℕ) → ℕ → List Offer → Type 0
+AreOffered message lifecycle p [] = ⊤
+AreOffered message lifecycle p (o ∷ os) = (message p ≡ message_in o) × (lifecycle p ≡ o.options.lifecycle_id) × AreOffered message lifecycle (p + 1) os
+
+abbrev pub is_offer : Call → Bool
+is_offer (Send m o) = true
+is_offer (SendMany ms o) = true
+is_offer call = false
+
+-- so many are accepted, and fragments go out
+pub record OffersOut (message : ℕ → Message) (lifecycle : ℕ → Option ℕ) (mixed : Bool) (x : Transfer) (n : ℕ) (m : Making Carried) : Type 0 where
+  pub mid : Transfer
+  pub offers : Offers message mixed n x mid
+  pub same : count mid.sender ≡ count x.sender
+  pub to : Transfer
+  pub claim : SenderClaim message lifecycle mixed mid m to
+
+-- ---- what each act keeps
+
+pub record Parts (message : ℕ → Message) (lifecycle : ℕ → Option ℕ) (mixed : Bool) : Type 0 where
+  pub stay : Stay message lifecycle mixed
+  pub sender_keeps : (g : Setting) (call : Call) (from : Transfer) → SenderPremises message lifecycle mixed g call from
+      → KeepsJoined g call (SenderGoes message lifecycle mixed from)
+  pub receiver_keeps : (g : Setting) (call : Call) (from : Transfer) (handed : List messages.Message) → ReceiverPremises message lifecycle mixed g call from
+      → KeepsJoined g call (ReceiverGoes message lifecycle mixed from handed)
+  -- a message is handed out
+  pub taken_out : (s : State) (q : Queue) (x : Transfer) → SendsIn message lifecycle mixed s q x → SendsIn message lifecycle mixed (taken_in s) q x
+  pub taken_in_turn : (s : State) (handed : List messages.Message) (x : Transfer) → ReceivesIn message mixed s handed x
+      → ReceivesIn message mixed (taken_in s) (handed ++ take 1 (ready_in s)) x
+  -- messages are offered
+  pub offered_out : (g : Setting) (call : Call) (x : Transfer) (s : Side) → Rules g call → is_offer call ≡ true → SenderPremises message lifecycle mixed g call x
+      → AreOffered message lifecycle x.sender.accepted (accepted_by call s) → x.sender.accepted + length (accepted_by call s) < 2 ^ 32
+      → HasNoEnd (calm (called call s.end)) → InvAt g (calm s.end) → IsSilent s → SendsIn message lifecycle mixed (state_of s) (queue_of s) x → IsFlowing (queue_of s)
+      → OffersOut message lifecycle mixed x (length (accepted_by call s)) (calm (called call s.end))
+  pub offered_in : (g : Setting) (call : Call) (x : Transfer) (s : Side) (handed : List messages.Message) → Rules g call → is_offer call ≡ true
+      → ReceiverPremises message lifecycle mixed g call x → HasNoEnd (calm (called call s.end)) → InvAt g (calm s.end)
+      → ReceiverGoes message lifecycle mixed x handed (calm s.end) (calm (called call s.end))
+
+-- ---- where a turn leads
+
+pub record Turned (message : ℕ → Message) (lifecycle : ℕ → Option ℕ) (mixed : Bool) (of : Stamp → ℕ) (s r : Side) (accepted : ℕ)
+    (handed : List messages.Message) (stamps_s stamps_r : List Stamp) (x : Transfer) : Type 0 where
+  pub to : Transfer
+  pub flows : Flows message lifecycle mixed of s r accepted handed stamps_s stamps_r to
+  pub grows : Grows x to
+
+pub none_more : (ps : List Carried) (now : Stamp) (ss : List Stamp) → ss ++ replicate (length ps - length ps) now ≡ ss
+none_more ps now ss = ap (λ (n : ℕ). ss ++ replicate n now) (zero_less (length ps)) ∙ append-nil ss
+  where
+    zero_less : (n : ℕ) → n - n ≡ 0
+    zero_less n = omega arith
+
+module _ (message : ℕ → Message) (lifecycle : ℕ → Option ℕ) (mixed : Bool) (of : Stamp → ℕ) (parts : Parts message lifecycle mixed) (o q : Options) (own : AreGiven o)
+    (other : AreGiven q) (mode : mixed ≡ (agreed o q).message_interleaving) (s r : Side) (h : Halves o q s r) (quiet_s : IsSilent s) (quiet_r : IsSilent r)
+    (within : IsWithin (state_of s) (queue_of s)) (accepted : ℕ) (handed : List messages.Message) (stamps_s stamps_r : List Stamp) (x : Transfer)
+    (f : Flows message lifecycle mixed of s r accepted handed stamps_s stamps_r x) (now : Stamp) (at_now : of now ≡ numbered (state_of s))
+    (young : (old : Stamp) → IsYoung now old → of now < of old + 2 ^ 30) where
+  pub holds : Holds message lifecycle mixed x (queue_of s) f.kept
+  holds = holds_of message lifecycle mixed of o q s r accepted handed stamps_s stamps_r x f mode h.own within
+
+  pub counted : of now ≡ count x.sender
+  counted = at_now ∙ numbered_is message lifecycle mixed (state_of s) (queue_of s) x f.sends
+
+  pub near : count x.sender ≤ x.acknowledged + 2 ^ 30
+  near = in_window message x holds.windows
+
+  pub mode_back : mixed ≡ (agreed q o).message_interleaving
+  mode_back = mode ∙ sym (ap (λ c. c.message_interleaving) (agreed-exchanged o q))
+
+  pub young_now : (old : Stamp) → IsYoung now old → count x.sender < of old + 2 ^ 30
+  young_now old y = let l = young old y in omega (arith, counted, l)
+
+  -- ---- the sender's turn
+
+  abbrev pub Out : Side → ℕ → Type 0
+  Out t n = Turned message lifecycle mixed of t r (accepted + n) handed (stamped s t now stamps_s) stamps_r x
+
+  still_out : Out s 0
+  still_out = record {
+    to = x;
+    flows = subst (λ (ss : List Stamp). Flows message lifecycle mixed of s r (accepted + 0) handed ss stamps_r x) (sym (none_more (emitted s) now stamps_s))
+        (subst (λ (n : ℕ). Flows message lifecycle mixed of s r n handed stamps_s stamps_r x) (plus_none accepted) f);
+    grows = grow_none x;
+  }
+    where
+      plus_none : (n : ℕ) → n ≡ n + 0
+      plus_none n = omega arith
+
+  claim_out : (asked : Bool) (e : Endpoint Carried) (y : Transfer) → SenderClaim message lifecycle mixed x (calm e) y → Stands (state_of s) e.standing.state
+      → Out (after_turn asked e s) 0
+  claim_out asked e y c stands = record {
+    to = y;
+    flows = ends_out message lifecycle mixed of parts.stay s r accepted handed stamps_s stamps_r x f now counted near asked 0 x y e (offers_none message mixed x f.kept) refl c stands;
+    grows = goes_places message mixed is_sending x y c.goes;
+  }
+
+  joined_out : (asked : Bool) (call : Call) → Rules (setting o q s r asked) call → is_other call ≡ true → (s.is_asked ≡ true → asked ≡ true)
+      → HasNoEnd (calm (called call s.end)) → HearsSacks call (first_in (state_of r)) x → Stands (state_of s) (called call s.end).standing.state
+      → Out (after_turn asked (called call s.end) s) 0
+  joined_out asked call rules other_call le none hears stands =
+      let g : Setting = setting o q s r asked in
+      let premises : SenderPremises message lifecycle mixed g call x =
+      sender_premises message lifecycle mixed of o q s r accepted handed stamps_s stamps_r x f asked call own mode hears in
+      let goes : SenderGoes message lifecycle mixed x (calm s.end) (calm (called call s.end)) =
+      (joined_call g call rules other_call (parts.sender_keeps g call x premises) s.end none (begins o q s r asked le h.own h.other)).1 in
+      let c = goes x (begins_out message lifecycle mixed of o q s r accepted handed stamps_s stamps_r x f quiet_s) in
+      claim_out asked (called call s.end) c.0 c.1 stands
+
+  offered_out : (call : Call) → Rules (setting o q s r s.is_asked) call → is_offer call ≡ true → IsNoPacket call
+      → AreOffered message lifecycle accepted (accepted_by call s) → accepted + length (accepted_by call s) < 2 ^ 32
+      → HasNoEnd (calm (called call s.end)) → Stands (state_of s) (called call s.end).standing.state
+      → Out (after_turn s.is_asked (called call s.end) s) (length (accepted_by call s))
+  offered_out call rules offer plain are few none stands =
+      let g : Setting = setting o q s r s.is_asked in
+      let os : List Offer = accepted_by call s in
+      let premises : SenderPremises message lifecycle mixed g call x =
+      sender_premises message lifecycle mixed of o q s r accepted handed stamps_s stamps_r x f s.is_asked call own mode
+      (hears_no_sacks message mixed (first_in (state_of r)) x call plain holds.windows) in
+      let c : OffersOut message lifecycle mixed x (length os) (calm (called call s.end)) =
+      parts.offered_out g call x s rules offer premises
+      (subst (λ (n : ℕ). AreOffered message lifecycle n os) (sym f.accepted_is) are) (subst (λ (n : ℕ). n + length os < 2 ^ 32) (sym f.accepted_is) few)
+      none (begins o q s r s.is_asked (λ z. z) h.own h.other) quiet_s f.sends f.flows in
+      record {
+        to = c.to;
+        flows = ends_out message lifecycle mixed of parts.stay s r accepted handed stamps_s stamps_r x f now counted near s.is_asked (length os) c.mid c.to (called call s.end)
+            c.offers c.same c.claim stands;
+        grows = grow_both x c.mid c.to (goes_places message mixed is_outgoing x c.mid c.offers.goes) (goes_places message mixed is_sending c.mid c.to c.claim.goes);
+      }
+
+  -- nothing happens that the rules see
+  quietly_out : (m : Making Carried) → SendsIn message lifecycle mixed m.state m.context.queue x → m.context.queue ≡ queue_of s → recorded m.context.told ≡ []
+      → packets_in m.context.told.events ≡ [] → m.packet.chunks ≡ [] → SenderClaim message lifecycle mixed x m x
+  quietly_out m shown queue gone told made = record {
+    kept = f.kept;
+    goes = record { events = []; may = tt; all = refl; leads = refl };
+    shown = shown;
+    flows = subst (λ (z : Queue). IsFlowing z) (sym queue) f.flows;
+    gone = gone;
+    told = subst (λ (ps : List Carried). All (λ (p : Carried). All (SaysOut message mixed (first_out m.state) x.acknowledged x) p.chunks) ps) (sym told) (All-nil _);
+    made = subst (λ (cs : List ChunkTree). All (SaysOut message mixed (first_out m.state) x.acknowledged x) cs) (sym made) (All-nil _);
+  }
+
+  taken_out : Stands (state_of s) (taken_in (state_of s)) → Out (turned (Calls TakeMessage) s r) 0
+  taken_out stands =
+      claim_out s.is_asked (called TakeMessage s.end) x
+      (quietly_out (calm (called TakeMessage s.end)) (parts.taken_out (state_of s) (queue_of s) x f.sends) refl (ap (λ (t : Told Carried). recorded t) quiet_s.told)
+      (ap (λ (t : Told Carried). packets_in t.events) quiet_s.told) refl) stands
+
+  refused_out : (p : PacketTree) (text : List ℕ) → Stands (state_of s) (state_of s) → called (Packet p) s.end ≡ complains text (counts s.end)
+      → Out (after_turn s.is_asked (called (Packet p) s.end) s) 0
+  refused_out p text stands same =
+      let e : Endpoint Carried = complains text (counts s.end) in
+      subst (λ (z : Endpoint Carried). Out (after_turn s.is_asked z s) 0) (sym same)
+      (claim_out s.is_asked e x
+      (quietly_out (calm e) f.sends refl (ap (λ (t : Told Carried). recorded t) quiet_s.told)
+      (ap (λ (t : Told Carried). packets_in (t.events ++ OnError ParseFailed text ∷ [])) quiet_s.told) refl) stands)
+
+  -- any call
+  call_out : (call : Call) → MayCall call s → resets (Calls call) ≡ false → endings (turned (Calls call) s r).told ≡ 0
+      → AreOffered message lifecycle accepted (accepted_by call s) → accepted + length (accepted_by call s) < 2 ^ 32
+      → Stands (state_of s) (state_of (turned (Calls call) s r)) → Out (turned (Calls call) s r) (length (accepted_by call s))
+  call_out call may none_reset none are few stands = by_call call may none_reset are few stands (none_of s.told (called call s.end).standing.context.told.events none)
+    where
+      other_call : (call : Call) → is_other call ≡ true → IsNoPacket call → MayCall call s → Stands (state_of s) (state_of (turned (Calls call) s r))
+          → HasNoEnd (calm (called call s.end)) → Out (turned (Calls call) s r) 0
+      other_call call is plain may stands none =
+          joined_out s.is_asked call (rules_call o q s r own other call may) is (λ z. z) none (hears_no_sacks message mixed (first_in (state_of r)) x call plain holds.windows) stands
+
+      by_call : (call : Call) → MayCall call s → resets (Calls call) ≡ false → AreOffered message lifecycle accepted (accepted_by call s)
+          → accepted + length (accepted_by call s) < 2 ^ 32 → Stands (state_of s) (state_of (turned (Calls call) s r)) → HasNoEnd (calm (called call s.end))
+          → Out (turned (Calls call) s r) (length (accepted_by call s))
+      by_call Connect may none_reset are few stands none = other_call Connect refl (λ p e. cc) may stands none
+      by_call Close may none_reset are few stands none = other_call Close refl (λ p e. cc) may stands none
+      by_call Shutdown may none_reset are few stands none = other_call Shutdown refl (λ p e. cc) may stands none
+      by_call (Send m how) may none_reset are few stands none = offered_out (Send m how) (rules_call o q s r own other (Send m how) may) refl (λ p e. cc) are few none stands
+      by_call (SendMany ms how) may none_reset are few stands none =
+          offered_out (SendMany ms how) (rules_call o q s r own other (SendMany ms how) may) refl (λ p e. cc) are few none stands
+      by_call (ResetStreams streams) may none_reset are few stands none = cc
+      by_call TakeMessage may none_reset are few stands none = taken_out stands
+      by_call (SetLowThreshold stream bytes) may none_reset are few stands none = other_call (SetLowThreshold stream bytes) refl (λ p e. cc) may stands none
+      by_call (SetPriority stream priority) may none_reset are few stands none = other_call (SetPriority stream priority) refl (λ p e. cc) may stands none
+      by_call (SetMaxMessageSize bytes) may none_reset are few stands none = other_call (SetMaxMessageSize bytes) refl (λ p e. cc) may stands none
+      by_call (Advance n) may none_reset are few stands none = other_call (Advance n) refl (λ p e. cc) may stands none
+      by_call HandOver may none_reset are few stands none = other_call HandOver refl (λ p e. cc) may stands none
+      by_call (Restore k) may none_reset are few stands none = absurd may
+      by_call (Packet p) may none_reset are few stands none = absurd may
+      by_call NoPacket may none_reset are few stands none = other_call NoPacket refl (λ p e. cc) may stands none
+
+  given_out : (p : Option Carried) (checksum n : ℕ) → slice_get (emitted r) n ≡ p → ((old : Stamp) → slice_get stamps_r n ≡ Some old → IsYoung now old)
+      → endings (given p checksum s).told ≡ 0 → Stands (state_of s) (state_of (given p checksum s)) → Out (given p checksum s) 0
+  given_out None checksum n there timely none stands = still_out
+  given_out (Some p) checksum n there timely none stands =
+      let a : AtStamp (λ stamp p. IsUnderWay (says_in message mixed (first_in (state_of r))) x (of stamp) p) stamps_r n p =
+      each_at (λ stamp p. IsUnderWay (says_in message mixed (first_in (state_of r))) x (of stamp) p) (emitted r) stamps_r n p there f.answers in
+      joined_out (s.is_asked || (p.header.verification_tag == 0)) (Packet (as_heard p checksum)) (rules_given o q s r own other p checksum n there) refl
+      (or_left s.is_asked (p.header.verification_tag == 0)) (none_of s.told (called (Packet (as_heard p checksum)) s.end).standing.context.told.events none)
+      (hears_sacks message mixed (first_in (state_of r)) x (of a.stamp) p checksum a.holds (young_now a.stamp (timely a.stamp a.there))) stands
+
+  foreign_out : (text : Option (List ℕ)) (p : PacketTree) → refusal p.header.verification_tag p.chunks (state_of s) ≡ text
+      → Stands (state_of s) (state_of (foreign_if text p s)) → Out (foreign_if text p s) 0
+  foreign_out None p is stands = still_out
+  foreign_out (Some text) p is stands =
+      refused_out p text (λ a e. e) (ap (λ (r : Option (List ℕ)). taken_if r p.header.verification_tag p.chunks (counts s.end)) is)
+
+  pub turn_out : (t : Turn) → MayTurn t s → resets t ≡ false → IsTimely t now stamps_r → endings (turned t s r).told ≡ 0
+      → AreOffered message lifecycle accepted (accepted_in t s) → accepted + length (accepted_in t s) < 2 ^ 32 → Out (turned t s r) (length (accepted_in t s))
+  turn_out (Calls call) may none_reset timely none are few =
+      call_out call may none_reset none are few (hands o q s r own other h (Calls call) may none).stands
+  turn_out (Gives which checksum) may none_reset timely none are few =
+      given_out (slice_get (emitted r) which) checksum which refl timely none (hands o q s r own other h (Gives which checksum) may none).stands
+  turn_out (Refuses p) may none_reset timely none are few =
+      foreign_out (refusal p.header.verification_tag p.chunks (state_of s)) p refl (hands o q s r own other h (Refuses p) may none).stands

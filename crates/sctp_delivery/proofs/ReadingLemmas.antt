@@ -1,0 +1,318 @@
+-- What an end hears of the other as sender is read as it was meant: fragments, forward points and responses to requests.
+use Rattle.std.proofs.Common.{◌≡◌, ℕ, suc, ◌+◌, ◌-◌, ◌%◌, ◌^◌, ◌<◌, ◌≤◌, max, Bool, true, false, cond, inl, inr, List, [], ◌∷◌, length, map, refl, sym, ap, ◌∙◌, subst, arith, eqb}
+use Rattle.std.specs.Prelude.{not}
+use Rattle.std.specs.List.{list_all}
+use Rattle.std.proofs.lemmas.Bool.{cond-true, cond-false}
+use Rattle.sctp_serial.specs.Messages as messages
+use Rattle.sctp_serial.specs.Unwrapped.{origin, words, halves, wire}
+use Rattle.sctp_serial.specs.declared.types.StreamKey.TheVariants.{Ordered, Unordered}
+use Rattle.sctp_wire.specs.Parameter.{ParameterTree}
+use Rattle.sctp_packet.specs.Chunk.{ChunkTree, FragmentTree, data_chunk, idata_chunk, re_config_chunk, forward_tsn_chunk, i_forward_tsn_chunk}
+use Rattle.sctp_packet.specs.Grammar.{carried}
+use Rattle.sctp_packet.specs.declared.forward_tsn.SkippedStream.{SkippedStream}
+use Rattle.sctp_packet.specs.declared.forward_tsn.SkippedStream.TheVariants.{IForwardTsn}
+use Rattle.sctp_outstanding.specs.Entries.{ssn_skip, mid_skip}
+use Rattle.sctp_rx.specs.Tracker as tracker
+use Rattle.sctp_rx.specs.Tracker.{DataTracker, IsTracker}
+use Rattle.sctp_rx.specs.ReassemblyQueue.{Reassembly}
+use Rattle.sctp_rules.specs.State.{Message, Fragment, Entry, ForwardPoint, Transfer, IsAmong, fragment, place_of, count, parts, ordered_of}
+use Rattle.sctp_rules.specs.Rules.{covers}
+use Rattle.sctp_rules.specs.Kept.{Kept}
+use Rattle.sctp_rules.specs.Points.{AreApart}
+use Rattle.sctp_rules.specs.Windows.{Windows}
+use Rattle.sctp_rules.proofs.ToolsLemmas.{not_both}
+use Rattle.sctp_tx_rules.specs.Shown.{tree_of}
+use Rattle.sctp_tx_rules.specs.Points.{skip_of, chunk_of}
+use Rattle.sctp_rx_rules.specs.Read.{Carries}
+use Rattle.sctp_rx_rules.specs.Receives.{Receives}
+use Rattle.sctp_rx_rules.specs.Near.{IsWritten, IsEntry, AreEntries}
+use Rattle.sctp_rx_rules.proofs.NearNumberLemmas.{among_covers}
+use Rattle.sctp_rx_rules.proofs.NearTsnLemmas.{tracker_reads}
+use Rattle.sctp_course.specs.Acts.{is_response}
+use Rattle.sctp_delivery.proofs.ClaimLemmas.{SaysData, SaysPoint, SaysOut, WasSaid}
+
+-- ---- a fragment
+
+-- it stands at a number, as the receiver of the rules asks it to
+pub record DataSaid (message : ℕ → Message) (mixed : Bool) (first least : ℕ) (x : Transfer) (tsn : ℕ) (f : FragmentTree) : Type 0 where
+  pub at : ℕ
+  pub from : least ≤ at
+  pub below : at < count x.sender
+  pub tsn_is : tsn ≡ wire words first (origin + at)
+  pub carries : Carries message mixed x.sender at f
+  pub written : IsWritten message mixed x.sender at f
+
+-- what DATA and I-DATA write of it
+abbrev plain_part : FragmentTree → FragmentTree
+plain_part f = record f { mid = 0; fsn = 0 }
+
+abbrev mixed_part : FragmentTree → FragmentTree
+mixed_part f = record f { ssn = 0; ppid = cond f.is_beginning f.ppid 0; fsn = cond f.is_beginning 0 f.fsn }
+
+parts_le : (p : ℕ) (fs : List Fragment) → parts p fs ≤ length fs
+parts_le p [] = omega arith
+parts_le p (f ∷ fs) =
+    let ih = parts_le p fs in
+    elim (eqb f.place p) as (λ b. cond b (suc (parts p fs)) (parts p fs) ≤ suc (length fs)) [ true ↦ omega (arith, ih) | false ↦ omega (arith, ih) ]
+
+module _ (message : ℕ → Message) (mixed : Bool) (x : Transfer) (first least : ℕ) where
+  ssn_of : (k : ℕ) → ordered_of message (place_of x.sender k) ≡ true → (tree_of message x.sender (fragment x.sender k)).ssn ≡ wire halves 0 (origin + x.sender.number (place_of x.sender k))
+  ssn_of k o = ap (λ (b : Bool). wire halves 0 (cond b (origin + x.sender.number (place_of x.sender k)) origin)) o
+
+  plain_said : (tsn : ℕ) (f g : FragmentTree) → SaysData message first least x.sender tsn g → f ≡ plain_part g → mixed ≡ false
+      → DataSaid message mixed first least x tsn f
+  plain_said tsn f g h e plain =
+      let k : ℕ = h.carries.at in
+      let is : f ≡ plain_part (tree_of message x.sender (fragment x.sender k)) = e ∙ ap plain_part h.carries.tree in
+      record {
+        at = k;
+        from = h.from;
+        below = h.carries.below;
+        tsn_is = h.carries.tsn;
+        carries = record {
+          numbered = h.carries.below;
+          real = h.carries.real;
+          kind = ap (λ (z : FragmentTree). z.is_unordered) is;
+          stream = ap (λ (z : FragmentTree). z.stream_id) is;
+          protocol_id = λ b. ap (λ (z : FragmentTree). z.ppid) is;
+          payload = ap (λ (z : FragmentTree). z.payload) is;
+          begins = ap (λ (z : FragmentTree). z.is_beginning) is;
+          ends = ap (λ (z : FragmentTree). z.is_end) is;
+          fsn = λ m. absurd (not_both m plain);
+        };
+        written = record {
+          ssn = λ p o. ap (λ (z : FragmentTree). z.ssn) is ∙ ssn_of k o;
+          mid = λ m. absurd (not_both m plain);
+        };
+      }
+
+  module _ (kept : Kept message mixed x) (short : count x.sender < 2 ^ 32) where
+    -- an FSN is written whole
+    fsn_of : (k : ℕ) → k < count x.sender → (fragment x.sender k).index % 2 ^ 32 ≡ (fragment x.sender k).index
+    fsn_of k below =
+        let a = kept.indexed.index_below k below in
+        let b = parts_le (place_of x.sender k) x.sender.numbered in
+        omega (arith, a, b, short)
+
+    mixed_said : (tsn : ℕ) (f g : FragmentTree) → SaysData message first least x.sender tsn g → f ≡ mixed_part g → mixed ≡ true
+        → DataSaid message mixed first least x tsn f
+    mixed_said tsn f g h e both =
+        let k : ℕ = h.carries.at in
+        let t : FragmentTree = tree_of message x.sender (fragment x.sender k) in
+        let is : f ≡ mixed_part t = e ∙ ap mixed_part h.carries.tree in
+        let begins : f.is_beginning ≡ t.is_beginning = ap (λ (z : FragmentTree). z.is_beginning) is in
+        record {
+          at = k;
+          from = h.from;
+          below = h.carries.below;
+          tsn_is = h.carries.tsn;
+          carries = record {
+            numbered = h.carries.below;
+            real = h.carries.real;
+            kind = ap (λ (z : FragmentTree). z.is_unordered) is;
+            stream = ap (λ (z : FragmentTree). z.stream_id) is;
+            protocol_id = λ b. ap (λ (z : FragmentTree). z.ppid) is ∙ cond-true t.is_beginning t.ppid 0 (sym begins ∙ b);
+            payload = ap (λ (z : FragmentTree). z.payload) is;
+            begins = begins;
+            ends = ap (λ (z : FragmentTree). z.is_end) is;
+            fsn = λ m b. ap (λ (z : FragmentTree). z.fsn) is ∙ (cond-false t.is_beginning 0 t.fsn (sym begins ∙ b) ∙ fsn_of k h.carries.below);
+          };
+          written = record {
+            ssn = λ p. absurd (not_both both p);
+            mid = λ m. ap (λ (z : FragmentTree). z.mid) is;
+          };
+        }
+
+  said_plain : (tsn : ℕ) (is_immediate : Bool) (f : FragmentTree) (said : ChunkTree) → data_chunk tsn is_immediate f ≡ carried said
+      → SaysOut message mixed first least x said → DataSaid message mixed first least x tsn f
+  said_plain tsn is_immediate f (data_chunk other more g) e h =
+      subst (λ n. DataSaid message mixed first least x n f) (tsn_same e) (plain_said other f g h.1 (part_same e) h.0)
+    where
+      tsn_same : data_chunk tsn is_immediate f ≡ data_chunk other more (plain_part g) → other ≡ tsn
+      tsn_same e = cc
+
+      part_same : data_chunk tsn is_immediate f ≡ data_chunk other more (plain_part g) → f ≡ plain_part g
+      part_same e = cc
+  said_plain tsn is_immediate f said e h = cc
+
+  said_mixed : Kept message mixed x → count x.sender < 2 ^ 32 → (tsn : ℕ) (is_immediate : Bool) (f : FragmentTree) (said : ChunkTree)
+      → idata_chunk tsn is_immediate f ≡ carried said → SaysOut message mixed first least x said → DataSaid message mixed first least x tsn f
+  said_mixed kept short tsn is_immediate f (idata_chunk other more g) e h =
+      subst (λ n. DataSaid message mixed first least x n f) (tsn_same e) (mixed_said kept short other f g h.1 (part_same e) h.0)
+    where
+      tsn_same : idata_chunk tsn is_immediate f ≡ idata_chunk other more (mixed_part g) → other ≡ tsn
+      tsn_same e = cc
+
+      part_same : idata_chunk tsn is_immediate f ≡ idata_chunk other more (mixed_part g) → f ≡ mixed_part g
+      part_same e = cc
+  said_mixed kept short tsn is_immediate f said e h = cc
+
+  plain_mode : (tsn : ℕ) (is_immediate : Bool) (f : FragmentTree) (said : ChunkTree) → data_chunk tsn is_immediate f ≡ carried said
+      → SaysOut message mixed first least x said → mixed ≡ false
+  plain_mode tsn is_immediate f (data_chunk other more g) e h = h.0
+  plain_mode tsn is_immediate f said e h = cc
+
+  mixed_mode : (tsn : ℕ) (is_immediate : Bool) (f : FragmentTree) (said : ChunkTree) → idata_chunk tsn is_immediate f ≡ carried said
+      → SaysOut message mixed first least x said → mixed ≡ true
+  mixed_mode tsn is_immediate f (idata_chunk other more g) e h = h.0
+  mixed_mode tsn is_immediate f said e h = cc
+
+  -- DATA is heard of a sender without interleaving, I-DATA of one with it
+  pub data_was_said : (tsn : ℕ) (is_immediate : Bool) (f : FragmentTree) → WasSaid (SaysOut message mixed first least x) (data_chunk tsn is_immediate f)
+      → (mixed ≡ false) × DataSaid message mixed first least x tsn f
+  data_was_said tsn is_immediate f h =
+      (plain_mode tsn is_immediate f h.said h.is h.says, said_plain tsn is_immediate f h.said h.is h.says)
+
+  pub idata_was_said : Kept message mixed x → (mixed ≡ true → count x.sender < 2 ^ 32) → (tsn : ℕ) (is_immediate : Bool) (f : FragmentTree)
+      → WasSaid (SaysOut message mixed first least x) (idata_chunk tsn is_immediate f) → (mixed ≡ true) × DataSaid message mixed first least x tsn f
+  idata_was_said kept short tsn is_immediate f h =
+      let both : mixed ≡ true = mixed_mode tsn is_immediate f h.said h.is h.says in
+      (both, said_mixed kept (short both) tsn is_immediate f h.said h.is h.says)
+
+-- ---- a forward point
+
+-- it was sent, and passes a number as its last
+pub record PointSaid (mixed : Bool) (first least : ℕ) (x : Transfer) (tsn : ℕ) (skipped : List SkippedStream) : Type 0 where
+  pub point : ForwardPoint
+  pub at : ℕ
+  pub sent : IsAmong point x.forward_points
+  pub upto : point.upto ≡ suc at
+  pub from : least ≤ at
+  pub below : at < count x.sender
+  pub tsn_is : tsn ≡ wire words first (origin + at)
+  pub apart : AreApart point.entries
+  pub entries : AreEntries mixed skipped point.entries
+
+-- an entry is written with its number
+plain_entry : (e : Entry) → e.ordered ≡ true → IsEntry false (ssn_skip (skip_of false e)) e
+plain_entry e o = (o, refl, omega arith)
+
+mixed_entry : (e : Entry) → IsEntry true (mid_skip (skip_of true e)) e
+mixed_entry e = go e.ordered refl
+  where
+    go : (b : Bool) → e.ordered ≡ b → IsEntry true (IForwardTsn (cond (not b) (Unordered (record { 0 = e.stream })) (Ordered (record { 0 = e.stream }))) (record { 0 = wire words 0 (origin + e.number) })) e
+    go true o = (o, refl, refl)
+    go false o = (o, refl, refl)
+
+plain_entries : (es : List Entry) → ((e : Entry) → IsAmong e es → e.ordered ≡ true) → AreEntries false (map ssn_skip (map (skip_of false) es)) es
+plain_entries [] all = tt
+plain_entries (e ∷ es) all = (plain_entry e (all e (inl refl)), plain_entries es (λ d a. all d (inr a)))
+
+mixed_entries : (es : List Entry) → AreEntries true (map mid_skip (map (skip_of true) es)) es
+mixed_entries [] = tt
+mixed_entries (e ∷ es) = (mixed_entry e, mixed_entries es)
+
+-- how it is written
+module _ (first : ℕ) (tsn : ℕ) (skipped : List SkippedStream) (f : ForwardPoint) where
+  plain_chunk : (m : Bool) → forward_tsn_chunk tsn skipped ≡ chunk_of m first f
+      → (m ≡ false) × (tsn ≡ wire words first (origin + f.upto - 1)) × (skipped ≡ map ssn_skip (map (skip_of false) f.entries))
+  plain_chunk true e = cc
+  plain_chunk false e = (refl, tsn_same e, skipped_same e)
+    where
+      tsn_same : forward_tsn_chunk tsn skipped ≡ chunk_of false first f → tsn ≡ wire words first (origin + f.upto - 1)
+      tsn_same e = cc
+
+      skipped_same : forward_tsn_chunk tsn skipped ≡ chunk_of false first f → skipped ≡ map ssn_skip (map (skip_of false) f.entries)
+      skipped_same e = cc
+
+  mixed_chunk : (m : Bool) → i_forward_tsn_chunk tsn skipped ≡ chunk_of m first f
+      → (m ≡ true) × (tsn ≡ wire words first (origin + f.upto - 1)) × (skipped ≡ map mid_skip (map (skip_of true) f.entries))
+  mixed_chunk false e = cc
+  mixed_chunk true e = (refl, tsn_same e, skipped_same e)
+    where
+      tsn_same : i_forward_tsn_chunk tsn skipped ≡ chunk_of true first f → tsn ≡ wire words first (origin + f.upto - 1)
+      tsn_same e = cc
+
+      skipped_same : i_forward_tsn_chunk tsn skipped ≡ chunk_of true first f → skipped ≡ map mid_skip (map (skip_of true) f.entries)
+      skipped_same e = cc
+
+module _ (message : ℕ → Message) (mixed : Bool) (x : Transfer) (kept : Kept message mixed x) (first least : ℕ) where
+  -- without interleaving each entry is of an ordered stream
+  are_ordered : mixed ≡ false → (f : ForwardPoint) → IsAmong f x.forward_points → (e : Entry) → IsAmong e f.entries → e.ordered ≡ true
+  are_ordered plain f sent e a = go e.ordered refl
+    where
+      go : (b : Bool) → e.ordered ≡ b → b ≡ true
+      go true o = refl
+      go false o =
+          absurd (not_both (subst (λ (z : Bool). covers f.entries z e.stream e.number ≡ true) o (among_covers e f.entries a))
+          ((kept.forwards_true f sent).only_ordered plain e.stream e.number))
+
+  point_said : (tsn : ℕ) (skipped : List SkippedStream) (f : ForwardPoint) → IsAmong f x.forward_points → AreApart f.entries → least < f.upto
+      → tsn ≡ wire words first (origin + f.upto - 1) → AreEntries mixed skipped f.entries → PointSaid mixed first least x tsn skipped
+  point_said tsn skipped f sent apart ahead tsn_is entries =
+      let within : f.upto ≤ count x.sender = (kept.forwards_true f sent).within in
+      let k : ℕ = f.upto - 1 in
+      let same : origin + f.upto - 1 ≡ origin + k = omega (arith, ahead) in
+      record {
+        point = f;
+        at = k;
+        sent = sent;
+        upto = omega (arith, ahead);
+        from = omega (arith, ahead);
+        below = omega (arith, ahead, within);
+        tsn_is = tsn_is ∙ ap (λ (n : ℕ). wire words first n) same;
+        apart = apart;
+        entries = entries;
+      }
+
+  plain_point : (tsn : ℕ) (skipped : List SkippedStream) → SaysPoint mixed first least x (forward_tsn_chunk tsn skipped)
+      → (mixed ≡ false) × PointSaid mixed first least x tsn skipped
+  plain_point tsn skipped h =
+      let c = plain_chunk first tsn skipped h.point mixed h.written in
+      let es : List Entry = h.point.entries in
+      let are : AreEntries false (map ssn_skip (map (skip_of false) es)) es = plain_entries es (are_ordered c.0 h.point h.sent) in
+      let written : AreEntries mixed skipped es = subst (λ (m : Bool). AreEntries m skipped es) (sym c.0) (subst (λ (z : List SkippedStream). AreEntries false z es) (sym c.2) are) in
+      (c.0, point_said tsn skipped h.point h.sent h.apart h.ahead c.1 written)
+
+  mixed_point : (tsn : ℕ) (skipped : List SkippedStream) → SaysPoint mixed first least x (i_forward_tsn_chunk tsn skipped)
+      → (mixed ≡ true) × PointSaid mixed first least x tsn skipped
+  mixed_point tsn skipped h =
+      let c = mixed_chunk first tsn skipped h.point mixed h.written in
+      let es : List Entry = h.point.entries in
+      let written : AreEntries mixed skipped es = subst (λ (m : Bool). AreEntries m skipped es) (sym c.0) (subst (λ (z : List SkippedStream). AreEntries true z es) (sym c.2) (mixed_entries es)) in
+      (c.0, point_said tsn skipped h.point h.sent h.apart h.ahead c.1 written)
+
+  -- a point is heard as it was sent
+  pub point_was_said : (tsn : ℕ) (skipped : List SkippedStream) → WasSaid (SaysOut message mixed first least x) (forward_tsn_chunk tsn skipped)
+      → (mixed ≡ false) × PointSaid mixed first least x tsn skipped
+  point_was_said tsn skipped h = go h.said h.is h.says
+    where
+      go : (said : ChunkTree) → forward_tsn_chunk tsn skipped ≡ carried said → SaysOut message mixed first least x said
+          → (mixed ≡ false) × PointSaid mixed first least x tsn skipped
+      go (forward_tsn_chunk other more) e s = plain_point tsn skipped (subst (λ (c : ChunkTree). SaysPoint mixed first least x c) (sym e) s)
+      go said e s = cc
+
+  pub ipoint_was_said : (tsn : ℕ) (skipped : List SkippedStream) → WasSaid (SaysOut message mixed first least x) (i_forward_tsn_chunk tsn skipped)
+      → (mixed ≡ true) × PointSaid mixed first least x tsn skipped
+  ipoint_was_said tsn skipped h = go h.said h.is h.says
+    where
+      go : (said : ChunkTree) → i_forward_tsn_chunk tsn skipped ≡ carried said → SaysOut message mixed first least x said
+          → (mixed ≡ true) × PointSaid mixed first least x tsn skipped
+      go (i_forward_tsn_chunk other more) e s = mixed_point tsn skipped (subst (λ (c : ChunkTree). SaysPoint mixed first least x c) (sym e) s)
+      go said e s = cc
+
+-- ---- responses
+
+-- no request of a reset is heard
+pub responses_were_said : (message : ℕ → Message) (mixed : Bool) (x : Transfer) (first least : ℕ) (ps : List ParameterTree)
+    → WasSaid (SaysOut message mixed first least x) (re_config_chunk ps) → list_all is_response ps ≡ true
+responses_were_said message mixed x first least ps h = go h.said h.is h.says
+  where
+    go : (said : ChunkTree) → re_config_chunk ps ≡ carried said → SaysOut message mixed first least x said → list_all is_response ps ≡ true
+    go (re_config_chunk qs) e s = ap (list_all is_response) (same e) ∙ s
+      where
+        same : re_config_chunk ps ≡ re_config_chunk qs → ps ≡ qs
+        same e = cc
+    go said e s = cc
+
+-- ---- its number
+
+-- the tracker reads the number that was written, in a packet that is not older than 2^30 fragments
+pub number_is_read : (message : ℕ → Message) (mixed : Bool) (shift : ℕ) (x : Transfer) (handed : List messages.Message) (d : DataTracker) (r : Reassembly) (k least most tsn : ℕ)
+    → Kept message mixed x → Windows message x → Receives message mixed shift x handed d.tracker r → IsTracker d.tracker → k < count x.sender → least ≤ k
+    → most ≤ least + 2 ^ 30 → most ≤ count x.sender → count x.sender < most + 2 ^ 30 → tsn ≡ wire words d.first (origin + k)
+    → tracker.number_of d tsn ≡ origin + k
+number_is_read message mixed shift x handed d r k least most tsn kept windows receives is_tracker below from near past young tsn_is =
+    let n : ℕ = max most (suc k) in
+    ap (λ (w : ℕ). tracker.number_of d w) tsn_is
+    ∙ tracker_reads message mixed shift x handed d r k n kept windows receives is_tracker (omega arith) (omega (arith, from, near)) (omega (arith, below, past), omega (arith, young))

@@ -1,0 +1,112 @@
+-- What an end hears as sender, in the middle of its turn: a SACK has the number there that the receiver meant.
+use Rattle.std.proofs.Common.{◌≡◌, ℕ, ◌+◌, ◌-◌, ◌%◌, ◌^◌, ◌<◌, ◌≤◌, Bool, true, inl, inr, Option, Some, List, sym, ap, ◌∙◌, subst, arith, ltb}
+use Rattle.std.proofs.lemmas.Bool.{cases_lt, cond-true, cond-false, lt-ltb, le-ltb}
+use Rattle.sctp_serial.specs.Messages as messages
+use Rattle.sctp_serial.specs.Unwrapped.{origin, words, wire, nearest}
+use Rattle.sctp_packet.specs.Chunk.{ChunkTree, SackTree, sack_chunk}
+use Rattle.sctp_packet.specs.Grammar.{carried}
+use Rattle.sctp_send_queue.specs.Queue.{Queue}
+use Rattle.sctp_outstanding.specs.Items.{Outstanding, number_of}
+use Rattle.sctp_rules.specs.State.{Message, Receiver, Transfer, IsAmong, count}
+use Rattle.sctp_rules.specs.Kept.{Kept}
+use Rattle.sctp_association.specs.Association.{Tcb, Phase, State, Closed, CookieWait, Open}
+use Rattle.sctp_association.specs.Laws.{Call}
+use Rattle.sctp_association_laws.specs.Mapped.{Carried}
+use Rattle.sctp_course.specs.Acts.{Making, in_open, IsHeard, point_of}
+use Rattle.sctp_course.proofs.JoinActsLemmas.{Setting, InvAt}
+use Rattle.sctp_course.proofs.JoinLemmas.{Draw, view_of, own_draw, Faces}
+use Rattle.sctp_delivery.proofs.ClaimLemmas.{SaysSack, SaysIn, WasSaid, IsFresh, IsSending, ReceivesIn, first_in, SenderPremises}
+
+-- ---- the point of a SACK
+
+-- it was sent
+pub sack_was_said : (first least most : ℕ) (x : Transfer) (k : SackTree) → WasSaid (SaysIn first least most x) (sack_chunk k) → SaysSack first least most x k
+sack_was_said first least most x k h = go h.said h.is h.says
+  where
+    go : (said : ChunkTree) → sack_chunk k ≡ carried said → SaysIn first least most x said → SaysSack first least most x k
+    go (sack_chunk other) e s = subst (SaysSack first least most x) (same e) s
+      where
+        same : sack_chunk k ≡ sack_chunk other → other ≡ k
+        same e = cc
+    go said e s = cc
+
+-- a number less than half the space away is read as it was meant, also from just below `origin`
+words_near : (first near n : ℕ) → near < n + 2 ^ 31 → n < near + 2 ^ 31 → 2 ^ 31 ≤ near → nearest words first near (wire words first n) ≡ n
+words_near first near n a b far =
+    let ahead = (wire words first n + words - wire words first near) % words in
+    elim (cases_lt ahead (2 ^ 31)) [
+      | inl p ↦ let e : near + ahead ≡ n = omega (arith, a, b, far, p) in cond-true (ltb ahead (2 ^ 31)) (near + ahead) ((near + ahead) - words) (lt-ltb ahead (2 ^ 31) p) ∙ e
+      | inr p ↦ let e : (near + ahead) - words ≡ n = omega (arith, a, b, far, p) in cond-false (ltb ahead (2 ^ 31)) (near + ahead) ((near + ahead) - words) (le-ltb ahead (2 ^ 31) p) ∙ e
+    ]
+
+-- what has left is less than half the space from the point c
+sack_number : (d : Outstanding) (acknowledged c tsn : ℕ) → d.items.acked + 1 ≡ origin + acknowledged → tsn ≡ wire words d.first (origin + c - 1)
+    → acknowledged < c + 2 ^ 31 → c < acknowledged + 2 ^ 31 → number_of d tsn + 1 ≡ origin + c
+sack_number d acknowledged c tsn point tsn_is a b =
+    let n : ℕ = origin + c - 1 in
+    let read : number_of d tsn ≡ n = ap (λ (w : ℕ). number_of d w) tsn_is ∙ words_near d.first d.items.acked n (omega (arith, point, a)) (omega (arith, point, b)) (omega (arith, point)) in
+    let more : number_of d tsn + 1 ≡ n + 1 = ap (λ (z : ℕ). z + 1) read in
+    more ∙ (let e : n + 1 ≡ origin + c = omega arith in e)
+
+-- ---- while the end acts, whose receiver doesn't
+
+module _ (message : ℕ → Message) (mixed : Bool) (from x : Transfer) (before : Kept message mixed from) (kept : Kept message mixed x) (receiver : x.receiver ≡ from.receiver) where
+  -- nothing leaves that was numbered in this turn
+  pub left_were_numbered : x.acknowledged ≤ count from.sender
+  left_were_numbered = elim (cases_lt (count from.sender) x.acknowledged) [
+    | inl l ↦
+        let seen : from.receiver.seen (count from.sender) ≡ true = ap (λ (i : Receiver). i.seen (count from.sender)) (sym receiver) ∙ kept.acknowledged_true.all_seen (count from.sender) l in
+        let below = before.incoming.seen_below (count from.sender) seen in
+        absurd (omega (arith, below))
+    | inr g ↦ g
+  ]
+
+  pub sack_is_read : (first least most : ℕ) (d : Outstanding) (k : SackTree) → d.first ≡ first → d.items.acked + 1 ≡ origin + x.acknowledged → from.acknowledged ≤ x.acknowledged
+      → least ≤ from.acknowledged → most ≤ least + 2 ^ 30 → count from.sender < most + 2 ^ 30
+      → (s : SaysSack first least most from k) → number_of d k.cumulative_tsn_ack + 1 ≡ origin + s.point
+  sack_is_read first least most d k first_is point grows past near young s =
+      let left = left_were_numbered in
+      let c : ℕ = s.point in
+      let from_is : least ≤ c = s.from in
+      let to_is : c ≤ most = s.to in
+      let tsn_is : k.cumulative_tsn_ack ≡ wire words d.first (origin + c - 1) = s.written ∙ ap (λ (z : ℕ). wire words z (origin + c - 1)) (sym first_is) in
+      sack_number d x.acknowledged c k.cumulative_tsn_ack point tsn_is (omega (arith, left, young, near, from_is)) (omega (arith, to_is, near, past, grows))
+
+-- ---- the first TSN is the own one
+
+module _ (message : ℕ → Message) (mixed : Bool) (handed : List messages.Message) (x : Transfer) (least most : ℕ) (k : SackTree) where
+  -- without a control block no SACK was sent
+  no_sack : IsFresh message mixed handed x → (first : ℕ) → SaysSack first least most x k → ⊥
+  no_sack fresh first h = subst (IsAmong h.point) fresh.no_sacks h.sent
+
+  own_first : (s : State) (t : Tcb) → ReceivesIn message mixed s handed x → Faces (view_of s).holds (Some (own_draw t)) → SaysSack (first_in s) least most x k
+      → SaysSack t.identity.my_first least most x k
+  own_first Closed t receives faced h = absurd (no_sack receives 0 h)
+  own_first (CookieWait tag my_first t1) t receives faced h = absurd (no_sack receives 0 h)
+  own_first (Open phase u) t receives faced h =
+      let crossed : t.identity.my_first ≡ u.identity.peer_first = ap (λ (d : Draw). d.first) faced in
+      subst (λ (n : ℕ). SaysSack n least most x k) (receives.first ∙ sym crossed) h
+
+-- ---- what is heard
+
+-- the point, and the number that the end reads
+pub record SackHeard (x : Transfer) (t : Tcb) (k : SackTree) : Type 0 where
+  pub point : ℕ
+  pub sent : IsAmong point x.sacks
+  pub number_is : point_of k t + 1 ≡ origin + point
+
+pub sack_is_heard : (message : ℕ → Message) (lifecycle : ℕ → Option ℕ) (mixed : Bool) (g : Setting) (call : Call) (from : Transfer)
+    → SenderPremises message lifecycle mixed g call from → (phase : Phase) (t : Tcb) (m : Making Carried) → InvAt g (in_open phase t m)
+    → (q : Queue) (x : Transfer) → Kept message mixed from → Kept message mixed x → IsSending message lifecycle mixed t q x
+    → x.receiver ≡ from.receiver → x.sacks ≡ from.sacks → from.acknowledged ≤ x.acknowledged
+    → (tag : ℕ) (k : SackTree) → IsHeard call tag (sack_chunk k) → SackHeard x t k
+sack_is_heard message lifecycle mixed g call from premises phase t m inv q x before kept shown receiver sacks grows tag k heard =
+    let h = premises.hears in
+    let said : SaysSack (first_in g.beside) h.least h.most from k = sack_was_said (first_in g.beside) h.least h.most from k (h.says tag (sack_chunk k) heard) in
+    let own : SaysSack t.identity.my_first h.least h.most from k = own_first message mixed premises.handed from h.least h.most k g.beside t premises.beside inv.stands.faced said in
+    record {
+      point = own.point;
+      sent = subst (IsAmong own.point) (sym sacks) own.sent;
+      number_is = sack_is_read message mixed from x before kept receiver t.identity.my_first h.least h.most t.sender.outstanding k shown.first shown.shows.items.point grows
+          h.past h.near h.young own;
+    }

@@ -1,0 +1,50 @@
+-- What becomes ready at an end are messages that the other end accepted.
+use Rattle.std.specs.Prelude.{◌≡◌, ◌≢◌, ℕ, ◌^◌, ◌<◌, not, Bool, false, Option, Some, option_map, List, ◌++◌, length, map, take, slice_get, slice_index}
+use Rattle.rand_core.specs.Stream.{Stream}
+use Rattle.sctp_serial.specs.Messages.{Message}
+use Rattle.sctp_state.specs.Options.{Options}
+use Rattle.sctp_course.specs.Course.{Pair, Turn, run, FollowsTheRules, HasNotEnded, AreGiven, start}
+use Rattle.sctp_course.specs.Handing.{readied}
+use Rattle.sctp_delivery.specs.Accepted.{Offer, accepted}
+use Rattle.sctp_delivery.specs.Windows.{no_stamps, KeepsWindows, KeepsStreams}
+
+-- ---- the judge
+
+-- the message that was accepted at this place
+abbrev pub message_at : List Offer → ℕ → Option Message
+message_at offers place = option_map (λ (o : Offer). o.message) (slice_get offers place)
+
+-- ordered ones of one stream
+pub record AreInOneLine (o p : Offer) : Type 0 where
+  pub first : o.options.unordered ≡ false
+  pub second : p.options.unordered ≡ false
+  pub stream : o.message.stream ≡ p.message.stream
+
+-- The ready messages are those accepted at these places, byte for byte, each once; on each stream ordered ones in the order of
+-- acceptance.
+pub record Fits (offers : List Offer) (ready : List Message) (places : List ℕ) : Type 0 where
+  pub alike : map (message_at offers) places ≡ map (λ (m : Message). Some m) ready
+  pub distinct : (j k : ℕ) → j < k → k < length places → slice_index places j ≢ slice_index places k
+  pub rising : (j k : ℕ) → j < k → k < length places → (o p : Offer) → slice_get offers (slice_index places j) ≡ Some o
+      → slice_get offers (slice_index places k) ≡ Some p → AreInOneLine o p → slice_index places j < slice_index places k
+
+-- One list of places serves all along the course: at each point its beginning fits. True is the direction from a to b.
+pub record Delivers (from_a : Bool) (turns : List (Bool × Turn)) (w : Pair) : Type 0 where
+  pub places : List ℕ
+  pub fits : (early late : List (Bool × Turn)) → turns ≡ early ++ late
+      → Fits (accepted from_a early w) (readied (not from_a) early w) (take (length (readied (not from_a) early w)) places)
+
+-- ---- the law
+
+-- what a course has to keep
+pub record IsInBounds (turns : List (Bool × Turn)) (w : Pair) : Type 0 where
+  pub windows : KeepsWindows turns w no_stamps
+  pub streams : KeepsStreams turns
+  pub few : (from_a : Bool) → length (accepted from_a turns w) < 2 ^ 32
+
+-- Along each course that follows the rules, until an association first ends.
+abbrev pub MessagesAreDelivered : Type 0
+MessagesAreDelivered =
+    (a b : Options) (words_a words_b : Stream) (turns : List (Bool × Turn)) → AreGiven a → AreGiven b
+    → FollowsTheRules turns (start a b words_a words_b) → HasNotEnded (run turns (start a b words_a words_b))
+    → IsInBounds turns (start a b words_a words_b) → (from_a : Bool) → Delivers from_a turns (start a b words_a words_b)

@@ -1,0 +1,98 @@
+-- How many fragments two ends have numbered, and how far what is under way may lie behind: the windows under which numbers
+-- on the wire say what they mean. All is read off the values that the ends hold between turns.
+use Rattle.std.specs.Prelude.{◌≡◌, ℕ, ◌+◌, ◌-◌, ◌^◌, ◌<◌, ◌≤◌, Bool, true, false, Some, List, [], ◌∷◌, ◌++◌, length, replicate, slice_get, ⊤, All}
+use Rattle.std.specs.List.{list_any}
+use Rattle.sctp_serial.specs.Unwrapped.{origin}
+use Rattle.sctp_send_queue.specs.Queue.{Queue, stream}
+use Rattle.sctp_outstanding.specs.Item.{Item}
+use Rattle.sctp_outstanding.specs.Items.{next_number}
+use Rattle.sctp_association.specs.Association.{Tcb, State, Closed, CookieWait, Open}
+use Rattle.sctp_association.specs.Laws.{ResetStreams}
+use Rattle.sctp_course.specs.Course.{Side, Pair, emitted, Turn, Calls, Gives, Refuses, goes, state_of}
+
+-- ---- what an end keeps
+
+-- how many fragments it has numbered
+abbrev pub numbered : State → ℕ
+numbered Closed = 0
+numbered (CookieWait tag first t1) = 0
+numbered (Open phase t) = next_number t.sender.outstanding.items - origin
+
+-- of the item's stream fewer than 32,000 ordered messages are numbered, from its own on
+abbrev pub IsNearNext : Queue → Item → Type 0
+IsNearNext q i = i.fragment.is_unordered ≡ false → (stream i.fragment.stream_id q.streams).next_ordered_mid < origin + i.fragment.mid + 32000
+
+-- No item is kept while 2^30 later ones are numbered. I-DATA tells which fragment of its message it is by 32 bits.
+pub record KeepsWithin (q : Queue) (t : Tcb) : Type 0 where
+  pub items : length t.sender.outstanding.items.kept ≤ 2 ^ 30
+  pub messages : All (IsNearNext q) t.sender.outstanding.items.kept
+  pub fragments : next_number t.sender.outstanding.items < origin + 2 ^ 62
+  pub interleaved : t.capabilities.message_interleaving ≡ true → next_number t.sender.outstanding.items < origin + 2 ^ 32
+
+abbrev pub IsWithin : State → Queue → Type 0
+IsWithin Closed q = ⊤
+IsWithin (CookieWait tag first t1) q = ⊤
+IsWithin (Open phase t) q = KeepsWithin q t
+
+abbrev pub queue_of : Side → Queue
+queue_of x = x.end.standing.context.queue
+
+pub record AreWithin (w : Pair) : Type 0 where
+  pub a : IsWithin (state_of w.a) (queue_of w.a)
+  pub b : IsWithin (state_of w.b) (queue_of w.b)
+
+-- ---- packets that are given
+
+-- how many fragments each end had numbered before the turn at which a packet was emitted
+pub record Stamp : Type 0 where
+  pub a : ℕ
+  pub b : ℕ
+
+abbrev pub stamp : Pair → Stamp
+stamp w = record { a = numbered (state_of w.a); b = numbered (state_of w.b) }
+
+-- those of all packets that each end emitted
+pub record Stamps : Type 0 where
+  pub of_a : List Stamp
+  pub of_b : List Stamp
+
+abbrev pub no_stamps : Stamps
+no_stamps = record { of_a = []; of_b = [] }
+
+-- for the packets that this turn added
+abbrev pub stamped : (before after : Side) → Stamp → List Stamp → List Stamp
+stamped x y s stamps = stamps ++ replicate (length (emitted y) - length (emitted x)) s
+
+abbrev pub stamps_after : Bool → Turn → Pair → Stamps → Stamps
+stamps_after true turn w s = record s { of_a = stamped w.a (goes true turn w).a (stamp w) s.of_a }
+stamps_after false turn w s = record s { of_b = stamped w.b (goes false turn w).b (stamp w) s.of_b }
+
+-- those of the packets that may be given to this end
+abbrev pub stamps_for : Bool → Stamps → List Stamp
+stamps_for true s = s.of_b
+stamps_for false s = s.of_a
+
+-- each end numbered fewer than 2^30 fragments since
+pub record IsYoung (now old : Stamp) : Type 0 where
+  pub a : now.a < old.a + 2 ^ 30
+  pub b : now.b < old.b + 2 ^ 30
+
+abbrev pub IsTimely : Turn → (now : Stamp) → List Stamp → Type 0
+IsTimely (Gives which checksum) now stamps = (old : Stamp) → slice_get stamps which ≡ Some old → IsYoung now old
+IsTimely (Calls call) now stamps = ⊤
+IsTimely (Refuses p) now stamps = ⊤
+
+-- ---- along a course
+
+abbrev pub KeepsWindows : List (Bool × Turn) → Pair → Stamps → Type 0
+KeepsWindows [] w s = AreWithin w
+KeepsWindows (e ∷ es) w s =
+    AreWithin w × IsTimely e.1 (stamp w) (stamps_for e.0 s) × KeepsWindows es (goes e.0 e.1 w) (stamps_after e.0 e.1 w s)
+
+abbrev pub resets : Turn → Bool
+resets (Calls (ResetStreams streams)) = true
+resets turn = false
+
+-- no stream is reset
+abbrev pub KeepsStreams : List (Bool × Turn) → Type 0
+KeepsStreams turns = list_any (λ (e : Bool × Turn). resets e.1) turns ≡ false

@@ -1,0 +1,329 @@
+-- A world's log is made of blocks, one a turn of its course; and each beginning of it fits, where the course's do.
+use Rattle.std.proofs.Common.{◌≡◌, ◌⊎◌, inl, inr, ℕ, suc, Bool, true, false, Some, List, [], ◌∷◌, ◌++◌, length, take, drop, refl, sym, ap, subst, ◌∙◌, append-nil, append_assoc}
+use Rattle.std.specs.Prelude.{⊤}
+use Rattle.std.specs.List.{flat_map}
+use Rattle.std.proofs.lemmas.Grind.{flat_map-append}
+use Rattle.sctp_serial.specs.Messages.{Message}
+use Rattle.sctp_rx.specs.Delivery.{Extends}
+use Rattle.sctp_association.specs.Association.{State, Closed, CookieWait, Open}
+use Rattle.sctp_association.specs.Calls.{ready_in, taken_in}
+use Rattle.sctp_association.specs.Laws.{TakeMessage}
+use Rattle.sctp_association.specs.Socket.{Association, association_in}
+use Rattle.sctp_course.specs.Course.{Side, Pair, Turn, Calls, Gives, Refuses, turned, goes, run, side_of, state_of}
+use Rattle.sctp_course.specs.Handing.{ready_at, new_behind, handed_by, handed_at, handed, readied}
+use Rattle.sctp_delivery.specs.Accepted.{Offer, accepted_at, accepted}
+use Rattle.sctp_delivery.specs.Delivery.{Fits}
+use Rattle.sctp_world.specs.Judge.{End, A, B, Entry, ready_by, ready, handed_out_by, handed_out}
+use Rattle.sctp_world_course.specs.Courses.{is_a}
+use Rattle.sctp_world_course.specs.Delivered.{offers_by, offers}
+use Rattle.sctp_world_course.proofs.TellingLemmas.{IsTold}
+use Rattle.sctp_world_course.proofs.PrefixLemmas.{one_is_longer, no_front, fits_front}
+
+-- ---- courses, by one turn more
+
+pub accepted_more : (x : Bool) (es : List (Bool × Turn)) (e : Bool × Turn) (w : Pair) → accepted x (es ++ e ∷ []) w ≡ accepted x es w ++ accepted_at x e.0 e.1 (run es w)
+accepted_more x [] e w = append-nil (accepted_at x e.0 e.1 w)
+accepted_more x (d ∷ es) e w =
+    ap (λ (l : List Offer). accepted_at x d.0 d.1 w ++ l) (accepted_more x es e (goes d.0 d.1 w))
+    ∙ sym (append_assoc (accepted_at x d.0 d.1 w) (accepted x es (goes d.0 d.1 w)) (accepted_at x e.0 e.1 (run es (goes d.0 d.1 w))))
+
+abbrev pub readied_at : Bool → (Bool × Turn) → Pair → List Message
+readied_at x e w = new_behind (ready_at (side_of x w)) (ready_at (side_of x (goes e.0 e.1 w)))
+
+pub readied_more : (x : Bool) (es : List (Bool × Turn)) (e : Bool × Turn) (w : Pair) → readied x (es ++ e ∷ []) w ≡ readied x es w ++ readied_at x e (run es w)
+readied_more x [] e w = append-nil (readied_at x e w)
+readied_more x (d ∷ es) e w =
+    ap (λ (l : List Message). readied_at x d w ++ l) (readied_more x es e (goes d.0 d.1 w))
+    ∙ sym (append_assoc (readied_at x d w) (readied x es (goes d.0 d.1 w)) (readied_at x e (run es (goes d.0 d.1 w))))
+
+pub handed_more : (x : Bool) (es : List (Bool × Turn)) (e : Bool × Turn) (w : Pair) → handed x (es ++ e ∷ []) w ≡ handed x es w ++ handed_at x e.0 e.1 (run es w)
+handed_more x [] e w = append-nil (handed_at x e.0 e.1 w)
+handed_more x (d ∷ es) e w =
+    ap (λ (l : List Message). handed_at x d.0 d.1 w ++ l) (handed_more x es e (goes d.0 d.1 w))
+    ∙ sym (append_assoc (handed_at x d.0 d.1 w) (handed x es (goes d.0 d.1 w)) (handed_at x e.0 e.1 (run es (goes d.0 d.1 w))))
+
+run_more : (es : List (Bool × Turn)) (e : Bool × Turn) (w : Pair) → run (es ++ e ∷ []) w ≡ goes e.0 e.1 (run es w)
+run_more [] e w = refl
+run_more (d ∷ es) e w = run_more es e (goes d.0 d.1 w)
+
+-- ---- blocks
+
+abbrev pub end_at : Bool → End
+end_at true = A
+end_at false = B
+
+-- this turn's entries stand between
+abbrev pub IsBlock : (Bool × Turn) → Pair → (log longer : List Entry) → Type 0
+IsBlock e c log longer = IsTold (end_at e.0) e.1 (side_of e.0 c) (side_of e.0 (goes e.0 e.1 c)) log longer
+
+abbrev pub AreBlocks : List (Bool × Turn) → Pair → (log longer : List Entry) → Type 0
+AreBlocks [] c log longer = longer ≡ log
+AreBlocks (e ∷ es) c log longer = (mid : List Entry) × IsBlock e c log mid × AreBlocks es (goes e.0 e.1 c) mid longer
+
+-- an association that stands is not replaced
+abbrev pub StandsAt : Bool → (Bool × Turn) → Pair → Type 0
+StandsAt x e c = (a : Association) → association_in (state_of (side_of x c)) ≡ Some a → association_in (state_of (side_of x (goes e.0 e.1 c))) ≡ Some a
+
+abbrev pub Stands : List (Bool × Turn) → Pair → Type 0
+Stands [] c = ⊤
+Stands (e ∷ es) c = StandsAt e.0 e c × Stands es (goes e.0 e.1 c)
+
+blocks_longer : (es : List (Bool × Turn)) (c : Pair) (log longer : List Entry) → AreBlocks es c log longer → (more : List Entry) × (longer ≡ log ++ more)
+blocks_longer [] c log longer h = ([], h ∙ sym (append-nil log))
+blocks_longer (e ∷ es) c log longer h =
+    let l = blocks_longer es (goes e.0 e.1 c) h.0 longer h.2 in
+    ((h.1.first ∷ h.1.more) ++ l.0, l.1 ∙ (ap (λ (z : List Entry). z ++ l.0) h.1.logged ∙ append_assoc log (h.1.first ∷ h.1.more) l.0))
+
+-- ---- what a block adds
+
+more_of : {X : Type 0} (f : Entry → List X) (log longer : List Entry) (b : List Entry) (xs : List X) → longer ≡ log ++ b → flat_map f b ≡ xs
+    → flat_map f longer ≡ flat_map f log ++ xs
+more_of f log longer b xs e h = ap (flat_map f) e ∙ (flat_map-append f log b ∙ ap (λ z. flat_map f log ++ z) h)
+
+module _ (e : Bool × Turn) (c : Pair) (log mid : List Entry) (b : IsBlock e c log mid) where
+  abbrev block : List Entry
+  block = b.first ∷ b.more
+
+  offers_block : (x : End) → offers_by x b.first ≡ accepted_at (is_a x) e.0 e.1 c → offers x mid ≡ offers x log ++ accepted_at (is_a x) e.0 e.1 c
+  offers_block x h =
+      more_of (offers_by x) log mid block (accepted_at (is_a x) e.0 e.1 c) b.logged
+      (ap (λ (z : List Offer). z ++ flat_map (offers_by x) b.more) h
+      ∙ (ap (λ (z : List Offer). accepted_at (is_a x) e.0 e.1 c ++ z) (b.quiet x) ∙ append-nil (accepted_at (is_a x) e.0 e.1 c)))
+
+none_new : (ms : List Message) → new_behind ms ms ≡ []
+none_new [] = refl
+none_new (m ∷ ms) = none_new ms
+
+first_offers : (x : End) (e : Bool × Turn) (c : Pair) (log mid : List Entry) (b : IsBlock e c log mid) → offers_by x b.first ≡ accepted_at (is_a x) e.0 e.1 c
+first_offers A (true, t) c log mid b = b.offers
+first_offers B (true, t) c log mid b = b.no_offers
+first_offers A (false, t) c log mid b = b.no_offers
+first_offers B (false, t) c log mid b = b.offers
+
+block_ready : (x : End) (e : Bool × Turn) (c : Pair) (log mid : List Entry) (b : IsBlock e c log mid) → flat_map (ready_by x) (b.first ∷ b.more) ≡ readied_at (is_a x) e c
+block_ready A (true, t) c log mid b = b.ready
+block_ready B (true, t) c log mid b = b.none_ready ∙ sym (none_new (ready_at c.b))
+block_ready A (false, t) c log mid b = b.none_ready ∙ sym (none_new (ready_at c.a))
+block_ready B (false, t) c log mid b = b.ready
+
+block_handed : (x : End) (e : Bool × Turn) (c : Pair) (log mid : List Entry) (b : IsBlock e c log mid) → flat_map (handed_out_by x) (b.first ∷ b.more) ≡ handed_at (is_a x) e.0 e.1 c
+block_handed A (true, t) c log mid b = b.handed
+block_handed B (true, t) c log mid b = b.none_handed
+block_handed A (false, t) c log mid b = b.none_handed
+block_handed B (false, t) c log mid b = b.handed
+
+offers_turn : (x : End) (e : Bool × Turn) (c : Pair) (log mid : List Entry) → IsBlock e c log mid → offers x mid ≡ offers x log ++ accepted_at (is_a x) e.0 e.1 c
+offers_turn x e c log mid b = offers_block e c log mid b x (first_offers x e c log mid b)
+
+ready_turn : (x : End) (e : Bool × Turn) (c : Pair) (log mid : List Entry) → IsBlock e c log mid → ready x mid ≡ ready x log ++ readied_at (is_a x) e c
+ready_turn x e c log mid b = more_of (ready_by x) log mid (b.first ∷ b.more) (readied_at (is_a x) e c) b.logged (block_ready x e c log mid b)
+
+handed_turn : (x : End) (e : Bool × Turn) (c : Pair) (log mid : List Entry) → IsBlock e c log mid → handed_out x mid ≡ handed_out x log ++ handed_at (is_a x) e.0 e.1 c
+handed_turn x e c log mid b = more_of (handed_out_by x) log mid (b.first ∷ b.more) (handed_at (is_a x) e.0 e.1 c) b.logged (block_handed x e c log mid b)
+
+-- ---- whole runs
+
+joins : {X : Type 0} (last mid log rest new : List X) → last ≡ mid ++ rest → mid ≡ log ++ new → last ≡ log ++ (new ++ rest)
+joins {X} last mid log rest new e f = e ∙ (ap (λ (l : List X). l ++ rest) f ∙ append_assoc log new rest)
+
+pub offers_run : (x : End) (es : List (Bool × Turn)) (c : Pair) (log longer : List Entry) → AreBlocks es c log longer → offers x longer ≡ offers x log ++ accepted (is_a x) es c
+offers_run x [] c log longer h = ap (offers x) h ∙ sym (append-nil (offers x log))
+offers_run x (e ∷ es) c log longer h =
+    joins (offers x longer) (offers x h.0) (offers x log) (accepted (is_a x) es (goes e.0 e.1 c)) (accepted_at (is_a x) e.0 e.1 c)
+    (offers_run x es (goes e.0 e.1 c) h.0 longer h.2) (offers_turn x e c log h.0 h.1)
+
+pub ready_run : (x : End) (es : List (Bool × Turn)) (c : Pair) (log longer : List Entry) → AreBlocks es c log longer → ready x longer ≡ ready x log ++ readied (is_a x) es c
+ready_run x [] c log longer h = ap (ready x) h ∙ sym (append-nil (ready x log))
+ready_run x (e ∷ es) c log longer h =
+    joins (ready x longer) (ready x h.0) (ready x log) (readied (is_a x) es (goes e.0 e.1 c)) (readied_at (is_a x) e c)
+    (ready_run x es (goes e.0 e.1 c) h.0 longer h.2) (ready_turn x e c log h.0 h.1)
+
+pub handed_run : (x : End) (es : List (Bool × Turn)) (c : Pair) (log longer : List Entry) → AreBlocks es c log longer → handed_out x longer ≡ handed_out x log ++ handed (is_a x) es c
+handed_run x [] c log longer h = ap (handed_out x) h ∙ sym (append-nil (handed_out x log))
+handed_run x (e ∷ es) c log longer h =
+    joins (handed_out x longer) (handed_out x h.0) (handed_out x log) (handed (is_a x) es (goes e.0 e.1 c)) (handed_at (is_a x) e.0 e.1 c)
+    (handed_run x es (goes e.0 e.1 c) h.0 longer h.2) (handed_turn x e c log h.0 h.1)
+
+-- ---- each beginning of the log
+
+-- so many turns have been
+pub record IsReached (c : Pair) (done : List (Bool × Turn)) (log : List Entry) : Type 0 where
+  pub offers_are : (x : End) → offers x log ≡ accepted (is_a x) done c
+  pub ready_are : (x : End) → ready x log ≡ readied (is_a x) done c
+  pub handed_are : (x : End) → handed_out x log ≡ handed (is_a x) done c
+
+pub nothing_yet : (c : Pair) → IsReached c [] []
+nothing_yet c = record { offers_are = λ x. refl; ready_are = λ x. refl; handed_are = λ x. refl }
+
+reached_more : (c : Pair) (done : List (Bool × Turn)) (e : Bool × Turn) (log mid : List Entry) → IsReached c done log → IsBlock e (run done c) log mid → IsReached c (done ++ e ∷ []) mid
+reached_more c done e log mid r b = record {
+  offers_are = λ x. offers_turn x e (run done c) log mid b ∙ (ap (λ (z : List Offer). z ++ accepted_at (is_a x) e.0 e.1 (run done c)) (r.offers_are x) ∙ sym (accepted_more (is_a x) done e c));
+  ready_are = λ x. ready_turn x e (run done c) log mid b ∙ (ap (λ (z : List Message). z ++ readied_at (is_a x) e (run done c)) (r.ready_are x) ∙ sym (readied_more (is_a x) done e c));
+  handed_are = λ x. handed_turn x e (run done c) log mid b ∙ (ap (λ (z : List Message). z ++ handed_at (is_a x) e.0 e.1 (run done c)) (r.handed_are x) ∙ sym (handed_more (is_a x) done e c));
+}
+
+-- What holds after each turn, and within each block where it holds before and behind it, holds of each beginning.
+module _ (all : List (Bool × Turn)) (c : Pair) (P : List Entry → Type 0)
+    (at_turn : (done rest : List (Bool × Turn)) (log : List Entry) → all ≡ done ++ rest → IsReached c done log → P log)
+    (within : (done rest : List (Bool × Turn)) (e : Bool × Turn) (log mid front behind : List Entry) → all ≡ done ++ e ∷ rest → IsReached c done log
+    → (b : IsBlock e (run done c) log mid) → b.more ≡ front ++ behind → P log → P mid → P (log ++ b.first ∷ front)) where
+  pub at_each : (done rest : List (Bool × Turn)) (log longer early late : List Entry) → all ≡ done ++ rest → IsReached c done log → AreBlocks rest (run done c) log longer
+      → longer ≡ (log ++ early) ++ late → P (log ++ early)
+  at_each done rest log longer [] late e r h is = subst P (sym (append-nil log)) (at_turn done rest log e r)
+  at_each done [] log longer (k ∷ early) late e r h is = absurd (not_longer log (k ∷ early) late (sym h ∙ is) refl)
+    where
+      same_behind : (a b : List Entry) → a ≡ a ++ b → b ≡ []
+      same_behind [] b h = sym h
+      same_behind (z ∷ a) b h = same_behind a b (ap (λ (l : List Entry). elim l [ [] ↦ a | y ∷ ys ↦ ys ]) h)
+
+      not_longer : (a b d : List Entry) → a ≡ (a ++ b) ++ d → {k : Entry} {bs : List Entry} → b ≡ k ∷ bs → ⊥
+      not_longer a b d h {k} {bs} f = let z : b ≡ [] = no_front b d [] (same_behind a (b ++ d) (h ∙ append_assoc a b d)) refl in cc
+  at_each done (t ∷ rest) log longer (k ∷ early) late e r h is =
+      let d : Pair = run done c in
+      let mid : List Entry = h.0 in
+      let b : IsBlock t d log mid = h.1 in
+      let l = blocks_longer rest (goes t.0 t.1 d) mid longer h.2 in
+      let next : IsReached c (done ++ t ∷ []) mid = reached_more c done t log mid r b in
+      let split : all ≡ (done ++ t ∷ []) ++ rest = e ∙ sym (append_assoc done (t ∷ []) rest) in
+      let here : (b.first ∷ b.more) ++ l.0 ≡ (k ∷ early) ++ late =
+      same_front log ((b.first ∷ b.more) ++ l.0) ((k ∷ early) ++ late)
+      (sym (append_assoc log (b.first ∷ b.more) l.0) ∙ (ap (λ (z : List Entry). z ++ l.0) (sym b.logged) ∙ (sym l.1 ∙ (is ∙ append_assoc log (k ∷ early) late)))) in
+      elim (one_is_longer (b.first ∷ b.more) l.0 (k ∷ early) late here) [
+        | inl m ↦
+            let whole : log ++ k ∷ early ≡ mid ++ m.between =
+            ap (λ (z : List Entry). log ++ z) m.made ∙ (sym (append_assoc log (b.first ∷ b.more) m.between) ∙ ap (λ (z : List Entry). z ++ m.between) (sym b.logged)) in
+            subst P (sym whole)
+            (at_each (done ++ t ∷ []) rest mid longer m.between late split next
+            (subst (λ (z : Pair). AreBlocks rest z mid longer) (sym (run_more done t c)) h.2) (is ∙ ap (λ (z : List Entry). z ++ late) whole))
+        | inr m ↦
+            let same : b.first ≡ k = ap (λ (z : List Entry). elim z [ [] ↦ k | y ∷ ys ↦ y ]) m.made in
+            let more : b.more ≡ early ++ m.between = ap (λ (z : List Entry). elim z [ [] ↦ b.more | y ∷ ys ↦ ys ]) m.made in
+            subst (λ (z : Entry). P (log ++ z ∷ early)) same
+            (within done rest t log mid early m.between e r b more (at_turn done (t ∷ rest) log e r) (at_turn (done ++ t ∷ []) rest mid split next))
+      ]
+    where
+      same_front : (a xs ys : List Entry) → a ++ xs ≡ a ++ ys → xs ≡ ys
+      same_front [] xs ys h = h
+      same_front (z ∷ a) xs ys h = same_front a xs ys (ap (λ (l : List Entry). elim l [ [] ↦ a ++ xs | u ∷ us ↦ us ]) h)
+
+-- ---- what is read off a beginning that ends within a block
+
+none_behind : {X : Type 0} (xs ys : List X) → xs ++ ys ≡ [] → ys ≡ []
+none_behind [] ys h = h
+none_behind (z ∷ xs) ys h = cc
+
+none_before : {X : Type 0} (xs ys : List X) → xs ++ ys ≡ [] → xs ≡ []
+none_before [] ys h = refl
+none_before (z ∷ xs) ys h = cc
+
+module _ (e : Bool × Turn) (d : Pair) (log mid front behind : List Entry) (b : IsBlock e d log mid) (split : b.more ≡ front ++ behind) where
+  abbrev early : List Entry
+  early = log ++ b.first ∷ front
+
+  whole : mid ≡ early ++ behind
+  whole = b.logged ∙ (ap (λ (z : List Entry). log ++ b.first ∷ z) split ∙ sym (append_assoc log (b.first ∷ front) behind))
+
+  -- what stands in the first entry alone
+  all_first : {X : Type 0} (f : Entry → List X) → flat_map f b.more ≡ [] → flat_map f mid ≡ flat_map f early
+  all_first {X} f quiet =
+      let none : flat_map f behind ≡ [] = none_behind (flat_map f front) (flat_map f behind) (sym (flat_map-append f front behind) ∙ (sym (ap (flat_map f) split) ∙ quiet)) in
+      ap (flat_map f) whole ∙ (flat_map-append f early behind ∙ (ap (λ (z : List X). flat_map f early ++ z) none ∙ append-nil (flat_map f early)))
+
+  ready_split : (y : End) → ready y mid ≡ ready y early ++ ready y behind
+  ready_split y = ap (ready y) whole ∙ flat_map-append (ready_by y) early behind
+
+  ready_before : (y : End) → ready y early ≡ ready y log ++ ready y (b.first ∷ front)
+  ready_before y = flat_map-append (ready_by y) log (b.first ∷ front)
+
+-- ---- what fits
+
+module _ (x y : End) (all : List (Bool × Turn)) (c : Pair) (places : List ℕ)
+    (fits : (early late : List (Bool × Turn)) → all ≡ early ++ late → Fits (accepted (is_a x) early c) (readied (is_a y) early c) (take (length (readied (is_a y) early c)) places)) where
+  abbrev FitsAt : List Entry → Type 0
+  FitsAt early = Fits (offers x early) (ready y early) (take (length (ready y early)) places)
+
+  fits_turn : (done rest : List (Bool × Turn)) (log : List Entry) → all ≡ done ++ rest → IsReached c done log → FitsAt log
+  fits_turn done rest log e r =
+      subst (λ (o : List Offer). Fits o (ready y log) (take (length (ready y log)) places)) (sym (r.offers_are x))
+      (subst (λ (m : List Message). Fits (accepted (is_a x) done c) m (take (length m) places)) (sym (r.ready_are y)) (fits done rest e))
+
+  fits_within : (e : Bool × Turn) (d : Pair) (log mid front behind : List Entry) (b : IsBlock e d log mid) → b.more ≡ front ++ behind → FitsAt mid → FitsAt (log ++ b.first ∷ front)
+  fits_within e d log mid front behind b split f =
+      let early : List Entry = log ++ b.first ∷ front in
+      fits_front (offers x early) (ready y mid) (ready y early) (ready y behind) places (ready_split e d log mid front behind b split y)
+      (subst (λ (o : List Offer). Fits o (ready y mid) (take (length (ready y mid)) places)) (all_first e d log mid front behind b split (offers_by x) (b.quiet x)) f)
+
+  pub fits_each : (log early late : List Entry) → AreBlocks all c [] log → log ≡ early ++ late → FitsAt early
+  fits_each log early late h is =
+      at_each all c FitsAt fits_turn (λ done rest e l mid front behind s r b split before f. fits_within e (run done c) l mid front behind b split f)
+      [] all [] log early late refl (nothing_yet c) h is
+
+-- ---- what was handed out is the beginning of what became ready
+
+extends_by : (before after more : List Message) → after ≡ before ++ more → Extends before after
+extends_by before after more e = record { more = more; made = e }
+
+extends_more : (before after more longer : List Message) → Extends before after → longer ≡ after ++ more → Extends before longer
+extends_more before after more longer h e =
+    extends_by before longer (h.more ++ more) (e ∙ (ap (λ (l : List Message). l ++ more) h.made ∙ append_assoc before h.more more))
+
+none_dropped : (ms : List Message) → new_behind ms (drop 1 ms) ≡ []
+none_dropped [] = refl
+none_dropped (m ∷ ms) = go ms
+  where
+    go : (ms : List Message) → drop (suc (length ms)) ms ≡ []
+    go [] = refl
+    go (z ∷ zs) = go zs
+
+taken_none : (s : State) → new_behind (ready_in s) (ready_in (taken_in s)) ≡ []
+taken_none Closed = refl
+taken_none (CookieWait tag first t1) = refl
+taken_none (Open phase t) = none_dropped t.reassembly.ready
+
+-- a turn hands out nothing, or nothing becomes ready at it
+one_or_none : (t : Turn) (own beside : Side) → (handed_by t own ≡ []) ⊎ (new_behind (ready_at own) (ready_at (turned t own beside)) ≡ [])
+one_or_none (Calls TakeMessage) own beside = inr (taken_none (state_of own))
+one_or_none (Calls call) own beside = inl refl
+one_or_none (Gives which checksum) own beside = inl refl
+one_or_none (Refuses p) own beside = inl refl
+
+hands_or_readies : (x : Bool) (e : Bool × Turn) (c : Pair) → (handed_at x e.0 e.1 c ≡ []) ⊎ (readied_at x e c ≡ [])
+hands_or_readies true (true, t) c = one_or_none t c.a c.b
+hands_or_readies false (false, t) c = one_or_none t c.b c.a
+hands_or_readies true (false, t) c = inl refl
+hands_or_readies false (true, t) c = inl refl
+
+module _ (x : End) (all : List (Bool × Turn)) (c : Pair)
+    (prefix : (early late : List (Bool × Turn)) → all ≡ early ++ late → Extends (handed (is_a x) early c) (readied (is_a x) early c)) where
+  abbrev IsPrefix : List Entry → Type 0
+  IsPrefix early = Extends (handed_out x early) (ready x early)
+
+  prefix_turn : (done rest : List (Bool × Turn)) (log : List Entry) → all ≡ done ++ rest → IsReached c done log → IsPrefix log
+  prefix_turn done rest log e r =
+      subst (λ (l : List Message). Extends l (ready x log)) (sym (r.handed_are x))
+      (subst (λ (l : List Message). Extends (handed (is_a x) done c) l) (sym (r.ready_are x)) (prefix done rest e))
+
+  prefix_within : (e : Bool × Turn) (d : Pair) (log mid front behind : List Entry) (b : IsBlock e d log mid) → b.more ≡ front ++ behind → IsPrefix log → IsPrefix mid
+      → IsPrefix (log ++ b.first ∷ front)
+  prefix_within e d log mid front behind b split before after =
+      let early : List Entry = log ++ b.first ∷ front in
+      let hands : handed_out x mid ≡ handed_out x early = all_first e d log mid front behind b split (handed_out_by x) (b.hands_nothing x) in
+      elim (hands_or_readies (is_a x) e d) [
+        | inl none ↦
+            let same : handed_out x mid ≡ handed_out x log = handed_turn x e d log mid b ∙ (ap (λ (l : List Message). handed_out x log ++ l) none ∙ append-nil (handed_out x log)) in
+            subst (λ (l : List Message). Extends l (ready x early)) (sym same ∙ hands)
+            (extends_more (handed_out x log) (ready x log) (ready x (b.first ∷ front)) (ready x early) before (ready_before e d log mid front behind b split x))
+        | inr none ↦
+            let nothing : ready x (b.first ∷ front) ++ ready x behind ≡ [] =
+            sym (flat_map-append (ready_by x) (b.first ∷ front) behind)
+            ∙ (sym (ap (λ (l : List Entry). ready x (b.first ∷ l)) split) ∙ (block_ready x e d log mid b ∙ none)) in
+            let last : ready x behind ≡ [] = none_behind (ready x (b.first ∷ front)) (ready x behind) nothing in
+            let same : ready x mid ≡ ready x early =
+            ready_split e d log mid front behind b split x ∙ (ap (λ (l : List Message). ready x early ++ l) last ∙ append-nil (ready x early)) in
+            subst (λ (l : List Message). Extends l (ready x early)) hands (subst (λ (l : List Message). Extends (handed_out x mid) l) same after)
+      ]
+
+  pub prefix_each : (log early late : List Entry) → AreBlocks all c [] log → log ≡ early ++ late → IsPrefix early
+  prefix_each log early late h is =
+      at_each all c IsPrefix prefix_turn (λ done rest e l mid front behind s r b split before after. prefix_within e (run done c) l mid front behind b split before after)
+      [] all [] log early late refl (nothing_yet c) h is

@@ -1,0 +1,45 @@
+-- A world that a new one was led to is led on by each run, and composes.
+use Rattle.std.proofs.Common.{List, [], ◌∷◌, ◌++◌, refl, subst}
+use Rattle.std.specs.Prelude.{All}
+use Rattle.std.proofs.lemmas.List.Elements.{All-nil, All-cons, All-append}
+use Rattle.sctp_course.proofs.CourseLemmas.{ends_joined}
+use Rattle.sctp_delivery.specs.Delivery.{MessagesAreDelivered}
+use Rattle.sctp_world.specs.World.{World, Action, Happens, Runs}
+use Rattle.sctp_world_course.specs.Courses.{ActionFits}
+use Rattle.sctp_world_course.specs.Composed.{IsLed, WorldsCompose}
+use Rattle.sctp_world_course.proofs.JoinedLemmas.{are_joined}
+use Rattle.sctp_world_course.proofs.DeliveredLemmas.{worlds_deliver, handed_is_a_prefix}
+
+runs_on : (early late : List Action) (w u v : World) → Runs early w u → Runs late u v → Runs (early ++ late) w v
+runs_on [] late w u v r s = subst (λ (z : World). Runs late z v) r s
+runs_on (action ∷ early) late w u v r s = (r.0, r.1, runs_on early late r.0 u v r.2 s)
+
+pub led_on : (w v : World) (actions : List Action) → IsLed w → All ActionFits actions → Runs actions w v → IsLed v
+led_on w v actions l fit r = record {
+  a = l.a;
+  b = l.b;
+  words_a = l.words_a;
+  words_b = l.words_b;
+  word_of_a = l.word_of_a;
+  word_of_b = l.word_of_b;
+  valid_a = l.valid_a;
+  valid_b = l.valid_b;
+  fits_a = l.fits_a;
+  fits_b = l.fits_b;
+  actions = l.actions ++ actions;
+  fit = All-append ActionFits l.actions actions l.fit fit;
+  runs = runs_on l.actions actions _ w v l.runs r;
+}
+
+pub led_by_one : (w v : World) (action : Action) → IsLed w → ActionFits action → Happens action w v → IsLed v
+led_by_one w v action l fit h = led_on w v (action ∷ []) l (one ActionFits action fit) (v, h, refl)
+  where
+    one : (P : Action → Type 0) (x : Action) → P x → All P (x ∷ [])
+    one P x h = All-cons P x [] h (All-nil P)
+
+pub compose : MessagesAreDelivered → WorldsCompose
+compose law w l u = record {
+  joined = are_joined ends_joined l.a l.b l.words_a l.words_b l.word_of_a l.word_of_b l.actions w l.valid_a l.valid_b l.fits_a l.fits_b l.fit l.runs u.bytes u.follows u.stands;
+  handed = handed_is_a_prefix l.a l.b l.words_a l.words_b l.word_of_a l.word_of_b l.actions w l.valid_a l.valid_b l.fits_a l.fits_b l.fit l.runs u.bytes u.follows u.stands;
+  delivers = worlds_deliver law l.a l.b l.words_a l.words_b l.word_of_a l.word_of_b l.actions w l.valid_a l.valid_b l.fits_a l.fits_b l.fit l.runs u.bytes u.follows u.stands;
+}

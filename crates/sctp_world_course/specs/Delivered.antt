@@ -1,0 +1,106 @@
+-- Messages that become ready at an end of a world are those that the other end accepted: premises and claim are read off the
+-- log, the actions and the values that the sockets hold between them.
+use Rattle.std.specs.Prelude.{◌≡◌, ℕ, ◌-◌, ◌^◌, ◌<◌, Bool, true, false, Some, None, List, [], ◌∷◌, ◌++◌, length, map, take, replicate, slice_get, ⊤, All}
+use Rattle.std.specs.List.{flat_map, list_any}
+use Rattle.rand_core.specs.Stream.{Stream}
+use Rattle.sctp_serial.specs.Messages.{Message}
+use Rattle.sctp_state.specs.Options.{Options, IsValid}
+use Rattle.sctp_association_laws.specs.Sound.{OptionsFit}
+use Rattle.sctp_rx.specs.Delivery.{Extends}
+use Rattle.sctp_delivery.specs.Accepted.{Offer}
+use Rattle.sctp_delivery.specs.Windows.{numbered, IsWithin, Stamp, Stamps, no_stamps, IsYoung}
+use Rattle.sctp_delivery.specs.Delivery.{Fits}
+use Rattle.sctp_world.specs.Judge.{End, A, B, same_end, all_unless, Call, Send, SendMany, Reset, Answer, Sent, SentMany, unrefused, Entry, Called, accepted, ready, handed_out}
+use Rattle.sctp_world.specs.World.{Side, World, Action, CallOf, Give, GiveForeign, TellTime, Runs, fresh_world, other}
+use Rattle.sctp_world_course.specs.Courses.{ActionFits, IsInBytes}
+use Rattle.sctp_world_course.specs.Joined.{FollowsTheRules, times_ended}
+
+-- ---- what was accepted, with the options of its sending
+
+abbrev pub offers_in : Call → Answer → List Offer
+offers_in (Send m options) (Sent None) = record { message = m; options = options } ∷ []
+offers_in (SendMany ms options) (SentMany refused) = map (λ (m : Message). record { message = m; options = options }) (unrefused 0 ms refused)
+offers_in call answer = []
+
+abbrev pub offers_by : End → Entry → List Offer
+offers_by x (Called y clock call answer) = all_unless (same_end x y) (offers_in call answer)
+offers_by x entry = []
+
+abbrev pub offers : End → List Entry → List Offer
+offers x log = flat_map (offers_by x) log
+
+-- ---- windows along a run
+
+abbrev pub SideIsWithin : Side → Type 0
+SideIsWithin side = IsWithin side.socket.standing.state side.socket.standing.context.queue
+
+pub record AreWithin (w : World) : Type 0 where
+  pub a : SideIsWithin w.a
+  pub b : SideIsWithin w.b
+
+-- how many fragments each end has numbered
+abbrev pub stamp : World → Stamp
+stamp w = record { a = numbered w.a.socket.standing.state; b = numbered w.b.socket.standing.state }
+
+-- those of all packets: as many as both ends had numbered before the event that emitted it
+abbrev pub stamped : (before after : Side) → Stamp → List Stamp → List Stamp
+stamped x y s stamps = stamps ++ replicate (length y.packets - length x.packets) s
+
+abbrev pub stamps_after : (w u : World) → Stamps → Stamps
+stamps_after w u s = record { of_a = stamped w.a u.a (stamp w) s.of_a; of_b = stamped w.b u.b (stamp w) s.of_b }
+
+-- no packet is given once an end has numbered 2^30 fragments since
+abbrev pub IsTimely : Action → (now : Stamp) → Stamps → Type 0
+IsTimely (Give packet A) now s = (old : Stamp) → slice_get s.of_b packet ≡ Some old → IsYoung now old
+IsTimely (Give packet B) now s = (old : Stamp) → slice_get s.of_a packet ≡ Some old → IsYoung now old
+IsTimely (CallOf x call) now s = ⊤
+IsTimely (GiveForeign x bytes) now s = ⊤
+IsTimely (TellTime x time) now s = ⊤
+
+abbrev pub KeepsWindows : (actions : List Action) (w v : World) → Runs actions w v → Stamps → Type 0
+KeepsWindows [] w v r s = AreWithin w
+KeepsWindows (action ∷ actions) w v r s = AreWithin w × IsTimely action (stamp w) s × KeepsWindows actions r.0 v r.2 (stamps_after w r.0 s)
+
+abbrev pub resets : Action → Bool
+resets (CallOf x (Reset streams)) = true
+resets action = false
+
+-- no stream is reset
+abbrev pub KeepsStreams : List Action → Type 0
+KeepsStreams actions = list_any resets actions ≡ false
+
+-- ---- the law
+
+-- One list of places serves all along the log: at each point its beginning fits.
+pub record Delivers (x : End) (log : List Entry) : Type 0 where
+  pub places : List ℕ
+  pub fits : (early late : List Entry) → log ≡ early ++ late
+      → Fits (offers x early) (ready (other x) early) (take (length (ready (other x) early)) places)
+
+-- what a run has to keep
+pub record IsInBounds (actions : List Action) (w v : World) (runs : Runs actions w v) : Type 0 where
+  pub windows : KeepsWindows actions w v runs no_stamps
+  pub streams : KeepsStreams actions
+  pub few : (x : End) → length (offers x v.log) < 2 ^ 32
+
+-- In each run that follows the rules, in which no end told that an association is over.
+abbrev pub WorldsDeliver : Type 0
+WorldsDeliver =
+    (a b : Options) (words_a words_b : Stream) (word_of_a word_of_b : List ℕ → ℕ) (actions : List Action) (w : World)
+    → IsValid a → IsValid b → OptionsFit a → OptionsFit b → All ActionFits actions
+    → (runs : Runs actions (fresh_world a b words_a words_b word_of_a word_of_b) w) → IsInBytes w
+    → FollowsTheRules w → ((x : End) → times_ended x w.log ≡ 0)
+    → IsInBounds actions (fresh_world a b words_a words_b word_of_a word_of_b) w runs → (x : End) → Delivers x w.log
+
+-- what was handed out, in order, is a prefix of what became ready, at each point of the log
+abbrev pub HandedOutIsAPrefix : Type 0
+HandedOutIsAPrefix =
+    (a b : Options) (words_a words_b : Stream) (word_of_a word_of_b : List ℕ → ℕ) (actions : List Action) (w : World)
+    → IsValid a → IsValid b → OptionsFit a → OptionsFit b → All ActionFits actions
+    → Runs actions (fresh_world a b words_a words_b word_of_a word_of_b) w → IsInBytes w
+    → FollowsTheRules w → ((x : End) → times_ended x w.log ≡ 0) → (x : End)
+    → (early late : List Entry) → w.log ≡ early ++ late → Extends (handed_out x early) (ready x early)
+
+-- the messages of the offers are those accepted
+abbrev pub OffersAreAccepted : Type 0
+OffersAreAccepted = (x : End) (log : List Entry) → accepted x log ≡ map (λ (o : Offer). o.message) (offers x log)
