@@ -1,12 +1,13 @@
 -- What an end's values and packets say of a transfer: as its sender, and as its receiver. One end acts, and the state that the
 -- rules had before its turn is `from`.
-use Rattle.std.proofs.Common.{◌≡◌, ℕ, ◌+◌, ◌-◌, ◌^◌, ◌<◌, ◌≤◌, Bool, true, false, Option, None, List, [], All}
+use Rattle.std.proofs.Common.{◌≡◌, ℕ, suc, ◌+◌, ◌-◌, ◌^◌, ◌<◌, ◌≤◌, Bool, true, false, Option, None, List, [], ◌∷◌, ◌++◌, length, All}
 use Rattle.std.specs.Prelude.{⊤}
 use Rattle.std.specs.List.{list_all}
 use Rattle.sctp_serial.specs.Messages as messages
 use Rattle.sctp_serial.specs.Unwrapped.{origin, words, wire}
 use Rattle.sctp_packet.specs.Chunk.{ChunkTree, FragmentTree, SackTree, data_chunk, idata_chunk, sack_chunk, re_config_chunk, forward_tsn_chunk, i_forward_tsn_chunk}
 use Rattle.sctp_packet.specs.Grammar.{carried}
+use Rattle.sctp_state.specs.Events as events
 use Rattle.sctp_state.specs.Options.{Options}
 use Rattle.sctp_state.specs.Capabilities.{agreed}
 use Rattle.sctp_send_queue.specs.declared.send_queue.stream.PauseState.TheVariants.{NotPaused}
@@ -14,19 +15,19 @@ use Rattle.sctp_send_queue.specs.Queue.{Stream, Queue}
 use Rattle.sctp_outstanding.specs.Items.{no_items}
 use Rattle.sctp_tx.specs.ForwardPoints.{most_of}
 use Rattle.sctp_rx.specs.Tracker.{IsTracker, tracker}
-use Rattle.sctp_rx.specs.ReassemblyQueue.{reassembly}
+use Rattle.sctp_rx.specs.ReassemblyQueue.{Reassembly, reassembly}
 use Rattle.sctp_rules.specs.State.{Message, ForwardPoint, Sender, Transfer, IsAmong, new_sender, count}
 use Rattle.sctp_rules.specs.Rules.{Event, accept, begin, number, close, give_up, data_comes, late_comes, deliver, send_sack, leave, send_forward, forward_comes, forget, Happens, run}
 use Rattle.sctp_rules.specs.Kept.{Kept}
 use Rattle.sctp_rules.specs.Windows.{Windows}
 use Rattle.sctp_tx_rules.specs.Shown.{Shows}
-use Rattle.sctp_tx_rules.specs.Led.{given_ups, recorded, is_sending}
+use Rattle.sctp_tx_rules.specs.Led.{given_ups, recorded, is_sending, delivered, ids_at}
 use Rattle.sctp_tx_rules.specs.Points.{chunk_of}
 use Rattle.sctp_tx_rules.specs.Rows.{Carries}
 use Rattle.sctp_rules.specs.Points.{AreApart}
 use Rattle.sctp_rx_rules.specs.Receives.{Receives}
 use Rattle.sctp_rx_rules.specs.Near.{ReadsNear, AreFew}
-use Rattle.sctp_association.specs.Association.{Tcb, State, Closed, CookieWait, Open}
+use Rattle.sctp_association.specs.Association.{Tcb, Phase, State, Closed, CookieWait, Open}
 use Rattle.sctp_association.specs.Laws.{Call}
 use Rattle.sctp_association_laws.specs.Mapped.{Carried}
 use Rattle.sctp_course.specs.Acts.{Making, IsHeard, is_response}
@@ -118,6 +119,12 @@ pub record WasSaid (Says : ChunkTree → Type 0) (chunk : ChunkTree) : Type 0 wh
 pub record IsFlowing (q : Queue) : Type 0 where
   pub flows : All (λ (e : ℕ × Stream). e.1.pause ≡ NotPaused) q.streams.entries
 
+-- what the rules reported from x to y is what was told meanwhile
+pub record Reports (lifecycle : ℕ → Option ℕ) (x y : Transfer) (before after : List (events.Event Carried)) : Type 0 where
+  pub places : List ℕ
+  pub more : y.reports ≡ x.reports ++ places
+  pub told_of : delivered after ≡ delivered before ++ ids_at lifecycle places
+
 module _ (message : ℕ → Message) (lifecycle : ℕ → Option ℕ) (mixed : Bool) where
   -- without a control block all that was accepted waits
   pub record IsWaiting (q : Queue) (x : Transfer) : Type 0 where
@@ -146,6 +153,7 @@ module _ (message : ℕ → Message) (lifecycle : ℕ → Option ℕ) (mixed : B
     pub shown : SendsIn m.state m.context.queue x
     pub flows : IsFlowing m.context.queue
     pub gone : recorded m.context.told ≡ given_ups goes.events
+    pub reported : Reports lifecycle from x [] m.context.told.events
     pub told : All (λ (p : Carried). All (SaysOut message mixed (first_out m.state) from.acknowledged x) p.chunks) (packets_in m.context.told.events)
     pub made : All (SaysOut message mixed (first_out m.state) from.acknowledged x) m.packet.chunks
 

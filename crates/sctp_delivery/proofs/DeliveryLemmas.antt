@@ -1,5 +1,5 @@
 -- Along a course each direction is a run of the rules, turn by turn, and at each point what became ready fits.
-use Rattle.std.proofs.Common.{◌≡◌, ℕ, ◌+◌, ◌^◌, ◌<◌, ◌||◌, not, Bool, true, false, Option, Some, None, List, [], ◌∷◌, ◌++◌, length, map, take, slice_get, refl, sym, ap, subst, ◌∙◌, append-nil, append_assoc, length-append, arith}
+use Rattle.std.proofs.Common.{◌≡◌, ℕ, ◌+◌, ◌^◌, ◌<◌, ◌≤◌, ◌||◌, not, Bool, true, false, Option, Some, None, List, [], ◌∷◌, ◌++◌, length, map, take, slice_get, refl, sym, ap, subst, ◌∙◌, append-nil, append_assoc, length-append, arith}
 use Rattle.std.specs.List.{list_any}
 use Rattle.sctp_serial.specs.Messages as messages
 use Rattle.sctp_packet.specs.Packet.{PacketTree}
@@ -10,18 +10,22 @@ use Rattle.sctp_rx_rules.specs.View.{ready_of}
 use Rattle.sctp_rules.specs.State.{Message, Transfer}
 use Rattle.sctp_rules.specs.Claims.{Grows}
 use Rattle.sctp_association_laws.specs.Mapped.{Carried}
+use Rattle.sctp_association.specs.Association.{State}
+use Rattle.sctp_association.specs.Calls.{ready_in}
 use Rattle.sctp_association.specs.Input.{refusal}
 use Rattle.sctp_course.specs.Course.{Side, Pair, emitted, Turn, Calls, Gives, Refuses, given, foreign_if, turned, goes, run, MayTurn, side_of, FollowsTheRules, HasNotEnded, AreGiven, state_of}
 use Rattle.sctp_course.specs.Handing.{ready_at, handed_by, handed_at, new_behind, readied}
 use Rattle.sctp_course.proofs.CourseLemmas.{Halves, swapped, before_run, goes_joined}
 use Rattle.sctp_course.proofs.HandingLemmas.{Hands, hands_at}
 use Rattle.sctp_delivery.specs.Accepted.{Offer, accepted_in, accepted_at, accepted}
-use Rattle.sctp_delivery.specs.Windows.{Stamp, stamp, Stamps, stamps_after, stamps_for, IsTimely, AreWithin, KeepsWindows, resets, KeepsStreams}
-use Rattle.sctp_delivery.specs.Delivery.{Fits}
+use Rattle.sctp_delivery.specs.Windows.{Stamp, stamp, Stamps, stamps_after, stamps_for, IsYoung, IsTimely, AreWithin, KeepsWindows, resets, KeepsStreams}
+use Rattle.sctp_delivery.specs.GivenUp.{given_up_at, given_up}
 use Rattle.sctp_delivery.proofs.DirectionLemmas.{Flows, IsSilent}
-use Rattle.sctp_delivery.proofs.GoingLemmas.{AreOffered, Parts, turn_out}
+use Rattle.sctp_delivery.proofs.AccountLemmas.{Accounted}
+use Rattle.sctp_delivery.proofs.GoingLemmas.{AreOffered, Parts, Turned, grow_both, grow_none, turn_out}
 use Rattle.sctp_delivery.proofs.ComingLemmas.{turn_in}
-use Rattle.sctp_delivery.proofs.FitsLemmas.{message_of, lifecycle_of, offered_from, accepted_there, ready_is, places_fit_first}
+use Rattle.sctp_delivery.proofs.FitsLemmas.{message_of, lifecycle_of, offered_from, accepted_there, lifecycle_accepted, ready_is}
+use Rattle.sctp_delivery.proofs.DoneLemmas.{Point, point}
 
 -- ---- what was told is taken after each turn
 
@@ -62,10 +66,13 @@ abbrev pub FlowsFrom : (ℕ → Message) → (ℕ → Option ℕ) → (mixed fro
 FlowsFrom message lifecycle mixed from_a w stamps n handed x =
     Flows message lifecycle mixed (of_end from_a) (side_of from_a w) (side_of (not from_a) w) n handed (stamps_of from_a stamps) (stamps_of (not from_a) stamps) x
 
-pub record Stepped (message : ℕ → Message) (lifecycle : ℕ → Option ℕ) (mixed from_a : Bool) (w : Pair) (stamps : Stamps) (n : ℕ) (handed : List messages.Message) (x : Transfer) : Type 0 where
+-- from a pair before, where the sender gave these up
+pub record Stepped (message : ℕ → Message) (lifecycle : ℕ → Option ℕ) (mixed from_a : Bool) (w : Pair) (stamps : Stamps) (n : ℕ) (handed : List messages.Message) (x : Transfer)
+    (before : Pair) (by : List ℕ) : Type 0 where
   pub to : Transfer
   pub flows : FlowsFrom message lifecycle mixed from_a w stamps n handed to
   pub grows : Grows x to
+  pub accounts : (gone : List ℕ) → Accounted lifecycle (side_of from_a before) gone x → Accounted lifecycle (side_of from_a w) (gone ++ by) to
 
 module _ (message : ℕ → Message) (lifecycle : ℕ → Option ℕ) (mixed : Bool) (parts : Parts message lifecycle mixed) (a b : Options) (own : AreGiven a) (other : AreGiven b)
     (mode : mixed ≡ (agreed a b).message_interleaving) where
@@ -80,6 +87,7 @@ module _ (message : ℕ → Message) (lifecycle : ℕ → Option ℕ) (mixed : B
       → AreOffered message lifecycle n (accepted_at from_a at_a t w) → n + length (accepted_at from_a at_a t w) < 2 ^ 32
       → (x : Transfer) → FlowsFrom message lifecycle mixed from_a w stamps n handed x
       → Stepped message lifecycle mixed from_a (goes at_a t w) (stamps_after at_a t w stamps) (n + length (accepted_at from_a at_a t w)) (handed ++ handed_at (not from_a) at_a t w) x
+      w (given_up_at from_a at_a t w)
   stepped true true t w stamps h quiet within may no_reset timely none n handed are few x f =
       let r = turn_out message lifecycle mixed (of_end true) parts a b own other mode w.a w.b h quiet.a quiet.b within.a n handed stamps.of_a stamps.of_b x f (stamp w) refl
       (λ old y. y.a) t may no_reset timely none.a are few in
@@ -88,6 +96,7 @@ module _ (message : ℕ → Message) (lifecycle : ℕ → Option ℕ) (mixed : B
         flows = subst (λ (ms : List messages.Message).
             FlowsFrom message lifecycle mixed true (goes true t w) (stamps_after true t w stamps) (n + length (accepted_in t w.a)) ms r.to) (sym (append-nil handed)) r.flows;
         grows = r.grows;
+        accounts = r.accounts;
       }
   stepped true false t w stamps h quiet within may no_reset timely none n handed are few x f =
       let r = turn_in message lifecycle mixed (of_end true) parts a b own other mode w.a w.b h quiet.a quiet.b within.a n handed stamps.of_a stamps.of_b x f (stamp w) refl
@@ -96,6 +105,7 @@ module _ (message : ℕ → Message) (lifecycle : ℕ → Option ℕ) (mixed : B
         to = r.to;
         flows = subst (λ (k : ℕ). FlowsFrom message lifecycle mixed true (goes false t w) (stamps_after false t w stamps) k (handed ++ handed_by t w.b) r.to) (more_by_none n) r.flows;
         grows = r.grows;
+        accounts = r.accounts;
       }
   stepped false false t w stamps h quiet within may no_reset timely none n handed are few x f =
       let r = turn_out message lifecycle mixed (of_end false) parts b a other own mode_back w.b w.a (swapped a b w.a w.b h) quiet.b quiet.a within.b n handed stamps.of_b stamps.of_a x f
@@ -105,6 +115,7 @@ module _ (message : ℕ → Message) (lifecycle : ℕ → Option ℕ) (mixed : B
         flows = subst (λ (ms : List messages.Message).
             FlowsFrom message lifecycle mixed false (goes false t w) (stamps_after false t w stamps) (n + length (accepted_in t w.b)) ms r.to) (sym (append-nil handed)) r.flows;
         grows = r.grows;
+        accounts = r.accounts;
       }
   stepped false true t w stamps h quiet within may no_reset timely none n handed are few x f =
       let r = turn_in message lifecycle mixed (of_end false) parts b a other own mode_back w.b w.a (swapped a b w.a w.b h) quiet.b quiet.a within.b n handed stamps.of_b stamps.of_a x f
@@ -113,17 +124,18 @@ module _ (message : ℕ → Message) (lifecycle : ℕ → Option ℕ) (mixed : B
         to = r.to;
         flows = subst (λ (k : ℕ). FlowsFrom message lifecycle mixed false (goes true t w) (stamps_after true t w stamps) k (handed ++ handed_by t w.a) r.to) (more_by_none n) r.flows;
         grows = r.grows;
+        accounts = r.accounts;
       }
 
 -- ---- courses
 
--- where this was accepted and this became ready before, one list of places serves all along
-pub record DeliversOn (from_a : Bool) (es : List (Bool × Turn)) (w : Pair) (done : List Offer) (ready : List messages.Message) (x : Transfer) : Type 0 where
+-- where this was accepted, became ready and was given up before, one list of places serves all along
+pub record DeliversOn (from_a : Bool) (es : List (Bool × Turn)) (w : Pair) (done : List Offer) (ready : List messages.Message) (gone : List ℕ) (x : Transfer) : Type 0 where
   pub places : List ℕ
   pub more : List ℕ
   pub grown : places ≡ x.receiver.places ++ more
-  pub fits : (early late : List (Bool × Turn)) → es ≡ early ++ late
-      → Fits (done ++ accepted from_a early w) (ready ++ readied (not from_a) early w) (take (length (ready ++ readied (not from_a) early w)) places)
+  pub points : (early late : List (Bool × Turn)) → es ≡ early ++ late
+      → Point (side_of from_a (run early w)) (done ++ accepted from_a early w) (ready ++ readied (not from_a) early w) (gone ++ given_up from_a early w) places
 
 abbrev first_turn : List (Bool × Turn) → (Bool × Turn) → Bool × Turn
 first_turn [] d = d
@@ -143,73 +155,77 @@ module _ (all : List Offer) (mixed : Bool) (parts : Parts (message_of all) (life
   From w stamps n handed x = FlowsFrom (message_of all) (lifecycle_of all) mixed from_a w stamps n handed x
 
   -- now
-  fits_now : (w : Pair) (stamps : Stamps) (done later : List Offer) → all ≡ done ++ later → (handed ready : List messages.Message)
-      → ready ≡ handed ++ ready_at (side_of (not from_a) w) → (x : Transfer) → From w stamps (length done) handed x → (places more : List ℕ)
-      → places ≡ x.receiver.places ++ more → Fits done ready (take (length ready) places)
-  fits_now w stamps done later e handed ready r x f places more grown =
-      places_fit_first (message_of all) done (accepted_there all done later e) mixed x ready f.kept f.accepted_is
+  point_now : (w : Pair) (stamps : Stamps) (done later : List Offer) → all ≡ done ++ later → (handed ready : List messages.Message)
+      → ready ≡ handed ++ ready_at (side_of (not from_a) w) → (gone : List ℕ) (x : Transfer) → From w stamps (length done) handed x
+      → Accounted (lifecycle_of all) (side_of from_a w) gone x → (places more : List ℕ) → places ≡ x.receiver.places ++ more → Point (side_of from_a w) done ready gone places
+  point_now w stamps done later e handed ready r gone x f a places more grown =
+      point (message_of all) (lifecycle_of all) mixed done (accepted_there all done later e) (lifecycle_accepted all done later e) (side_of from_a w) x f.kept f.accepted_is gone a f.sends ready
       (subst (λ (ms : List messages.Message). x.receiver.ready ≡ map ready_of ms) (sym r)
       (ready_is (message_of all) mixed (state_of (side_of (not from_a) w)) handed x f.receives)) places more grown
 
+  -- behind nothing more
+  here : (w : Pair) (done : List Offer) (ready : List messages.Message) (gone places : List ℕ) → Point (side_of from_a w) done ready gone places
+      → Point (side_of from_a w) (done ++ []) (ready ++ []) (gone ++ []) places
+  here w done ready gone places p =
+      subst (λ (os : List Offer). Point (side_of from_a w) os (ready ++ []) (gone ++ []) places) (sym (append-nil done))
+      (subst (λ (ms : List messages.Message). Point (side_of from_a w) done ms (gone ++ []) places) (sym (append-nil ready))
+      (subst (λ (ps : List ℕ). Point (side_of from_a w) done ready ps places) (sym (append-nil gone)) p))
+
   -- one turn, then the others
-  on_then : (e : Bool × Turn) (es : List (Bool × Turn)) (w : Pair) (done : List Offer) (ready : List messages.Message) (x y : Transfer) → Grows x y
-      → ((places more : List ℕ) → places ≡ x.receiver.places ++ more → Fits done ready (take (length ready) places))
+  on_then : (e : Bool × Turn) (es : List (Bool × Turn)) (w : Pair) (done : List Offer) (ready : List messages.Message) (gone : List ℕ) (x y : Transfer) → Grows x y
+      → ((places more : List ℕ) → places ≡ x.receiver.places ++ more → Point (side_of from_a w) done ready gone places)
       → DeliversOn from_a es (goes e.0 e.1 w) (done ++ accepted_at from_a e.0 e.1 w)
-      (ready ++ new_behind (ready_at (side_of (not from_a) w)) (ready_at (side_of (not from_a) (goes e.0 e.1 w)))) y
-      → DeliversOn from_a (e ∷ es) w done ready x
-  on_then e es w done ready x y g now d = record {
+      (ready ++ new_behind (ready_at (side_of (not from_a) w)) (ready_at (side_of (not from_a) (goes e.0 e.1 w)))) (gone ++ given_up_at from_a e.0 e.1 w) y
+      → DeliversOn from_a (e ∷ es) w done ready gone x
+  on_then e es w done ready gone x y g now d = record {
     places = d.places;
     more = g.0 ++ d.more;
     grown = grown;
-    fits = fits;
+    points = points;
   }
     where
       v : Pair
       v = goes e.0 e.1 w
-
+      os : List Offer
+      os = accepted_at from_a e.0 e.1 w
       new : List messages.Message
       new = new_behind (ready_at (side_of (not from_a) w)) (ready_at (side_of (not from_a) v))
-
+      left : List ℕ
+      left = given_up_at from_a e.0 e.1 w
       grown : d.places ≡ x.receiver.places ++ (g.0 ++ d.more)
       grown = d.grown ∙ (ap (λ (l : List ℕ). l ++ d.more) g.1 ∙ append_assoc x.receiver.places g.0 d.more)
-
-      fits_later : (early late : List (Bool × Turn)) → es ≡ early ++ late
-          → Fits (done ++ (accepted_at from_a e.0 e.1 w ++ accepted from_a early v)) (ready ++ (new ++ readied (not from_a) early v))
-          (take (length (ready ++ (new ++ readied (not from_a) early v))) d.places)
-      fits_later early late is =
-          subst (λ (ms : List messages.Message). Fits (done ++ (accepted_at from_a e.0 e.1 w ++ accepted from_a early v)) ms (take (length ms) d.places))
-          (append_assoc ready new (readied (not from_a) early v))
-          (subst (λ (os : List Offer). Fits os ((ready ++ new) ++ readied (not from_a) early v) (take (length ((ready ++ new) ++ readied (not from_a) early v)) d.places))
-          (append_assoc done (accepted_at from_a e.0 e.1 w) (accepted from_a early v)) (d.fits early late is))
-
-      fits : (early late : List (Bool × Turn)) → (e ∷ es) ≡ early ++ late
-          → Fits (done ++ accepted from_a early w) (ready ++ readied (not from_a) early w) (take (length (ready ++ readied (not from_a) early w)) d.places)
-      fits [] late is =
-          subst (λ (os : List Offer). Fits os (ready ++ []) (take (length (ready ++ [])) d.places)) (sym (append-nil done))
-          (subst (λ (ms : List messages.Message). Fits done ms (take (length ms) d.places)) (sym (append-nil ready)) (now d.places (g.0 ++ d.more) grown))
-      fits (f ∷ early) late is =
-          subst (λ (z : Bool × Turn). Fits (done ++ accepted from_a (z ∷ early) w) (ready ++ readied (not from_a) (z ∷ early) w)
-          (take (length (ready ++ readied (not from_a) (z ∷ early) w)) d.places)) (ap (λ (z : List (Bool × Turn)). first_turn z e) is)
-          (fits_later early late (ap other_turns is))
+      later : (s : Side) (os2 : List Offer) (ms2 : List messages.Message) (ps2 : List ℕ) → Point s ((done ++ os) ++ os2) ((ready ++ new) ++ ms2) ((gone ++ left) ++ ps2) d.places
+          → Point s (done ++ (os ++ os2)) (ready ++ (new ++ ms2)) (gone ++ (left ++ ps2)) d.places
+      later s os2 ms2 ps2 p =
+          subst (λ (o : List Offer). Point s o (ready ++ (new ++ ms2)) (gone ++ (left ++ ps2)) d.places) (append_assoc done os os2)
+          (subst (λ (m : List messages.Message). Point s ((done ++ os) ++ os2) m (gone ++ (left ++ ps2)) d.places) (append_assoc ready new ms2)
+          (subst (λ (l : List ℕ). Point s ((done ++ os) ++ os2) ((ready ++ new) ++ ms2) l d.places) (append_assoc gone left ps2) p))
+      points : (early late : List (Bool × Turn)) → (e ∷ es) ≡ early ++ late
+          → Point (side_of from_a (run early w)) (done ++ accepted from_a early w) (ready ++ readied (not from_a) early w) (gone ++ given_up from_a early w) d.places
+      points [] late is = here w done ready gone d.places (now d.places (g.0 ++ d.more) grown)
+      points (f ∷ early) late is =
+          subst (λ (z : Bool × Turn). Point (side_of from_a (run (z ∷ early) w)) (done ++ accepted from_a (z ∷ early) w) (ready ++ readied (not from_a) (z ∷ early) w)
+          (gone ++ given_up from_a (z ∷ early) w) d.places) (ap (λ (z : List (Bool × Turn)). first_turn z e) is)
+          (later (side_of from_a (run early v)) (accepted from_a early v) (readied (not from_a) early v) (given_up from_a early v) (d.points early late (ap other_turns is)))
 
   pub delivers_on : (es : List (Bool × Turn)) (w : Pair) (stamps : Stamps) → FollowsTheRules es w → HasNotEnded (run es w) → KeepsWindows es w stamps → KeepsStreams es
       → Halves a b w.a w.b → AreSilent w → (done : List Offer) → all ≡ done ++ accepted from_a es w → (handed ready : List messages.Message)
-      → ready ≡ handed ++ ready_at (side_of (not from_a) w) → (x : Transfer) → From w stamps (length done) handed x → DeliversOn from_a es w done ready x
-  delivers_on [] w stamps follows none windows streams h quiet done is handed ready r x f = record {
+      → ready ≡ handed ++ ready_at (side_of (not from_a) w) → (gone : List ℕ) (x : Transfer) → From w stamps (length done) handed x
+      → Accounted (lifecycle_of all) (side_of from_a w) gone x → DeliversOn from_a es w done ready gone x
+  delivers_on [] w stamps follows none windows streams h quiet done is handed ready r gone x f told = record {
     places = x.receiver.places;
     more = [];
     grown = sym (append-nil x.receiver.places);
-    fits = fits;
+    points = points;
   }
     where
-      fits : (early late : List (Bool × Turn)) → [] ≡ early ++ late
-          → Fits (done ++ accepted from_a early w) (ready ++ readied (not from_a) early w) (take (length (ready ++ readied (not from_a) early w)) x.receiver.places)
-      fits [] late e =
-          subst (λ (os : List Offer). Fits os (ready ++ []) (take (length (ready ++ [])) x.receiver.places)) (sym (append-nil done))
-          (subst (λ (ms : List messages.Message). Fits done ms (take (length ms) x.receiver.places)) (sym (append-nil ready))
-          (fits_now w stamps done [] is handed ready r x f x.receiver.places [] (sym (append-nil x.receiver.places))))
-      fits (e ∷ early) late is = cc
-  delivers_on (e ∷ es) w stamps follows none windows streams h quiet done is handed ready r x f =
+      points : (early late : List (Bool × Turn)) → [] ≡ early ++ late
+          → Point (side_of from_a (run early w)) (done ++ accepted from_a early w) (ready ++ readied (not from_a) early w) (gone ++ given_up from_a early w) x.receiver.places
+      points [] late e =
+          here w done ready gone x.receiver.places
+          (point_now w stamps done [] is handed ready r gone x f told x.receiver.places [] (sym (append-nil x.receiver.places)))
+      points (e ∷ early) late is = cc
+  delivers_on (e ∷ es) w stamps follows none windows streams h quiet done is handed ready r gone x f told =
       let v : Pair = goes e.0 e.1 w in
       let os : List Offer = accepted_at from_a e.0 e.1 w in
       let new : List messages.Message = new_behind (ready_at (side_of (not from_a) w)) (ready_at (side_of (not from_a) v)) in
@@ -223,10 +239,11 @@ module _ (all : List Offer) (mixed : Bool) (parts : Parts (message_of all) (life
       ap (λ (ms : List messages.Message). ms ++ new) r
       ∙ (append_assoc handed (ready_at (side_of (not from_a) w)) new
       ∙ (ap (λ (ms : List messages.Message). handed ++ ms) hand.all ∙ sym (append_assoc handed (handed_at (not from_a) e.0 e.1 w) (ready_at (side_of (not from_a) v))))) in
-      on_then e es w done ready x s.to s.grows (fits_now w stamps done (accepted from_a (e ∷ es) w) is handed ready r x f)
+      on_then e es w done ready gone x s.to s.grows (point_now w stamps done (accepted from_a (e ∷ es) w) is handed ready r gone x f told)
       (delivers_on es v (stamps_after e.0 e.1 w stamps) follows.1 none windows.2 no_resets.1 (goes_joined a b own other e.0 e.1 w follows.0 not_yet h)
-      (silent_goes e.0 e.1 w quiet) (done ++ os) (is ∙ sym (append_assoc done os (accepted from_a es v))) (handed ++ handed_at (not from_a) e.0 e.1 w) (ready ++ new) now_ready s.to
-      (subst (λ (n : ℕ). From v (stamps_after e.0 e.1 w stamps) n (handed ++ handed_at (not from_a) e.0 e.1 w) s.to) (sym (length-append done os)) s.flows))
+      (silent_goes e.0 e.1 w quiet) (done ++ os) (is ∙ sym (append_assoc done os (accepted from_a es v))) (handed ++ handed_at (not from_a) e.0 e.1 w) (ready ++ new) now_ready
+      (gone ++ given_up_at from_a e.0 e.1 w) s.to
+      (subst (λ (n : ℕ). From v (stamps_after e.0 e.1 w stamps) n (handed ++ handed_at (not from_a) e.0 e.1 w) s.to) (sym (length-append done os)) s.flows) (s.accounts gone told))
     where
       below : (done os later : List Offer) → all ≡ done ++ (os ++ later) → length done + length os < 2 ^ 32
       below done os later e =

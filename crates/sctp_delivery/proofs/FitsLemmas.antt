@@ -60,6 +60,9 @@ module _ (all : List Offer) where
         subst (λ (n : ℕ). AreOffered (message_of all) (lifecycle_of all) n rest) (one_more done o) (offered_from (done ++ o ∷ []) rest later next),
       )
 
+  pub lifecycle_accepted : (done later : List Offer) → all ≡ done ++ later → (p : ℕ) (o : Offer) → slice_get done p ≡ Some o → lifecycle_of all p ≡ o.options.lifecycle_id
+  lifecycle_accepted done later e p o there = lifecycle_there p o (ap (λ (z : List Offer). slice_get z p) e ∙ get_behind done later p o there)
+
   pub accepted_there : (done later : List Offer) → all ≡ done ++ later → (p : ℕ) (o : Offer) → slice_get done p ≡ Some o → message_of all p ≡ message_in o
   accepted_there done later e p o there = message_there p o (ap (λ (z : List Offer). slice_get z p) e ∙ get_behind done later p o there)
 
@@ -134,12 +137,10 @@ module _ (message : ℕ → Message) (os : List Offer) (there : (p : ℕ) (o : O
       }
 
   -- also where more became ready since
-  pub places_fit_first : (mixed : Bool) (x : Transfer) (ready : List messages.Message) → Kept message mixed x → x.sender.accepted ≡ length os
-      → x.receiver.ready ≡ map ready_of ready → (places more : List ℕ) → places ≡ x.receiver.places ++ more → Fits os ready (take (length ready) places)
-  places_fit_first mixed x ready k few is places more e =
+  pub first_places : (mixed : Bool) (x : Transfer) (ready : List messages.Message) → Kept message mixed x → x.receiver.ready ≡ map ready_of ready
+      → (places more : List ℕ) → places ≡ x.receiver.places ++ more → take (length ready) places ≡ x.receiver.places
+  first_places mixed x ready k is places more e =
       let c : rules.Fits message x = (claimed message mixed x k).fits in
       let count : length ready ≡ length x.receiver.places =
       sym (length-map ready ready_of) ∙ (ap (λ (z : List ReadyMessage). length z) (sym is ∙ c.alike) ∙ length-map x.receiver.places (ready_message message)) in
-      let first : take (length ready) places ≡ x.receiver.places =
-      ap (λ (n : ℕ). take n places) count ∙ (ap (λ (z : List ℕ). take (length x.receiver.places) z) e ∙ take-append_seam x.receiver.places more) in
-      subst (λ (ps : List ℕ). Fits os ready ps) (sym first) (places_fit mixed x ready k few is)
+      ap (λ (n : ℕ). take n places) count ∙ (ap (λ (z : List ℕ). take (length x.receiver.places) z) e ∙ take-append_seam x.receiver.places more)

@@ -1,22 +1,24 @@
 -- Each turn of a course leaves one direction at a later state of the rules.
-use Rattle.std.proofs.Common.{◌≡◌, ℕ, ◌+◌, ◌-◌, ◌^◌, ◌<◌, ◌≤◌, ◌==◌, ◌||◌, not, Bool, true, false, Option, Some, None, List, [], ◌∷◌, ◌++◌, length, replicate, take, slice_get, All, refl, sym, ap, subst, ◌∙◌, append-nil, append_assoc, arith}
+use Rattle.std.proofs.Common.{◌≡◌, ◌≢◌, ℕ, ◌+◌, ◌-◌, ◌^◌, ◌<◌, ◌≤◌, ◌==◌, ◌||◌, not, Bool, true, false, Option, Some, None, List, [], ◌∷◌, ◌++◌, length, replicate, take, slice_get, All, refl, sym, ap, subst, ◌∙◌, append-nil, append_assoc, arith}
 use Rattle.std.specs.Prelude.{⊤}
 use Rattle.std.proofs.lemmas.List.Elements.{All-nil}
 use Rattle.sctp_serial.specs.Messages as messages
 use Rattle.sctp_packet.specs.Chunk.{ChunkTree}
 use Rattle.sctp_packet.specs.Packet.{PacketTree}
 use Rattle.sctp_state.specs.declared.api.ErrorKind.TheVariants.{ParseFailed}
-use Rattle.sctp_state.specs.Options.{Options}
+use Rattle.sctp_state.specs.Options.{Options, SendOptions}
 use Rattle.sctp_state.specs.Capabilities.{agreed}
-use Rattle.sctp_state.specs.Events.{Told, OnError}
+use Rattle.sctp_state.specs.Events.{Told, OnError, silent}
 use Rattle.sctp_state.proofs.CapabilitiesLemmas.{agreed-exchanged}
 use Rattle.sctp_send_queue.specs.Queue.{Queue}
 use Rattle.sctp_rules.specs.State.{Message, Transfer, count}
 use Rattle.sctp_rules.specs.Rules as rules
 use Rattle.sctp_rules.specs.Claims.{Grows}
 use Rattle.sctp_rules.proofs.GrowsLemmas.{one}
-use Rattle.sctp_tx_rules.specs.Led.{recorded, is_sending}
-use Rattle.sctp_association.specs.Association.{State, Endpoint}
+use Rattle.sctp_rules.specs.Kept.{Kept}
+use Rattle.sctp_rx_rules.specs.Receives.{Receives}
+use Rattle.sctp_tx_rules.specs.Led.{recorded, is_sending, delivered}
+use Rattle.sctp_association.specs.Association.{State, Closed, CookieWait, Open, Endpoint}
 use Rattle.sctp_association.specs.Calls.{ready_in, taken_in}
 use Rattle.sctp_association.specs.Opening.{complains}
 use Rattle.sctp_association.specs.Input.{refusal, counts, taken_if}
@@ -24,18 +26,22 @@ use Rattle.sctp_association.specs.Laws.{Call, Connect, Close, Shutdown, Send, Se
 use Rattle.sctp_association_laws.specs.Mapped.{Carried}
 use Rattle.sctp_course.specs.Acts.{Making, calm, HasNoEnd}
 use Rattle.sctp_course.specs.Course.{Side, packets_in, emitted, Turn, Calls, Gives, Refuses, as_heard, given, foreign_if, turned, MayCall, MayTurn, AreGiven, state_of}
+use Rattle.sctp_course.specs.Handing.{handed_by}
 use Rattle.sctp_course.proofs.JoinActsLemmas.{Setting, InvAt}
 use Rattle.sctp_course.proofs.JoinKeepsLemmas.{Rules}
-use Rattle.sctp_course.proofs.CourseLemmas.{setting, begins, rules_call, rules_given, or_left, Halves, none_of}
-use Rattle.sctp_course.proofs.HandingLemmas.{hands}
+use Rattle.sctp_course.proofs.CourseLemmas.{Half, setting, begins, rules_call, rules_given, or_left, Halves, none_of}
+use Rattle.sctp_course.proofs.HandingLemmas.{Hands, hands}
 use Rattle.sctp_delivery.specs.Accepted.{Offer, accepted_by, accepted_in}
+use Rattle.sctp_delivery.specs.GivenUp.{told_of, told_given, told_foreign, given_up_by}
 use Rattle.sctp_delivery.specs.Windows.{Stamp, IsYoung, IsTimely, IsWithin, queue_of, numbered, stamped, resets}
-use Rattle.sctp_delivery.proofs.ClaimLemmas.{GoesOn, IsFlowing, SaysOut, first_out, first_in, SendsIn, ReceivesIn, SenderClaim, HearsSacks, SenderGoes, SenderPremises, ReceiverGoes, ReceiverPremises}
+use Rattle.sctp_delivery.proofs.ClaimLemmas.{is_receiving, GoesOn, IsFlowing, SaysOut, SaysIn, first_out, first_in, SendsIn, ReceivesIn, SenderClaim, ReceiverClaim, HearsSacks, HearsData, SenderGoes, SenderPremises, ReceiverGoes, ReceiverPremises}
 use Rattle.sctp_delivery.proofs.FrameLemmas.{is_other, KeepsJoined, joined_call}
+use Rattle.sctp_delivery.proofs.SenderToolLemmas.{reports_none}
 use Rattle.sctp_delivery.proofs.WithinLemmas.{numbered_is, Holds}
-use Rattle.sctp_delivery.proofs.DirectionLemmas.{AtStamp, each_at, IsUnderWay, says_in, Stands, Flows, IsSilent}
-use Rattle.sctp_delivery.proofs.PremisesLemmas.{in_window, IsNoPacket, hears_no_sacks, hears_sacks, holds_of, sender_premises, begins_out}
-use Rattle.sctp_delivery.proofs.TurnLemmas.{Offers, offers_none, Stay, is_outgoing, after_turn, ends_out}
+use Rattle.sctp_delivery.proofs.DirectionLemmas.{AtStamp, each_at, IsUnderWay, says_out, says_in, Stands, Flows, IsSilent}
+use Rattle.sctp_delivery.proofs.PremisesLemmas.{in_window, IsNoPacket, hears_no_sacks, hears_no_data, hears_sacks, hears_data, holds_of, sender_premises, receiver_premises, begins_out, begins_in}
+use Rattle.sctp_delivery.proofs.TurnLemmas.{Offers, offers_none, Stay, is_outgoing, after_turn, ends_out, ends_in}
+use Rattle.sctp_delivery.proofs.AccountLemmas.{Accounted, accounts_still, accounts_out}
 
 -- ---- what becomes ready only grows
 
@@ -102,11 +108,13 @@ pub record Parts (message : ℕ → Message) (lifecycle : ℕ → Option ℕ) (m
 
 -- ---- where a turn leads
 
+-- of the sender, which told before what `before` did, and gave these up meanwhile
 pub record Turned (message : ℕ → Message) (lifecycle : ℕ → Option ℕ) (mixed : Bool) (of : Stamp → ℕ) (s r : Side) (accepted : ℕ)
-    (handed : List messages.Message) (stamps_s stamps_r : List Stamp) (x : Transfer) : Type 0 where
+    (handed : List messages.Message) (stamps_s stamps_r : List Stamp) (x : Transfer) (before : Side) (by : List ℕ) : Type 0 where
   pub to : Transfer
   pub flows : Flows message lifecycle mixed of s r accepted handed stamps_s stamps_r to
   pub grows : Grows x to
+  pub accounts : (gone : List ℕ) → Accounted lifecycle before gone x → Accounted lifecycle s (gone ++ by) to
 
 pub none_more : (ps : List Carried) (now : Stamp) (ss : List Stamp) → ss ++ replicate (length ps - length ps) now ≡ ss
 none_more ps now ss = ap (λ (n : ℕ). ss ++ replicate n now) (zero_less (length ps)) ∙ append-nil ss
@@ -136,31 +144,33 @@ module _ (message : ℕ → Message) (lifecycle : ℕ → Option ℕ) (mixed : B
 
   -- ---- the sender's turn
 
-  abbrev pub Out : Side → ℕ → Type 0
-  Out t n = Turned message lifecycle mixed of t r (accepted + n) handed (stamped s t now stamps_s) stamps_r x
+  abbrev pub Out : Side → ℕ → List ℕ → Type 0
+  Out t n by = Turned message lifecycle mixed of t r (accepted + n) handed (stamped s t now stamps_s) stamps_r x s by
 
-  still_out : Out s 0
+  still_out : Out s 0 []
   still_out = record {
     to = x;
     flows = subst (λ (ss : List Stamp). Flows message lifecycle mixed of s r (accepted + 0) handed ss stamps_r x) (sym (none_more (emitted s) now stamps_s))
         (subst (λ (n : ℕ). Flows message lifecycle mixed of s r n handed stamps_s stamps_r x) (plus_none accepted) f);
     grows = grow_none x;
+    accounts = λ gone a. accounts_still lifecycle s gone x a;
   }
     where
       plus_none : (n : ℕ) → n ≡ n + 0
       plus_none n = omega arith
 
   claim_out : (asked : Bool) (e : Endpoint Carried) (y : Transfer) → SenderClaim message lifecycle mixed x (calm e) y → Stands (state_of s) e.standing.state
-      → Out (after_turn asked e s) 0
+      → Out (after_turn asked e s) 0 (recorded (told_of e))
   claim_out asked e y c stands = record {
     to = y;
     flows = ends_out message lifecycle mixed of parts.stay s r accepted handed stamps_s stamps_r x f now counted near asked 0 x y e (offers_none message mixed x f.kept) refl c stands;
     grows = goes_places message mixed is_sending x y c.goes;
+    accounts = λ gone a. accounts_out message lifecycle mixed s gone x a 0 x y e asked (offers_none message mixed x f.kept) c;
   }
 
   joined_out : (asked : Bool) (call : Call) → Rules (setting o q s r asked) call → is_other call ≡ true → (s.is_asked ≡ true → asked ≡ true)
       → HasNoEnd (calm (called call s.end)) → HearsSacks call (first_in (state_of r)) x → Stands (state_of s) (called call s.end).standing.state
-      → Out (after_turn asked (called call s.end) s) 0
+      → Out (after_turn asked (called call s.end) s) 0 (recorded (told_of (called call s.end)))
   joined_out asked call rules other_call le none hears stands =
       let g : Setting = setting o q s r asked in
       let premises : SenderPremises message lifecycle mixed g call x =
@@ -173,7 +183,7 @@ module _ (message : ℕ → Message) (lifecycle : ℕ → Option ℕ) (mixed : B
   offered_out : (call : Call) → Rules (setting o q s r s.is_asked) call → is_offer call ≡ true → IsNoPacket call
       → AreOffered message lifecycle accepted (accepted_by call s) → accepted + length (accepted_by call s) < 2 ^ 32
       → HasNoEnd (calm (called call s.end)) → Stands (state_of s) (called call s.end).standing.state
-      → Out (after_turn s.is_asked (called call s.end) s) (length (accepted_by call s))
+      → Out (after_turn s.is_asked (called call s.end) s) (length (accepted_by call s)) (recorded (told_of (called call s.end)))
   offered_out call rules offer plain are few none stands =
       let g : Setting = setting o q s r s.is_asked in
       let os : List Offer = accepted_by call s in
@@ -189,50 +199,52 @@ module _ (message : ℕ → Message) (lifecycle : ℕ → Option ℕ) (mixed : B
         flows = ends_out message lifecycle mixed of parts.stay s r accepted handed stamps_s stamps_r x f now counted near s.is_asked (length os) c.mid c.to (called call s.end)
             c.offers c.same c.claim stands;
         grows = grow_both x c.mid c.to (goes_places message mixed is_outgoing x c.mid c.offers.goes) (goes_places message mixed is_sending c.mid c.to c.claim.goes);
+        accounts = λ gone a. accounts_out message lifecycle mixed s gone x a (length os) c.mid c.to (called call s.end) s.is_asked c.offers c.claim;
       }
 
   -- nothing happens that the rules see
   quietly_out : (m : Making Carried) → SendsIn message lifecycle mixed m.state m.context.queue x → m.context.queue ≡ queue_of s → recorded m.context.told ≡ []
-      → packets_in m.context.told.events ≡ [] → m.packet.chunks ≡ [] → SenderClaim message lifecycle mixed x m x
-  quietly_out m shown queue gone told made = record {
+      → delivered m.context.told.events ≡ [] → packets_in m.context.told.events ≡ [] → m.packet.chunks ≡ [] → SenderClaim message lifecycle mixed x m x
+  quietly_out m shown queue gone reports told made = record {
     kept = f.kept;
     goes = record { events = []; may = tt; all = refl; leads = refl };
     shown = shown;
     flows = subst (λ (z : Queue). IsFlowing z) (sym queue) f.flows;
     gone = gone;
+    reported = reports_none lifecycle x x [] m.context.told.events refl reports;
     told = subst (λ (ps : List Carried). All (λ (p : Carried). All (SaysOut message mixed (first_out m.state) x.acknowledged x) p.chunks) ps) (sym told) (All-nil _);
     made = subst (λ (cs : List ChunkTree). All (SaysOut message mixed (first_out m.state) x.acknowledged x) cs) (sym made) (All-nil _);
   }
 
-  taken_out : Stands (state_of s) (taken_in (state_of s)) → Out (turned (Calls TakeMessage) s r) 0
+  taken_out : Stands (state_of s) (taken_in (state_of s)) → Out (turned (Calls TakeMessage) s r) 0 (given_up_by (Calls TakeMessage) s r)
   taken_out stands =
       claim_out s.is_asked (called TakeMessage s.end) x
       (quietly_out (calm (called TakeMessage s.end)) (parts.taken_out (state_of s) (queue_of s) x f.sends) refl (ap (λ (t : Told Carried). recorded t) quiet_s.told)
-      (ap (λ (t : Told Carried). packets_in t.events) quiet_s.told) refl) stands
+      (ap (λ (t : Told Carried). delivered t.events) quiet_s.told) (ap (λ (t : Told Carried). packets_in t.events) quiet_s.told) refl) stands
 
   refused_out : (p : PacketTree) (text : List ℕ) → Stands (state_of s) (state_of s) → called (Packet p) s.end ≡ complains text (counts s.end)
-      → Out (after_turn s.is_asked (called (Packet p) s.end) s) 0
+      → Out (after_turn s.is_asked (called (Packet p) s.end) s) 0 (recorded (told_of (called (Packet p) s.end)))
   refused_out p text stands same =
       let e : Endpoint Carried = complains text (counts s.end) in
-      subst (λ (z : Endpoint Carried). Out (after_turn s.is_asked z s) 0) (sym same)
+      subst (λ (z : Endpoint Carried). Out (after_turn s.is_asked z s) 0 (recorded (told_of z))) (sym same)
       (claim_out s.is_asked e x
       (quietly_out (calm e) f.sends refl (ap (λ (t : Told Carried). recorded t) quiet_s.told)
+      (ap (λ (t : Told Carried). delivered (t.events ++ OnError ParseFailed text ∷ [])) quiet_s.told)
       (ap (λ (t : Told Carried). packets_in (t.events ++ OnError ParseFailed text ∷ [])) quiet_s.told) refl) stands)
 
   -- any call
   call_out : (call : Call) → MayCall call s → resets (Calls call) ≡ false → endings (turned (Calls call) s r).told ≡ 0
       → AreOffered message lifecycle accepted (accepted_by call s) → accepted + length (accepted_by call s) < 2 ^ 32
-      → Stands (state_of s) (state_of (turned (Calls call) s r)) → Out (turned (Calls call) s r) (length (accepted_by call s))
+      → Stands (state_of s) (state_of (turned (Calls call) s r)) → Out (turned (Calls call) s r) (length (accepted_by call s)) (given_up_by (Calls call) s r)
   call_out call may none_reset none are few stands = by_call call may none_reset are few stands (none_of s.told (called call s.end).standing.context.told.events none)
     where
       other_call : (call : Call) → is_other call ≡ true → IsNoPacket call → MayCall call s → Stands (state_of s) (state_of (turned (Calls call) s r))
-          → HasNoEnd (calm (called call s.end)) → Out (turned (Calls call) s r) 0
+          → HasNoEnd (calm (called call s.end)) → Out (turned (Calls call) s r) 0 (given_up_by (Calls call) s r)
       other_call call is plain may stands none =
           joined_out s.is_asked call (rules_call o q s r own other call may) is (λ z. z) none (hears_no_sacks message mixed (first_in (state_of r)) x call plain holds.windows) stands
-
       by_call : (call : Call) → MayCall call s → resets (Calls call) ≡ false → AreOffered message lifecycle accepted (accepted_by call s)
           → accepted + length (accepted_by call s) < 2 ^ 32 → Stands (state_of s) (state_of (turned (Calls call) s r)) → HasNoEnd (calm (called call s.end))
-          → Out (turned (Calls call) s r) (length (accepted_by call s))
+          → Out (turned (Calls call) s r) (length (accepted_by call s)) (given_up_by (Calls call) s r)
       by_call Connect may none_reset are few stands none = other_call Connect refl (λ p e. cc) may stands none
       by_call Close may none_reset are few stands none = other_call Close refl (λ p e. cc) may stands none
       by_call Shutdown may none_reset are few stands none = other_call Shutdown refl (λ p e. cc) may stands none
@@ -251,7 +263,7 @@ module _ (message : ℕ → Message) (lifecycle : ℕ → Option ℕ) (mixed : B
       by_call NoPacket may none_reset are few stands none = other_call NoPacket refl (λ p e. cc) may stands none
 
   given_out : (p : Option Carried) (checksum n : ℕ) → slice_get (emitted r) n ≡ p → ((old : Stamp) → slice_get stamps_r n ≡ Some old → IsYoung now old)
-      → endings (given p checksum s).told ≡ 0 → Stands (state_of s) (state_of (given p checksum s)) → Out (given p checksum s) 0
+      → endings (given p checksum s).told ≡ 0 → Stands (state_of s) (state_of (given p checksum s)) → Out (given p checksum s) 0 (recorded (told_given p checksum s))
   given_out None checksum n there timely none stands = still_out
   given_out (Some p) checksum n there timely none stands =
       let a : AtStamp (λ stamp p. IsUnderWay (says_in message mixed (first_in (state_of r))) x (of stamp) p) stamps_r n p =
@@ -261,13 +273,13 @@ module _ (message : ℕ → Message) (lifecycle : ℕ → Option ℕ) (mixed : B
       (hears_sacks message mixed (first_in (state_of r)) x (of a.stamp) p checksum a.holds (young_now a.stamp (timely a.stamp a.there))) stands
 
   foreign_out : (text : Option (List ℕ)) (p : PacketTree) → refusal p.header.verification_tag p.chunks (state_of s) ≡ text
-      → Stands (state_of s) (state_of (foreign_if text p s)) → Out (foreign_if text p s) 0
+      → Stands (state_of s) (state_of (foreign_if text p s)) → Out (foreign_if text p s) 0 (recorded (told_foreign text p s))
   foreign_out None p is stands = still_out
   foreign_out (Some text) p is stands =
       refused_out p text (λ a e. e) (ap (λ (r : Option (List ℕ)). taken_if r p.header.verification_tag p.chunks (counts s.end)) is)
 
   pub turn_out : (t : Turn) → MayTurn t s → resets t ≡ false → IsTimely t now stamps_r → endings (turned t s r).told ≡ 0
-      → AreOffered message lifecycle accepted (accepted_in t s) → accepted + length (accepted_in t s) < 2 ^ 32 → Out (turned t s r) (length (accepted_in t s))
+      → AreOffered message lifecycle accepted (accepted_in t s) → accepted + length (accepted_in t s) < 2 ^ 32 → Out (turned t s r) (length (accepted_in t s)) (given_up_by t s r)
   turn_out (Calls call) may none_reset timely none are few =
       call_out call may none_reset none are few (hands o q s r own other h (Calls call) may none).stands
   turn_out (Gives which checksum) may none_reset timely none are few =

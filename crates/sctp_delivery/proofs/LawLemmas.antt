@@ -10,7 +10,7 @@ use Rattle.sctp_rx_rules.proofs.NearRowLemmas.{new_is_near}
 use Rattle.sctp_rx_rules.proofs.NearKeptLemmas.{new_mids}
 use Rattle.sctp_tx_rules.proofs.StartLemmas.{new_shows}
 use Rattle.sctp_association.specs.Laws.{NoPacket}
-use Rattle.sctp_course.specs.Course.{Pair, new_side}
+use Rattle.sctp_course.specs.Course.{side_of, Pair, new_side}
 use Rattle.sctp_course.specs.Course as course
 use Rattle.sctp_course.proofs.HandingLemmas.{first_halves, nothing_ready}
 use Rattle.sctp_delivery.specs.Accepted.{Offer, accepted}
@@ -20,6 +20,7 @@ use Rattle.sctp_delivery.proofs.FlowLemmas.{queue_flows}
 use Rattle.sctp_delivery.proofs.SenderKeepsLemmas.{sender_keeps}
 use Rattle.sctp_delivery.proofs.ReceiverKeepsLemmas.{receiver_keeps}
 use Rattle.sctp_delivery.proofs.DirectionLemmas.{Flows}
+use Rattle.sctp_delivery.proofs.AccountLemmas.{Accounted}
 use Rattle.sctp_delivery.proofs.GoingLemmas.{Parts}
 use Rattle.sctp_delivery.proofs.TakenLemmas.{sends_taken, receives_in_taken}
 use Rattle.sctp_delivery.proofs.OfferedLemmas.{offered_out, offered_in}
@@ -57,6 +58,12 @@ at_first : (message : ℕ → Message) (lifecycle : ℕ → Option ℕ) (mixed f
 at_first message lifecycle mixed true a b words_a words_b = first_flows message lifecycle mixed (of_end true) a b words_a words_b
 at_first message lifecycle mixed false a b words_a words_b = first_flows message lifecycle mixed (of_end false) b a words_b words_a
 
+-- nor was anything told
+accounted_first : (lifecycle : ℕ → Option ℕ) (from_a : Bool) (a b : Options) (words_a words_b : Stream)
+    → Accounted lifecycle (side_of from_a (course.start a b words_a words_b)) [] start
+accounted_first lifecycle true a b words_a words_b = record { gone_is = λ p. refl; told_is = refl }
+accounted_first lifecycle false a b words_a words_b = record { gone_is = λ p. refl; told_is = refl }
+
 -- ---- what each act keeps
 
 all_parts : (message : ℕ → Message) (lifecycle : ℕ → Option ℕ) (mixed : Bool) → Parts message lifecycle mixed
@@ -78,6 +85,12 @@ delivered a b words_a words_b turns own other follows none bounds from_a =
     let all : List Offer = accepted from_a turns w in
     let mixed : Bool = (agreed a b).message_interleaving in
     let d = delivers_on all mixed (all_parts (message_of all) (lifecycle_of all) mixed) a b own other refl (bounds.few from_a) from_a turns w no_stamps follows none bounds.windows bounds.streams
-    (first_halves a b words_a words_b) (record { a = record { told = refl }; b = record { told = refl } }) [] refl [] [] (sym (nothing_ready (not from_a) a b words_a words_b)) start
-    (at_first (message_of all) (lifecycle_of all) mixed from_a a b words_a words_b) in
-    record { places = d.places; fits = d.fits }
+    (first_halves a b words_a words_b) (record { a = record { told = refl }; b = record { told = refl } }) [] refl [] [] (sym (nothing_ready (not from_a) a b words_a words_b)) [] start
+    (at_first (message_of all) (lifecycle_of all) mixed from_a a b words_a words_b) (accounted_first (lifecycle_of all) from_a a b words_a words_b) in
+    record {
+      places = d.places;
+      fits = λ early late is. (d.points early late is).fits;
+      skipped = λ early late is. (d.points early late is).skipped;
+      reports = λ early late is. (d.points early late is).reports;
+      rest = λ early late is. (d.points early late is).rest;
+    }

@@ -1,30 +1,33 @@
 -- Calls that offer messages: what an end says and shows as a sender, and as a receiver, after them.
-use Rattle.std.proofs.Common.{◌≡◌, ℕ, ◌+◌, ◌^◌, ◌<◌, Bool, true, Option, List, [], ◌∷◌, length, All, refl, sym, ap, subst, ◌∙◌, arith}
+use Rattle.std.proofs.Common.{◌≡◌, ◌≢◌, ℕ, ◌+◌, ◌^◌, ◌<◌, Bool, true, false, Option, Some, None, List, [], ◌∷◌, ◌++◌, length, All, refl, sym, ap, subst, ◌∙◌, arith}
 use Rattle.std.proofs.lemmas.List.Elements.{All-nil}
 use Rattle.sctp_serial.specs.Messages as messages
 use Rattle.sctp_packet.specs.Chunk.{ChunkTree}
+use Rattle.sctp_state.specs.declared.api.errors.SendError.{SendError}
 use Rattle.sctp_state.specs.Options.{SendOptions}
-use Rattle.sctp_state.specs.Events.{Told}
+use Rattle.sctp_state.specs.Events.{Told, silent}
+use Rattle.sctp_send_queue.specs.Queue.{Queue}
 use Rattle.sctp_rules.specs.State.{Message, Transfer, count}
-use Rattle.sctp_tx_rules.specs.Led.{recorded}
-use Rattle.sctp_association.specs.Association.{Context, Standing, Endpoint, with_context}
+use Rattle.sctp_tx_rules.specs.Led.{recorded, is_sending, delivered}
+use Rattle.sctp_association.specs.Association.{State, Context, Standing, Endpoint, with_context}
 use Rattle.sctp_association.specs.Sending.{send_in}
-use Rattle.sctp_association.specs.Calls.{shown_state, refusal_of, offer, offer_all}
+use Rattle.sctp_association.specs.Calls.{shown_state, refusal, refusal_of, offer, offer_all, send, send_many}
 use Rattle.sctp_association.specs.Laws.{Call, Send, SendMany, NoPacket, called}
 use Rattle.sctp_association_laws.specs.Mapped.{Carried}
 use Rattle.sctp_course.specs.Acts.{Making, idle, calm, IsHeard, alone, HasNoEnd, KeepsUntilEnd}
 use Rattle.sctp_course.specs.Course.{Side, packets_in, state_of}
 use Rattle.sctp_course.proofs.UntilLemmas.{none_before, Until, frame}
-use Rattle.sctp_course.proofs.RowActsLemmas.{does_where_open}
+use Rattle.sctp_course.proofs.RowActsLemmas.{placed, does_where_open}
 use Rattle.sctp_course.proofs.CallActsLemmas.{does_offer, does_offer_all, does_send_in, does_sent_if}
 use Rattle.sctp_course.proofs.JoinActsLemmas.{Setting, InvAt}
 use Rattle.sctp_course.proofs.JoinKeepsLemmas.{Rules}
 use Rattle.sctp_course.proofs.JoinFrameLemmas.{joins}
-use Rattle.sctp_delivery.specs.Accepted.{accepted_of, accepted_by}
+use Rattle.sctp_delivery.specs.Accepted.{Offer, accepted_of, accepted_by}
 use Rattle.sctp_delivery.specs.Windows.{queue_of}
 use Rattle.sctp_delivery.proofs.ClaimLemmas.{first_out, first_in, SaysOut, SaysIn, IsFlowing, SendsIn, SenderClaim, ReceiverClaim, HearsSacks, HearsData, SenderGoes, SenderPremises, ReceiverGoes, ReceiverPremises}
 use Rattle.sctp_delivery.proofs.FrameLemmas.{Joined, KeepsJoined}
 use Rattle.sctp_delivery.proofs.FrameLemmas as frames
+use Rattle.sctp_delivery.proofs.SenderToolLemmas.{reports_none}
 use Rattle.sctp_delivery.proofs.DirectionLemmas.{IsSilent}
 use Rattle.sctp_delivery.proofs.TurnLemmas.{Stay}
 use Rattle.sctp_delivery.proofs.GoingLemmas.{AreOffered, is_offer, OffersOut}
@@ -139,6 +142,7 @@ module _ (message : ℕ → Message) (lifecycle : ℕ → Option ℕ) (mixed : B
       shown = o.is.shown;
       flows = o.is.flows;
       gone = o.is.gone;
+      reported = reports_none lifecycle o.mid o.mid [] (offering ms how s.end).context.told.events refl o.is.reported;
       told = subst (λ (ps : List Carried). All (λ (p : Carried). All (SaysOut message mixed (first_out (state_of s)) o.mid.acknowledged o.mid) p.chunks) ps)
           (sym (offers_packets ms how (shown_state (state_of s)) s.end.standing.context ∙ ap (λ (t : Told Carried). packets_in t.events) q.told)) (All-nil _);
       made = All-nil _;
@@ -147,7 +151,7 @@ module _ (message : ℕ → Message) (lifecycle : ℕ → Option ℕ) (mixed : B
     module _ (call : Call) (q : IsSilent s) (p : SenderPremises message lifecycle mixed g call x) (shown : SendsIn message lifecycle mixed (state_of s) (queue_of s) x)
         (flows : IsFlowing (queue_of s)) where
       is_offering : IsOffering message lifecycle mixed (state_of s) s.end.standing.context x
-      is_offering = record { kept = p.kept; shown = shown; flows = flows; gone = ap (λ (t : Told Carried). recorded t) q.told }
+      is_offering = record { kept = p.kept; shown = shown; flows = flows; gone = ap (λ (t : Told Carried). recorded t) q.told; reported = ap (λ (t : Told Carried). delivered t.events) q.told }
 
       -- where the rest of the call is done behind the offers
       goes_out : (ms : List messages.Message) (how : SendOptions) → AreOffered message lifecycle x.sender.accepted (accepted_of ms how (shown_state (state_of s)) s.end.standing.context)

@@ -12,7 +12,7 @@ use Rattle.sctp_rules.specs.State.{Message, Sender, Transfer, IsAmong, count, st
 use Rattle.sctp_rules.specs.Rules.{accept, accepts, after}
 use Rattle.sctp_rules.specs.Kept.{Kept}
 use Rattle.sctp_rules.proofs.KeepsLemmas.{keeps}
-use Rattle.sctp_tx_rules.specs.Led.{recorded}
+use Rattle.sctp_tx_rules.specs.Led.{recorded, delivered}
 use Rattle.sctp_tx_rules.specs.Rows.{offered}
 use Rattle.sctp_tx_rules.proofs.AcceptLemmas.{accept_row}
 use Rattle.sctp_association.specs.Association.{State, Closed, CookieWait, Open, Context}
@@ -20,11 +20,11 @@ use Rattle.sctp_association.specs.Calls.{shown_state, refusal_by, refusal, queue
 use Rattle.sctp_association.specs.Calls as calls
 use Rattle.sctp_association_laws.specs.Mapped.{Carried}
 use Rattle.sctp_course.specs.Course.{packets_in}
-use Rattle.sctp_course.proofs.ToldLemmas.{tells_refused}
+use Rattle.sctp_course.proofs.ToldLemmas.{tells_refused, quiet_refused}
 use Rattle.sctp_delivery.specs.Accepted.{Offer, unless_refused, accepted_of}
 use Rattle.sctp_delivery.proofs.ClaimLemmas.{IsFlowing, IsWaiting, SendsIn}
 use Rattle.sctp_delivery.proofs.FlowLemmas.{added_flows}
-use Rattle.sctp_delivery.proofs.SenderToolLemmas.{goes_on, same_packets}
+use Rattle.sctp_delivery.proofs.SenderToolLemmas.{goes_on, same_packets, same_delivered}
 use Rattle.sctp_delivery.proofs.TurnLemmas.{is_outgoing, Offers, offers_none}
 use Rattle.sctp_delivery.proofs.GoingLemmas.{message_in, AreOffered}
 
@@ -147,6 +147,7 @@ module _ (message : ℕ → Message) (lifecycle : ℕ → Option ℕ) (mixed : B
     pub shown : SendsIn message lifecycle mixed s c.queue x
     pub flows : IsFlowing c.queue
     pub gone : recorded c.told ≡ []
+    pub reported : delivered c.told.events ≡ []
 
   pub record OfferedTo (s : State) (c : Context Carried) (x : Transfer) (n : ℕ) : Type 0 where
     pub mid : Transfer
@@ -167,6 +168,8 @@ module _ (message : ℕ → Message) (lifecycle : ℕ → Option ℕ) (mixed : B
       kept = kept;
       accepted = omega arith;
       acknowledged = refl;
+      given_up = refl;
+      reports = refl;
     };
     same = refl;
     is = record {
@@ -175,6 +178,7 @@ module _ (message : ℕ → Message) (lifecycle : ℕ → Option ℕ) (mixed : B
           (sends_more x h.kept few (expiry_of c.now how.lifetime) (unwrap_or how.max_retransmissions 65535) some s c.queue h.shown);
       flows = added_flows m.stream (queued c.queue.next_number c.now m how) c.queue h.flows;
       gone = h.gone;
+      reported = h.reported;
     };
   }
     where
@@ -208,6 +212,8 @@ module _ (message : ℕ → Message) (lifecycle : ℕ → Option ℕ) (mixed : B
         kept = b.kept;
         accepted = omega (arith, p, q);
         acknowledged = b.acknowledged ∙ a.acknowledged;
+        given_up = b.given_up ∙ a.given_up;
+        reports = b.reports ∙ a.reports;
       }
 
   offered_then : (n k : ℕ) (s : State) (c d : Context Carried) (x : Transfer) → IsOffering s c x → (a : OfferedTo s d x n) → (e : Context Carried) → OfferedTo s e a.mid k → OfferedTo s e x (n + k)
@@ -230,7 +236,13 @@ module _ (message : ℕ → Message) (lifecycle : ℕ → Option ℕ) (mixed : B
       let one : OfferedTo s (calls.accepted m how c) x 1 = accepted_one s c x m how h is are.0 are.1 (omega (arith, few)) in
       record { first = one; are = subst (λ (n : ℕ). AreOffered message lifecycle n rest) (sym one.offers.accepted) are.2 }
   offers_first (Some e) s c x m how rest is h are few = record {
-    first = offered_none s (calls.refused e how.lifecycle_id c) x (record { kept = h.kept; shown = h.shown; flows = h.flows; gone = h.gone });
+    first = offered_none s (calls.refused e how.lifecycle_id c) x (record {
+      kept = h.kept;
+      shown = h.shown;
+      flows = h.flows;
+      gone = h.gone;
+      reported = same_delivered c.told (calls.refused e how.lifecycle_id c).told (quiet_refused e how.lifecycle_id c.told) ∙ h.reported;
+    });
     are = are;
   }
 

@@ -20,8 +20,9 @@ use Rattle.sctp_tx.specs.ForwardPoints.{expired, forward_chunk}
 use Rattle.sctp_tx.specs.Sending.{send}
 use Rattle.sctp_rules.specs.State.{Message, ForwardPoint, Transfer}
 use Rattle.sctp_rules.specs.Rules.{leave, send_forward, Happens, run}
+use Rattle.sctp_rules.specs.Joints.{reports_of}
 use Rattle.sctp_tx_rules.specs.Shown.{Shows}
-use Rattle.sctp_tx_rules.specs.Led.{given_ups, recorded, is_sending, Leads, LeadsTo}
+use Rattle.sctp_tx_rules.specs.Led.{given_ups, recorded, is_sending, Leads, LeadsTo, delivered}
 use Rattle.sctp_tx_rules.specs.Points.{chunk_of}
 use Rattle.sctp_tx_rules.specs.Rows.{AllCarry, left}
 use Rattle.sctp_tx_rules.proofs.PointLemmas.{point_row}
@@ -36,12 +37,12 @@ use Rattle.sctp_association_laws.specs.Mapped.{Carried}
 use Rattle.sctp_course.specs.Acts.{Making, in_open, with_context, IsHeard, timeout_of, point_of, takes_sack, before_sack, after_sack, expires, adds_forward, sends, sends_fast, before_sending, after_sending, times_out, before_time, after_time}
 use Rattle.sctp_course.specs.Course.{packets_in}
 use Rattle.sctp_course.proofs.AddedLemmas.{holds_added, holds_all_added}
-use Rattle.sctp_course.proofs.ToldLemmas.{TellsLightly, tells_nack_all, tells_expired, tells_sack, tells_sent}
+use Rattle.sctp_course.proofs.ToldLemmas.{TellsQuietly, lightly, quiet_nack_all, quiet_expired, quiet_sent, tells_sack, tells_sent}
 use Rattle.sctp_course.proofs.JoinActsLemmas.{Setting, InvAt}
 use Rattle.sctp_delivery.proofs.ClaimLemmas.{GoesOn, SaysData, SaysPoint, SaysOut, IsFlowing, IsSending, SenderClaim, SenderGoes, SenderPremises}
 use Rattle.sctp_delivery.proofs.FlowLemmas.{HasSame, room_stays, expired_same, timed_out_same, heard_same, send_same, send_fast_same, send_flows}
 use Rattle.sctp_delivery.proofs.ReadingSackLemmas.{sack_is_heard}
-use Rattle.sctp_delivery.proofs.SenderToolLemmas.{receiver_stays, goes_given, led_given, left_grows, same_packets, step_claims}
+use Rattle.sctp_delivery.proofs.SenderToolLemmas.{receiver_stays, goes_given, led_given, left_grows, same_packets, same_delivered, reports_none, step_claims}
 
 -- ---- chunks that are put into a packet
 
@@ -113,7 +114,7 @@ module _ (message : ℕ → Message) (lifecycle : ℕ → Option ℕ) (mixed : B
   -- a run of rules, and the packet stays
   led_claims : (phase : Phase) (t : Tcb) (m : Making Carried) (s : Sender) (later : Told Carried) (c : Context Carried) → c.told ≡ later → c.queue ≡ m.context.queue → (x : Transfer)
       → SenderClaim message lifecycle mixed from (in_open phase t m) x → LeadsTo message lifecycle mixed x m.context.told m.context.queue s.outstanding.items later → HasSame t.sender s
-      → TellsLightly m.context.told later → (y : Transfer) × SenderClaim message lifecycle mixed from (in_open phase (record t { sender = s }) (with_context c m)) y
+      → TellsQuietly m.context.told later → (y : Transfer) × SenderClaim message lifecycle mixed from (in_open phase (record t { sender = s }) (with_context c m)) y
   led_claims phase t m s later c told_is queue_is x a l e light =
       let r = led_given message mixed is_sending x l.after l.places l.leads l.leads.sends in
       let b : Making Carried = in_open phase (record t { sender = s }) (with_context c m) in (
@@ -123,8 +124,10 @@ module _ (message : ℕ → Message) (lifecycle : ℕ → Option ℕ) (mixed : B
           shown = subst (λ (q : Queue). IsSending message lifecycle mixed (record t { sender = s }) q l.after) (sym queue_is) (shown_on t m.context.queue m.context.queue s x l.after a.shown e l.shows);
           flows = λ f. subst IsFlowing (sym queue_is) f;
           gone = ap recorded told_is ∙ recorded_given (recorded later) (recorded m.context.told) l.places (given_ups r.0.events) r.1 l.told_of;
+          reported = reports_none lifecycle x l.after m.context.told.events c.told.events (ap (λ (z : Transfer). z.reports) l.leads.rest_stays)
+              (ap (λ (z : Told Carried). delivered z.events) told_is ∙ same_delivered m.context.told later light);
           first = e.first;
-          packets = ap (λ (z : Told Carried). packets_in z.events) told_is ∙ same_packets m.context.told later light;
+          packets = ap (λ (z : Told Carried). packets_in z.events) told_is ∙ same_packets m.context.told later (lightly m.context.told later light);
           made = λ h. h;
         }),
       )
@@ -136,7 +139,7 @@ module _ (message : ℕ → Message) (lifecycle : ℕ → Option ℕ) (mixed : B
       led_claims message lifecycle mixed from phase t m (expired m.context.now t.sender m.context.told) (expire_outstanding m.context.now t.sender.outstanding.items m.context.told).told
       (record m.context { told = (expire_outstanding m.context.now t.sender.outstanding.items m.context.told).told }) refl refl x a
       (expiry_row message lifecycle mixed x m.context.queue t.sender a.kept a.shown.shows m.context.told m.context.now)
-      (expired_same m.context.now t.sender m.context.told) (tells_expired m.context.now t.sender.outstanding.items m.context.told)
+      (expired_same m.context.now t.sender m.context.told) (quiet_expired m.context.now t.sender.outstanding.items m.context.told)
 
   pub times_out_keeps : (phase : Phase) (t : Tcb) (m : Making Carried) (due : is_due m.context.now t.sender.t3 ≡ true)
       → SenderGoes message lifecycle mixed from (before_time {call = call} (times_out phase t m due)) (after_time {call = call} (times_out phase t m due))
@@ -144,7 +147,7 @@ module _ (message : ℕ → Message) (lifecycle : ℕ → Option ℕ) (mixed : B
       led_claims message lifecycle mixed from phase t m (timed_out_sender m.context.now (timeout_of t m).items t.sender) (timeout_of t m).told
       (record m.context { told = (timeout_of t m).told; errors = one_error m.context.errors }) refl refl x a
       (timeout_row message lifecycle mixed x m.context.queue t.sender a.kept a.shown.shows m.context.told m.context.now)
-      (timed_out_same m.context.now (timeout_of t m).items t.sender) (tells_nack_all t.sender.outstanding.items m.context.told)
+      (timed_out_same m.context.now (timeout_of t m).items t.sender) (quiet_nack_all t.sender.outstanding.items m.context.told)
 
   -- the point goes into the packet, where it fits
   pub adds_forward_keeps : (phase : Phase) (t : Tcb) (m : Making Carried) (due : is_forward_due t.sender.outstanding.items ≡ true)
@@ -176,6 +179,7 @@ module _ (message : ℕ → Message) (lifecycle : ℕ → Option ℕ) (mixed : B
           };
           flows = λ f. f;
           gone = sym (append-nil (recorded m.context.told));
+          reported = reports_none lifecycle x y m.context.told.events m.context.told.events refl refl;
           first = refl;
           packets = refl;
           made = λ h. says_added message mixed first from.acknowledged y m.packet (forward_chunk t.sender) h says;
@@ -207,6 +211,7 @@ module _ (message : ℕ → Message) (lifecycle : ℕ → Option ℕ) (mixed : B
           shown = shown_on message lifecycle mixed from t m.context.queue m.context.queue (send_fast m.context.now most t.sender) x x a.shown stays s.0;
           flows = λ f. f;
           gone = sym (append-nil (recorded m.context.told));
+          reported = reports_none lifecycle x x m.context.told.events m.context.told.events refl refl;
           first = stays.first;
           packets = refl;
           made = λ h. says_all_added message mixed first from.acknowledged x m.packet (data_chunks t false chunks) h says;
@@ -236,6 +241,8 @@ module _ (message : ℕ → Message) (lifecycle : ℕ → Option ℕ) (mixed : B
           shown = shown_on message lifecycle mixed from t q f.queue f.sender x y a.shown stays s.leads.shows;
           flows = send_flows now most t.sender q told;
           gone = recorded_given (recorded f.told) (recorded told) s.leads.places (given_ups r.0.events) r.1 s.leads.told_of;
+          reported = reports_none lifecycle x y told.events f.told.events (ap (λ (z : Transfer). z.reports) s.leads.leads.rest_stays)
+              (same_delivered told f.told (quiet_sent now most t.sender q told));
           first = stays.first;
           packets = same_packets told f.told (tells_sent now most t.sender q told);
           made = λ h. says_all_added message mixed first from.acknowledged y m.packet (data_chunks t is_immediate f.chunks) h says;
@@ -270,6 +277,7 @@ module _ (message : ℕ → Message) (lifecycle : ℕ → Option ℕ) (mixed : B
           shown = shown_on message lifecycle mixed from t q q (heard now point k.a_rwnd blocks t.sender told) x y a.shown stays l.shows;
           flows = λ f. f;
           gone = recorded_given (recorded later) (recorded told) l.places (given_ups r.0.events) r.1 l.told_of;
+          reported = record { places = reports_of x.sender x.acknowledged n; more = ap (λ (z : Transfer). z.reports) l.leads.rest_stays; told_of = h.reported };
           first = stays.first;
           packets = same_packets told later (tells_sack true point blocks t.sender told);
           made = λ h. h;

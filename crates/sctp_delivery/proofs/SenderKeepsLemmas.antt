@@ -48,6 +48,7 @@ module _ (message : ℕ → Message) (lifecycle : ℕ → Option ℕ) (mixed : B
           shown = subst (λ (z : Queue). SendsIn message lifecycle mixed m.state z x) (sym same) claim.shown;
           flows = subst IsFlowing (sym same) claim.flows;
           gone = claim.gone;
+          reported = claim.reported;
           told = claim.told;
           made = claim.made;
         },
@@ -58,7 +59,7 @@ module _ (message : ℕ → Message) (lifecycle : ℕ → Option ℕ) (mixed : B
     keeps_sack (takes_sack tag k phase t m heard valid) inv later = takes_sack_keeps message lifecycle mixed from g call p tag k phase t m heard valid inv
     keeps_sack (samples r phase t m) inv later = goes_open message lifecycle mixed from phase phase t (timed_by r t) m refl refl refl (λ h. h)
     keeps_sack (counts_errors e m) inv later =
-        goes_same message lifecycle mixed from m (after_sack {call = call} (counts_errors e m)) (λ x h. h) (λ h. h) refl refl refl refl
+        goes_same message lifecycle mixed from m (after_sack {call = call} (counts_errors e m)) (λ x h. h) (λ h. h) refl refl refl refl refl
 
     keeps_sending : (act : SendingAct Carried call) → InvAt g (before_sending act) → InvAt g (after_sending act)
         → SenderGoes message lifecycle mixed from (before_sending act) (after_sending act)
@@ -70,7 +71,7 @@ module _ (message : ℕ → Message) (lifecycle : ℕ → Option ℕ) (mixed : B
     keeps_sending (expires phase t m) inv later = expires_keeps message lifecycle mixed from call phase t m
     keeps_sending (adds_forward phase t m due) inv later = adds_forward_keeps message lifecycle mixed from call phase t m due
     keeps_sending (forwards_later n m) inv later =
-        goes_same message lifecycle mixed from m (after_sending {call = call} (forwards_later n m)) (λ x h. h) (λ h. h) refl refl refl refl
+        goes_same message lifecycle mixed from m (after_sending {call = call} (forwards_later n m)) (λ x h. h) (λ h. h) refl refl refl refl refl
     keeps_sending (asks_no_reset most m none) inv later = goes_unasked most m
     keeps_sending (asks_reset most stream streams phase t m some free) inv later = λ x claim. absurd (not_asked most stream streams m.context.queue claim.flows some)
     keeps_sending (adds_request r phase t m is) inv later = λ x claim. absurd (no_current t.requests.current r claim.shown.no_request is)
@@ -79,13 +80,13 @@ module _ (message : ℕ → Message) (lifecycle : ℕ → Option ℕ) (mixed : B
 
     keeps_time : (act : TimeAct Carried call) → InvAt g (before_time act) → InvAt g (after_time act) → SenderGoes message lifecycle mixed from (before_time act) (after_time act)
     keeps_time (advances now m is on) inv later =
-        goes_same message lifecycle mixed from m (after_time {call = call} (advances now m is on)) (λ x h. h) (λ h. h) refl refl refl refl
+        goes_same message lifecycle mixed from m (after_time {call = call} (advances now m is on)) (λ x h. h) (λ h. h) refl refl refl refl refl
     keeps_time (delay_ends phase t m) inv later =
         goes_open message lifecycle mixed from phase phase t (record t { tracker = record t.tracker { tracker = ack_timeout m.context.now t.tracker.tracker } }) m refl refl refl (λ h. h)
     keeps_time (times_out phase t m due) inv later = times_out_keeps message lifecycle mixed from call phase t m due
-    keeps_time (beats h m) inv later = goes_same message lifecycle mixed from m (after_time {call = call} (beats h m)) (λ x h. h) (λ h. h) refl refl refl refl
+    keeps_time (beats h m) inv later = goes_same message lifecycle mixed from m (after_time {call = call} (beats h m)) (λ x h. h) (λ h. h) refl refl refl refl refl
     keeps_time (times_init tag first old new m) inv later =
-        goes_same message lifecycle mixed from (in_state (CookieWait tag first old) m) (in_state (CookieWait tag first new) m) (λ x h. h) (λ h. h) refl refl refl refl
+        goes_same message lifecycle mixed from (in_state (CookieWait tag first old) m) (in_state (CookieWait tag first new) m) (λ x h. h) (λ h. h) refl refl refl refl refl
     keeps_time (times_cookie old new cookie t m) inv later =
         goes_open message lifecycle mixed from (CookieEchoed old cookie) (CookieEchoed new cookie) t t m refl refl refl (λ h. h)
     keeps_time (times_request timer phase t m) inv later =

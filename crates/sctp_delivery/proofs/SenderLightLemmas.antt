@@ -1,18 +1,19 @@
 -- Acts that leave the rules of a sender where they are: what it shows stays, no message is given up, and what is put into a
 -- packet says nothing of the transfer.
-use Rattle.std.proofs.Common.{◌≡◌, ℕ, ◌++◌, ◌≤◌, ◌*◌, ◌-◌, Bool, true, false, Option, Some, None, List, [], ◌∷◌, All, refl, sym, ap, ◌∙◌, subst}
+use Rattle.std.proofs.Common.{◌≡◌, ℕ, ◌++◌, ◌≤◌, ◌*◌, ◌-◌, Bool, true, false, Option, Some, None, List, [], ◌∷◌, All, refl, sym, ap, ◌∙◌, subst, append-nil}
 use Rattle.std.specs.Prelude.{◌/◌}
 use Rattle.std.proofs.lemmas.List.Elements.{All-nil, All-push}
 use Rattle.sctp_packet.specs.Chunk.{ChunkTree, data_chunk, idata_chunk, re_config_chunk, forward_tsn_chunk, i_forward_tsn_chunk}
-use Rattle.sctp_state.specs.Events.{Told, SendPacket, OnError}
+use Rattle.sctp_state.specs.Events.{Told, SendPacket, OnError, OnIncomingStreamReset, numbers_of}
 use Rattle.sctp_send_queue.specs.Queue.{Queue}
 use Rattle.sctp_send_queue.specs.Settings.{set_priority, set_low_threshold}
 use Rattle.sctp_outstanding.specs.Items.{Outstanding, no_items}
 use Rattle.sctp_tx.specs.declared.retransmission_queue.windows.Windows.{Windows}
 use Rattle.sctp_rx.specs.ReassemblyQueue.{defer, reset}
 use Rattle.sctp_rules.specs.State.{Message, Transfer}
-use Rattle.sctp_tx_rules.specs.Led.{recorded}
+use Rattle.sctp_tx_rules.specs.Led.{recorded, delivered}
 use Rattle.sctp_tx_rules.specs.Shown.{Shows}
+use Rattle.sctp_tx_rules.proofs.SackLemmas.{delivered_more}
 use Rattle.sctp_tx_rules.proofs.AcceptLemmas.{with_settings}
 use Rattle.sctp_association.specs.Association.{Identity, Tcb, Phase, ShutdownPending, State, Closed, CookieWait, Open, Context}
 use Rattle.sctp_association.specs.Packets.{Packet, emptied, header_to, emit_if}
@@ -24,14 +25,13 @@ use Rattle.sctp_association.specs.Laws.{Call, Packing}
 use Rattle.sctp_association_laws.specs.Mapped.{Carried}
 use Rattle.sctp_course.specs.Acts.{Making, is_plain, with_chunk, with_packet, with_context, in_open, PacketAct, begins, adds_plain, emits, complains, counts, before_packets, after_packets, ClosingAct, closes, shuts, shuts_on, before_closing, after_closing, DataAct, takes_data, takes_idata, takes_forward, takes_iforward, before_data, after_data, CallAct, accepts, refuses, takes_message, sets_low_threshold, sets_priority, sets_max_message_size, before_call, after_call, ResetAct, prepares, defers, performs, processes, takes_response, adds_responses, before_reset, after_reset, InputAct, ends_packet, before_input, after_input}
 use Rattle.sctp_course.specs.Course.{packets_in}
-use Rattle.sctp_course.proofs.ToldLemmas.{TellsLightly, tells_all}
-use Rattle.sctp_course.proofs.UntilLemmas.{light_call, light_reset}
+use Rattle.sctp_course.proofs.ToldLemmas.{TellsQuietly, lightly, tells_all, quiet_same, quiet_all, quiet_refused, quiet_threshold}
 use Rattle.sctp_course.proofs.AddedLemmas.{holds_added}
 use Rattle.sctp_course.proofs.JoinActsLemmas.{Setting, InvAt, packets_both}
 use Rattle.sctp_delivery.proofs.ClaimLemmas.{SaysOut, first_out, IsFlowing, IsWaiting, IsSending, SendsIn, SenderClaim, SenderGoes}
 use Rattle.sctp_delivery.proofs.FrameLemmas.{GoesOnShut, IsSetting, IsHeardReset}
 use Rattle.sctp_delivery.proofs.FlowLemmas.{priority_flows, threshold_flows}
-use Rattle.sctp_delivery.proofs.SenderToolLemmas.{same_packets}
+use Rattle.sctp_delivery.proofs.SenderToolLemmas.{same_packets, same_delivered, reports_none, reports_then}
 
 module _ (message : ℕ → Message) (lifecycle : ℕ → Option ℕ) (mixed : Bool) (from : Transfer) where
   -- ---- where an act leads
@@ -43,8 +43,9 @@ module _ (message : ℕ → Message) (lifecycle : ℕ → Option ℕ) (mixed : B
   -- to the same state of the rules
   pub goes_same : (a b : Making Carried) → ((x : Transfer) → SendsIn message lifecycle mixed a.state a.context.queue x → SendsIn message lifecycle mixed b.state b.context.queue x)
       → (IsFlowing a.context.queue → IsFlowing b.context.queue) → recorded b.context.told ≡ recorded a.context.told → first_out b.state ≡ first_out a.state
-      → packets_in b.context.told.events ≡ packets_in a.context.told.events → b.packet.chunks ≡ a.packet.chunks → SenderGoes message lifecycle mixed from a b
-  goes_same a b shown flows gone first packets chunks x claim =
+      → packets_in b.context.told.events ≡ packets_in a.context.told.events → delivered b.context.told.events ≡ delivered a.context.told.events
+      → b.packet.chunks ≡ a.packet.chunks → SenderGoes message lifecycle mixed from a b
+  goes_same a b shown flows gone first packets reports chunks x claim =
       let says : (n : ℕ) → ChunkTree → Type 0 = λ n chunk. SaysOut message mixed n from.acknowledged x chunk in
       let told : (n : ℕ) → List Carried → Type 0 = λ n ps. All (λ (p : Carried). All (SaysOut message mixed n from.acknowledged x) p.chunks) ps in
       let made : (n : ℕ) → List ChunkTree → Type 0 = λ n cs. All (SaysOut message mixed n from.acknowledged x) cs in (
@@ -55,6 +56,8 @@ module _ (message : ℕ → Message) (lifecycle : ℕ → Option ℕ) (mixed : B
           shown = shown x claim.shown;
           flows = flows claim.flows;
           gone = gone ∙ claim.gone;
+          reported = reports_then lifecycle from x x [] a.context.told.events b.context.told.events claim.reported
+              (reports_none lifecycle x x a.context.told.events b.context.told.events refl reports);
           told = subst (λ (n : ℕ). told n (packets_in b.context.told.events)) (sym first) (subst (λ (ps : List Carried). told (first_out a.state) ps) (sym packets) claim.told);
           made = subst (λ (n : ℕ). made n b.packet.chunks) (sym first) (subst (λ (cs : List ChunkTree). made (first_out a.state) cs) (sym chunks) claim.made);
         },
@@ -82,6 +85,7 @@ module _ (message : ℕ → Message) (lifecycle : ℕ → Option ℕ) (mixed : B
       shown = claim.shown;
       flows = claim.flows;
       gone = claim.gone;
+      reported = claim.reported;
       told = claim.told;
       made = holds_added (λ tag. SaysOut message mixed (first_out m.state) from.acknowledged x) m.packet chunk claim.made (says (first_out m.state) from.acknowledged x);
     },
@@ -103,7 +107,7 @@ module _ (message : ℕ → Message) (lifecycle : ℕ → Option ℕ) (mixed : B
       → (t.requests.current ≡ None → u.requests.current ≡ None) → SenderGoes message lifecycle mixed from (in_open phase t m) (in_open next u m)
   goes_open phase next t u m items windows identity current =
       goes_same (in_open phase t m) (in_open next u m) (λ x h. sends_as t u m.context.queue x items windows identity current h) (λ h. h) refl
-      (ap (λ (d : Outstanding). d.first) items) refl refl
+      (ap (λ (d : Outstanding). d.first) items) refl refl refl
 
   -- ---- packets
 
@@ -126,6 +130,9 @@ module _ (message : ℕ → Message) (lifecycle : ℕ → Option ℕ) (mixed : B
       shown = claim.shown;
       flows = claim.flows;
       gone = claim.gone;
+      reported = reports_then lifecycle from x x [] m.context.told.events (emit_if true m.packet m.context).told.events claim.reported
+          (reports_none lifecycle x x m.context.told.events (emit_if true m.packet m.context).told.events refl
+          (delivered_more m.context.told.events (SendPacket _ ∷ []) ∙ append-nil (delivered m.context.told.events)));
       told = goes_out m (m.context.pack (header_to m.context.options m.packet.tag) m.packet.is_summed m.packet.chunks)
           (ap (λ (pack : Packing Carried). (pack (header_to m.context.options m.packet.tag) m.packet.is_summed m.packet.chunks).chunks) inv.packing) x claim;
       made = All-nil (SaysOut message mixed (first_out m.state) from.acknowledged x);
@@ -141,6 +148,7 @@ module _ (message : ℕ → Message) (lifecycle : ℕ → Option ℕ) (mixed : B
       shown = claim.shown;
       flows = claim.flows;
       gone = claim.gone;
+      reported = claim.reported;
       told = claim.told;
       made = subst (All (SaysOut message mixed (first_out m.state) from.acknowledged x)) (sym new) (All-nil (SaysOut message mixed (first_out m.state) from.acknowledged x));
     },
@@ -153,8 +161,9 @@ module _ (message : ℕ → Message) (lifecycle : ℕ → Option ℕ) (mixed : B
   light_packet g (emits m some) inv = goes_emitting g m inv
   light_packet {call} g (complains kind text m) inv =
       goes_same m (after_packets {call = call} (complains kind text m)) (λ x h. h) (λ h. h) refl refl
-      (same_packets m.context.told _ (tells_all (OnError kind text ∷ []) m.context.told refl)) refl
-  light_packet {call} g (counts m) inv = goes_same m (after_packets {call = call} (counts m)) (λ x h. h) (λ h. h) refl refl refl refl
+      (same_packets m.context.told _ (tells_all (OnError kind text ∷ []) m.context.told refl))
+      (same_delivered m.context.told _ (quiet_all (OnError kind text ∷ []) m.context.told refl)) refl
+  light_packet {call} g (counts m) inv = goes_same m (after_packets {call = call} (counts m)) (λ x h. h) (λ h. h) refl refl refl refl refl
 
   -- ---- closing
 
@@ -173,13 +182,14 @@ module _ (message : ℕ → Message) (lifecycle : ℕ → Option ℕ) (mixed : B
 
   -- ---- calls
 
-  -- what is told lightly
-  goes_light : (a b : Making Carried) → TellsLightly a.context.told b.context.told → b.state ≡ a.state
+  -- what is told quietly
+  goes_light : (a b : Making Carried) → TellsQuietly a.context.told b.context.told → b.state ≡ a.state
       → ((x : Transfer) → SendsIn message lifecycle mixed a.state a.context.queue x → SendsIn message lifecycle mixed b.state b.context.queue x)
       → (IsFlowing a.context.queue → IsFlowing b.context.queue) → recorded b.context.told ≡ recorded a.context.told → b.packet.chunks ≡ a.packet.chunks
       → SenderGoes message lifecycle mixed from a b
-  goes_light a b light same shown flows gone chunks =
-      goes_same a b shown flows gone (ap first_out same) (same_packets a.context.told b.context.told light) chunks
+  goes_light a b quiet same shown flows gone chunks =
+      goes_same a b shown flows gone (ap first_out same) (same_packets a.context.told b.context.told (lightly a.context.told b.context.told quiet))
+      (same_delivered a.context.told b.context.told quiet) chunks
 
   -- streams' settings
   settings_wait : (q : Queue) (id n : ℕ) (told : Told Carried) (x : Transfer) → IsWaiting message lifecycle mixed q x
@@ -204,19 +214,19 @@ module _ (message : ℕ → Message) (lifecycle : ℕ → Option ℕ) (mixed : B
   light_call_act (accepts message o m offered fine) on = absurd on
   light_call_act {call} (refuses message o e m offered is) on =
       let act : CallAct Carried call = refuses message o e m offered is in
-      goes_light m (after_call act) (light_call act) refl (λ x h. h) (λ h. h) refl refl
+      goes_light m (after_call act) (quiet_refused e o.lifecycle_id m.context.told) refl (λ x h. h) (λ h. h) refl refl
   light_call_act (takes_message phase t m is) on = absurd on
   light_call_act {call} (sets_low_threshold stream bytes m is) on =
       let act : CallAct Carried call = sets_low_threshold stream bytes m is in
-      goes_light m (after_call act) (light_call act) refl (λ x h. (settings_shown m.state m.context.queue stream bytes m.context.told x h).1)
+      goes_light m (after_call act) (quiet_threshold stream bytes m.context.queue m.context.told) refl (λ x h. (settings_shown m.state m.context.queue stream bytes m.context.told x h).1)
       (threshold_flows stream bytes m.context.queue m.context.told) refl refl
   light_call_act {call} (sets_priority stream priority m is) on =
       let act : CallAct Carried call = sets_priority stream priority m is in
-      goes_light m (after_call act) (light_call act) refl (λ x h. (settings_shown m.state m.context.queue stream priority m.context.told x h).0)
+      goes_light m (after_call act) (quiet_same m.context.told) refl (λ x h. (settings_shown m.state m.context.queue stream priority m.context.told x h).0)
       (priority_flows stream priority m.context.queue) refl refl
   light_call_act {call} (sets_max_message_size bytes m is) on =
       let act : CallAct Carried call = sets_max_message_size bytes m is in
-      goes_light m (after_call act) (light_call act) refl (λ x h. h) (λ h. h) refl refl
+      goes_light m (after_call act) (quiet_same m.context.told) refl (λ x h. h) (λ h. h) refl refl
 
   -- ---- resets of streams: there is no own request
 
@@ -247,8 +257,9 @@ module _ (message : ℕ → Message) (lifecycle : ℕ → Option ℕ) (mixed : B
   light_reset_act {call} (performs number response last_tsn streams phase t m asked known there) on =
       let act : ResetAct Carried call = performs number response last_tsn streams phase t m asked known there in
       let u : Tcb = record t { reassembly = reset streams t.reassembly; requests = processed number performed t.requests } in
+      let said : TellsQuietly m.context.told (after_reset act).context.told = quiet_all (OnIncomingStreamReset (numbers_of streams) ∷ []) m.context.told refl in
       goes_same (in_open phase t m) (after_reset act) (λ x h. sends_as t u m.context.queue x refl refl refl (λ h. h) h) (λ h. h) refl refl
-      (same_packets m.context.told _ (light_reset act)) refl
+      (same_packets m.context.told _ (lightly m.context.told _ said)) (same_delivered m.context.told _ said) refl
   light_reset_act (processes number streams phase t m asked known) on =
       goes_open phase phase t (record t { requests = processed number nothing_to_do t.requests }) m refl refl refl (λ h. h)
   light_reset_act (takes_response rto number result sender receiver phase t m asked) on = goes_answered rto number result phase t m

@@ -14,9 +14,10 @@ use Rattle.sctp_outstanding.specs.Items.{no_items}
 use Rattle.sctp_rules.specs.State as rules
 use Rattle.sctp_rules.specs.State.{Message, ForwardPoint, Transfer, IsAmong, new_sender, count}
 use Rattle.sctp_tx_rules.specs.Shown.{Shows}
-use Rattle.sctp_tx_rules.specs.Led.{recorded}
+use Rattle.sctp_tx_rules.specs.Led.{recorded, delivered}
 use Rattle.sctp_tx_rules.specs.Rows.{waiting}
 use Rattle.sctp_tx_rules.proofs.StartLemmas.{begins_shows, reset_shows}
+use Rattle.sctp_tx_rules.proofs.SackLemmas.{delivered_more}
 use Rattle.sctp_tx_rules.proofs.WholeLemmas.{shown_again}
 use Rattle.sctp_association.specs.Association.{Identity, Tcb, tcb, Phase, CookieEchoed, Established, State, Closed, CookieWait, Open}
 use Rattle.sctp_association.specs.Opening.{long_word, t1_cookie, names, agreed_by, identity_of, queue_if, other_mode, connected}
@@ -28,6 +29,7 @@ use Rattle.sctp_course.proofs.JoinActsLemmas.{Setting, InvAt, packets_both}
 use Rattle.sctp_delivery.proofs.ClaimLemmas.{SaysData, SaysPoint, SaysOut, first_out, IsFlowing, IsWaiting, IsSending, SendsIn, SenderGoes, SenderPremises}
 use Rattle.sctp_delivery.proofs.FrameLemmas.{Lasts}
 use Rattle.sctp_delivery.proofs.FlowLemmas.{reset_flows, mode_flows, room_at_first}
+use Rattle.sctp_delivery.proofs.SenderToolLemmas.{reports_none, reports_then}
 use Rattle.sctp_delivery.proofs.SenderLightLemmas.{goes_through, goes_same, goes_adding}
 
 -- ---- what waits is taken up by a new sender
@@ -117,8 +119,9 @@ module _ (message : ℕ → Message) (lifecycle : ℕ → Option ℕ) (mixed : B
       → b.state ≡ Open phase (tcb o i a_rwnd k) → b.context.queue ≡ set_mode k.message_interleaving q
       → 256 ≤ o.mtu → mixed ≡ k.message_interleaving → ((x : Transfer) → IsWaiting message lifecycle mixed a.context.queue x → IsWaiting message lifecycle mixed q x)
       → (IsFlowing a.context.queue → IsFlowing q) → recorded b.context.told ≡ recorded a.context.told
-      → packets_in b.context.told.events ≡ packets_in a.context.told.events → b.packet.chunks ≡ a.packet.chunks → SenderGoes message lifecycle mixed from a b
-  goes_opening a b phase o i a_rwnd k q closed state queue least mode waits flows gone packets chunks x claim =
+      → packets_in b.context.told.events ≡ packets_in a.context.told.events → delivered b.context.told.events ≡ delivered a.context.told.events
+      → b.packet.chunks ≡ a.packet.chunks → SenderGoes message lifecycle mixed from a b
+  goes_opening a b phase o i a_rwnd k q closed state queue least mode waits flows gone packets reports chunks x claim =
       let told : List Carried → Type 0 = λ ps. All (λ (p : Carried). All (SaysOut message mixed (first_out b.state) from.acknowledged x) p.chunks) ps in
       let made : List ChunkTree → Type 0 = λ cs. All (SaysOut message mixed (first_out b.state) from.acknowledged x) cs in
       let w : IsWaiting message lifecycle mixed a.context.queue x = waits_in message lifecycle mixed a.state a.context.queue x closed claim.shown in
@@ -132,6 +135,8 @@ module _ (message : ℕ → Message) (lifecycle : ℕ → Option ℕ) (mixed : B
               (subst (λ (r : Queue). IsSending message lifecycle mixed (tcb o i a_rwnd k) r x) (sym queue) shown);
           flows = subst IsFlowing (sym queue) (mode_flows k.message_interleaving q (flows claim.flows));
           gone = gone ∙ claim.gone;
+          reported = reports_then lifecycle from x x [] a.context.told.events b.context.told.events claim.reported
+              (reports_none lifecycle x x a.context.told.events b.context.told.events refl reports);
           told = subst told (sym packets) (told_anew message lifecycle mixed x a.context.queue (first_out a.state) (first_out b.state) from.acknowledged (packets_in a.context.told.events) w claim.told);
           made = subst made (sym chunks) (all_anew message lifecycle mixed x a.context.queue (first_out a.state) (first_out b.state) from.acknowledged a.packet.chunks w claim.made);
         },
@@ -140,12 +145,15 @@ module _ (message : ℕ → Message) (lifecycle : ℕ → Option ℕ) (mixed : B
   told_connected : (es : List (Event Carried)) → packets_in (es ++ OnConnected ∷ []) ≡ packets_in es
   told_connected es = packets_both es (OnConnected ∷ []) ∙ append-nil (packets_in es)
 
+  none_delivered : (es : List (Event Carried)) → delivered (es ++ OnConnected ∷ []) ≡ delivered es
+  none_delivered es = delivered_more es (OnConnected ∷ []) ∙ append-nil (delivered es)
+
   -- the cookie was answered
   goes_late : (t1 : Timer) (cookie : List ℕ) (t : Tcb) (m : Making Carried)
       → SenderGoes message lifecycle mixed from (in_open (CookieEchoed t1 cookie) t m) (in_open Established t (with_context (connected m.context) m))
   goes_late t1 cookie t m =
       goes_same message lifecycle mixed from (in_open (CookieEchoed t1 cookie) t m) (in_open Established t (with_context (connected m.context) m)) (λ x h. h) (λ h. h) refl refl
-      (told_connected m.context.told.events) refl
+      (told_connected m.context.told.events) (none_delivered m.context.told.events) refl
 
   module _ (g : Setting) (call : Call) (p : SenderPremises message lifecycle mixed g call from) where
     -- what the options and the joint of both ends say
@@ -161,7 +169,7 @@ module _ (message : ℕ → Message) (lifecycle : ℕ → Option ℕ) (mixed : B
         let k : Capabilities = agreed_by m.context.options i in
         goes_opening (in_state (CookieWait my_tag first t1) m) (echoing i cookie my_tag first m) (CookieEchoed (t1_cookie m.context) cookie) m.context.options
         (names i my_tag first (long_word (end_of m))) i.a_rwnd k (reset m.context.queue) refl refl refl (least_mtu m.context.options inv.size inv.options)
-        (same_mode k later.stands.can) (λ x h. waiting_anew message lifecycle mixed x m.context.queue h) (reset_flows m.context.queue) refl refl refl
+        (same_mode k later.stands.can) (λ x h. waiting_anew message lifecycle mixed x m.context.queue h) (reset_flows m.context.queue) refl refl refl refl
 
     goes_opened : (c : Cookie) (m : Making Carried) → is_opened m.state ≡ false → InvAt g m → InvAt g (opened_by false c m) → SenderGoes message lifecycle mixed from m (opened_by false c m)
     goes_opened c m closed inv later =
@@ -170,16 +178,16 @@ module _ (message : ℕ → Message) (lifecycle : ℕ → Option ℕ) (mixed : B
         goes_opening m (opened_by false c m) Established m.context.options (identity_of c (long_word (end_of m))) _ k (queue_if anew m.context.queue)
         closed refl refl (least_mtu m.context.options inv.size inv.options) (same_mode k later.stands.can)
         (λ x h. waiting_if message lifecycle mixed anew x m.context.queue h) (flows_if message lifecycle mixed anew m.context.queue) refl
-        (told_connected m.context.told.events) refl
+        (told_connected m.context.told.events) (none_delivered m.context.told.events) refl
 
     pub light_opening : (act : OpeningAct Carried call) → Lasts act → InvAt g (before_opening act) → InvAt g (after_opening act)
         → SenderGoes message lifecycle mixed from (before_opening act) (after_opening act)
     light_opening (connects m is) on inv later =
-        goes_same message lifecycle mixed from (in_state Closed m) (after_opening {call = call} (connects m is)) (λ x h. h) (λ h. h) refl refl refl refl
+        goes_same message lifecycle mixed from (in_state Closed m) (after_opening {call = call} (connects m is)) (λ x h. h) (λ h. h) refl refl refl refl refl
     light_opening (adds_init tag first t1 m to) on inv later = goes_adding message lifecycle mixed from (in_state (CookieWait tag first t1) m) _ (λ first least x. tt)
     light_opening (answers_new tag i m heard to) on inv later =
         goes_through message lifecycle mixed from (in_state Closed m) (in_state Closed (drew_two m)) (after_opening {call = call} (answers_new tag i m heard to))
-        (goes_same message lifecycle mixed from (in_state Closed m) (in_state Closed (drew_two m)) (λ x h. h) (λ h. h) refl refl refl refl)
+        (goes_same message lifecycle mixed from (in_state Closed m) (in_state Closed (drew_two m)) (λ x h. h) (λ h. h) refl refl refl refl refl)
         (goes_adding message lifecycle mixed from (in_state Closed (drew_two m)) _ (λ first least x. tt))
     light_opening (answers_waiting tag i own first t1 m heard to) on inv later =
         goes_adding message lifecycle mixed from (in_state (CookieWait own first t1) m) _ (λ first least x. tt)
@@ -187,7 +195,7 @@ module _ (message : ℕ → Message) (lifecycle : ℕ → Option ℕ) (mixed : B
         goes_adding message lifecycle mixed from (in_open (CookieEchoed t1 cookie) t m) _ (λ first least x. tt)
     light_opening (answers_again tag i phase t m heard late to) on inv later =
         goes_through message lifecycle mixed from (in_open phase t m) (in_open phase t (drew_one m)) (after_opening {call = call} (answers_again tag i phase t m heard late to))
-        (goes_same message lifecycle mixed from (in_open phase t m) (in_open phase t (drew_one m)) (λ x h. h) (λ h. h) refl refl refl refl)
+        (goes_same message lifecycle mixed from (in_open phase t m) (in_open phase t (drew_one m)) (λ x h. h) (λ h. h) refl refl refl refl refl)
         (goes_adding message lifecycle mixed from (in_open phase t (drew_one m)) _ (λ first least x. tt))
     light_opening (echoes tag i cookie own first t1 m heard brought) on inv later = goes_echoing i cookie own first t1 m inv later
     light_opening (adds_cookie t1 cookie t m to) on inv later =

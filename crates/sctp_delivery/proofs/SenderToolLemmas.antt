@@ -1,27 +1,28 @@
 -- Rules that lead on: what an end says stays true, and what one end's rules leave of the other's part. For an act of a sender:
 -- its claim after it.
-use Rattle.std.proofs.Common.{◌≡◌, ℕ, ◌≤◌, ◌&&◌, Bool, true, Option, inr, List, [], ◌∷◌, ◌++◌, All, refl, sym, ap, ◌∙◌, subst, arith, append-nil}
+use Rattle.std.proofs.Common.{◌≡◌, ℕ, ◌≤◌, ◌&&◌, Bool, true, Option, inr, List, [], ◌∷◌, ◌++◌, All, refl, sym, ap, ◌∙◌, subst, arith, append-nil, append_assoc}
 use Rattle.std.specs.List.{list_all}
 use Rattle.std.proofs.lemmas.List.Folds.{list_all-append}
 use Rattle.std.proofs.lemmas.List.Elements.{All-weaker}
 use Rattle.std.proofs.lemmas.Bool.{and_parts}
 use Rattle.sctp_packet.specs.Chunk.{ChunkTree, FragmentTree, data_chunk, idata_chunk, sack_chunk, re_config_chunk, forward_tsn_chunk, i_forward_tsn_chunk}
 use Rattle.sctp_state.specs.Events as events
-use Rattle.sctp_state.specs.Events.{Told, SendPacket}
+use Rattle.sctp_state.specs.Events.{Told, SendPacket, OnLifecycleMessageDelivered}
 use Rattle.sctp_rules.specs.State.{Message, ForwardPoint, Transfer, IsAmong, count}
 use Rattle.sctp_rules.specs.Rules.{Event, accept, begin, number, close, give_up, data_comes, late_comes, deliver, send_sack, leave, send_forward, forward_comes, forget, Happens, after, run}
 use Rattle.sctp_rules.specs.Kept.{Kept}
 use Rattle.sctp_rules.proofs.KeepsLemmas.{keeps, all_kept}
 use Rattle.sctp_rules.proofs.StepLemmas.{later}
-use Rattle.sctp_tx_rules.specs.Led.{given_ups, recorded, is_sending, Leads}
+use Rattle.sctp_tx_rules.specs.Led.{given_ups, recorded, is_sending, Leads, delivered, ids_at}
 use Rattle.sctp_tx_rules.proofs.LedLemmas.{happens_more, run_more, given_more}
+use Rattle.sctp_tx_rules.proofs.SackLemmas.{delivered_more, ids_more}
 use Rattle.sctp_tx_rules.proofs.SendLemmas.{carries_along}
 use Rattle.sctp_association_laws.specs.Mapped.{Carried}
 use Rattle.sctp_course.specs.Acts.{Making}
 use Rattle.sctp_course.specs.Course.{packets_in}
-use Rattle.sctp_course.proofs.ToldLemmas.{is_light, TellsLightly}
+use Rattle.sctp_course.proofs.ToldLemmas.{is_light, is_quiet, TellsLightly, TellsQuietly}
 use Rattle.sctp_course.proofs.JoinActsLemmas.{packets_both}
-use Rattle.sctp_delivery.proofs.ClaimLemmas.{GoesOn, SaysData, SaysPoint, SaysOut, SaysIn, first_out, IsFlowing, SendsIn, SenderClaim}
+use Rattle.sctp_delivery.proofs.ClaimLemmas.{GoesOn, SaysData, SaysPoint, SaysOut, SaysIn, first_out, IsFlowing, SendsIn, Reports, SenderClaim}
 
 -- ---- one run after another
 
@@ -236,6 +237,29 @@ pub same_packets : (t u : Told Carried) → TellsLightly t u → packets_in u.ev
 same_packets t u l =
     ap packets_in l.behind ∙ (packets_both t.events l.events ∙ (ap (λ (ps : List Carried). packets_in t.events ++ ps) (light_packets l.events l.light) ∙ append-nil (packets_in t.events)))
 
+-- ---- what is reported
+
+quiet_reports : (es : List (events.Event Carried)) → list_all is_quiet es ≡ true → delivered es ≡ []
+quiet_reports [] h = refl
+quiet_reports (OnLifecycleMessageDelivered id ∷ es) h = cc
+quiet_reports (e ∷ es) h = quiet_reports es (and_parts (is_quiet e) (list_all is_quiet es) h).1
+
+pub same_delivered : (t u : Told Carried) → TellsQuietly t u → delivered u.events ≡ delivered t.events
+same_delivered t u l =
+    ap delivered l.behind ∙ (delivered_more t.events l.events ∙ (ap (λ (ids : List ℕ). delivered t.events ++ ids) (quiet_reports l.events l.quiet) ∙ append-nil (delivered t.events)))
+
+module _ (lifecycle : ℕ → Option ℕ) where
+  pub reports_none : (x y : Transfer) (es fs : List (events.Event Carried)) → y.reports ≡ x.reports → delivered fs ≡ delivered es → Reports lifecycle x y es fs
+  reports_none x y es fs same told = record { places = []; more = same ∙ sym (append-nil x.reports); told_of = told ∙ sym (append-nil (delivered es)) }
+
+  pub reports_then : (x y z : Transfer) (es fs gs : List (events.Event Carried)) → Reports lifecycle x y es fs → Reports lifecycle y z fs gs → Reports lifecycle x z es gs
+  reports_then x y z es fs gs a b = record {
+    places = a.places ++ b.places;
+    more = b.more ∙ (ap (λ (ps : List ℕ). ps ++ b.places) a.more ∙ append_assoc x.reports a.places b.places);
+    told_of = b.told_of ∙ (ap (λ (ids : List ℕ). ids ++ ids_at lifecycle b.places) a.told_of ∙ (append_assoc (delivered es) (ids_at lifecycle a.places) (ids_at lifecycle b.places)
+        ∙ ap (λ (ids : List ℕ). delivered es ++ ids) (sym (ids_more lifecycle a.places b.places))));
+  }
+
 -- ---- the claim after an act
 
 module _ (message : ℕ → Message) (lifecycle : ℕ → Option ℕ) (mixed : Bool) (from : Transfer) where
@@ -245,6 +269,7 @@ module _ (message : ℕ → Message) (lifecycle : ℕ → Option ℕ) (mixed : B
     pub shown : SendsIn message lifecycle mixed b.state b.context.queue y
     pub flows : IsFlowing a.context.queue → IsFlowing b.context.queue
     pub gone : recorded b.context.told ≡ recorded a.context.told ++ given_ups goes.events
+    pub reported : Reports lifecycle x y a.context.told.events b.context.told.events
     pub first : first_out b.state ≡ first_out a.state
     pub packets : packets_in b.context.told.events ≡ packets_in a.context.told.events
     pub made : All (SaysOut message mixed (first_out a.state) from.acknowledged y) a.packet.chunks → All (SaysOut message mixed (first_out a.state) from.acknowledged y) b.packet.chunks
@@ -262,6 +287,7 @@ module _ (message : ℕ → Message) (lifecycle : ℕ → Option ℕ) (mixed : B
         shown = s.shown;
         flows = s.flows c.flows;
         gone = s.gone ∙ (ap (λ (ps : List ℕ). ps ++ given_ups s.goes.events) c.gone ∙ sym g.1);
+        reported = reports_then lifecycle from x y [] a.context.told.events b.context.told.events c.reported s.reported;
         told = subst (λ (n : ℕ). All (λ (p : Carried). All (SaysOut message mixed n from.acknowledged y) p.chunks) (packets_in b.context.told.events)) (sym s.first)
             (subst (λ (ps : List Carried). All (λ (p : Carried). All (SaysOut message mixed first from.acknowledged y) p.chunks) ps) (sym s.packets) told);
         made = subst (λ (n : ℕ). All (SaysOut message mixed n from.acknowledged y) b.packet.chunks) (sym s.first) made;

@@ -74,6 +74,8 @@ pub record Offers (message : ℕ → Message) (mixed : Bool) (n : ℕ) (x mid : 
   pub kept : Kept message mixed mid
   pub accepted : mid.sender.accepted ≡ x.sender.accepted + n
   pub acknowledged : mid.acknowledged ≡ x.acknowledged
+  pub given_up : mid.sender.given_up ≡ x.sender.given_up
+  pub reports : mid.reports ≡ x.reports
 
 pub offers_none : (message : ℕ → Message) (mixed : Bool) (x : Transfer) → Kept message mixed x → Offers message mixed 0 x x
 offers_none message mixed x k = record {
@@ -81,6 +83,8 @@ offers_none message mixed x k = record {
   kept = k;
   accepted = omega arith;
   acknowledged = refl;
+  given_up = refl;
+  reports = refl;
 }
 
 -- ---- what the rules of one end leave of the other

@@ -1,11 +1,16 @@
--- What becomes ready at an end are messages that the other end accepted.
-use Rattle.std.specs.Prelude.{◌≡◌, ◌≢◌, ℕ, ◌^◌, ◌<◌, not, Bool, false, Option, Some, option_map, List, ◌++◌, length, map, take, slice_get, slice_index}
+-- What becomes ready at an end are messages that the other end accepted, and the others are given up or still on their way.
+use Rattle.std.specs.Prelude.{◌≡◌, ◌≢◌, ℕ, ◌^◌, ◌<◌, not, Bool, true, false, ◌⊎◌, Option, Some, option_map, List, ◌++◌, length, map, take, slice_get, slice_index}
 use Rattle.rand_core.specs.Stream.{Stream}
 use Rattle.sctp_serial.specs.Messages.{Message}
+use Rattle.sctp_state.specs.Events.{Event}
 use Rattle.sctp_state.specs.Options.{Options}
-use Rattle.sctp_course.specs.Course.{Pair, Turn, run, FollowsTheRules, HasNotEnded, AreGiven, start}
+use Rattle.sctp_rules.specs.State.{has}
+use Rattle.sctp_tx_rules.specs.Led.{delivered}
+use Rattle.sctp_association_laws.specs.Mapped.{Carried}
+use Rattle.sctp_course.specs.Course.{Pair, Turn, run, side_of, FollowsTheRules, HasNotEnded, AreGiven, start}
 use Rattle.sctp_course.specs.Handing.{readied}
 use Rattle.sctp_delivery.specs.Accepted.{Offer, accepted}
+use Rattle.sctp_delivery.specs.GivenUp.{given_up, IsAtRest}
 use Rattle.sctp_delivery.specs.Windows.{no_stamps, KeepsWindows, KeepsStreams}
 
 -- ---- the judge
@@ -28,11 +33,40 @@ pub record Fits (offers : List Offer) (ready : List Message) (places : List ℕ)
   pub rising : (j k : ℕ) → j < k → k < length places → (o p : Offer) → slice_get offers (slice_index places j) ≡ Some o
       → slice_get offers (slice_index places k) ≡ Some p → AreInOneLine o p → slice_index places j < slice_index places k
 
--- One list of places serves all along the course: at each point its beginning fits. True is the direction from a to b.
+-- an ordered message that isn't ready, while a later one of its stream is, was given up
+abbrev pub SkippedAreGivenUp : List Offer → (gone places : List ℕ) → Type 0
+SkippedAreGivenUp offers gone places =
+    (p q : ℕ) (o r : Offer) → slice_get offers p ≡ Some o → slice_get offers q ≡ Some r → AreInOneLine o r → p < q → has q places ≡ true
+    → has p places ≡ false → has p gone ≡ true
+
+-- a message with this lifecycle id is ready
+pub record IsReady (offers : List Offer) (places : List ℕ) (id : ℕ) : Type 0 where
+  pub place : ℕ
+  pub offer : Offer
+  pub there : slice_get offers place ≡ Some offer
+  pub its_id : offer.options.lifecycle_id ≡ Some id
+  pub is_ready : has place places ≡ true
+
+-- so it is of each id that was told as delivered
+abbrev pub ReportsAreTrue : List Offer → List (Event Carried) → (places : List ℕ) → Type 0
+ReportsAreTrue offers told places = (id : ℕ) → has id (delivered told) ≡ true → IsReady offers places id
+
+-- each message is ready, or was given up
+abbrev pub AllAreDone : List Offer → (gone places : List ℕ) → Type 0
+AllAreDone offers gone places = (p : ℕ) → p < length offers → (has p places ≡ true) ⊎ (has p gone ≡ true)
+
+-- One list of places serves all along the course: at each point its beginning fits, and tells what became of the other messages.
+-- True is the direction from a to b.
 pub record Delivers (from_a : Bool) (turns : List (Bool × Turn)) (w : Pair) : Type 0 where
   pub places : List ℕ
   pub fits : (early late : List (Bool × Turn)) → turns ≡ early ++ late
       → Fits (accepted from_a early w) (readied (not from_a) early w) (take (length (readied (not from_a) early w)) places)
+  pub skipped : (early late : List (Bool × Turn)) → turns ≡ early ++ late
+      → SkippedAreGivenUp (accepted from_a early w) (given_up from_a early w) (take (length (readied (not from_a) early w)) places)
+  pub reports : (early late : List (Bool × Turn)) → turns ≡ early ++ late
+      → ReportsAreTrue (accepted from_a early w) (side_of from_a (run early w)).told (take (length (readied (not from_a) early w)) places)
+  pub rest : (early late : List (Bool × Turn)) → turns ≡ early ++ late → IsAtRest (side_of from_a (run early w))
+      → AllAreDone (accepted from_a early w) (given_up from_a early w) (take (length (readied (not from_a) early w)) places)
 
 -- ---- the law
 

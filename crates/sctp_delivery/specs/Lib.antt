@@ -1,3 +1,6 @@
 pub mod Accepted
 pub mod Windows
+pub mod GivenUp
 pub mod Delivery
+pub mod Proper
+pub mod Skipping

@@ -2,6 +2,8 @@
 #![tactic(auto)]
 
 ghost use Rattle.sctp_delivery.specs.Delivery.{MessagesAreDelivered};
+ghost use Rattle.sctp_delivery.specs.Proper.{AcceptancesAreAccepted, RecordsAreProper, TwoAreGivenUp};
+ghost use Rattle.sctp_delivery.specs.Skipping.{OneIsSkipped};
 
 /// Two new ends go on as in `ends_are_joined`: by any calls, moments, foreign bytes that they refuse, and packets of the other
 /// end, each of which may come again, late, in any order, or never. At each point of such a course, in either direction and
@@ -9,6 +11,11 @@ ghost use Rattle.sctp_delivery.specs.Delivery.{MessagesAreDelivered};
 /// for byte, each at most once, with its stream and its protocol identifier; on each stream, ordered messages become ready in
 /// the order in which they were accepted (RFC 9260 sections 6.5, 6.6; RFC 8260 section 2.2; RFC 3758 section 3.6). What became
 /// ready stays ready or is handed out, and the places of the messages only grow at their back.
+///
+/// Of the others, at each point: an ordered message that isn't ready, while a later one of its stream is, was given up, and a
+/// record of its sender names it (RFC 3758 section 3.5). A lifecycle id that the sender tells as delivered is that of a message
+/// that is ready. And where nothing waits at the sender and it keeps no fragment, each message that it accepted is ready or was
+/// given up.
 ///
 /// The course keeps these bounds (`IsInBounds`), all read off what the ends hold between turns:
 /// - no fragment is kept while more than 2^30 fragments are numbered from it on, and fewer than 2^62 are numbered in all, with
@@ -22,4 +29,22 @@ ghost use Rattle.sctp_delivery.specs.Delivery.{MessagesAreDelivered};
 /// rules.
 pub fn messages_are_delivered()
     ensures delivered { MessagesAreDelivered }
+{}
+
+/// There are such courses within these bounds. In one, computed, three messages are sent on one stream; the packet of the second is
+/// lost, and it may not be sent again. It is given up, the others become ready, the first is told as delivered, and in the end
+/// the sender is at rest.
+pub fn a_message_is_skipped()
+    ensures { OneIsSkipped }
+{}
+
+/// Along each course of two ends that follows the rules, also behind the end of an association and with resets of streams: each
+/// record of a message given up is proper. It names the place of a message that this end accepted so far, and its cause holds.
+/// Either the message has a lifetime, and the end's clock isn't before acceptance plus lifetime (RFC 3758 section 4.1); or it
+/// was sent again as often as its limit says, 65,535 times where none was set (RFC 7496 section 3.2). An end accepts fewer than
+/// 2^32 messages, so that their numbers don't wrap. In one such course, computed, two messages are given up, one for each cause.
+pub fn records_are_proper()
+    ensures proper { RecordsAreProper }
+    ensures accepted { AcceptancesAreAccepted }
+    ensures goes { TwoAreGivenUp }
 {}

@@ -12,7 +12,7 @@ use Rattle.sctp_outstanding.specs.Items.{Items}
 use Rattle.sctp_rules.specs.State.{Message, Transfer, has, stream_of}
 use Rattle.sctp_rules.specs.Rules.{Event, accept, begin, number, close, give_up, data_comes, late_comes, deliver, send_sack, leave, send_forward, forward_comes, forget, after, run, IsSettled}
 use Rattle.sctp_rules.specs.Claims.{AtRest}
-use Rattle.sctp_rules.specs.Kept.{Kept}
+use Rattle.sctp_rules.specs.Kept.{Outgoing, Kept}
 use Rattle.sctp_rules.proofs.ToolsLemmas.{not_both}
 use Rattle.sctp_tx_rules.specs.Shown.{found, messages_of, AreKept, Shows}
 use Rattle.sctp_tx_rules.specs.Led.{given_up_by, given_ups, Leads}
@@ -38,11 +38,11 @@ none_anywhere k (e ∷ es) d b h = go (is_at (nat_cmp k) e.0) (none_anywhere k e
     go true ih = no_messages e.1.messages hs.0
     go false ih = ih
 
-pub rest_row : (message : ℕ → Message) (lifecycle : ℕ → Option ℕ) (mixed : Bool) (x : Transfer) (q : Queue) (s : Items) → Kept message mixed x → Shows message lifecycle mixed x q s
+pub rest_outgoing : (message : ℕ → Message) (lifecycle : ℕ → Option ℕ) (mixed : Bool) (x : Transfer) (q : Queue) (s : Items) → Outgoing message x.sender → Shows message lifecycle mixed x q s
     → is_empty q ≡ true → s.kept ≡ [] → AtRest x
-rest_row message lifecycle mixed x q s k sh empty none = record {
+rest_outgoing message lifecycle mixed x q s out sh empty none = record {
   no_queue = λ p l. (settled p l).gone;
-  no_part = λ p. false_from_ne_true (x.sender.partly p) (λ y. not_both y (settled p (k.outgoing.begun_below p (k.outgoing.partly_begun p y))).not_partly);
+  no_part = λ p. false_from_ne_true (x.sender.partly p) (λ y. not_both y (settled p (out.begun_below p (out.partly_begun p y))).not_partly);
   no_item = subst (λ is. AreKept message lifecycle x.sender x.acknowledged is) none sh.items.kept;
 }
   where
@@ -51,9 +51,13 @@ rest_row message lifecycle mixed x q s k sh empty none = record {
         sh.queue.messages.queued.gone p l
         (queue_lacks message x.sender (messages_of q) p (ap (found p) (none_anywhere (stream_of message p) q.streams.entries (blank q.streams) refl empty)))
 
+pub rest_row : (message : ℕ → Message) (lifecycle : ℕ → Option ℕ) (mixed : Bool) (x : Transfer) (q : Queue) (s : Items) → Kept message mixed x → Shows message lifecycle mixed x q s
+    → is_empty q ≡ true → s.kept ≡ [] → AtRest x
+rest_row message lifecycle mixed x q s k sh empty none = rest_outgoing message lifecycle mixed x q s k.outgoing sh empty none
+
 -- ---- records
 
-has_more : (p : ℕ) (qs rs : List ℕ) → has p (qs ++ rs) ≡ (has p qs || has p rs)
+pub has_more : (p : ℕ) (qs rs : List ℕ) → has p (qs ++ rs) ≡ (has p qs || has p rs)
 has_more p [] rs = refl
 has_more p (q ∷ qs) rs = ap (λ b. (p == q) || b) (has_more p qs rs) ∙ assoc (p == q) (has p qs) (has p rs)
   where
@@ -81,7 +85,7 @@ module _ (message : ℕ → Message) (mixed : Bool) where
   one_record (forward_comes f) x p = refl
   one_record (forget s c) x p = refl
 
-  all_records : (es : List Event) (x : Transfer) (p : ℕ) → (run message mixed x es).sender.given_up p ≡ (has p (given_ups es) || x.sender.given_up p)
+  pub all_records : (es : List Event) (x : Transfer) (p : ℕ) → (run message mixed x es).sender.given_up p ≡ (has p (given_ups es) || x.sender.given_up p)
   all_records [] x p = refl
   all_records (e ∷ es) x p =
       all_records es (after message mixed x e) p

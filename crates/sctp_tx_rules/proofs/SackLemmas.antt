@@ -51,11 +51,11 @@ module _ {P : Type 0} (at_once fast : Bool) where
 
 -- ---- what is told as delivered
 
-delivered_more : {P : Type 0} (es fs : List (Event P)) → delivered (es ++ fs) ≡ delivered es ++ delivered fs
+pub delivered_more : {P : Type 0} (es fs : List (Event P)) → delivered (es ++ fs) ≡ delivered es ++ delivered fs
 delivered_more [] fs = refl
 delivered_more (e ∷ es) fs = ap (λ z. delivered_by e ++ z) (delivered_more es fs) ∙ sym (append_assoc (delivered_by e) (delivered es) (delivered fs))
 
-ids_more : (lifecycle : ℕ → Option ℕ) (ps qs : List ℕ) → ids_at lifecycle (ps ++ qs) ≡ ids_at lifecycle ps ++ ids_at lifecycle qs
+pub ids_more : (lifecycle : ℕ → Option ℕ) (ps qs : List ℕ) → ids_at lifecycle (ps ++ qs) ≡ ids_at lifecycle ps ++ ids_at lifecycle qs
 ids_more lifecycle [] qs = refl
 ids_more lifecycle (p ∷ ps) qs = ap (λ z. id_of (lifecycle p) ++ z) (ids_more lifecycle ps qs) ∙ sym (append_assoc (id_of (lifecycle p)) (ids_at lifecycle ps) (ids_at lifecycle qs))
 

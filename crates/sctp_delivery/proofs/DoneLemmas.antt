@@ -1,0 +1,123 @@
+-- At one point of a course: what became ready fits, and what became of the other messages.
+use Rattle.std.proofs.Common.{◌≡◌, ℕ, ◌<◌, ◌==◌, ◌||◌, not, Bool, true, false, ◌⊎◌, inl, inr, Option, Some, None, List, [], ◌∷◌, ◌++◌, length, map, take, slice_get, refl, sym, ap, subst, ◌∙◌, arith}
+use Rattle.std.proofs.lemmas.Bool.{or_cases, or_left, or_right}
+use Rattle.std.proofs.lemmas.Bool.Decides.{nat_tests}
+use Rattle.std.proofs.lemmas.Option.{slice_get_cases}
+use Rattle.sctp_serial.specs.Messages as messages
+use Rattle.sctp_send_queue.specs.Queue.{Queue, is_empty}
+use Rattle.sctp_rules.specs.State.{Message, Transfer, has}
+use Rattle.sctp_rules.specs.Claims.{AtRest, Claims}
+use Rattle.sctp_rules.specs.Kept.{Kept}
+use Rattle.sctp_rules.proofs.ClaimsLemmas.{claimed}
+use Rattle.sctp_rx_rules.specs.View.{ready_of}
+use Rattle.sctp_outstanding.specs.Items.{no_items}
+use Rattle.sctp_tx_rules.specs.Led.{delivered, id_of, ids_at}
+use Rattle.sctp_tx_rules.proofs.RestLemmas.{rest_outgoing}
+use Rattle.sctp_association.specs.Association.{State, Closed, CookieWait, Open}
+use Rattle.sctp_course.specs.Course.{Side, state_of}
+use Rattle.sctp_delivery.specs.Accepted.{Offer}
+use Rattle.sctp_delivery.specs.GivenUp.{kept_in, IsAtRest}
+use Rattle.sctp_delivery.specs.Windows.{queue_of}
+use Rattle.sctp_delivery.specs.Delivery.{Fits, AreInOneLine, SkippedAreGivenUp, IsReady, ReportsAreTrue, AllAreDone}
+use Rattle.sctp_delivery.proofs.ClaimLemmas.{SendsIn}
+use Rattle.sctp_delivery.proofs.AccountLemmas.{Accounted}
+use Rattle.sctp_delivery.proofs.GoingLemmas.{message_in}
+use Rattle.sctp_delivery.proofs.FitsLemmas.{places_fit, first_places}
+
+-- where these were accepted at an end, became ready beyond, and were given up
+pub record Point (s : Side) (offers : List Offer) (ready : List messages.Message) (gone places : List ℕ) : Type 0 where
+  pub fits : Fits offers ready (take (length ready) places)
+  pub skipped : SkippedAreGivenUp offers gone (take (length ready) places)
+  pub reports : ReportsAreTrue offers s.told (take (length ready) places)
+  pub rest : IsAtRest s → AllAreDone offers gone (take (length ready) places)
+
+-- ---- ids and places
+
+record Reported (lifecycle : ℕ → Option ℕ) (ps : List ℕ) (id : ℕ) : Type 0 where
+  place : ℕ
+  among : has place ps ≡ true
+  its_id : lifecycle place ≡ Some id
+
+is_same : (p q : ℕ) → (p == q) ≡ true → p ≡ q
+is_same p q h = grind (arith, nat_tests, h)
+
+same_is : (p : ℕ) → (p == p) ≡ true
+same_is p = grind (arith, nat_tests)
+
+reported_behind : (lifecycle : ℕ → Option ℕ) (p : ℕ) (ps : List ℕ) (id : ℕ) → Reported lifecycle ps id → Reported lifecycle (p ∷ ps) id
+reported_behind lifecycle p ps id r = record { place = r.place; among = or_right (r.place == p) (has r.place ps) r.among; its_id = r.its_id }
+
+reported_at : (lifecycle : ℕ → Option ℕ) (ps : List ℕ) (id : ℕ) → has id (ids_at lifecycle ps) ≡ true → Reported lifecycle ps id
+reported_at lifecycle [] id h = cc
+reported_at lifecycle (p ∷ ps) id h = by_id (lifecycle p) refl h (reported_at lifecycle ps id)
+  where
+    by_id : (l : Option ℕ) → lifecycle p ≡ l → has id (id_of l ++ ids_at lifecycle ps) ≡ true → (has id (ids_at lifecycle ps) ≡ true → Reported lifecycle ps id)
+        → Reported lifecycle (p ∷ ps) id
+    by_id None e h rest = reported_behind lifecycle p ps id (rest h)
+    by_id (Some k) e h rest =
+        elim (or_cases (id == k) (has id (ids_at lifecycle ps)) h) [
+          | inl same ↦ record { place = p; among = or_left (p == p) (has p ps) (same_is p); its_id = e ∙ ap (λ (n : ℕ). Some n) (sym (is_same id k same)) }
+          | inr later ↦ reported_behind lifecycle p ps id (rest later)
+        ]
+
+offer_at : (offers : List Offer) (p : ℕ) → p < length offers → (o : Offer) × (slice_get offers p ≡ Some o)
+offer_at offers p l =
+    elim (slice_get_cases offers p).1 [
+      | inl a ↦ (a.0, a.2)
+      | inr b ↦ let past = b.0 in absurd (omega (arith, past, l))
+    ]
+
+-- ---- rest
+
+pub rests : (message : ℕ → Message) (lifecycle : ℕ → Option ℕ) (mixed : Bool) (s : State) (q : Queue) (x : Transfer) → Kept message mixed x
+    → SendsIn message lifecycle mixed s q x → is_empty q ≡ true → kept_in s ≡ [] → AtRest x
+rests message lifecycle mixed Closed q x k h empty none = rest_outgoing message lifecycle false x q (no_items false false) k.outgoing h.shows empty refl
+rests message lifecycle mixed (CookieWait tag first t1) q x k h empty none = rest_outgoing message lifecycle false x q (no_items false false) k.outgoing h.shows empty refl
+rests message lifecycle mixed (Open phase t) q x k h empty none = rest_outgoing message lifecycle mixed x q t.sender.outstanding.items k.outgoing h.shows empty none
+
+-- ---- the point
+
+module _ (message : ℕ → Message) (lifecycle : ℕ → Option ℕ) (mixed : Bool) (offers : List Offer)
+    (there : (p : ℕ) (o : Offer) → slice_get offers p ≡ Some o → message p ≡ message_in o)
+    (ids : (p : ℕ) (o : Offer) → slice_get offers p ≡ Some o → lifecycle p ≡ o.options.lifecycle_id)
+    (s : Side) (x : Transfer) (kept : Kept message mixed x) (few : x.sender.accepted ≡ length offers) where
+  claims : Claims message x
+  claims = claimed message mixed x kept
+
+  its_id : (p : ℕ) (o : Offer) (id : ℕ) → slice_get offers p ≡ Some o → lifecycle p ≡ Some id → o.options.lifecycle_id ≡ Some id
+  its_id p o id at_p e = sym (ids p o at_p) ∙ e
+
+  module _ (gone : List ℕ) (a : Accounted lifecycle s gone x) where
+    skipped_now : SkippedAreGivenUp offers gone x.receiver.places
+    skipped_now p q o r at_p at_q line l is not_yet =
+        let first : message p ≡ message_in o = there p o at_p in
+        let second : message q ≡ message_in r = there q r at_q in
+        sym (a.gone_is p)
+        ∙ claims.skipped p q (ap (λ (z : Message). z.ordered) first ∙ ap not line.first) (ap (λ (z : Message). z.ordered) second ∙ ap not line.second)
+        (ap (λ (z : Message). z.stream) first ∙ (line.stream ∙ sym (ap (λ (z : Message). z.stream) second))) l is not_yet
+
+    reports_now : ReportsAreTrue offers s.told x.receiver.places
+    reports_now id h =
+        let r : Reported lifecycle x.reports id = reported_at lifecycle x.reports id (sym (ap (λ (z : List ℕ). has id z) a.told_is) ∙ h) in
+        let ready : has r.place x.receiver.places ≡ true = claims.reports r.place r.among in
+        let below = kept.outgoing.begun_below r.place (kept.incoming.ready_begun r.place ready) in
+        let o : (o : Offer) × (slice_get offers r.place ≡ Some o) = offer_at offers r.place (omega (arith, below, few)) in
+        record { place = r.place; offer = o.0; there = o.1; its_id = its_id r.place o.0 id o.1 r.its_id; is_ready = ready }
+
+    rest_now : AtRest x → AllAreDone offers gone x.receiver.places
+    rest_now rest p l =
+        elim (claims.rest rest p (omega (arith, l, few))) [
+          | inl ready ↦ inl ready
+          | inr given ↦ inr (sym (a.gone_is p) ∙ given)
+        ]
+
+    pub point : SendsIn message lifecycle mixed (state_of s) (queue_of s) x → (ready : List messages.Message) → x.receiver.ready ≡ map ready_of ready
+        → (places more : List ℕ) → places ≡ x.receiver.places ++ more → Point s offers ready gone places
+    point sends ready is places more e =
+        let first : take (length ready) places ≡ x.receiver.places = first_places message offers there mixed x ready kept is places more e in
+        record {
+          fits = subst (λ (ps : List ℕ). Fits offers ready ps) (sym first) (places_fit message offers there mixed x ready kept few is);
+          skipped = subst (λ (ps : List ℕ). SkippedAreGivenUp offers gone ps) (sym first) skipped_now;
+          reports = subst (λ (ps : List ℕ). ReportsAreTrue offers s.told ps) (sym first) reports_now;
+          rest = λ r. subst (λ (ps : List ℕ). AllAreDone offers gone ps) (sym first) (rest_now (rests message lifecycle mixed (state_of s) (queue_of s) x kept sends r.none_waits r.none_kept));
+        }

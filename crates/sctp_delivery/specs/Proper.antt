@@ -1,0 +1,131 @@
+-- Along a course: why an end gave messages up. A record is proper where its message was accepted, and either outlived its
+-- lifetime or was sent again as often as it may be.
+use Rattle.std.specs.Prelude.{◌≡◌, ℕ, ◌^◌, ◌≤◌, ◌<◌, Bool, true, false, Option, Some, None, unwrap_or, List, [], ◌∷◌, ◌++◌, length, map, slice_get}
+use Rattle.std.specs.List.{AllByRecursion}
+use Rattle.rand_core.specs.Stream.{Stream}
+use Rattle.sctp_packet.specs.Packet.{PacketTree}
+use Rattle.sctp_serial.specs.Messages.{Message}
+use Rattle.sctp_serial.specs.Time.{later}
+use Rattle.sctp_state.specs.Options.{Options, plainly}
+use Rattle.sctp_state.specs.Events.{GivenUp}
+use Rattle.sctp_state.specs.declared.api.GivenUpCause.{GivenUpCause}
+use Rattle.sctp_state.specs.declared.api.GivenUpCause.TheVariants.{Lifetime, Retransmissions}
+use Rattle.sctp_association.specs.Association.{Endpoint}
+use Rattle.sctp_association.specs.Input.{refusal}
+use Rattle.sctp_association.specs.Laws.{Send, Advance, Packet, called}
+use Rattle.sctp_association_laws.specs.Mapped.{Carried}
+use Rattle.sctp_course.specs.Course.{Side, Pair, emitted, Turn, Calls, Gives, Refuses, as_heard, goes, run, side_of, FollowsTheRules, HasNotEnded, start, state_of}
+use Rattle.sctp_course.specs.Opens.{at_first, one_connects}
+use Rattle.sctp_delivery.specs.Accepted.{Offer, accepted_at, accepted}
+
+-- ---- acceptance
+
+abbrev pub clock : Side → ℕ
+clock x = x.end.standing.context.now
+
+-- an accepted message, and the clock of its end then
+pub record Acceptance : Type 0 where
+  pub offer : Offer
+  pub at : ℕ
+
+abbrev pub accepted_then : ℕ → Offer → Acceptance
+accepted_then now o = record { offer = o; at = now }
+
+abbrev pub acceptances : (x : Bool) → List (Bool × Turn) → Pair → List Acceptance
+acceptances x [] w = []
+acceptances x (e ∷ es) w = map (accepted_then (clock (side_of x w))) (accepted_at x e.0 e.1 w) ++ acceptances x es (goes e.0 e.1 w)
+
+-- ---- records
+
+-- those that wait to be taken
+abbrev pub gone_of : Endpoint Carried → List GivenUp
+gone_of e = e.standing.context.told.gone
+
+abbrev pub gone_given : Option Carried → (checksum : ℕ) → Side → List GivenUp
+gone_given None checksum x = []
+gone_given (Some p) checksum x = gone_of (called (Packet (as_heard p checksum)) x.end)
+
+abbrev pub gone_if : (refusal : Option (List ℕ)) → PacketTree → Side → List GivenUp
+gone_if None p x = []
+gone_if (Some text) p x = gone_of (called (Packet p) x.end)
+
+-- what one end gives up at its turn, beside the other
+abbrev pub gone_by : Turn → (x y : Side) → List GivenUp
+gone_by (Calls call) x y = gone_of (called call x.end)
+gone_by (Gives which checksum) x y = gone_given (slice_get (emitted y) which) checksum x
+gone_by (Refuses p) x y = gone_if (refusal p.header.verification_tag p.chunks (state_of x)) p x
+
+-- true is end a: what end x gives up at a turn of this end
+abbrev pub gone_at : (x acts : Bool) → Turn → Pair → List GivenUp
+gone_at true true turn w = gone_by turn w.a w.b
+gone_at false false turn w = gone_by turn w.b w.a
+gone_at x acts turn w = []
+
+-- a record, and the clock of its end then
+pub record Forgone : Type 0 where
+  pub given_up : GivenUp
+  pub at : ℕ
+
+abbrev pub forgone_then : ℕ → GivenUp → Forgone
+forgone_then now g = record { given_up = g; at = now }
+
+-- all of an end, in order
+abbrev pub forgone : (x : Bool) → List (Bool × Turn) → Pair → List Forgone
+forgone x [] w = []
+forgone x (e ∷ es) w = map (forgone_then (clock (side_of x (goes e.0 e.1 w)))) (gone_at x e.0 e.1 w) ++ forgone x es (goes e.0 e.1 w)
+
+-- ---- proper records
+
+-- how often a fragment may be sent again
+abbrev pub limit_of : Offer → ℕ
+limit_of o = unwrap_or o.options.max_retransmissions 65535
+
+-- it has a lifetime, which is over
+pub record HasExpired (now : ℕ) (a : Acceptance) : Type 0 where
+  pub lifetime : ℕ
+  pub given : a.offer.options.lifetime ≡ Some lifetime
+  pub over : later a.at lifetime ≤ now
+
+abbrev pub IsRight : GivenUpCause → (now : ℕ) → Acceptance → Type 0
+IsRight Lifetime now a = HasExpired now a
+IsRight (Retransmissions count) now a = limit_of a.offer ≤ count
+
+-- of one of these messages, by its place
+pub record IsProper (accepted : List Acceptance) (f : Forgone) : Type 0 where
+  pub acceptance : Acceptance
+  pub there : slice_get accepted f.given_up.number ≡ Some acceptance
+  pub right : IsRight f.given_up.cause f.at acceptance
+
+-- ---- the laws
+
+-- Along each course that follows the rules, ended or not: all records of an end so far are proper, of the messages that it
+-- accepted so far, where these are fewer than 2^32.
+abbrev pub RecordsAreProper : Type 0
+RecordsAreProper =
+    (a b : Options) (words_a words_b : Stream) (turns : List (Bool × Turn)) → FollowsTheRules turns (start a b words_a words_b) → (x : Bool)
+    → length (accepted x turns (start a b words_a words_b)) < 2 ^ 32
+    → AllByRecursion (IsProper (acceptances x turns (start a b words_a words_b))) (forgone x turns (start a b words_a words_b))
+
+-- acceptances are those of the accepted messages, one by one
+abbrev pub AcceptancesAreAccepted : Type 0
+AcceptancesAreAccepted = (x : Bool) (turns : List (Bool × Turn)) (w : Pair) → map (λ (a : Acceptance). a.offer) (acceptances x turns w) ≡ accepted x turns w
+
+-- ---- such a course, computed: of two messages that are lost, one may not be sent again, and the other one's lifetime is over
+
+abbrev pub text : (byte : ℕ) → Message
+text byte = record { stream = 1; ppid = 53; payload = byte ∷ [] }
+
+abbrev pub ten_seconds : ℕ
+ten_seconds = 10 ^ 10
+
+abbrev pub two_are_lost : List (Bool × Turn)
+two_are_lost =
+    one_connects
+    ++ ((true, Calls (Send (text 97) (record plainly { max_retransmissions = Some 0 }))) ∷ (true, Calls (Send (text 98) (record plainly { lifetime = Some 0 })))
+    ∷ (true, Calls (Advance ten_seconds)) ∷ [])
+
+pub record TwoAreGivenUp : Type 0 where
+  pub follows : FollowsTheRules two_are_lost at_first
+  pub not_ended : HasNotEnded (run two_are_lost at_first)
+  pub gives_up : forgone true two_are_lost at_first
+      ≡ forgone_then ten_seconds (record { number = 0; cause = Retransmissions 0 }) ∷ forgone_then ten_seconds (record { number = 1; cause = Lifetime }) ∷ []

@@ -1,0 +1,31 @@
+-- A course, computed: of three ordered messages on one stream the second is lost, and may not be sent again.
+use Rattle.std.specs.Prelude.{◌≡◌, ℕ, ◌*◌, ◌^◌, Bool, true, false, Some, List, [], ◌∷◌, ◌++◌, map}
+use Rattle.sctp_serial.specs.Messages.{Message}
+use Rattle.sctp_state.specs.Options.{plainly}
+use Rattle.sctp_tx_rules.specs.Led.{delivered}
+use Rattle.sctp_association.specs.Laws.{Send, Advance}
+use Rattle.sctp_course.specs.Course.{Turn, Calls, Gives, run, FollowsTheRules, HasNotEnded}
+use Rattle.sctp_course.specs.Opens.{at_first, one_connects}
+use Rattle.sctp_course.specs.Handing.{text, readied}
+use Rattle.sctp_delivery.specs.Accepted.{Offer, accepted}
+use Rattle.sctp_delivery.specs.GivenUp.{given_up, IsAtRest}
+use Rattle.sctp_delivery.specs.Delivery.{IsInBounds}
+
+-- the packet of the second never comes; once T3-rtx expires, a forward point passes it
+abbrev pub one_is_lost : List (Bool × Turn)
+one_is_lost =
+    one_connects
+    ++ ((true, Calls (Send (text 97) (record plainly { lifecycle_id = Some 7 }))) ∷ (true, Calls (Send (text 98) (record plainly { max_retransmissions = Some 0 })))
+    ∷ (true, Calls (Send (text 99) plainly)) ∷ (false, Gives 2 0) ∷ (false, Gives 4 0) ∷ (true, Gives 2 0) ∷ (true, Gives 3 0)
+    ∷ (true, Calls (Advance (2 * 10 ^ 9))) ∷ (false, Gives 5 0) ∷ (false, Calls (Advance (2 * 10 ^ 9))) ∷ (true, Gives 4 0) ∷ [])
+
+-- the others become ready, and in the end the sender is at rest
+pub record OneIsSkipped : Type 0 where
+  pub follows : FollowsTheRules one_is_lost at_first
+  pub not_ended : HasNotEnded (run one_is_lost at_first)
+  pub in_bounds : IsInBounds one_is_lost at_first
+  pub accepts : map (λ (o : Offer). o.message) (accepted true one_is_lost at_first) ≡ text 97 ∷ text 98 ∷ text 99 ∷ []
+  pub readies : readied false one_is_lost at_first ≡ text 97 ∷ text 99 ∷ []
+  pub gives_up : given_up true one_is_lost at_first ≡ 1 ∷ []
+  pub reports : delivered (run one_is_lost at_first).a.told ≡ 7 ∷ []
+  pub rests : IsAtRest (run one_is_lost at_first).a
