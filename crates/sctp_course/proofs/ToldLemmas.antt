@@ -51,11 +51,11 @@ all_light (e ∷ es) h =
     let parts = and_parts (is_quiet e) (list_all is_quiet es) h in
     ap (λ (b : Bool). b && list_all is_light es) (quiet_is_light e parts.0) ∙ all_light es parts.1
 
-pub quiet_expiry : (P : Type 0) (l : Option ℕ) → list_all is_quiet (expiry {P = P} l) ≡ true
+quiet_expiry : (P : Type 0) (l : Option ℕ) → list_all is_quiet (expiry {P = P} l) ≡ true
 quiet_expiry P None = refl
 quiet_expiry P (Some id) = refl
 
-pub quiet_both : {P : Type 0} (es fs : List (Event P)) → list_all is_quiet es ≡ true → list_all is_quiet fs ≡ true → list_all is_quiet (es ++ fs) ≡ true
+quiet_both : {P : Type 0} (es fs : List (Event P)) → list_all is_quiet es ≡ true → list_all is_quiet fs ≡ true → list_all is_quiet (es ++ fs) ≡ true
 quiet_both es fs h k = list_all-append is_quiet es fs ∙ (ap (λ (b : Bool). b && list_all is_quiet fs) h ∙ k)
 
 quiet_when : {P : Type 0} (b : Bool) (e : Event P) → is_quiet e ≡ true → list_all is_quiet (when b e) ≡ true
@@ -117,7 +117,7 @@ module _ {P : Type 0} where
   pub lightly : (t u : Told P) → TellsQuietly t u → TellsLightly t u
   lightly t u q = record { events = q.events; behind = q.behind; light = all_light q.events q.quiet }
 
-  pub tells_nothing : (t u : Told P) → u.events ≡ t.events → TellsLightly t u
+  tells_nothing : (t u : Told P) → u.events ≡ t.events → TellsLightly t u
   tells_nothing t u e = record { events = []; behind = e ∙ sym (append-nil t.events); light = refl }
 
   pub tells_same : (t : Told P) → TellsLightly t t
@@ -133,19 +133,19 @@ module _ {P : Type 0} where
     light = light_both a.events b.events a.light b.light;
   }
 
-  pub quiet_nothing : (t u : Told P) → u.events ≡ t.events → TellsQuietly t u
+  quiet_nothing : (t u : Told P) → u.events ≡ t.events → TellsQuietly t u
   quiet_nothing t u e = record { events = []; behind = e ∙ sym (append-nil t.events); quiet = refl }
 
   pub quiet_same : (t : Told P) → TellsQuietly t t
   quiet_same t = quiet_nothing t t refl
 
-  pub quiet_given_up : (n : ℕ) (cause : GivenUpCause) (t : Told P) → TellsQuietly t (give_up n cause t)
+  quiet_given_up : (n : ℕ) (cause : GivenUpCause) (t : Told P) → TellsQuietly t (give_up n cause t)
   quiet_given_up n cause t = quiet_nothing t (give_up n cause t) refl
 
   pub quiet_all : (es : List (Event P)) (t : Told P) → list_all is_quiet es ≡ true → TellsQuietly t (tell_all es t)
   quiet_all es t h = record { events = es; behind = refl; quiet = h }
 
-  pub quiet_then : (t u v : Told P) → TellsQuietly t u → TellsQuietly u v → TellsQuietly t v
+  quiet_then : (t u v : Told P) → TellsQuietly t u → TellsQuietly u v → TellsQuietly t v
   quiet_then t u v a b = record {
     events = a.events ++ b.events;
     behind = b.behind ∙ (ap (λ (es : List (Event P)). es ++ b.events) a.behind ∙ append_assoc t.events a.events b.events);
@@ -303,7 +303,7 @@ module _ {P : Type 0} where
       quiet_then t u (told_waiting ms u) (waits_if (is_partly m) t said (quiet_all (expiry m.lifecycle) t (quiet_expiry P m.lifecycle)))
       (waits ms u)
 
-  pub quiet_prepared : (id : ℕ) (q : Queue) (t : Told P) → TellsQuietly t (prepare_reset id q t).told
+  quiet_prepared : (id : ℕ) (q : Queue) (t : Told P) → TellsQuietly t (prepare_reset id q t).told
   quiet_prepared id q t = waits (stream id q.streams).messages t
 
   -- ---- refusals

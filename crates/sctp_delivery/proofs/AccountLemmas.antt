@@ -1,9 +1,9 @@
 -- The messages that the rules gave up are those that records of their sender name, and what they reported is what it told.
-use Rattle.std.proofs.Common.{◌≡◌, ℕ, ◌||◌, Bool, true, false, Option, List, [], ◌∷◌, ◌++◌, refl, sym, ap, ◌∙◌, subst, append-nil, append_assoc}
+use Rattle.std.proofs.Common.{◌≡◌, ℕ, ◌||◌, Bool, true, false, Option, List, [], ◌∷◌, ◌++◌, refl, sym, ap, ◌∙◌, subst, append-nil}
 use Rattle.std.specs.List.{list_all}
 use Rattle.std.proofs.lemmas.Bool.{and_parts}
 use Rattle.sctp_rules.specs.State.{Message, Transfer, has}
-use Rattle.sctp_rules.specs.Rules.{Event, accept, begin, number, close, give_up, data_comes, late_comes, deliver, send_sack, leave, send_forward, forward_comes, forget, after, run}
+use Rattle.sctp_rules.specs.Rules.{Event, give_up, leave, after, run}
 use Rattle.sctp_tx_rules.specs.Led.{given_up_by, given_ups, recorded, delivered, ids_at}
 use Rattle.sctp_tx_rules.proofs.RestLemmas.{has_more, all_records}
 use Rattle.sctp_tx_rules.proofs.SackLemmas.{delivered_more, ids_more}

@@ -1,6 +1,6 @@
 -- What an end's values and packets say of a transfer: as its sender, and as its receiver. One end acts, and the state that the
 -- rules had before its turn is `from`.
-use Rattle.std.proofs.Common.{◌≡◌, ℕ, suc, ◌+◌, ◌-◌, ◌^◌, ◌<◌, ◌≤◌, Bool, true, false, Option, None, List, [], ◌∷◌, ◌++◌, length, All}
+use Rattle.std.proofs.Common.{◌≡◌, ℕ, ◌+◌, ◌-◌, ◌^◌, ◌<◌, ◌≤◌, Bool, true, false, Option, None, List, [], ◌++◌, All}
 use Rattle.std.specs.Prelude.{⊤}
 use Rattle.std.specs.List.{list_all}
 use Rattle.sctp_serial.specs.Messages as messages
@@ -15,7 +15,7 @@ use Rattle.sctp_send_queue.specs.Queue.{Stream, Queue}
 use Rattle.sctp_outstanding.specs.Items.{no_items}
 use Rattle.sctp_tx.specs.ForwardPoints.{most_of}
 use Rattle.sctp_rx.specs.Tracker.{IsTracker, tracker}
-use Rattle.sctp_rx.specs.ReassemblyQueue.{Reassembly, reassembly}
+use Rattle.sctp_rx.specs.ReassemblyQueue.{reassembly}
 use Rattle.sctp_rules.specs.State.{Message, ForwardPoint, Sender, Transfer, IsAmong, new_sender, count}
 use Rattle.sctp_rules.specs.Rules.{Event, accept, begin, number, close, give_up, data_comes, late_comes, deliver, send_sack, leave, send_forward, forward_comes, forget, Happens, run}
 use Rattle.sctp_rules.specs.Kept.{Kept}
@@ -27,7 +27,7 @@ use Rattle.sctp_tx_rules.specs.Rows.{Carries}
 use Rattle.sctp_rules.specs.Points.{AreApart}
 use Rattle.sctp_rx_rules.specs.Receives.{Receives}
 use Rattle.sctp_rx_rules.specs.Near.{ReadsNear, AreFew}
-use Rattle.sctp_association.specs.Association.{Tcb, Phase, State, Closed, CookieWait, Open}
+use Rattle.sctp_association.specs.Association.{Tcb, State, Closed, CookieWait, Open}
 use Rattle.sctp_association.specs.Laws.{Call}
 use Rattle.sctp_association_laws.specs.Mapped.{Carried}
 use Rattle.sctp_course.specs.Acts.{Making, IsHeard, is_response}

@@ -1,24 +1,15 @@
 -- Each turn of the receiver's end leaves the direction at a later state of the rules.
-use Rattle.std.proofs.Common.{◌≡◌, ◌≢◌, ℕ, ◌+◌, ◌-◌, ◌^◌, ◌<◌, ◌≤◌, ◌==◌, ◌||◌, not, Bool, true, false, Option, Some, None, List, [], ◌∷◌, ◌++◌, length, replicate, take, slice_get, All, refl, sym, ap, subst, ◌∙◌, append-nil, append_assoc, arith}
-use Rattle.std.specs.Prelude.{⊤}
+use Rattle.std.proofs.Common.{◌≡◌, ℕ, ◌+◌, ◌^◌, ◌<◌, ◌≤◌, ◌==◌, ◌||◌, Bool, true, false, Option, Some, None, List, [], ◌∷◌, ◌++◌, take, slice_get, All, refl, sym, ap, subst, append-nil}
 use Rattle.std.proofs.lemmas.List.Elements.{All-nil}
 use Rattle.sctp_serial.specs.Messages as messages
 use Rattle.sctp_packet.specs.Chunk.{ChunkTree}
 use Rattle.sctp_packet.specs.Packet.{PacketTree}
 use Rattle.sctp_state.specs.declared.api.ErrorKind.TheVariants.{ParseFailed}
-use Rattle.sctp_state.specs.Options.{Options, SendOptions}
+use Rattle.sctp_state.specs.Options.{Options}
 use Rattle.sctp_state.specs.Capabilities.{agreed}
-use Rattle.sctp_state.specs.Events.{Told, OnError, silent}
-use Rattle.sctp_state.proofs.CapabilitiesLemmas.{agreed-exchanged}
-use Rattle.sctp_send_queue.specs.Queue.{Queue}
+use Rattle.sctp_state.specs.Events.{Told, OnError}
 use Rattle.sctp_rules.specs.State.{Message, Transfer, count}
-use Rattle.sctp_rules.specs.Rules as rules
-use Rattle.sctp_rules.specs.Claims.{Grows}
-use Rattle.sctp_rules.proofs.GrowsLemmas.{one}
-use Rattle.sctp_rules.specs.Kept.{Kept}
-use Rattle.sctp_rx_rules.specs.Receives.{Receives}
-use Rattle.sctp_tx_rules.specs.Led.{recorded, is_sending}
-use Rattle.sctp_association.specs.Association.{State, Closed, CookieWait, Open, Endpoint}
+use Rattle.sctp_association.specs.Association.{Endpoint}
 use Rattle.sctp_association.specs.Calls.{ready_in, taken_in}
 use Rattle.sctp_association.specs.Opening.{complains}
 use Rattle.sctp_association.specs.Input.{refusal, counts, taken_if}
@@ -27,20 +18,19 @@ use Rattle.sctp_association_laws.specs.Mapped.{Carried}
 use Rattle.sctp_course.specs.Acts.{Making, calm, HasNoEnd}
 use Rattle.sctp_course.specs.Course.{Side, packets_in, emitted, Turn, Calls, Gives, Refuses, as_heard, given, foreign_if, turned, MayCall, MayTurn, AreGiven, state_of}
 use Rattle.sctp_course.specs.Handing.{handed_by}
-use Rattle.sctp_course.proofs.JoinActsLemmas.{Setting, InvAt}
+use Rattle.sctp_course.proofs.JoinActsLemmas.{Setting}
 use Rattle.sctp_course.proofs.JoinKeepsLemmas.{Rules}
-use Rattle.sctp_course.proofs.CourseLemmas.{Half, setting, begins, rules_call, rules_given, or_left, Halves, swapped, none_of}
-use Rattle.sctp_course.proofs.HandingLemmas.{Hands, hands}
-use Rattle.sctp_delivery.specs.Accepted.{Offer, accepted_by, accepted_in}
+use Rattle.sctp_course.proofs.CourseLemmas.{setting, begins, rules_call, rules_given, or_left, Halves, swapped, none_of}
+use Rattle.sctp_course.proofs.HandingLemmas.{hands}
 use Rattle.sctp_delivery.specs.Windows.{Stamp, IsYoung, IsTimely, IsWithin, queue_of, numbered, stamped, resets}
-use Rattle.sctp_delivery.proofs.ClaimLemmas.{is_receiving, GoesOn, IsFlowing, SaysOut, SaysIn, first_out, first_in, SendsIn, ReceivesIn, SenderClaim, ReceiverClaim, HearsSacks, HearsData, SenderGoes, SenderPremises, ReceiverGoes, ReceiverPremises}
-use Rattle.sctp_delivery.proofs.FrameLemmas.{is_other, KeepsJoined, joined_call}
-use Rattle.sctp_delivery.proofs.WithinLemmas.{numbered_is, Holds}
-use Rattle.sctp_delivery.proofs.DirectionLemmas.{AtStamp, each_at, IsUnderWay, says_out, says_in, Stands, Flows, IsSilent}
-use Rattle.sctp_delivery.proofs.PremisesLemmas.{in_window, IsNoPacket, hears_no_sacks, hears_no_data, hears_sacks, hears_data, holds_of, sender_premises, receiver_premises, begins_out, begins_in}
-use Rattle.sctp_delivery.proofs.TurnLemmas.{after_turn, ends_out, ends_in}
+use Rattle.sctp_delivery.proofs.ClaimLemmas.{is_receiving, SaysIn, first_out, first_in, ReceivesIn, ReceiverClaim, HearsData, ReceiverGoes, ReceiverPremises}
+use Rattle.sctp_delivery.proofs.FrameLemmas.{is_other, joined_call}
+use Rattle.sctp_delivery.proofs.WithinLemmas.{Holds}
+use Rattle.sctp_delivery.proofs.DirectionLemmas.{AtStamp, each_at, IsUnderWay, says_out, Stands, Flows, IsSilent}
+use Rattle.sctp_delivery.proofs.PremisesLemmas.{IsNoPacket, hears_no_data, hears_data, receiver_premises, begins_in}
+use Rattle.sctp_delivery.proofs.TurnLemmas.{after_turn, ends_in}
 use Rattle.sctp_delivery.proofs.AccountLemmas.{accounts_still, accounts_in}
-use Rattle.sctp_delivery.proofs.GoingLemmas.{goes_places, grow_both, grow_none, none_more, is_offer, Parts, Turned, holds, counted, near, mode_back, young_now}
+use Rattle.sctp_delivery.proofs.GoingLemmas.{goes_places, grow_none, none_more, is_offer, Parts, Turned, holds, counted, near, mode_back, young_now}
 
 module _ (message : ℕ → Message) (lifecycle : ℕ → Option ℕ) (mixed : Bool) (of : Stamp → ℕ) (parts : Parts message lifecycle mixed) (o q : Options) (own : AreGiven o)
     (other : AreGiven q) (mode : mixed ≡ (agreed o q).message_interleaving) (s r : Side) (h : Halves o q s r) (quiet_s : IsSilent s) (quiet_r : IsSilent r)
@@ -145,6 +135,7 @@ module _ (message : ℕ → Message) (lifecycle : ℕ → Option ℕ) (mixed : B
           → HasNoEnd (calm (called call r.end)) → In (turned (Calls call) r s) []
       other_call call is plain may stands none =
           joined_in r.is_asked call (rules_call q o r s other own call may) is (λ z. z) none (hears_no_data message mixed (first_out (state_of s)) x call plain hold.windows) stands
+
       by_call : (call : Call) → MayCall call r → resets (Calls call) ≡ false → Stands (state_of r) (state_of (turned (Calls call) r s)) → HasNoEnd (calm (called call r.end))
           → In (turned (Calls call) r s) (handed_by (Calls call) r)
       by_call Connect may none_reset stands none = other_call Connect refl (λ p e. cc) may stands none

@@ -1,5 +1,5 @@
 -- Along a course each direction is a run of the rules, turn by turn, and at each point what became ready fits.
-use Rattle.std.proofs.Common.{◌≡◌, ℕ, ◌+◌, ◌^◌, ◌<◌, ◌≤◌, ◌||◌, not, Bool, true, false, Option, Some, None, List, [], ◌∷◌, ◌++◌, length, map, take, slice_get, refl, sym, ap, subst, ◌∙◌, append-nil, append_assoc, length-append, arith}
+use Rattle.std.proofs.Common.{◌≡◌, ℕ, ◌+◌, ◌^◌, ◌<◌, ◌||◌, not, Bool, true, false, Option, Some, None, List, [], ◌∷◌, ◌++◌, length, map, slice_get, refl, sym, ap, subst, ◌∙◌, append-nil, append_assoc, length-append, arith}
 use Rattle.std.specs.List.{list_any}
 use Rattle.sctp_serial.specs.Messages as messages
 use Rattle.sctp_packet.specs.Packet.{PacketTree}
@@ -10,19 +10,17 @@ use Rattle.sctp_rx_rules.specs.View.{ready_of}
 use Rattle.sctp_rules.specs.State.{Message, Transfer}
 use Rattle.sctp_rules.specs.Claims.{Grows}
 use Rattle.sctp_association_laws.specs.Mapped.{Carried}
-use Rattle.sctp_association.specs.Association.{State}
-use Rattle.sctp_association.specs.Calls.{ready_in}
 use Rattle.sctp_association.specs.Input.{refusal}
 use Rattle.sctp_course.specs.Course.{Side, Pair, emitted, Turn, Calls, Gives, Refuses, given, foreign_if, turned, goes, run, MayTurn, side_of, FollowsTheRules, HasNotEnded, AreGiven, state_of}
 use Rattle.sctp_course.specs.Handing.{ready_at, handed_by, handed_at, new_behind, readied}
 use Rattle.sctp_course.proofs.CourseLemmas.{Halves, swapped, before_run, goes_joined}
 use Rattle.sctp_course.proofs.HandingLemmas.{Hands, hands_at}
 use Rattle.sctp_delivery.specs.Accepted.{Offer, accepted_in, accepted_at, accepted}
-use Rattle.sctp_delivery.specs.Windows.{Stamp, stamp, Stamps, stamps_after, stamps_for, IsYoung, IsTimely, AreWithin, KeepsWindows, resets, KeepsStreams}
+use Rattle.sctp_delivery.specs.Windows.{Stamp, stamp, Stamps, stamps_after, stamps_for, IsTimely, AreWithin, KeepsWindows, resets, KeepsStreams}
 use Rattle.sctp_delivery.specs.GivenUp.{given_up_at, given_up}
 use Rattle.sctp_delivery.proofs.DirectionLemmas.{Flows, IsSilent}
 use Rattle.sctp_delivery.proofs.AccountLemmas.{Accounted}
-use Rattle.sctp_delivery.proofs.GoingLemmas.{AreOffered, Parts, Turned, grow_both, grow_none, turn_out}
+use Rattle.sctp_delivery.proofs.GoingLemmas.{AreOffered, Parts, turn_out}
 use Rattle.sctp_delivery.proofs.ComingLemmas.{turn_in}
 use Rattle.sctp_delivery.proofs.FitsLemmas.{message_of, lifecycle_of, offered_from, accepted_there, lifecycle_accepted, ready_is}
 use Rattle.sctp_delivery.proofs.DoneLemmas.{Point, point}
@@ -186,20 +184,26 @@ module _ (all : List Offer) (mixed : Bool) (parts : Parts (message_of all) (life
     where
       v : Pair
       v = goes e.0 e.1 w
+
       os : List Offer
       os = accepted_at from_a e.0 e.1 w
+
       new : List messages.Message
       new = new_behind (ready_at (side_of (not from_a) w)) (ready_at (side_of (not from_a) v))
+
       left : List ℕ
       left = given_up_at from_a e.0 e.1 w
+
       grown : d.places ≡ x.receiver.places ++ (g.0 ++ d.more)
       grown = d.grown ∙ (ap (λ (l : List ℕ). l ++ d.more) g.1 ∙ append_assoc x.receiver.places g.0 d.more)
+
       later : (s : Side) (os2 : List Offer) (ms2 : List messages.Message) (ps2 : List ℕ) → Point s ((done ++ os) ++ os2) ((ready ++ new) ++ ms2) ((gone ++ left) ++ ps2) d.places
           → Point s (done ++ (os ++ os2)) (ready ++ (new ++ ms2)) (gone ++ (left ++ ps2)) d.places
       later s os2 ms2 ps2 p =
           subst (λ (o : List Offer). Point s o (ready ++ (new ++ ms2)) (gone ++ (left ++ ps2)) d.places) (append_assoc done os os2)
           (subst (λ (m : List messages.Message). Point s ((done ++ os) ++ os2) m (gone ++ (left ++ ps2)) d.places) (append_assoc ready new ms2)
           (subst (λ (l : List ℕ). Point s ((done ++ os) ++ os2) ((ready ++ new) ++ ms2) l d.places) (append_assoc gone left ps2) p))
+
       points : (early late : List (Bool × Turn)) → (e ∷ es) ≡ early ++ late
           → Point (side_of from_a (run early w)) (done ++ accepted from_a early w) (ready ++ readied (not from_a) early w) (gone ++ given_up from_a early w) d.places
       points [] late is = here w done ready gone d.places (now d.places (g.0 ++ d.more) grown)

@@ -1,5 +1,5 @@
 -- At one point of a course: what became ready fits, and what became of the other messages.
-use Rattle.std.proofs.Common.{◌≡◌, ℕ, ◌<◌, ◌==◌, ◌||◌, not, Bool, true, false, ◌⊎◌, inl, inr, Option, Some, None, List, [], ◌∷◌, ◌++◌, length, map, take, slice_get, refl, sym, ap, subst, ◌∙◌, arith}
+use Rattle.std.proofs.Common.{◌≡◌, ℕ, ◌<◌, ◌==◌, not, Bool, true, false, inl, inr, Option, Some, None, List, [], ◌∷◌, ◌++◌, length, map, take, slice_get, refl, sym, ap, subst, ◌∙◌, arith}
 use Rattle.std.proofs.lemmas.Bool.{or_cases, or_left, or_right}
 use Rattle.std.proofs.lemmas.Bool.Decides.{nat_tests}
 use Rattle.std.proofs.lemmas.Option.{slice_get_cases}
@@ -11,14 +11,14 @@ use Rattle.sctp_rules.specs.Kept.{Kept}
 use Rattle.sctp_rules.proofs.ClaimsLemmas.{claimed}
 use Rattle.sctp_rx_rules.specs.View.{ready_of}
 use Rattle.sctp_outstanding.specs.Items.{no_items}
-use Rattle.sctp_tx_rules.specs.Led.{delivered, id_of, ids_at}
+use Rattle.sctp_tx_rules.specs.Led.{id_of, ids_at}
 use Rattle.sctp_tx_rules.proofs.RestLemmas.{rest_outgoing}
 use Rattle.sctp_association.specs.Association.{State, Closed, CookieWait, Open}
 use Rattle.sctp_course.specs.Course.{Side, state_of}
 use Rattle.sctp_delivery.specs.Accepted.{Offer}
 use Rattle.sctp_delivery.specs.GivenUp.{kept_in, IsAtRest}
 use Rattle.sctp_delivery.specs.Windows.{queue_of}
-use Rattle.sctp_delivery.specs.Delivery.{Fits, AreInOneLine, SkippedAreGivenUp, IsReady, ReportsAreTrue, AllAreDone}
+use Rattle.sctp_delivery.specs.Delivery.{Fits, SkippedAreGivenUp, ReportsAreTrue, AllAreDone}
 use Rattle.sctp_delivery.proofs.ClaimLemmas.{SendsIn}
 use Rattle.sctp_delivery.proofs.AccountLemmas.{Accounted}
 use Rattle.sctp_delivery.proofs.GoingLemmas.{message_in}

@@ -1,24 +1,22 @@
 -- Each turn of a course leaves one direction at a later state of the rules.
-use Rattle.std.proofs.Common.{◌≡◌, ◌≢◌, ℕ, ◌+◌, ◌-◌, ◌^◌, ◌<◌, ◌≤◌, ◌==◌, ◌||◌, not, Bool, true, false, Option, Some, None, List, [], ◌∷◌, ◌++◌, length, replicate, take, slice_get, All, refl, sym, ap, subst, ◌∙◌, append-nil, append_assoc, arith}
+use Rattle.std.proofs.Common.{◌≡◌, ℕ, ◌+◌, ◌-◌, ◌^◌, ◌<◌, ◌≤◌, ◌==◌, ◌||◌, not, Bool, true, false, Option, Some, None, List, [], ◌∷◌, ◌++◌, length, replicate, take, slice_get, All, refl, sym, ap, subst, ◌∙◌, append-nil, append_assoc, arith}
 use Rattle.std.specs.Prelude.{⊤}
 use Rattle.std.proofs.lemmas.List.Elements.{All-nil}
 use Rattle.sctp_serial.specs.Messages as messages
 use Rattle.sctp_packet.specs.Chunk.{ChunkTree}
 use Rattle.sctp_packet.specs.Packet.{PacketTree}
 use Rattle.sctp_state.specs.declared.api.ErrorKind.TheVariants.{ParseFailed}
-use Rattle.sctp_state.specs.Options.{Options, SendOptions}
+use Rattle.sctp_state.specs.Options.{Options}
 use Rattle.sctp_state.specs.Capabilities.{agreed}
-use Rattle.sctp_state.specs.Events.{Told, OnError, silent}
+use Rattle.sctp_state.specs.Events.{Told, OnError}
 use Rattle.sctp_state.proofs.CapabilitiesLemmas.{agreed-exchanged}
 use Rattle.sctp_send_queue.specs.Queue.{Queue}
 use Rattle.sctp_rules.specs.State.{Message, Transfer, count}
 use Rattle.sctp_rules.specs.Rules as rules
 use Rattle.sctp_rules.specs.Claims.{Grows}
 use Rattle.sctp_rules.proofs.GrowsLemmas.{one}
-use Rattle.sctp_rules.specs.Kept.{Kept}
-use Rattle.sctp_rx_rules.specs.Receives.{Receives}
 use Rattle.sctp_tx_rules.specs.Led.{recorded, is_sending, delivered}
-use Rattle.sctp_association.specs.Association.{State, Closed, CookieWait, Open, Endpoint}
+use Rattle.sctp_association.specs.Association.{State, Endpoint}
 use Rattle.sctp_association.specs.Calls.{ready_in, taken_in}
 use Rattle.sctp_association.specs.Opening.{complains}
 use Rattle.sctp_association.specs.Input.{refusal, counts, taken_if}
@@ -26,21 +24,20 @@ use Rattle.sctp_association.specs.Laws.{Call, Connect, Close, Shutdown, Send, Se
 use Rattle.sctp_association_laws.specs.Mapped.{Carried}
 use Rattle.sctp_course.specs.Acts.{Making, calm, HasNoEnd}
 use Rattle.sctp_course.specs.Course.{Side, packets_in, emitted, Turn, Calls, Gives, Refuses, as_heard, given, foreign_if, turned, MayCall, MayTurn, AreGiven, state_of}
-use Rattle.sctp_course.specs.Handing.{handed_by}
 use Rattle.sctp_course.proofs.JoinActsLemmas.{Setting, InvAt}
 use Rattle.sctp_course.proofs.JoinKeepsLemmas.{Rules}
-use Rattle.sctp_course.proofs.CourseLemmas.{Half, setting, begins, rules_call, rules_given, or_left, Halves, none_of}
-use Rattle.sctp_course.proofs.HandingLemmas.{Hands, hands}
+use Rattle.sctp_course.proofs.CourseLemmas.{setting, begins, rules_call, rules_given, or_left, Halves, none_of}
+use Rattle.sctp_course.proofs.HandingLemmas.{hands}
 use Rattle.sctp_delivery.specs.Accepted.{Offer, accepted_by, accepted_in}
 use Rattle.sctp_delivery.specs.GivenUp.{told_of, told_given, told_foreign, given_up_by}
 use Rattle.sctp_delivery.specs.Windows.{Stamp, IsYoung, IsTimely, IsWithin, queue_of, numbered, stamped, resets}
-use Rattle.sctp_delivery.proofs.ClaimLemmas.{is_receiving, GoesOn, IsFlowing, SaysOut, SaysIn, first_out, first_in, SendsIn, ReceivesIn, SenderClaim, ReceiverClaim, HearsSacks, HearsData, SenderGoes, SenderPremises, ReceiverGoes, ReceiverPremises}
+use Rattle.sctp_delivery.proofs.ClaimLemmas.{GoesOn, IsFlowing, SaysOut, first_out, first_in, SendsIn, ReceivesIn, SenderClaim, HearsSacks, SenderGoes, SenderPremises, ReceiverGoes, ReceiverPremises}
 use Rattle.sctp_delivery.proofs.FrameLemmas.{is_other, KeepsJoined, joined_call}
 use Rattle.sctp_delivery.proofs.SenderToolLemmas.{reports_none}
 use Rattle.sctp_delivery.proofs.WithinLemmas.{numbered_is, Holds}
-use Rattle.sctp_delivery.proofs.DirectionLemmas.{AtStamp, each_at, IsUnderWay, says_out, says_in, Stands, Flows, IsSilent}
-use Rattle.sctp_delivery.proofs.PremisesLemmas.{in_window, IsNoPacket, hears_no_sacks, hears_no_data, hears_sacks, hears_data, holds_of, sender_premises, receiver_premises, begins_out, begins_in}
-use Rattle.sctp_delivery.proofs.TurnLemmas.{Offers, offers_none, Stay, is_outgoing, after_turn, ends_out, ends_in}
+use Rattle.sctp_delivery.proofs.DirectionLemmas.{AtStamp, each_at, IsUnderWay, says_in, Stands, Flows, IsSilent}
+use Rattle.sctp_delivery.proofs.PremisesLemmas.{in_window, IsNoPacket, hears_no_sacks, hears_sacks, holds_of, sender_premises, begins_out}
+use Rattle.sctp_delivery.proofs.TurnLemmas.{Offers, offers_none, Stay, is_outgoing, after_turn, ends_out}
 use Rattle.sctp_delivery.proofs.AccountLemmas.{Accounted, accounts_still, accounts_out}
 
 -- ---- what becomes ready only grows
@@ -242,6 +239,7 @@ module _ (message : ℕ → Message) (lifecycle : ℕ → Option ℕ) (mixed : B
           → HasNoEnd (calm (called call s.end)) → Out (turned (Calls call) s r) 0 (given_up_by (Calls call) s r)
       other_call call is plain may stands none =
           joined_out s.is_asked call (rules_call o q s r own other call may) is (λ z. z) none (hears_no_sacks message mixed (first_in (state_of r)) x call plain holds.windows) stands
+
       by_call : (call : Call) → MayCall call s → resets (Calls call) ≡ false → AreOffered message lifecycle accepted (accepted_by call s)
           → accepted + length (accepted_by call s) < 2 ^ 32 → Stands (state_of s) (state_of (turned (Calls call) s r)) → HasNoEnd (calm (called call s.end))
           → Out (turned (Calls call) s r) (length (accepted_by call s)) (given_up_by (Calls call) s r)

@@ -37,4 +37,5 @@ pub mod ProperActsLemmas
 pub mod ProperOffersLemmas
 pub mod ProperCourseLemmas
 pub mod ProperRunLemmas
+pub mod BoundsLemmas
 pub mod SkippingLemmas

@@ -1,28 +1,26 @@
 -- Calls that offer messages: what an end says and shows as a sender, and as a receiver, after them.
-use Rattle.std.proofs.Common.{◌≡◌, ◌≢◌, ℕ, ◌+◌, ◌^◌, ◌<◌, Bool, true, false, Option, Some, None, List, [], ◌∷◌, ◌++◌, length, All, refl, sym, ap, subst, ◌∙◌, arith}
+use Rattle.std.proofs.Common.{◌≡◌, ℕ, ◌+◌, ◌^◌, ◌<◌, Bool, true, Option, List, [], ◌∷◌, length, All, refl, sym, ap, subst, ◌∙◌, arith}
 use Rattle.std.proofs.lemmas.List.Elements.{All-nil}
 use Rattle.sctp_serial.specs.Messages as messages
 use Rattle.sctp_packet.specs.Chunk.{ChunkTree}
-use Rattle.sctp_state.specs.declared.api.errors.SendError.{SendError}
 use Rattle.sctp_state.specs.Options.{SendOptions}
-use Rattle.sctp_state.specs.Events.{Told, silent}
-use Rattle.sctp_send_queue.specs.Queue.{Queue}
+use Rattle.sctp_state.specs.Events.{Told}
 use Rattle.sctp_rules.specs.State.{Message, Transfer, count}
-use Rattle.sctp_tx_rules.specs.Led.{recorded, is_sending, delivered}
-use Rattle.sctp_association.specs.Association.{State, Context, Standing, Endpoint, with_context}
+use Rattle.sctp_tx_rules.specs.Led.{recorded, delivered}
+use Rattle.sctp_association.specs.Association.{Context, Standing, Endpoint, with_context}
 use Rattle.sctp_association.specs.Sending.{send_in}
-use Rattle.sctp_association.specs.Calls.{shown_state, refusal, refusal_of, offer, offer_all, send, send_many}
+use Rattle.sctp_association.specs.Calls.{shown_state, refusal_of, offer, offer_all}
 use Rattle.sctp_association.specs.Laws.{Call, Send, SendMany, NoPacket, called}
 use Rattle.sctp_association_laws.specs.Mapped.{Carried}
 use Rattle.sctp_course.specs.Acts.{Making, idle, calm, IsHeard, alone, HasNoEnd, KeepsUntilEnd}
 use Rattle.sctp_course.specs.Course.{Side, packets_in, state_of}
 use Rattle.sctp_course.proofs.UntilLemmas.{none_before, Until, frame}
-use Rattle.sctp_course.proofs.RowActsLemmas.{placed, does_where_open}
+use Rattle.sctp_course.proofs.RowActsLemmas.{does_where_open}
 use Rattle.sctp_course.proofs.CallActsLemmas.{does_offer, does_offer_all, does_send_in, does_sent_if}
 use Rattle.sctp_course.proofs.JoinActsLemmas.{Setting, InvAt}
 use Rattle.sctp_course.proofs.JoinKeepsLemmas.{Rules}
 use Rattle.sctp_course.proofs.JoinFrameLemmas.{joins}
-use Rattle.sctp_delivery.specs.Accepted.{Offer, accepted_of, accepted_by}
+use Rattle.sctp_delivery.specs.Accepted.{accepted_of, accepted_by}
 use Rattle.sctp_delivery.specs.Windows.{queue_of}
 use Rattle.sctp_delivery.proofs.ClaimLemmas.{first_out, first_in, SaysOut, SaysIn, IsFlowing, SendsIn, SenderClaim, ReceiverClaim, HearsSacks, HearsData, SenderGoes, SenderPremises, ReceiverGoes, ReceiverPremises}
 use Rattle.sctp_delivery.proofs.FrameLemmas.{Joined, KeepsJoined}

@@ -1,5 +1,5 @@
 -- What a turn begins with: the claim that nothing is done yet, and what is heard, of packets that are under way.
-use Rattle.std.proofs.Common.{◌≡◌, ℕ, ◌+◌, ◌^◌, ◌<◌, ◌≤◌, ◌&&◌, Bool, true, false, Option, Some, inl, inr, List, [], ◌∷◌, map, slice_get, All, refl, sym, ap, subst, ◌∙◌, arith}
+use Rattle.std.proofs.Common.{◌≡◌, ℕ, ◌+◌, ◌^◌, ◌<◌, ◌≤◌, Bool, Option, inl, inr, List, [], ◌∷◌, map, All, refl, sym, ap, subst, ◌∙◌, arith}
 use Rattle.std.proofs.lemmas.Bool.{cases_lt}
 use Rattle.std.proofs.lemmas.List.Elements.{All-nil, All-cons, All-head, All-tail}
 use Rattle.sctp_serial.specs.Messages as messages
@@ -8,21 +8,21 @@ use Rattle.sctp_packet.specs.Grammar.{carried}
 use Rattle.sctp_packet.specs.Packet.{PacketTree}
 use Rattle.sctp_state.specs.Options.{Options}
 use Rattle.sctp_state.specs.Capabilities.{agreed}
-use Rattle.sctp_state.specs.Events.{Told, silent}
+use Rattle.sctp_state.specs.Events.{Told}
 use Rattle.sctp_rules.specs.State.{Message, Transfer, count}
 use Rattle.sctp_rules.specs.Kept.{Kept}
 use Rattle.sctp_rules.specs.Windows.{Windows}
-use Rattle.sctp_tx_rules.specs.Led.{given_ups, recorded, is_sending, delivered}
+use Rattle.sctp_tx_rules.specs.Led.{recorded, delivered}
 use Rattle.sctp_association.specs.Association.{State, Closed, CookieWait, Open}
 use Rattle.sctp_association.specs.Laws.{Call, Packet}
 use Rattle.sctp_association_laws.specs.Mapped.{Carried}
-use Rattle.sctp_course.specs.Acts.{Making, calm, IsHeard}
+use Rattle.sctp_course.specs.Acts.{calm, IsHeard}
 use Rattle.sctp_course.specs.Course.{Side, packets_in, as_heard, AreGiven, state_of}
 use Rattle.sctp_course.proofs.AddedLemmas.{all_at}
 use Rattle.sctp_course.proofs.JoinLemmas.{view_of, Can}
 use Rattle.sctp_course.proofs.CourseLemmas.{Half, setting}
 use Rattle.sctp_delivery.specs.Windows.{Stamp, IsWithin, queue_of}
-use Rattle.sctp_delivery.proofs.ClaimLemmas.{is_receiving, SaysOut, SaysIn, first_out, first_in, WasSaid, SendsIn, ReceivesIn, SenderClaim, ReceiverClaim, HearsSacks, HearsData, SenderPremises, ReceiverPremises}
+use Rattle.sctp_delivery.proofs.ClaimLemmas.{SaysOut, SaysIn, first_out, first_in, WasSaid, SenderClaim, ReceiverClaim, HearsSacks, HearsData, SenderPremises, ReceiverPremises}
 use Rattle.sctp_delivery.proofs.SenderToolLemmas.{reports_none}
 use Rattle.sctp_delivery.proofs.WithinLemmas.{Holds, HasMode, within}
 use Rattle.sctp_delivery.proofs.DirectionLemmas.{IsUnderWay, says_out, says_in, Flows, IsSilent}
@@ -111,6 +111,7 @@ mode_of message lifecycle mixed x q k own other s r mode h = by_state (state_of 
     by_state Closed f = tt
     by_state (CookieWait tag first t1) f = tt
     by_state (Open phase t) f = f phase t refl
+
     can_be : (phase : _) (t : _) → state_of s ≡ Open phase t → t.capabilities ≡ agreed own other
     can_be phase t e = subst (λ (z : State). Can (agreed own other) (view_of z).can) e h.stands.can
 

@@ -1,14 +1,15 @@
 -- What becomes ready at an end are messages that the other end accepted, and the others are given up or still on their way.
-use Rattle.std.specs.Prelude.{◌≡◌, ◌≢◌, ℕ, ◌^◌, ◌<◌, not, Bool, true, false, ◌⊎◌, Option, Some, option_map, List, ◌++◌, length, map, take, slice_get, slice_index}
+use Rattle.std.specs.Prelude.{◌≡◌, ◌≢◌, ℕ, ◌^◌, ◌<◌, not, Bool, true, false, ◌⊎◌, Option, Some, option_map, List, [], ◌∷◌, ◌++◌, length, map, take, slice_get, slice_index}
 use Rattle.rand_core.specs.Stream.{Stream}
 use Rattle.sctp_serial.specs.Messages.{Message}
 use Rattle.sctp_state.specs.Events.{Event}
-use Rattle.sctp_state.specs.Options.{Options}
+use Rattle.sctp_state.specs.Options.{Options, plainly}
 use Rattle.sctp_rules.specs.State.{has}
 use Rattle.sctp_tx_rules.specs.Led.{delivered}
 use Rattle.sctp_association_laws.specs.Mapped.{Carried}
 use Rattle.sctp_course.specs.Course.{Pair, Turn, run, side_of, FollowsTheRules, HasNotEnded, AreGiven, start}
-use Rattle.sctp_course.specs.Handing.{readied}
+use Rattle.sctp_course.specs.Handing.{readied, text, two_come}
+use Rattle.sctp_course.specs.Opens.{at_first}
 use Rattle.sctp_delivery.specs.Accepted.{Offer, accepted}
 use Rattle.sctp_delivery.specs.GivenUp.{given_up, IsAtRest}
 use Rattle.sctp_delivery.specs.Windows.{no_stamps, KeepsWindows, KeepsStreams}
@@ -82,3 +83,15 @@ MessagesAreDelivered =
     (a b : Options) (words_a words_b : Stream) (turns : List (Bool × Turn)) → AreGiven a → AreGiven b
     → FollowsTheRules turns (start a b words_a words_b) → HasNotEnded (run turns (start a b words_a words_b))
     → IsInBounds turns (start a b words_a words_b) → (from_a : Bool) → Delivers from_a turns (start a b words_a words_b)
+
+-- ---- such a course, computed: two messages are accepted, and become ready
+
+abbrev pub plain : (byte : ℕ) → Offer
+plain byte = record { message = text byte; options = plainly }
+
+pub record TwoAreDelivered : Type 0 where
+  pub follows : FollowsTheRules two_come at_first
+  pub not_ended : HasNotEnded (run two_come at_first)
+  pub bounds : IsInBounds two_come at_first
+  pub accepts : accepted true two_come at_first ≡ plain 97 ∷ plain 98 ∷ []
+  pub readies : readied false two_come at_first ≡ text 97 ∷ text 98 ∷ []

@@ -1,6 +1,5 @@
 -- A course, computed: of three ordered messages on one stream the second is lost, and may not be sent again.
-use Rattle.std.specs.Prelude.{◌≡◌, ℕ, ◌*◌, ◌^◌, Bool, true, false, Some, List, [], ◌∷◌, ◌++◌, map}
-use Rattle.sctp_serial.specs.Messages.{Message}
+use Rattle.std.specs.Prelude.{◌≡◌, ◌*◌, ◌^◌, Bool, true, false, Some, List, [], ◌∷◌, ◌++◌, map}
 use Rattle.sctp_state.specs.Options.{plainly}
 use Rattle.sctp_tx_rules.specs.Led.{delivered}
 use Rattle.sctp_association.specs.Laws.{Send, Advance}
@@ -23,7 +22,7 @@ one_is_lost =
 pub record OneIsSkipped : Type 0 where
   pub follows : FollowsTheRules one_is_lost at_first
   pub not_ended : HasNotEnded (run one_is_lost at_first)
-  pub in_bounds : IsInBounds one_is_lost at_first
+  pub bounds : IsInBounds one_is_lost at_first
   pub accepts : map (λ (o : Offer). o.message) (accepted true one_is_lost at_first) ≡ text 97 ∷ text 98 ∷ text 99 ∷ []
   pub readies : readied false one_is_lost at_first ≡ text 97 ∷ text 99 ∷ []
   pub gives_up : given_up true one_is_lost at_first ≡ 1 ∷ []

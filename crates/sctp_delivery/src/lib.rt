@@ -1,7 +1,7 @@
 //! What two ends deliver, along all that can happen to them: each direction of an association is a run of the transfer's rules.
 #![tactic(auto)]
 
-ghost use Rattle.sctp_delivery.specs.Delivery.{MessagesAreDelivered};
+ghost use Rattle.sctp_delivery.specs.Delivery.{MessagesAreDelivered, TwoAreDelivered};
 ghost use Rattle.sctp_delivery.specs.Proper.{AcceptancesAreAccepted, RecordsAreProper, TwoAreGivenUp};
 ghost use Rattle.sctp_delivery.specs.Skipping.{OneIsSkipped};
 
@@ -25,10 +25,13 @@ ghost use Rattle.sctp_delivery.specs.Skipping.{OneIsSkipped};
 /// - each end accepts fewer than 2^32 messages;
 /// - no stream is reset.
 ///
+/// In one such course, computed, two messages are accepted and become ready (`goes`).
+///
 /// It doesn't say that anything arrives, that a message is given up for a good reason, or anything of a peer that breaks the
 /// rules.
 pub fn messages_are_delivered()
     ensures delivered { MessagesAreDelivered }
+    ensures goes { TwoAreDelivered }
 {}
 
 /// There are such courses within these bounds. In one, computed, three messages are sent on one stream; the packet of the second is

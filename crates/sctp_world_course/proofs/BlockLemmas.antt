@@ -1,5 +1,5 @@
--- A world's log is made of blocks, one a turn of its course; and each beginning of it fits, where the course's do.
-use Rattle.std.proofs.Common.{◌≡◌, ◌⊎◌, inl, inr, ℕ, suc, Bool, true, false, Some, List, [], ◌∷◌, ◌++◌, length, take, drop, refl, sym, ap, subst, ◌∙◌, append-nil, append_assoc}
+-- A world's log is made of blocks, one a turn of its course; and what holds of each beginning of it.
+use Rattle.std.proofs.Common.{◌≡◌, ◌⊎◌, inl, inr, ℕ, suc, not, Bool, true, false, Some, List, [], ◌∷◌, ◌++◌, length, drop, refl, sym, ap, subst, ◌∙◌, append-nil, append_assoc}
 use Rattle.std.specs.Prelude.{⊤}
 use Rattle.std.specs.List.{flat_map}
 use Rattle.std.proofs.lemmas.Grind.{flat_map-append}
@@ -12,12 +12,17 @@ use Rattle.sctp_association.specs.Socket.{Association, association_in}
 use Rattle.sctp_course.specs.Course.{Side, Pair, Turn, Calls, Gives, Refuses, turned, goes, run, side_of, state_of}
 use Rattle.sctp_course.specs.Handing.{ready_at, new_behind, handed_by, handed_at, handed, readied}
 use Rattle.sctp_delivery.specs.Accepted.{Offer, accepted_at, accepted}
-use Rattle.sctp_delivery.specs.Delivery.{Fits}
-use Rattle.sctp_world.specs.Judge.{End, A, B, Entry, ready_by, ready, handed_out_by, handed_out}
+use Rattle.sctp_delivery.specs.GivenUp.{given_up_at, given_up}
+use Rattle.sctp_tx_rules.specs.Led.{delivered}
+use Rattle.sctp_association_laws.specs.Mapped.{Carried}
+use Rattle.sctp_state.specs.Events.{Event}
+use Rattle.sctp_world.specs.Judge as judge
+use Rattle.sctp_world.specs.Judge.{End, A, B, Entry, ready_by, ready, handed_out_by, handed_out, given_up_by}
 use Rattle.sctp_world_course.specs.Courses.{is_a}
-use Rattle.sctp_world_course.specs.Delivered.{offers_by, offers}
+use Rattle.sctp_world_course.specs.Delivered.{offers_by, offers, gone, reported_by, reported}
+use Rattle.sctp_world_course.proofs.WorldLemmas.{gone_more, numbers_of}
 use Rattle.sctp_world_course.proofs.TellingLemmas.{IsTold}
-use Rattle.sctp_world_course.proofs.PrefixLemmas.{one_is_longer, no_front, fits_front}
+use Rattle.sctp_world_course.proofs.PrefixLemmas.{one_is_longer, no_front}
 
 -- ---- courses, by one turn more
 
@@ -42,7 +47,13 @@ handed_more x (d ∷ es) e w =
     ap (λ (l : List Message). handed_at x d.0 d.1 w ++ l) (handed_more x es e (goes d.0 d.1 w))
     ∙ sym (append_assoc (handed_at x d.0 d.1 w) (handed x es (goes d.0 d.1 w)) (handed_at x e.0 e.1 (run es (goes d.0 d.1 w))))
 
-run_more : (es : List (Bool × Turn)) (e : Bool × Turn) (w : Pair) → run (es ++ e ∷ []) w ≡ goes e.0 e.1 (run es w)
+pub given_up_more : (x : Bool) (es : List (Bool × Turn)) (e : Bool × Turn) (w : Pair) → given_up x (es ++ e ∷ []) w ≡ given_up x es w ++ given_up_at x e.0 e.1 (run es w)
+given_up_more x [] e w = append-nil (given_up_at x e.0 e.1 w)
+given_up_more x (d ∷ es) e w =
+    ap (λ (l : List ℕ). given_up_at x d.0 d.1 w ++ l) (given_up_more x es e (goes d.0 d.1 w))
+    ∙ sym (append_assoc (given_up_at x d.0 d.1 w) (given_up x es (goes d.0 d.1 w)) (given_up_at x e.0 e.1 (run es (goes d.0 d.1 w))))
+
+pub run_more : (es : List (Bool × Turn)) (e : Bool × Turn) (w : Pair) → run (es ++ e ∷ []) w ≡ goes e.0 e.1 (run es w)
 run_more [] e w = refl
 run_more (d ∷ es) e w = run_more es e (goes d.0 d.1 w)
 
@@ -54,7 +65,7 @@ end_at false = B
 
 -- this turn's entries stand between
 abbrev pub IsBlock : (Bool × Turn) → Pair → (log longer : List Entry) → Type 0
-IsBlock e c log longer = IsTold (end_at e.0) e.1 (side_of e.0 c) (side_of e.0 (goes e.0 e.1 c)) log longer
+IsBlock e c log longer = IsTold (end_at e.0) e.1 (side_of e.0 c) (side_of (not e.0) c) (side_of e.0 (goes e.0 e.1 c)) log longer
 
 abbrev pub AreBlocks : List (Bool × Turn) → Pair → (log longer : List Entry) → Type 0
 AreBlocks [] c log longer = longer ≡ log
@@ -121,6 +132,25 @@ ready_turn x e c log mid b = more_of (ready_by x) log mid (b.first ∷ b.more) (
 handed_turn : (x : End) (e : Bool × Turn) (c : Pair) (log mid : List Entry) → IsBlock e c log mid → handed_out x mid ≡ handed_out x log ++ handed_at (is_a x) e.0 e.1 c
 handed_turn x e c log mid b = more_of (handed_out_by x) log mid (b.first ∷ b.more) (handed_at (is_a x) e.0 e.1 c) b.logged (block_handed x e c log mid b)
 
+none_more : (x : End) (log longer b : List Entry) → longer ≡ log ++ b → judge.given_up x b ≡ [] → gone x longer ≡ gone x log ++ []
+none_more x log longer b e h = gone_more x log longer b [] e (numbers_of (judge.given_up x b) [] h)
+
+gone_turn : (x : End) (e : Bool × Turn) (c : Pair) (log mid : List Entry) → IsBlock e c log mid → gone x mid ≡ gone x log ++ given_up_at (is_a x) e.0 e.1 c
+gone_turn A (true, t) c log mid b = b.gave_up
+gone_turn B (true, t) c log mid b = none_more B log mid (b.first ∷ b.more) b.logged b.none_gone
+gone_turn A (false, t) c log mid b = none_more A log mid (b.first ∷ b.more) b.logged b.none_gone
+gone_turn B (false, t) c log mid b = b.gave_up
+
+-- where it was so before
+abbrev AreReported : End → List Entry → Pair → Type 0
+AreReported x log c = reported x log ≡ delivered (side_of (is_a x) c).told
+
+reported_turn : (x : End) (e : Bool × Turn) (c : Pair) (log mid : List Entry) → IsBlock e c log mid → AreReported x log c → AreReported x mid (goes e.0 e.1 c)
+reported_turn A (true, t) c log mid b h = b.reports
+reported_turn B (true, t) c log mid b h = more_of (reported_by B) log mid (b.first ∷ b.more) [] b.logged b.none_reported ∙ (append-nil (reported B log) ∙ h)
+reported_turn A (false, t) c log mid b h = more_of (reported_by A) log mid (b.first ∷ b.more) [] b.logged b.none_reported ∙ (append-nil (reported A log) ∙ h)
+reported_turn B (false, t) c log mid b h = b.reports
+
 -- ---- whole runs
 
 joins : {X : Type 0} (last mid log rest new : List X) → last ≡ mid ++ rest → mid ≡ log ++ new → last ≡ log ++ (new ++ rest)
@@ -151,15 +181,26 @@ pub record IsReached (c : Pair) (done : List (Bool × Turn)) (log : List Entry) 
   pub offers_are : (x : End) → offers x log ≡ accepted (is_a x) done c
   pub ready_are : (x : End) → ready x log ≡ readied (is_a x) done c
   pub handed_are : (x : End) → handed_out x log ≡ handed (is_a x) done c
+  pub gone_are : (x : End) → gone x log ≡ given_up (is_a x) done c
+  pub reported_are : (x : End) → reported x log ≡ delivered (side_of (is_a x) (run done c)).told
 
-pub nothing_yet : (c : Pair) → IsReached c [] []
-nothing_yet c = record { offers_are = λ x. refl; ready_are = λ x. refl; handed_are = λ x. refl }
+-- nothing was told yet
+pub nothing_yet : (c : Pair) → ((x : Bool) → (side_of x c).told ≡ []) → IsReached c [] []
+nothing_yet c none = record {
+  offers_are = λ x. refl;
+  ready_are = λ x. refl;
+  handed_are = λ x. refl;
+  gone_are = λ x. refl;
+  reported_are = λ x. sym (ap (λ (es : List (Event Carried)). delivered es) (none (is_a x)));
+}
 
-reached_more : (c : Pair) (done : List (Bool × Turn)) (e : Bool × Turn) (log mid : List Entry) → IsReached c done log → IsBlock e (run done c) log mid → IsReached c (done ++ e ∷ []) mid
+pub reached_more : (c : Pair) (done : List (Bool × Turn)) (e : Bool × Turn) (log mid : List Entry) → IsReached c done log → IsBlock e (run done c) log mid → IsReached c (done ++ e ∷ []) mid
 reached_more c done e log mid r b = record {
   offers_are = λ x. offers_turn x e (run done c) log mid b ∙ (ap (λ (z : List Offer). z ++ accepted_at (is_a x) e.0 e.1 (run done c)) (r.offers_are x) ∙ sym (accepted_more (is_a x) done e c));
   ready_are = λ x. ready_turn x e (run done c) log mid b ∙ (ap (λ (z : List Message). z ++ readied_at (is_a x) e (run done c)) (r.ready_are x) ∙ sym (readied_more (is_a x) done e c));
   handed_are = λ x. handed_turn x e (run done c) log mid b ∙ (ap (λ (z : List Message). z ++ handed_at (is_a x) e.0 e.1 (run done c)) (r.handed_are x) ∙ sym (handed_more (is_a x) done e c));
+  gone_are = λ x. gone_turn x e (run done c) log mid b ∙ (ap (λ (z : List ℕ). z ++ given_up_at (is_a x) e.0 e.1 (run done c)) (r.gone_are x) ∙ sym (given_up_more (is_a x) done e c));
+  reported_are = λ x. reported_turn x e (run done c) log mid b (r.reported_are x) ∙ sym (ap (λ (z : Pair). delivered (side_of (is_a x) z).told) (run_more done e c));
 }
 
 -- What holds after each turn, and within each block where it holds before and behind it, holds of each beginning.
@@ -220,43 +261,32 @@ module _ (e : Bool × Turn) (d : Pair) (log mid front behind : List Entry) (b : 
   abbrev early : List Entry
   early = log ++ b.first ∷ front
 
-  whole : mid ≡ early ++ behind
+  pub whole : mid ≡ early ++ behind
   whole = b.logged ∙ (ap (λ (z : List Entry). log ++ b.first ∷ z) split ∙ sym (append_assoc log (b.first ∷ front) behind))
 
+  -- where the block says nothing
+  pub none_said : {X : Type 0} (f : Entry → List X) → flat_map f (b.first ∷ b.more) ≡ [] → (flat_map f early ≡ flat_map f log) × (flat_map f mid ≡ flat_map f early)
+  none_said {X} f quiet =
+      let both : flat_map f (b.first ∷ front) ++ flat_map f behind ≡ [] =
+      sym (flat_map-append f (b.first ∷ front) behind) ∙ (sym (ap (λ (l : List Entry). flat_map f (b.first ∷ l)) split) ∙ quiet) in (
+        flat_map-append f log (b.first ∷ front)
+            ∙ (ap (λ (z : List X). flat_map f log ++ z) (none_before (flat_map f (b.first ∷ front)) (flat_map f behind) both) ∙ append-nil (flat_map f log)),
+        ap (flat_map f) whole
+            ∙ (flat_map-append f early behind
+            ∙ (ap (λ (z : List X). flat_map f early ++ z) (none_behind (flat_map f (b.first ∷ front)) (flat_map f behind) both) ∙ append-nil (flat_map f early))),
+      )
+
   -- what stands in the first entry alone
-  all_first : {X : Type 0} (f : Entry → List X) → flat_map f b.more ≡ [] → flat_map f mid ≡ flat_map f early
+  pub all_first : {X : Type 0} (f : Entry → List X) → flat_map f b.more ≡ [] → flat_map f mid ≡ flat_map f early
   all_first {X} f quiet =
       let none : flat_map f behind ≡ [] = none_behind (flat_map f front) (flat_map f behind) (sym (flat_map-append f front behind) ∙ (sym (ap (flat_map f) split) ∙ quiet)) in
       ap (flat_map f) whole ∙ (flat_map-append f early behind ∙ (ap (λ (z : List X). flat_map f early ++ z) none ∙ append-nil (flat_map f early)))
 
-  ready_split : (y : End) → ready y mid ≡ ready y early ++ ready y behind
+  pub ready_split : (y : End) → ready y mid ≡ ready y early ++ ready y behind
   ready_split y = ap (ready y) whole ∙ flat_map-append (ready_by y) early behind
 
-  ready_before : (y : End) → ready y early ≡ ready y log ++ ready y (b.first ∷ front)
+  pub ready_before : (y : End) → ready y early ≡ ready y log ++ ready y (b.first ∷ front)
   ready_before y = flat_map-append (ready_by y) log (b.first ∷ front)
-
--- ---- what fits
-
-module _ (x y : End) (all : List (Bool × Turn)) (c : Pair) (places : List ℕ)
-    (fits : (early late : List (Bool × Turn)) → all ≡ early ++ late → Fits (accepted (is_a x) early c) (readied (is_a y) early c) (take (length (readied (is_a y) early c)) places)) where
-  abbrev FitsAt : List Entry → Type 0
-  FitsAt early = Fits (offers x early) (ready y early) (take (length (ready y early)) places)
-
-  fits_turn : (done rest : List (Bool × Turn)) (log : List Entry) → all ≡ done ++ rest → IsReached c done log → FitsAt log
-  fits_turn done rest log e r =
-      subst (λ (o : List Offer). Fits o (ready y log) (take (length (ready y log)) places)) (sym (r.offers_are x))
-      (subst (λ (m : List Message). Fits (accepted (is_a x) done c) m (take (length m) places)) (sym (r.ready_are y)) (fits done rest e))
-
-  fits_within : (e : Bool × Turn) (d : Pair) (log mid front behind : List Entry) (b : IsBlock e d log mid) → b.more ≡ front ++ behind → FitsAt mid → FitsAt (log ++ b.first ∷ front)
-  fits_within e d log mid front behind b split f =
-      let early : List Entry = log ++ b.first ∷ front in
-      fits_front (offers x early) (ready y mid) (ready y early) (ready y behind) places (ready_split e d log mid front behind b split y)
-      (subst (λ (o : List Offer). Fits o (ready y mid) (take (length (ready y mid)) places)) (all_first e d log mid front behind b split (offers_by x) (b.quiet x)) f)
-
-  pub fits_each : (log early late : List Entry) → AreBlocks all c [] log → log ≡ early ++ late → FitsAt early
-  fits_each log early late h is =
-      at_each all c FitsAt fits_turn (λ done rest e l mid front behind s r b split before f. fits_within e (run done c) l mid front behind b split f)
-      [] all [] log early late refl (nothing_yet c) h is
 
 -- ---- what was handed out is the beginning of what became ready
 
@@ -323,7 +353,7 @@ module _ (x : End) (all : List (Bool × Turn)) (c : Pair)
             subst (λ (l : List Message). Extends l (ready x early)) hands (subst (λ (l : List Message). Extends (handed_out x mid) l) same after)
       ]
 
-  pub prefix_each : (log early late : List Entry) → AreBlocks all c [] log → log ≡ early ++ late → IsPrefix early
-  prefix_each log early late h is =
-      at_each all c IsPrefix prefix_turn (λ done rest e l mid front behind s r b split before after. prefix_within e (run done c) l mid front behind b split before after)
-      [] all [] log early late refl (nothing_yet c) h is
+  pub prefix_each : (log early late : List Entry) → IsReached c [] [] → AreBlocks all c [] log → log ≡ early ++ late → IsPrefix early
+  prefix_each log early late r h is =
+      at_each all c IsPrefix prefix_turn (λ done rest e l mid front behind s before_it b split before after. prefix_within e (run done c) l mid front behind b split before after)
+      [] all [] log early late refl r h is

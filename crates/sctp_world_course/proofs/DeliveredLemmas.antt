@@ -1,5 +1,5 @@
 -- Each run of a world is made of blocks, keeps its course's windows, and delivers what its course delivers.
-use Rattle.std.proofs.Common.{◌≡◌, inl, inr, ℕ, ◌-◌, ◌<◌, ◌^◌, ◌||◌, not, Bool, true, false, Some, None, List, [], ◌∷◌, ◌++◌, length, map, take, replicate, slice_get, refl, sym, ap, subst, ◌∙◌, append-nil, arith}
+use Rattle.std.proofs.Common.{◌≡◌, inl, inr, ℕ, ◌-◌, ◌<◌, ◌^◌, ◌||◌, Bool, true, false, Some, None, List, [], ◌∷◌, ◌++◌, length, map, replicate, slice_get, refl, sym, ap, subst, ◌∙◌, append-nil, append_assoc, arith}
 use Rattle.std.specs.Prelude.{All}
 use Rattle.std.specs.List.{list_any}
 use Rattle.std.proofs.lemmas.List.{length-map, map-append}
@@ -15,26 +15,30 @@ use Rattle.sctp_association_laws.specs.Sound.{OptionsFit}
 use Rattle.sctp_rx.specs.Delivery as orders
 use Rattle.sctp_course.specs.Course as course
 use Rattle.sctp_course.specs.Course.{Pair, Turn, Calls, emitted, turned, goes, run, state_of, start, HasNotEnded, AreGiven}
-use Rattle.sctp_course.specs.Handing.{handed_by, readied}
+use Rattle.sctp_course.specs.Handing.{handed_by}
 use Rattle.sctp_course.proofs.CourseLemmas.{Halves, before_run, goes_joined}
 use Rattle.sctp_course.proofs.HandingLemmas.{hands_at, handed_prefix, first_halves}
 use Rattle.sctp_delivery.specs.Accepted.{Offer, accepted}
 use Rattle.sctp_delivery.specs.Accepted as turns
 use Rattle.sctp_delivery.specs.Windows as windows
 use Rattle.sctp_delivery.specs.Windows.{numbered, IsWithin, Stamp, Stamps, IsYoung}
-use Rattle.sctp_delivery.specs.Delivery.{Fits}
+use Rattle.sctp_delivery.specs.Delivery.{AllAreDone}
+use Rattle.sctp_delivery.specs.GivenUp.{given_up_by, given_up_at}
+use Rattle.sctp_tx_rules.specs.Led.{delivered}
 use Rattle.sctp_delivery.specs.Delivery as courses
 use Rattle.sctp_world.specs.Judge as judge
 use Rattle.sctp_world.specs.Judge.{End, A, B, same_end, all_unless, unrefused, Entry, Called, Given, Foreign, Answer, Sent, SentMany, accepted_in, accepted_by, Call, Connect, Shutdown, Close, Send, SendMany, Receive, Reset, SetPriority, SetMaxMessageSize, SetLowThreshold, HandOver, ready, handed_out}
-use Rattle.sctp_world.specs.World.{Side, World, Action, CallOf, Give, GiveForeign, TellTime, ComesTo, told, skipped, Gives, Happens, Runs, side_of, settled, news_of, clock, calls, call_entry, after_call, tells_time, time_entry, after_time, step_of, other, fresh_world}
+use Rattle.sctp_world.specs.World.{Side, World, Action, CallOf, Give, GiveForeign, TellTime, ComesTo, told, skipped, Gives, Happens, Runs, side_of, settled, news_of, clock, calls, call_entry, after_call, tells_time, time_entry, after_time, step_of, fresh_world, is_at_rest}
 use Rattle.sctp_world_course.specs.Courses.{ActionFits, IsInBytes, is_a, end_of, hearing, IsTurnOf}
-use Rattle.sctp_world_course.specs.Delivered.{SideIsWithin, AreWithin, stamp, stamped, stamps_after, IsTimely, KeepsWindows, resets, offers_in, offers_by, offers, Delivers, IsInBounds, WorldsDeliver, HandedOutIsAPrefix, OffersAreAccepted}
+use Rattle.sctp_world_course.specs.Delivered.{gone, reported, AlongRun, ready_places, SideIsWithin, AreWithin, stamp, stamped, stamps_after, IsTimely, KeepsWindows, resets, offers_in, offers_by, offers, Delivers, IsInBounds, WorldsDeliver, HandedOutIsAPrefix, OffersAreAccepted}
 use Rattle.sctp_world_course.specs.Joined.{FollowsTheRules, times_ended}
 use Rattle.sctp_world_course.proofs.WorldLemmas.{Both, Extends, extends_then, in_bytes_before, Stepped, steps}
 use Rattle.sctp_world_course.proofs.RunsLemmas.{runs_extends, happens_extends, Ran, ran, fresh_both}
 use Rattle.sctp_world_course.proofs.JoinedLemmas.{given_of, none_ended}
 use Rattle.sctp_world_course.proofs.TellingLemmas.{BeginsWith, IsTold, goes_on_told, skipped_told, call_begins, time_begins, give_begins, foreign_begins, given_accepts, given_hands, foreign_accepts, foreign_hands}
-use Rattle.sctp_world_course.proofs.BlockLemmas.{IsBlock, AreBlocks, StandsAt, Stands, offers_run, fits_each, prefix_each}
+use Rattle.sctp_world_course.proofs.BlockLemmas.{IsBlock, AreBlocks, StandsAt, Stands, run_more, offers_run, IsReached, nothing_yet, reached_more, prefix_each}
+use Rattle.sctp_world_course.proofs.PointsLemmas.{delivered_each, at_rest}
+use Rattle.sctp_world_course.proofs.ReportedLemmas.{reported_is}
 
 -- ---- one event is one block
 
@@ -54,57 +58,67 @@ time_log : (x : End) (now : ℕ) (w : World) → (tells_time x now w).log ≡ w.
 time_log A now w = refl
 time_log B now w = refl
 
-module _ (f : Carried → List ℕ) (x : End) (own next : course.Side) (w u : World) (is : (side_of x w).socket ≡ map_end f own.end) (is_next : (side_of x u).socket ≡ map_end f next.end)
-    (stands : (a : Association) → association_in (state_of own) ≡ Some a → association_in (state_of next) ≡ Some a) (turn : Turn) where
+module _ (f : Carried → List ℕ) (x : End) (own beside next : course.Side) (w u : World) (is : (side_of x w).socket ≡ map_end f own.end) (is_next : (side_of x u).socket ≡ map_end f next.end)
+    (stands : (a : Association) → association_in (state_of own) ≡ Some a → association_in (state_of next) ≡ Some a) (turn : Turn)
+    (gave_up : gone x u.log ≡ gone x w.log ++ given_up_by turn own beside) (reports : reported x u.log ≡ delivered next.told) where
   abbrev s : Endpoint (List ℕ)
   s = (side_of x w).socket
 
   goes_told : (first : Entry) → BeginsWith x turn own first → (after : Endpoint (List ℕ)) → side_of x u ≡ settled (side_of x w) after → u.log ≡ w.log ++ first ∷ news_of x (side_of x w) after
-      → IsTold x turn own next w.log u.log
-  goes_told first b after at logged = goes_on_told f x turn own next w.log u.log (side_of x w) (side_of x u) is is_next stands first b after at logged
+      → IsTold x turn own beside next w.log u.log
+  goes_told first b after at logged = goes_on_told f x turn own beside next w.log u.log (side_of x w) (side_of x u) is is_next stands gave_up reports first b after at logged
 
-  call_told : (call : Call) → turn ≡ Calls (step_of call) → u ≡ calls x call w → IsTold x turn own next w.log u.log
+  call_told : (call : Call) → turn ≡ Calls (step_of call) → u ≡ calls x call w → IsTold x turn own beside next w.log u.log
   call_told call t e =
       goes_told (call_entry x call s) (subst (λ (z : Turn). BeginsWith x z own (call_entry x call s)) (sym t) (call_begins f x own s is call)) (after_call call s)
       (ap (side_of x) e ∙ calls_side x call w) (ap (λ (z : World). z.log) e ∙ calls_log x call w)
 
-  time_told : (now : ℕ) → turn ≡ Calls (table.Advance now) → u ≡ tells_time x now w → IsTold x turn own next w.log u.log
+  time_told : (now : ℕ) → turn ≡ Calls (table.Advance now) → u ≡ tells_time x now w → IsTold x turn own beside next w.log u.log
   time_told now t e =
       goes_told (time_entry x now s) (subst (λ (z : Turn). BeginsWith x z own (time_entry x now s)) (sym t) (time_begins f x own s now)) (after_time now s)
       (ap (side_of x) e ∙ time_side x now w) (ap (λ (z : World). z.log) e ∙ time_log x now w)
 
-  give_told : (packet : ℕ) → turns.accepted_in turn own ≡ [] → handed_by turn own ≡ [] → Gives x packet w u → IsTold x turn own next w.log u.log
+  give_told : (packet : ℕ) → turns.accepted_in turn own ≡ [] → handed_by turn own ≡ [] → Gives x packet w u → IsTold x turn own beside next w.log u.log
   give_told packet h k g = goes_told (Given x (clock s) packet) (give_begins f x own turn (clock s) packet h k) g.told.after g.told.side g.told.logged
 
-  foreign_told : (bytes : List ℕ) → turns.accepted_in turn own ≡ [] → handed_by turn own ≡ [] → ComesTo x bytes (side_of x w) (side_of x u) w.log u.log → IsTold x turn own next w.log u.log
+  foreign_told : (bytes : List ℕ) → turns.accepted_in turn own ≡ [] → handed_by turn own ≡ [] → ComesTo x bytes (side_of x w) (side_of x u) w.log u.log → IsTold x turn own beside next w.log u.log
   foreign_told bytes h k (told t judged) = goes_told (Foreign x (clock s) (Some bytes)) (foreign_begins f x own turn (clock s) (Some bytes) h k) t.after t.side t.logged
   foreign_told bytes h k (skipped by is_own judged stays logged) =
-      skipped_told f x turn own next w.log u.log (side_of x w) (side_of x u) is is_next stands (Foreign x (clock s) None) (foreign_begins f x own turn (clock s) None h k) stays logged
+      skipped_told f x turn own beside next w.log u.log (side_of x w) (side_of x u) is is_next stands gave_up reports (Foreign x (clock s) None) (foreign_begins f x own turn (clock s) None h k) stays logged
 
 module _ (word_of_a word_of_b : List ℕ → ℕ) where
   block_of : (action : Action) (w u : World) (c : Pair) (turn : Turn) → Happens action w u → IsTurnOf word_of_a word_of_b action turn c → Both word_of_a word_of_b w c
       → Both word_of_a word_of_b u (goes (is_a (end_of action)) turn c) → StandsAt (is_a (end_of action)) (is_a (end_of action), turn) c
+      → ((x : End) → gone x u.log ≡ gone x w.log ++ given_up_at (is_a x) (is_a (end_of action)) turn c)
       → IsBlock (is_a (end_of action), turn) c w.log u.log
-  block_of (CallOf A call) w u c turn e is h k stands =
-      call_told (as_written word_of_a) A c.a (turned turn c.a c.b) w u h.a.image.socket k.a.image.socket stands turn call is e
-  block_of (CallOf B call) w u c turn e is h k stands =
-      call_told (as_written word_of_b) B c.b (turned turn c.b c.a) w u h.b.image.socket k.b.image.socket stands turn call is e
-  block_of (Give n A) w u c turn g is h k stands =
-      give_told (as_written word_of_a) A c.a (turned turn c.a c.b) w u h.a.image.socket k.a.image.socket stands turn n
+  block_of (CallOf A call) w u c turn e is h k stands gives_up =
+      call_told (as_written word_of_a) A c.a c.b (turned turn c.a c.b) w u h.a.image.socket k.a.image.socket stands turn (gives_up A)
+      (reported_is word_of_a A u.log u.b.packets u.a (turned turn c.a c.b) k.a) call is e
+  block_of (CallOf B call) w u c turn e is h k stands gives_up =
+      call_told (as_written word_of_b) B c.b c.a (turned turn c.b c.a) w u h.b.image.socket k.b.image.socket stands turn (gives_up B)
+      (reported_is word_of_b B u.log u.a.packets u.b (turned turn c.b c.a) k.b) call is e
+  block_of (Give n A) w u c turn g is h k stands gives_up =
+      give_told (as_written word_of_a) A c.a c.b (turned turn c.a c.b) w u h.a.image.socket k.a.image.socket stands turn (gives_up A)
+      (reported_is word_of_a A u.log u.b.packets u.a (turned turn c.a c.b) k.a) n
       (given_accepts word_of_a word_of_b n c.a c.b c.a turn is) (given_hands word_of_a word_of_b n c.a c.b c.a turn is) g
-  block_of (Give n B) w u c turn g is h k stands =
-      give_told (as_written word_of_b) B c.b (turned turn c.b c.a) w u h.b.image.socket k.b.image.socket stands turn n
+  block_of (Give n B) w u c turn g is h k stands gives_up =
+      give_told (as_written word_of_b) B c.b c.a (turned turn c.b c.a) w u h.b.image.socket k.b.image.socket stands turn (gives_up B)
+      (reported_is word_of_b B u.log u.a.packets u.b (turned turn c.b c.a) k.b) n
       (given_accepts word_of_b word_of_a n c.b c.a c.b turn is) (given_hands word_of_b word_of_a n c.b c.a c.b turn is) g
-  block_of (GiveForeign A bytes) w u c turn g is h k stands =
-      foreign_told (as_written word_of_a) A c.a (turned turn c.a c.b) w u h.a.image.socket k.a.image.socket stands turn bytes
+  block_of (GiveForeign A bytes) w u c turn g is h k stands gives_up =
+      foreign_told (as_written word_of_a) A c.a c.b (turned turn c.a c.b) w u h.a.image.socket k.a.image.socket stands turn (gives_up A)
+      (reported_is word_of_a A u.log u.b.packets u.a (turned turn c.a c.b) k.a) bytes
       (foreign_accepts bytes c.a turn is) (foreign_hands bytes c.a turn is) g.comes
-  block_of (GiveForeign B bytes) w u c turn g is h k stands =
-      foreign_told (as_written word_of_b) B c.b (turned turn c.b c.a) w u h.b.image.socket k.b.image.socket stands turn bytes
+  block_of (GiveForeign B bytes) w u c turn g is h k stands gives_up =
+      foreign_told (as_written word_of_b) B c.b c.a (turned turn c.b c.a) w u h.b.image.socket k.b.image.socket stands turn (gives_up B)
+      (reported_is word_of_b B u.log u.a.packets u.b (turned turn c.b c.a) k.b) bytes
       (foreign_accepts bytes c.b turn is) (foreign_hands bytes c.b turn is) g.comes
-  block_of (TellTime A now) w u c turn e is h k stands =
-      time_told (as_written word_of_a) A c.a (turned turn c.a c.b) w u h.a.image.socket k.a.image.socket stands turn now is e
-  block_of (TellTime B now) w u c turn e is h k stands =
-      time_told (as_written word_of_b) B c.b (turned turn c.b c.a) w u h.b.image.socket k.b.image.socket stands turn now is e
+  block_of (TellTime A now) w u c turn e is h k stands gives_up =
+      time_told (as_written word_of_a) A c.a c.b (turned turn c.a c.b) w u h.a.image.socket k.a.image.socket stands turn (gives_up A)
+      (reported_is word_of_a A u.log u.b.packets u.a (turned turn c.a c.b) k.a) now is e
+  block_of (TellTime B now) w u c turn e is h k stands gives_up =
+      time_told (as_written word_of_b) B c.b c.a (turned turn c.b c.a) w u h.b.image.socket k.b.image.socket stands turn (gives_up B)
+      (reported_is word_of_b B u.log u.a.packets u.b (turned turn c.b c.a) k.b) now is e
 
   -- ---- windows
 
@@ -215,10 +229,20 @@ module _ (word_of_a word_of_b : List ℕ → ℕ) where
 
   -- ---- whole runs
 
+  -- a world at which so many of the turns have been
+  pub record IsPoint (all : List (Bool × Turn)) (first : Pair) (u : World) : Type 0 where
+    pub early : List (Bool × Turn)
+    pub late : List (Bool × Turn)
+    pub split : all ≡ early ++ late
+    pub reached : IsReached first early u.log
+    pub both : Both word_of_a word_of_b u (run early first)
+
   pub record Delivering (actions : List Action) (w v : World) (c : Pair) (runs : Runs actions w v) (turns : List (Bool × Turn)) : Type 0 where
     pub blocks : Stands turns c → AreBlocks turns c w.log v.log
     pub windows_kept : (s : Stamps) → KeepsWindows actions w v runs s → windows.KeepsWindows turns c s
     pub streams : list_any (λ (e : Bool × Turn). windows.resets e.1) turns ≡ list_any resets actions
+    pub points : (all done : List (Bool × Turn)) (first : Pair) → all ≡ done ++ turns → run done first ≡ c → Stands turns c → IsReached first done w.log
+        → AlongRun (IsPoint all first) actions w v runs
 
   pub delivering : (actions : List Action) (w v : World) (c : Pair) (fit : All ActionFits actions) (r : Runs actions w v) (small : IsInBytes v) (h : Both word_of_a word_of_b w c)
       → Delivering actions w v c r (ran word_of_a word_of_b actions w v c fit r small h).turns
@@ -227,6 +251,8 @@ module _ (word_of_a word_of_b : List ℕ → ℕ) where
     blocks = λ s. ap (λ (z : World). z.log) r;
     windows_kept = λ s k. are_within w c h k;
     streams = refl;
+    points = λ all done first split is s reached.
+        record { early = done; late = []; split = split; reached = reached; both = subst (Both word_of_a word_of_b w) (sym is) h };
   }
   delivering (action ∷ actions) w v c fit r small h =
       let u : World = r.0 in
@@ -234,22 +260,34 @@ module _ (word_of_a word_of_b : List ℕ → ℕ) where
       let first : Extends w u = happens_extends action w u r.1 in
       let step : Stepped word_of_a word_of_b action w u c =
       steps word_of_a word_of_b action w u c (All-head ActionFits action actions fit) (in_bytes_before w v (extends_then w u v first later) small) r.1 h in
-      let at : Bool = is_a (end_of action) in
-      let d : Pair = goes at step.turn c in
+      let at_end : Bool = is_a (end_of action) in
+      let d : Pair = goes at_end step.turn c in
+      let rest_turns : List (Bool × Turn) = (ran word_of_a word_of_b actions u v d (All-tail ActionFits action actions fit) r.2 small step.both).turns in
       let rest = delivering actions u v d (All-tail ActionFits action actions fit) r.2 small step.both in
       record {
-        blocks = λ s. (u.log, block_of action w u c step.turn r.1 step.is h step.both s.0, rest.blocks s.1);
+        blocks = λ s. (u.log, block_of action w u c step.turn r.1 step.is h step.both s.0 step.gone, rest.blocks s.1);
         windows_kept = λ s k. (
           are_within w c h k.0,
           timely action w c step.turn s h step.is k.1,
-          rest.windows_kept (windows.stamps_after at step.turn c s)
-              (subst (λ (z : Stamps). KeepsWindows actions u v r.2 z) (stamps_same at step.turn w u c s h step.both) k.2),
+          rest.windows_kept (windows.stamps_after at_end step.turn c s)
+              (subst (λ (z : Stamps). KeepsWindows actions u v r.2 z) (stamps_same at_end step.turn w u c s h step.both) k.2),
         );
         streams = both_any (turn_resets action step.turn c step.is) rest.streams;
+        points = λ all done first split is s reached.
+            let e : Bool × Turn = (at_end, step.turn) in
+            let b : IsBlock e c w.log u.log = block_of action w u c step.turn r.1 step.is h step.both s.0 step.gone in (
+              record { early = done; late = e ∷ rest_turns; split = split; reached = reached; both = subst (Both word_of_a word_of_b w) (sym is) h },
+              rest.points all (done ++ e ∷ []) first (split ∙ sym (append_assoc done (e ∷ []) rest_turns)) (run_more done e first ∙ ap (goes at_end step.turn) is) s.1
+                  (reached_more first done e w.log u.log reached (subst (λ (z : Pair). IsBlock e z w.log u.log) (sym is) b)),
+            );
       }
     where
       both_any : {p q x y : Bool} → p ≡ q → x ≡ y → (p || x) ≡ (q || y)
       both_any {p} {q} {x} {y} e f = ap (λ (z : Bool). z || x) e ∙ ap (λ (z : Bool). q || z) f
+
+along_each : (P Q : World → Type 0) → ((u : World) → P u → Q u) → (actions : List Action) (w v : World) (r : Runs actions w v) → AlongRun P actions w v r → AlongRun Q actions w v r
+along_each P Q f [] w v r h = f w h
+along_each P Q f (action ∷ actions) w v r h = (f w h.0, along_each P Q f actions r.0 v r.2 h.1)
 
 -- ---- an association that stands is not replaced
 
@@ -278,10 +316,6 @@ not_ended_front es fs c h = before_run fs (run es c) (subst HasNotEnded (run_bot
 
 -- ---- the laws
 
-is_a_other : (x : End) → is_a (other x) ≡ not (is_a x)
-is_a_other A = refl
-is_a_other B = refl
-
 module _ (a b : Options) (words_a words_b : Stream) (word_of_a word_of_b : List ℕ → ℕ) (actions : List Action) (w : World)
     (valid_a : IsValid a) (valid_b : IsValid b) (fits_a : OptionsFit a) (fits_b : OptionsFit b) (fit : All ActionFits actions)
     (runs : Runs actions (fresh_world a b words_a words_b word_of_a word_of_b) w) (small : IsInBytes w) (rules : FollowsTheRules w) (none : (x : End) → times_ended x w.log ≡ 0) where
@@ -309,8 +343,11 @@ module _ (a b : Options) (words_a words_b : Stream) (word_of_a word_of_b : List 
     b = none_ended word_of_b B w.log w.a.packets w.b (run r.turns first_pair).b r.both.b (none B);
   }
 
+  stand : Stands r.turns first_pair
+  stand = stands_along a b own theirs r.turns first_pair (r.follows rules) not_ended (first_halves a b words_a words_b)
+
   blocks : AreBlocks r.turns first_pair [] w.log
-  blocks = d.blocks (stands_along a b own theirs r.turns first_pair (r.follows rules) not_ended (first_halves a b words_a words_b))
+  blocks = d.blocks stand
 
   offered : (x : End) → offers x w.log ≡ accepted (is_a x) r.turns first_pair
   offered x = offers_run x r.turns first_pair [] w.log blocks
@@ -326,15 +363,26 @@ module _ (a b : Options) (words_a words_b : Stream) (word_of_a word_of_b : List 
       few_at true = subst (λ (l : List Offer). length l < 2 ^ 32) (offered A) (k.few A)
       few_at false = subst (λ (l : List Offer). length l < 2 ^ 32) (offered B) (k.few B)
 
-  pub delivers : courses.MessagesAreDelivered → IsInBounds actions first_world w runs → (x : End) → Delivers x w.log
+  reached : IsReached first_pair [] []
+  reached = nothing_yet first_pair nothing
+    where
+      nothing : (x : Bool) → (course.side_of x first_pair).told ≡ []
+      nothing true = refl
+      nothing false = refl
+
+  pub delivers : courses.MessagesAreDelivered → IsInBounds actions first_world w runs → (x : End) → Delivers x actions first_world w runs
   delivers law k x =
       let from : courses.Delivers (is_a x) r.turns first_pair = law a b words_a words_b r.turns own theirs (r.follows rules) not_ended (bounds k) (is_a x) in
       record {
         places = from.places;
-        fits = λ early late e. fits_each x (other x) r.turns first_pair from.places
-            (λ before behind s. subst (λ (z : Bool). Fits (accepted (is_a x) before first_pair) (readied z before first_pair) (take (length (readied z before first_pair)) from.places))
-            (sym (is_a_other x)) (from.fits before behind s))
-            w.log early late blocks e;
+        fits = λ early late e. (delivered_each x r.turns first_pair from w.log early late reached blocks e).fits;
+        skipped = λ early late e. (delivered_each x r.turns first_pair from w.log early late reached blocks e).skipped;
+        reports = λ early late e. (delivered_each x r.turns first_pair from w.log early late reached blocks e).reports;
+        rest =
+            along_each (IsPoint word_of_a word_of_b r.turns first_pair)
+            (λ u. is_at_rest x u ≡ true → AllAreDone (offers x u.log) (gone x u.log) (ready_places x u.log from.places))
+            (λ u p. at_rest word_of_a word_of_b x r.turns first_pair from p.early p.late u p.split p.reached p.both)
+            actions first_world w runs (d.points r.turns [] first_pair refl refl stand reached);
       }
 
   pub prefix : (x : End) (early late : List Entry) → w.log ≡ early ++ late → orders.Extends (handed_out x early) (ready x early)
@@ -344,7 +392,7 @@ module _ (a b : Options) (words_a words_b : Stream) (word_of_a word_of_b : List 
       let follows : course.FollowsTheRules (before ++ behind) first_pair = subst (λ (l : List (Bool × Turn)). course.FollowsTheRules l first_pair) s (r.follows rules) in
       let none_yet : HasNotEnded (run (before ++ behind) first_pair) = subst (λ (l : List (Bool × Turn)). HasNotEnded (run l first_pair)) s not_ended in
       handed_prefix a b words_a words_b before own theirs (follows_front before behind first_pair follows) (not_ended_front before behind first_pair none_yet) (is_a x))
-      w.log early late blocks is
+      w.log early late reached blocks is
 
 pub worlds_deliver : courses.MessagesAreDelivered → WorldsDeliver
 worlds_deliver law a b words_a words_b word_of_a word_of_b actions w valid_a valid_b fits_a fits_b fit runs small rules none k =

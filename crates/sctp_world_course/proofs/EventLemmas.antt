@@ -86,7 +86,7 @@ entries_both x n (OnLifecycleMessageExpired id ∷ es) fs = ap (λ (l : List Ent
 entries_both x n (OnLifecycleMessageDelivered id ∷ es) fs = ap (λ (l : List Entry). Happened x (OnLifecycleMessageDelivered id) ∷ l) (entries_both x n es fs)
 entries_both x n (OnLifecycleEnd id ∷ es) fs = ap (λ (l : List Entry). Happened x (OnLifecycleEnd id) ∷ l) (entries_both x n es fs)
 
-same_itself : (x : End) → same_end x x ≡ true
+pub same_itself : (x : End) → same_end x x ≡ true
 same_itself A = refl
 same_itself B = refl
 

@@ -7,8 +7,11 @@ pub mod RunsLemmas
 pub mod JoinedLemmas
 pub mod FollowsLemmas
 pub mod LoggedLemmas
+pub mod ReportedLemmas
 pub mod TellingLemmas
 pub mod PrefixLemmas
+pub mod BetweenLemmas
 pub mod BlockLemmas
+pub mod PointsLemmas
 pub mod DeliveredLemmas
 pub mod ComposedLemmas

@@ -1,5 +1,5 @@
--- What the log says of messages is what the course says of them: those that were accepted, became ready, were handed out.
-use Rattle.std.proofs.Common.{◌≡◌, ℕ, ◌+◌, ◌<◌, ◌==◌, ◌||◌, Bool, true, false, Option, Some, None, List, [], ◌∷◌, ◌++◌, map, take, drop, refl, ap, ◌∙◌, arith}
+-- What the log says of messages is what the course says of them: those that were accepted, became ready, were handed out, given up.
+use Rattle.std.proofs.Common.{◌≡◌, ℕ, ◌+◌, ◌<◌, ◌==◌, ◌||◌, Bool, true, false, Option, Some, None, List, [], ◌∷◌, ◌++◌, map, take, drop, refl, ap, ◌∙◌, append-nil, arith}
 use Rattle.std.specs.List.{flat_map, list_any}
 use Rattle.std.proofs.lemmas.Grind.{flat_map-append}
 use Rattle.std.proofs.lemmas.Bool.Decides.{nat_tests}
@@ -14,52 +14,62 @@ use Rattle.sctp_association.specs.Calls.{refusal, refusals, with_refusal, queued
 use Rattle.sctp_association.specs.Socket.{Association}
 use Rattle.sctp_association_laws.specs.Mapped.{Carried}
 use Rattle.sctp_delivery.specs.Accepted.{Offer, unless_refused, accepted_of}
-use Rattle.sctp_world.specs.Judge.{End, same_end, same_association, none_unless, some_unless, unrefused, Send, Sent, Received, Entry, Associated, Emitted, Happened, GaveUp, BecameReady, ready_by, handed_out_in, handed_out_by}
+use Rattle.sctp_tx_rules.specs.Led.{delivered_by}
+use Rattle.sctp_world.specs.Judge.{End, same_end, same_association, none_unless, all_unless, some_unless, unrefused, Send, Sent, Received, Entry, Associated, Emitted, Happened, GaveUp, BecameReady, ready_by, handed_out_in, handed_out_by, given_up_by, given_up}
 use Rattle.sctp_world.specs.World.{association, ready_at, associated_if, association_entries, ready_before, ready_entries, gone_entries, told_entries, news}
-use Rattle.sctp_world_course.specs.Delivered.{offers_in, offers_by}
+use Rattle.sctp_world_course.specs.Delivered.{offers_in, offers_by, reported_by}
 
 -- ---- what an event adds behind its first entry
 
--- such entries say nothing of it
-pub record IsQuietOn {X : Type 0} (f : Entry → List X) : Type 0 where
-  pub associated : (y : End) (a : Option Association) → f (Associated y a) ≡ []
-  pub emitted : (y : End) (n : ℕ) → f (Emitted y n) ≡ []
-  pub happened : (y : End) (e : Event (List ℕ)) → f (Happened y e) ≡ []
-  pub gave_up : (y : End) (g : GivenUp) → f (GaveUp y g) ≡ []
+-- of this end's events, such entries say nothing of it
+pub record IsQuietOnTold {X : Type 0} (f : Entry → List X) (y : End) : Type 0 where
+  pub associated : (a : Option Association) → f (Associated y a) ≡ []
+  pub emitted : (n : ℕ) → f (Emitted y n) ≡ []
+  pub happened : (e : Event (List ℕ)) → f (Happened y e) ≡ []
 
-module _ {X : Type 0} (f : Entry → List X) (q : IsQuietOn f) (y : End) where
+pub record IsQuietOn {X : Type 0} (f : Entry → List X) (y : End) : Type 0 where
+  pub telling : IsQuietOnTold f y
+  pub gave_up : (g : GivenUp) → f (GaveUp y g) ≡ []
+
+module _ {X : Type 0} (f : Entry → List X) (y : End) where
   one_more : (e : Entry) (l : List Entry) → f e ≡ [] → flat_map f l ≡ [] → flat_map f (e ∷ l) ≡ []
   one_more e l h k = ap (λ (z : List X). z ++ flat_map f l) h ∙ k
 
-  none_associated : (b : Bool) (a : Option Association) → flat_map f (associated_if b y a) ≡ []
+  pub behind_none : (k l : List Entry) → flat_map f k ≡ [] → flat_map f (k ++ l) ≡ flat_map f l
+  behind_none k l h = flat_map-append f k l ∙ ap (λ (z : List X). z ++ flat_map f l) h
+
+  pub none_ready : ((m : Message) → f (BecameReady y m) ≡ []) → (ms : List Message) → flat_map f (map (BecameReady y) ms) ≡ []
+  none_ready h [] = refl
+  none_ready h (m ∷ ms) = one_more (BecameReady y m) (map (BecameReady y) ms) (h m) (none_ready h ms)
+
+module _ {X : Type 0} (f : Entry → List X) (y : End) (q : IsQuietOnTold f y) where
+  pub none_associated : (b : Bool) (a : Option Association) → flat_map f (associated_if b y a) ≡ []
   none_associated true a = refl
-  none_associated false a = one_more (Associated y a) [] (q.associated y a) refl
+  none_associated false a = one_more f y (Associated y a) [] (q.associated a) refl
 
-  none_told : (n : ℕ) (es : List (Event (List ℕ))) → flat_map f (told_entries y n es) ≡ []
+  pub none_told : (n : ℕ) (es : List (Event (List ℕ))) → flat_map f (told_entries y n es) ≡ []
   none_told n [] = refl
-  none_told n (SendPacket p ∷ es) = one_more (Emitted y n) (told_entries y (n + 1) es) (q.emitted y n) (none_told (n + 1) es)
-  none_told n (OnConnected ∷ es) = one_more (Happened y OnConnected) (told_entries y n es) (q.happened y OnConnected) (none_told n es)
-  none_told n (OnClosed ∷ es) = one_more (Happened y OnClosed) (told_entries y n es) (q.happened y OnClosed) (none_told n es)
-  none_told n (OnConnectionRestarted ∷ es) = one_more (Happened y OnConnectionRestarted) (told_entries y n es) (q.happened y OnConnectionRestarted) (none_told n es)
-  none_told n (OnAborted kind text ∷ es) = one_more (Happened y (OnAborted kind text)) (told_entries y n es) (q.happened y (OnAborted kind text)) (none_told n es)
-  none_told n (OnError kind text ∷ es) = one_more (Happened y (OnError kind text)) (told_entries y n es) (q.happened y (OnError kind text)) (none_told n es)
-  none_told n (OnBufferedAmountLow id ∷ es) = one_more (Happened y (OnBufferedAmountLow id)) (told_entries y n es) (q.happened y (OnBufferedAmountLow id)) (none_told n es)
-  none_told n (OnTotalBufferedAmountLow ∷ es) = one_more (Happened y OnTotalBufferedAmountLow) (told_entries y n es) (q.happened y OnTotalBufferedAmountLow) (none_told n es)
-  none_told n (OnStreamsResetFailed ids ∷ es) = one_more (Happened y (OnStreamsResetFailed ids)) (told_entries y n es) (q.happened y (OnStreamsResetFailed ids)) (none_told n es)
-  none_told n (OnStreamsResetPerformed ids ∷ es) = one_more (Happened y (OnStreamsResetPerformed ids)) (told_entries y n es) (q.happened y (OnStreamsResetPerformed ids)) (none_told n es)
-  none_told n (OnIncomingStreamReset ids ∷ es) = one_more (Happened y (OnIncomingStreamReset ids)) (told_entries y n es) (q.happened y (OnIncomingStreamReset ids)) (none_told n es)
-  none_told n (OnLifecycleMessageFullySent id ∷ es) = one_more (Happened y (OnLifecycleMessageFullySent id)) (told_entries y n es) (q.happened y (OnLifecycleMessageFullySent id)) (none_told n es)
-  none_told n (OnLifecycleMessageMaybeExpired id ∷ es) = one_more (Happened y (OnLifecycleMessageMaybeExpired id)) (told_entries y n es) (q.happened y (OnLifecycleMessageMaybeExpired id)) (none_told n es)
-  none_told n (OnLifecycleMessageExpired id ∷ es) = one_more (Happened y (OnLifecycleMessageExpired id)) (told_entries y n es) (q.happened y (OnLifecycleMessageExpired id)) (none_told n es)
-  none_told n (OnLifecycleMessageDelivered id ∷ es) = one_more (Happened y (OnLifecycleMessageDelivered id)) (told_entries y n es) (q.happened y (OnLifecycleMessageDelivered id)) (none_told n es)
-  none_told n (OnLifecycleEnd id ∷ es) = one_more (Happened y (OnLifecycleEnd id)) (told_entries y n es) (q.happened y (OnLifecycleEnd id)) (none_told n es)
+  none_told n (SendPacket p ∷ es) = one_more f y (Emitted y n) (told_entries y (n + 1) es) (q.emitted n) (none_told (n + 1) es)
+  none_told n (OnConnected ∷ es) = one_more f y (Happened y OnConnected) (told_entries y n es) (q.happened OnConnected) (none_told n es)
+  none_told n (OnClosed ∷ es) = one_more f y (Happened y OnClosed) (told_entries y n es) (q.happened OnClosed) (none_told n es)
+  none_told n (OnConnectionRestarted ∷ es) = one_more f y (Happened y OnConnectionRestarted) (told_entries y n es) (q.happened OnConnectionRestarted) (none_told n es)
+  none_told n (OnAborted kind text ∷ es) = one_more f y (Happened y (OnAborted kind text)) (told_entries y n es) (q.happened (OnAborted kind text)) (none_told n es)
+  none_told n (OnError kind text ∷ es) = one_more f y (Happened y (OnError kind text)) (told_entries y n es) (q.happened (OnError kind text)) (none_told n es)
+  none_told n (OnBufferedAmountLow id ∷ es) = one_more f y (Happened y (OnBufferedAmountLow id)) (told_entries y n es) (q.happened (OnBufferedAmountLow id)) (none_told n es)
+  none_told n (OnTotalBufferedAmountLow ∷ es) = one_more f y (Happened y OnTotalBufferedAmountLow) (told_entries y n es) (q.happened OnTotalBufferedAmountLow) (none_told n es)
+  none_told n (OnStreamsResetFailed ids ∷ es) = one_more f y (Happened y (OnStreamsResetFailed ids)) (told_entries y n es) (q.happened (OnStreamsResetFailed ids)) (none_told n es)
+  none_told n (OnStreamsResetPerformed ids ∷ es) = one_more f y (Happened y (OnStreamsResetPerformed ids)) (told_entries y n es) (q.happened (OnStreamsResetPerformed ids)) (none_told n es)
+  none_told n (OnIncomingStreamReset ids ∷ es) = one_more f y (Happened y (OnIncomingStreamReset ids)) (told_entries y n es) (q.happened (OnIncomingStreamReset ids)) (none_told n es)
+  none_told n (OnLifecycleMessageFullySent id ∷ es) = one_more f y (Happened y (OnLifecycleMessageFullySent id)) (told_entries y n es) (q.happened (OnLifecycleMessageFullySent id)) (none_told n es)
+  none_told n (OnLifecycleMessageMaybeExpired id ∷ es) = one_more f y (Happened y (OnLifecycleMessageMaybeExpired id)) (told_entries y n es) (q.happened (OnLifecycleMessageMaybeExpired id)) (none_told n es)
+  none_told n (OnLifecycleMessageExpired id ∷ es) = one_more f y (Happened y (OnLifecycleMessageExpired id)) (told_entries y n es) (q.happened (OnLifecycleMessageExpired id)) (none_told n es)
+  none_told n (OnLifecycleMessageDelivered id ∷ es) = one_more f y (Happened y (OnLifecycleMessageDelivered id)) (told_entries y n es) (q.happened (OnLifecycleMessageDelivered id)) (none_told n es)
+  none_told n (OnLifecycleEnd id ∷ es) = one_more f y (Happened y (OnLifecycleEnd id)) (told_entries y n es) (q.happened (OnLifecycleEnd id)) (none_told n es)
 
+module _ {X : Type 0} (f : Entry → List X) (y : End) (q : IsQuietOn f y) where
   none_gone : (gs : List GivenUp) → flat_map f (gone_entries y gs) ≡ []
   none_gone [] = refl
-  none_gone (g ∷ gs) = one_more (GaveUp y g) (gone_entries y gs) (q.gave_up y g) (none_gone gs)
-
-  behind_none : (k l : List Entry) → flat_map f k ≡ [] → flat_map f (k ++ l) ≡ flat_map f l
-  behind_none k l h = flat_map-append f k l ∙ ap (λ (z : List X). z ++ flat_map f l) h
+  none_gone (g ∷ gs) = one_more f y (GaveUp y g) (gone_entries y gs) (q.gave_up g) (none_gone gs)
 
   -- so all that counts are the messages that became ready
   pub in_news : (n ready : ℕ) (old : Option Association) (s : Endpoint (List ℕ))
@@ -68,27 +78,33 @@ module _ {X : Type 0} (f : Entry → List X) (q : IsQuietOn f) (y : End) where
       let last : List Entry = ready_entries y (ready_before (same_association old (association s)) ready) (ready_at s) in
       let gone : List Entry = gone_entries y s.standing.context.told.gone in
       let told : List Entry = told_entries y n s.standing.context.told.events in
-      behind_none (association_entries y old (association s)) (told ++ (gone ++ last)) (none_associated (same_association old (association s)) (association s))
-      ∙ (behind_none told (gone ++ last) (none_told n s.standing.context.told.events) ∙ behind_none gone last (none_gone s.standing.context.told.gone))
-
-  none_ready : ((m : Message) → f (BecameReady y m) ≡ []) → (ms : List Message) → flat_map f (map (BecameReady y) ms) ≡ []
-  none_ready h [] = refl
-  none_ready h (m ∷ ms) = one_more (BecameReady y m) (map (BecameReady y) ms) (h m) (none_ready h ms)
+      behind_none f y (association_entries y old (association s)) (told ++ (gone ++ last)) (none_associated f y q.telling (same_association old (association s)) (association s))
+      ∙ (behind_none f y told (gone ++ last) (none_told f y q.telling n s.standing.context.told.events) ∙ behind_none f y gone last (none_gone s.standing.context.told.gone))
 
   pub none_in_news : ((m : Message) → f (BecameReady y m) ≡ []) → (n ready : ℕ) (old : Option Association) (s : Endpoint (List ℕ))
       → flat_map f (news y n ready old s) ≡ []
-  none_in_news h n ready old s = in_news n ready old s ∙ none_ready h (drop (ready_before (same_association old (association s)) ready) (ready_at s))
+  none_in_news h n ready old s = in_news n ready old s ∙ none_ready f y h (drop (ready_before (same_association old (association s)) ready) (ready_at s))
 
--- ---- the four readings of the log
+-- ---- readings of the log
 
-pub quiet_offers : (x : End) → IsQuietOn (offers_by x)
-quiet_offers x = record { associated = λ y a. refl; emitted = λ y n. refl; happened = λ y e. refl; gave_up = λ y g. refl }
+pub quiet_offers : (x y : End) → IsQuietOn (offers_by x) y
+quiet_offers x y = record { telling = record { associated = λ a. refl; emitted = λ n. refl; happened = λ e. refl }; gave_up = λ g. refl }
 
-pub quiet_ready : (x : End) → IsQuietOn (ready_by x)
-quiet_ready x = record { associated = λ y a. refl; emitted = λ y n. refl; happened = λ y e. refl; gave_up = λ y g. refl }
+pub quiet_ready : (x y : End) → IsQuietOn (ready_by x) y
+quiet_ready x y = record { telling = record { associated = λ a. refl; emitted = λ n. refl; happened = λ e. refl }; gave_up = λ g. refl }
 
-pub quiet_handed : (x : End) → IsQuietOn (handed_out_by x)
-quiet_handed x = record { associated = λ y a. refl; emitted = λ y n. refl; happened = λ y e. refl; gave_up = λ y g. refl }
+pub quiet_handed : (x y : End) → IsQuietOn (handed_out_by x) y
+quiet_handed x y = record { telling = record { associated = λ a. refl; emitted = λ n. refl; happened = λ e. refl }; gave_up = λ g. refl }
+
+-- of what an end tells, the other one gave up and reported nothing
+pub quiet_gone : (x y : End) → same_end x y ≡ false → IsQuietOn (given_up_by x) y
+quiet_gone x y h = record { telling = record { associated = λ a. refl; emitted = λ n. refl; happened = λ e. refl }; gave_up = λ g. ap (λ (b : Bool). none_unless b g) h }
+
+pub quiet_reported : (x y : End) → same_end x y ≡ false → IsQuietOn (reported_by x) y
+quiet_reported x y h = record {
+  telling = record { associated = λ a. refl; emitted = λ n. refl; happened = λ e. ap (λ (b : Bool). all_unless b (delivered_by e)) h };
+  gave_up = λ g. refl;
+}
 
 ready_own : (x : End) → same_end x x ≡ true → (ms : List Message) → flat_map (ready_by x) (map (BecameReady x) ms) ≡ ms
 ready_own x h [] = refl
@@ -101,11 +117,30 @@ ready_other x y h m = ap (λ (b : Bool). none_unless b m) h
 pub ready_news : (x : End) → same_end x x ≡ true → (n ready : ℕ) (old : Option Association) (s : Endpoint (List ℕ))
     → flat_map (ready_by x) (news x n ready old s) ≡ drop (ready_before (same_association old (association s)) ready) (ready_at s)
 ready_news x h n ready old s =
-    in_news (ready_by x) (quiet_ready x) x n ready old s ∙ ready_own x h (drop (ready_before (same_association old (association s)) ready) (ready_at s))
+    in_news (ready_by x) x (quiet_ready x x) n ready old s ∙ ready_own x h (drop (ready_before (same_association old (association s)) ready) (ready_at s))
 
 pub ready_news_other : (x y : End) → same_end x y ≡ false → (n ready : ℕ) (old : Option Association) (s : Endpoint (List ℕ))
     → flat_map (ready_by x) (news y n ready old s) ≡ []
-ready_news_other x y h n ready old s = none_in_news (ready_by x) (quiet_ready x) y (ready_other x y h) n ready old s
+ready_news_other x y h n ready old s = none_in_news (ready_by x) y (quiet_ready x y) (ready_other x y h) n ready old s
+
+-- what was given up is told once
+gone_own : (x : End) → same_end x x ≡ true → (gs : List GivenUp) → given_up x (gone_entries x gs) ≡ gs
+gone_own x h [] = refl
+gone_own x h (g ∷ gs) = ap (λ (b : Bool). none_unless b g ++ given_up x (gone_entries x gs)) h ∙ ap (λ (z : List GivenUp). g ∷ z) (gone_own x h gs)
+
+pub gone_news : (x : End) → same_end x x ≡ true → (n ready : ℕ) (old : Option Association) (s : Endpoint (List ℕ))
+    → given_up x (news x n ready old s) ≡ s.standing.context.told.gone
+gone_news x h n ready old s =
+    let last : List Entry = ready_entries x (ready_before (same_association old (association s)) ready) (ready_at s) in
+    let gone : List Entry = gone_entries x s.standing.context.told.gone in
+    let told : List Entry = told_entries x n s.standing.context.told.events in
+    let quiet : IsQuietOnTold (given_up_by x) x = record { associated = λ a. refl; emitted = λ k. refl; happened = λ e. refl } in
+    behind_none (given_up_by x) x (association_entries x old (association s)) (told ++ (gone ++ last))
+    (none_associated (given_up_by x) x quiet (same_association old (association s)) (association s))
+    ∙ (behind_none (given_up_by x) x told (gone ++ last) (none_told (given_up_by x) x quiet n s.standing.context.told.events)
+    ∙ (flat_map-append (given_up_by x) gone last
+    ∙ (ap (λ (z : List GivenUp). given_up x gone ++ z) (none_ready (given_up_by x) x (λ m. refl) (drop (ready_before (same_association old (association s)) ready) (ready_at s)))
+    ∙ (append-nil (given_up x gone) ∙ gone_own x h s.standing.context.told.gone))))
 
 -- ---- calls
 

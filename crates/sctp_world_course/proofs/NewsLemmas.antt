@@ -104,14 +104,14 @@ quiet_tail y n k events gone ms =
     quiet_both (told_entries y n events) (gone_entries y gone ++ ready_entries y k ms) (quiet_told y n events)
     (quiet_both (gone_entries y gone) (ready_entries y k ms) (quiet_gone y gone) (quiet_ready y (drop k ms)))
 
-same_number : (m n : ℕ) → (m == n) ≡ true → m ≡ n
+pub same_number : (m n : ℕ) → (m == n) ≡ true → m ≡ n
 same_number m n e = grind (arith, nat_tests, e)
 
-both_left : (a b : Bool) → (a && b) ≡ true → a ≡ true
+pub both_left : (a b : Bool) → (a && b) ≡ true → a ≡ true
 both_left true b e = refl
 both_left false b e = cc
 
-both_right : (a b : Bool) → (a && b) ≡ true → b ≡ true
+pub both_right : (a b : Bool) → (a && b) ≡ true → b ≡ true
 both_right true b e = e
 both_right false b e = cc
 

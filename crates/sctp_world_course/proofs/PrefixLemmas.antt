@@ -46,7 +46,7 @@ take_of_take (suc m) zero xs l = absurd (omega (arith, l))
 take_of_take (suc m) (suc n) [] l = refl
 take_of_take {X} (suc m) (suc n) (x ∷ xs) l = ap (λ (z : List X). x ∷ z) (take_of_take m n xs (omega (arith, l)))
 
-length_front : {X : Type 0} (xs ys : List X) → length xs ≤ length (xs ++ ys)
+pub length_front : {X : Type 0} (xs ys : List X) → length xs ≤ length (xs ++ ys)
 length_front [] ys = omega arith
 length_front (x ∷ xs) ys = let h = length_front xs ys in omega (arith, h)
 
@@ -56,7 +56,7 @@ length_shorter (suc m) zero xs l = absurd (omega (arith, l))
 length_shorter (suc m) (suc n) [] l = omega arith
 length_shorter (suc m) (suc n) (x ∷ xs) l = let h = length_shorter m n xs (omega (arith, l)) in omega (arith, h)
 
-index_front : (m n : ℕ) (xs : List ℕ) (k : ℕ) → m ≤ n → k < length (take m xs) → slice_index (take m xs) k ≡ slice_index (take n xs) k
+pub index_front : (m n : ℕ) (xs : List ℕ) (k : ℕ) → m ≤ n → k < length (take m xs) → slice_index (take m xs) k ≡ slice_index (take n xs) k
 index_front zero n xs k l h = absurd (omega (arith, h))
 index_front (suc m) zero xs k l h = absurd (omega (arith, l))
 index_front (suc m) (suc n) [] k l h = absurd (omega (arith, h))

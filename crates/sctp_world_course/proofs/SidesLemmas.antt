@@ -5,7 +5,7 @@ use Rattle.std.specs.List.{list_any}
 use Rattle.std.proofs.lemmas.List.{map-append}
 use Rattle.std.proofs.lemmas.List.Elements.{All-append}
 use Rattle.std.proofs.lemmas.List.Folds.{list_any-append}
-use Rattle.sctp_state.specs.Events.{Event}
+use Rattle.sctp_state.specs.Events.{Event, GivenUp}
 use Rattle.sctp_association.specs.Association.{Endpoint}
 use Rattle.sctp_association.specs.Socket.{Association}
 use Rattle.sctp_association_laws.specs.Mapped.{Carried, map_end, as_written}
@@ -13,11 +13,12 @@ use Rattle.sctp_association_laws.specs.Sound.{IsSound}
 use Rattle.sctp_association_laws.specs.ReadBack.{as_carried}
 use Rattle.sctp_course.specs.Course as course
 use Rattle.sctp_course.specs.Course.{took, emitted}
-use Rattle.sctp_world.specs.Judge.{End, same_end, Entry, Called, Given, Foreign, Timed, Associated, Emitted, Happened, GaveUp, BecameReady, held_after, held_from, held}
+use Rattle.sctp_world.specs.Judge.{End, same_end, Entry, Called, Given, Foreign, Timed, Associated, Emitted, Happened, GaveUp, BecameReady, held_after, held_from, held, given_up_by, given_up}
 use Rattle.sctp_world.specs.World.{Side, association, ready_at, packets_in, told_entries, news_of, settled}
 use Rattle.sctp_world_course.specs.Courses.{told_by, told_in, IsImage}
 use Rattle.sctp_world_course.specs.Joined.{asks, is_some_init}
 use Rattle.sctp_world_course.proofs.EventLemmas.{packets_both, mapped, packets_mapped, entries_both, Readable}
+use Rattle.sctp_world_course.proofs.LoggedLemmas.{none_in_news, quiet_gone}
 use Rattle.sctp_world_course.proofs.NewsLemmas.{told_both, news_own, news_other, held_both, held_own, held_other}
 
 -- ---- the first entry of an event
@@ -25,20 +26,25 @@ use Rattle.sctp_world_course.proofs.NewsLemmas.{told_both, news_own, news_other,
 pub record IsFirst (e : Entry) : Type 0 where
   pub told : (x : End) → told_by x e ≡ []
   pub quiet : (x : End) (h : Option Association) → held_after x h e ≡ h
+  pub gone : (x : End) → given_up_by x e ≡ []
 
 -- entries that tell nothing of this end
 pub record IsSilentOf (x : End) (more : List Entry) : Type 0 where
   pub told : told_in x more ≡ []
   pub quiet : (h : Option Association) → held_from x h more ≡ h
+  pub gone : given_up x more ≡ []
 
 pub silent_first : (x : End) (e : Entry) → IsFirst e → IsSilentOf x (e ∷ [])
-silent_first x e f = record { told = ap (λ (l : List Entry). l ++ []) (f.told x); quiet = f.quiet x }
+silent_first x e f = record { told = ap (λ (l : List Entry). l ++ []) (f.told x); quiet = f.quiet x; gone = ap (λ (l : List GivenUp). l ++ []) (f.gone x) }
 
 pub silent_news : (x y : End) → same_end x y ≡ false → (e : Entry) → IsFirst e → (side : Side) (s : Endpoint (List ℕ)) → IsSilentOf x (e ∷ news_of y side s)
 silent_news x y d e f side s = record {
   told = ap (λ (l : List Entry). l ++ told_in x (news_of y side s)) (f.told x) ∙ news_other x y d (length side.packets) (length (ready_at side.socket)) (association side.socket) s;
   quiet = λ h. ap (λ (o : Option Association). held_from x o (news_of y side s)) (f.quiet x h)
       ∙ held_other x y d (length side.packets) (length (ready_at side.socket)) (association side.socket) h s;
+  gone =
+      ap (λ (l : List GivenUp). l ++ given_up x (news_of y side s)) (f.gone x)
+      ∙ none_in_news (given_up_by x) y (quiet_gone x y d) (λ m. refl) (length side.packets) (length (ready_at side.socket)) (association side.socket) s;
 }
 
 -- ---- what was given

@@ -3,6 +3,8 @@ use Rattle.std.proofs.Common.{◌≡◌, inl, inr, ℕ, zero, suc, Bool, true, f
 use Rattle.std.specs.List.{flat_map}
 use Rattle.std.proofs.lemmas.Bool.Decides.{nat_tests}
 use Rattle.sctp_serial.specs.Messages.{Message}
+use Rattle.sctp_state.specs.Events.{GivenUp}
+use Rattle.sctp_tx_rules.specs.Led.{delivered}
 use Rattle.sctp_association.specs.Association.{State, Closed, CookieWait, Open, Endpoint}
 use Rattle.sctp_association.specs.Calls.{shown_state, refusal, ready_in}
 use Rattle.sctp_association.specs.Handover.{readiness}
@@ -14,12 +16,14 @@ use Rattle.sctp_course.specs.Course.{Turn, Calls, Gives, Refuses}
 use Rattle.sctp_course.specs.Handing as handing
 use Rattle.sctp_course.specs.Handing.{new_behind, handed_by}
 use Rattle.sctp_delivery.specs.Accepted.{accepted_by, accepted_in}
-use Rattle.sctp_world.specs.Judge.{End, A, B, same_end, same_association, same_numbers, all_unless, Call, Connect, Shutdown, Close, Send, SendMany, Receive, Reset, SetPriority, SetMaxMessageSize, SetLowThreshold, HandOver, Entry, Given, Foreign, ready_by, handed_out_in, handed_out_by}
+use Rattle.sctp_delivery.specs.GivenUp.{given_up_by}
+use Rattle.sctp_world.specs.Judge.{End, A, B, same_end, same_association, same_numbers, all_unless, Call, Connect, Shutdown, Close, Send, SendMany, Receive, Reset, SetPriority, SetMaxMessageSize, SetLowThreshold, HandOver, Answer, Entry, Called, Given, Foreign, Timed, ready_by, handed_out_in, handed_out_by, given_up}
+use Rattle.sctp_world.specs.Judge as judge
 use Rattle.sctp_world.specs.World as worlds
 use Rattle.sctp_world.specs.World.{Side, World, Action, CallOf, Give, GiveForeign, TellTime, ComesTo, told, skipped, Happens, side_of, other, association, ready_before, news_of, settled, recorded, handed_by as record_by, step_of, answer_to, call_entry, after_call, time_entry, after_time, clock}
 use Rattle.sctp_world_course.specs.Courses.{hearing, IsHearing, IsForeign}
-use Rattle.sctp_world_course.specs.Delivered.{offers_in, offers_by}
-use Rattle.sctp_world_course.proofs.LoggedLemmas.{quiet_offers, quiet_handed, none_in_news, ready_news, ready_news_other, first_handed, one_offer, many_offers}
+use Rattle.sctp_world_course.specs.Delivered.{offers_in, offers_by, gone, reported_by, reported}
+use Rattle.sctp_world_course.proofs.LoggedLemmas.{quiet_offers, quiet_handed, quiet_gone, quiet_reported, none_in_news, ready_news, ready_news_other, first_handed, one_offer, many_offers}
 
 -- ---- ends
 
@@ -118,9 +122,9 @@ pub foreign_hands : (bytes : List ℕ) (end : course.Side) (turn : Turn) → IsF
 foreign_hands bytes end turn (inl h) = ap (λ (t : Turn). handed_by t end) h.2
 foreign_hands bytes end turn (inr h) = ap (λ (t : Turn). handed_by t end) h
 
--- ---- one event at end x, which was `own` in the course and is `next`
+-- ---- one event at end x, which was `own` in the course and is `next`, beside the other end
 
-pub record IsTold (x : End) (turn : Turn) (own next : course.Side) (log longer : List Entry) : Type 0 where
+pub record IsTold (x : End) (turn : Turn) (own beside next : course.Side) (log longer : List Entry) : Type 0 where
   pub first : Entry
   pub more : List Entry
   pub logged : longer ≡ log ++ first ∷ more
@@ -132,6 +136,10 @@ pub record IsTold (x : End) (turn : Turn) (own next : course.Side) (log longer :
   pub none_ready : flat_map (ready_by (other x)) (first ∷ more) ≡ []
   pub handed : flat_map (handed_out_by x) (first ∷ more) ≡ handed_by turn own
   pub none_handed : flat_map (handed_out_by (other x)) (first ∷ more) ≡ []
+  pub gave_up : gone x longer ≡ gone x log ++ given_up_by turn own beside
+  pub none_gone : given_up (other x) (first ∷ more) ≡ []
+  pub reports : reported x longer ≡ delivered next.told
+  pub none_reported : reported (other x) (first ∷ more) ≡ []
 
 -- the first entries: what they say of messages
 pub record BeginsWith (x : End) (turn : Turn) (own : course.Side) (first : Entry) : Type 0 where
@@ -140,15 +148,18 @@ pub record BeginsWith (x : End) (turn : Turn) (own : course.Side) (first : Entry
   pub ready : (y : End) → ready_by y first ≡ []
   pub handed : handed_out_by x first ≡ handed_by turn own
   pub none_handed : handed_out_by (other x) first ≡ []
+  pub gone : (y : End) → judge.given_up_by y first ≡ []
+  pub reported : (y : End) → reported_by y first ≡ []
 
-module _ (f : Carried → List ℕ) (x : End) (turn : Turn) (own next : course.Side) (log longer : List Entry) (side new : Side)
+module _ (f : Carried → List ℕ) (x : End) (turn : Turn) (own beside next : course.Side) (log longer : List Entry) (side new : Side)
     (is : side.socket ≡ map_end f own.end) (is_next : new.socket ≡ map_end f next.end)
     (stands : (a : Association) → association_in (course.state_of own) ≡ Some a → association_in (course.state_of next) ≡ Some a)
+    (gave_up : gone x longer ≡ gone x log ++ given_up_by turn own beside) (reports : reported x longer ≡ delivered next.told)
     (first : Entry) (b : BeginsWith x turn own first) where
   state_is : side.socket.standing.state ≡ course.state_of own
   state_is = ap (λ (z : Endpoint (List ℕ)). z.standing.state) is
 
-  pub goes_on_told : (after : Endpoint (List ℕ)) → new ≡ settled side after → longer ≡ log ++ first ∷ news_of x side after → IsTold x turn own next log longer
+  pub goes_on_told : (after : Endpoint (List ℕ)) → new ≡ settled side after → longer ≡ log ++ first ∷ news_of x side after → IsTold x turn own beside next log longer
   goes_on_told after at logged =
       let n : ℕ = length side.packets in
       let m : ℕ = length (worlds.ready_at side.socket) in
@@ -159,8 +170,8 @@ module _ (f : Carried → List ℕ) (x : End) (turn : Turn) (own next : course.S
         first = first;
         more = news;
         logged = logged;
-        quiet = λ y. none_in_news (offers_by y) (quiet_offers y) x (λ z. refl) n m (association side.socket) after;
-        hands_nothing = λ y. none_in_news (handed_out_by y) (quiet_handed y) x (λ z. refl) n m (association side.socket) after;
+        quiet = λ y. none_in_news (offers_by y) x (quiet_offers y x) (λ z. refl) n m (association side.socket) after;
+        hands_nothing = λ y. none_in_news (handed_out_by y) x (quiet_handed y x) (λ z. refl) n m (association side.socket) after;
         offers = b.offers;
         no_offers = b.no_offers;
         ready =
@@ -174,15 +185,23 @@ module _ (f : Carried → List ℕ) (x : End) (turn : Turn) (own next : course.S
             ∙ ready_news_other (other x) x (not_other x) n m (association side.socket) after;
         handed =
             ap (λ (z : List Message). z ++ flat_map (handed_out_by x) news) b.handed
-            ∙ (ap (λ (z : List Message). handed_by turn own ++ z) (none_in_news (handed_out_by x) (quiet_handed x) x (λ z. refl) n m (association side.socket) after)
+            ∙ (ap (λ (z : List Message). handed_by turn own ++ z) (none_in_news (handed_out_by x) x (quiet_handed x x) (λ z. refl) n m (association side.socket) after)
             ∙ append-nil (handed_by turn own));
         none_handed =
             ap (λ (z : List Message). z ++ flat_map (handed_out_by (other x)) news) b.none_handed
-            ∙ none_in_news (handed_out_by (other x)) (quiet_handed (other x)) x (λ z. refl) n m (association side.socket) after;
+            ∙ none_in_news (handed_out_by (other x)) x (quiet_handed (other x) x) (λ z. refl) n m (association side.socket) after;
+        gave_up = gave_up;
+        none_gone =
+            ap (λ (z : List GivenUp). z ++ given_up (other x) news) (b.gone (other x))
+            ∙ none_in_news (judge.given_up_by (other x)) x (quiet_gone (other x) x (not_other x)) (λ z. refl) n m (association side.socket) after;
+        reports = reports;
+        none_reported =
+            ap (λ (z : List ℕ). z ++ reported (other x) news) (b.reported (other x))
+            ∙ none_in_news (reported_by (other x)) x (quiet_reported (other x) x (not_other x)) (λ z. refl) n m (association side.socket) after;
       }
 
   -- where nothing happens
-  pub skipped_told : new ≡ side → longer ≡ log ++ first ∷ [] → IsTold x turn own next log longer
+  pub skipped_told : new ≡ side → longer ≡ log ++ first ∷ [] → IsTold x turn own beside next log longer
   skipped_told at logged =
       let then : course.state_of next ≡ course.state_of own =
       ap (λ (z : Endpoint (List ℕ)). z.standing.state) (sym is_next) ∙ (ap (λ (z : Side). z.socket.standing.state) at ∙ state_is) in
@@ -198,6 +217,10 @@ module _ (f : Carried → List ℕ) (x : End) (turn : Turn) (own next : course.S
         none_ready = ap (λ (z : List Message). z ++ []) (b.ready (other x));
         handed = ap (λ (z : List Message). z ++ []) b.handed ∙ append-nil (handed_by turn own);
         none_handed = ap (λ (z : List Message). z ++ []) b.none_handed;
+        gave_up = gave_up;
+        none_gone = ap (λ (z : List GivenUp). z ++ []) (b.gone (other x));
+        reports = reports;
+        none_reported = ap (λ (z : List ℕ). z ++ []) (b.reported (other x));
       }
 
 -- ---- first entries
@@ -210,13 +233,15 @@ module _ (f : Carried → List ℕ) (x : End) (own : course.Side) where
     ready = λ y. refl;
     handed = ap (λ (b : Bool). all_unless b (handed_out_in (answer_to call s))) (same_self x) ∙ call_hands f x own s is call;
     none_handed = ap (λ (b : Bool). all_unless b (handed_out_in (answer_to call s))) (not_other x);
+    gone = λ y. refl;
+    reported = λ y. refl;
   }
 
   pub time_begins : (s : Endpoint (List ℕ)) (now : ℕ) → BeginsWith x (Calls (table.Advance now)) own (time_entry x now s)
-  time_begins s now = record { offers = refl; no_offers = refl; ready = λ y. refl; handed = refl; none_handed = refl }
+  time_begins s now = record { offers = refl; no_offers = refl; ready = λ y. refl; handed = refl; none_handed = refl; gone = λ y. refl; reported = λ y. refl }
 
   pub give_begins : (turn : Turn) (clock packet : ℕ) → accepted_in turn own ≡ [] → handed_by turn own ≡ [] → BeginsWith x turn own (Given x clock packet)
-  give_begins turn clock packet h k = record { offers = sym h; no_offers = refl; ready = λ y. refl; handed = sym k; none_handed = refl }
+  give_begins turn clock packet h k = record { offers = sym h; no_offers = refl; ready = λ y. refl; handed = sym k; none_handed = refl; gone = λ y. refl; reported = λ y. refl }
 
   pub foreign_begins : (turn : Turn) (clock : ℕ) (bytes : Option (List ℕ)) → accepted_in turn own ≡ [] → handed_by turn own ≡ [] → BeginsWith x turn own (Foreign x clock bytes)
-  foreign_begins turn clock bytes h k = record { offers = sym h; no_offers = refl; ready = λ y. refl; handed = sym k; none_handed = refl }
+  foreign_begins turn clock bytes h k = record { offers = sym h; no_offers = refl; ready = λ y. refl; handed = sym k; none_handed = refl; gone = λ y. refl; reported = λ y. refl }

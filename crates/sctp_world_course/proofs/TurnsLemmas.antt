@@ -1,5 +1,5 @@
 -- What an end makes of a call, a packet or bytes from elsewhere is a turn of the course.
-use Rattle.std.proofs.Common.{◌≡◌, inl, inr, ℕ, zero, suc, ◌≤◌, ◌<◌, ◌^◌, ◌%◌, ◌==◌, ◌||◌, ◌&&◌, Bool, true, false, Option, Some, None, List, [], ◌∷◌, ◌++◌, take, drop, slice_get, refl, sym, ap, subst, ◌∙◌, append-nil, arith}
+use Rattle.std.proofs.Common.{◌≡◌, inl, inr, ℕ, zero, suc, ◌≤◌, ◌<◌, ◌^◌, ◌%◌, ◌==◌, ◌||◌, ◌&&◌, Bool, true, false, Option, Some, None, List, [], ◌∷◌, ◌++◌, length, take, drop, slice_get, refl, sym, ap, subst, ◌∙◌, append-nil, arith}
 use Rattle.std.specs.Prelude.{All}
 use Rattle.std.specs.Int.{w32, from_be_bytes}
 use Rattle.std.specs.List.{list_any}
@@ -15,7 +15,7 @@ use Rattle.sctp_wire.specs.Checksum.{with_zero_field}
 use Rattle.sctp_packet.specs.Written.{chunks_bytes}
 use Rattle.sctp_packet.proofs.LawLemmas.{one_packet_lem, never_both_lem}
 use Rattle.sctp_state.specs.Options.{Options}
-use Rattle.sctp_state.specs.Events.{Event, Told, silent}
+use Rattle.sctp_state.specs.Events.{Event, GivenUp, Told, silent}
 use Rattle.sctp_association.specs.Association.{Context, Endpoint}
 use Rattle.sctp_association.specs.Input.{refusal}
 use Rattle.sctp_association.specs.Laws.{Call, Packet, NoPacket, called, Packing}
@@ -32,11 +32,13 @@ use Rattle.sctp_association_laws.proofs.SoundLawsLemmas.{stays_sound, can_be_rea
 use Rattle.sctp_association_laws.proofs.SoundHeardLemmas.{emitted_fit}
 use Rattle.sctp_course.specs.Course as course
 use Rattle.sctp_course.specs.Course.{Turn, Calls, Refuses, took, emitted, given, foreign_if, turned, as_heard}
-use Rattle.sctp_world.specs.Judge.{End, A, B, same_end, Entry, Given}
-use Rattle.sctp_world.specs.World.{Side, news_of, settled}
+use Rattle.sctp_delivery.specs.GivenUp as giving
+use Rattle.sctp_world.specs.Judge.{End, A, B, same_end, Entry, Given, given_up}
+use Rattle.sctp_world.specs.World.{Side, association, ready_at, news_of, settled}
 use Rattle.sctp_world_course.specs.Courses.{is_let_through, hearing, IsHearing, IsForeign}
 use Rattle.sctp_world_course.specs.Joined.{asks, is_init, is_some_init}
-use Rattle.sctp_world_course.proofs.EventLemmas.{Readable, all_readable}
+use Rattle.sctp_world_course.proofs.EventLemmas.{Readable, all_readable, same_itself}
+use Rattle.sctp_world_course.proofs.LoggedLemmas.{gone_news}
 use Rattle.sctp_world_course.proofs.SidesLemmas.{IsFirst, IsSilentOf, silent_first, silent_news, Good, stays_good, goes_good}
 
 -- ---- one turn of an end
@@ -49,6 +51,7 @@ pub record Goes (word_of : List ℕ → ℕ) (x : End) (log : List Entry) (other
   pub sent : List (List ℕ)
   pub packets : new.packets ≡ side.packets ++ sent
   pub good : Good word_of x longer others new (turned turn end beside)
+  pub gone : given_up x more ≡ (giving.told_by turn end beside).gone
 
 -- ---- what is told can be read back
 
@@ -114,7 +117,7 @@ or_first : (a b : Bool) → a ≡ true → (a || b) ≡ true
 or_first true b e = refl
 or_first false b e = cc
 
-or_second : (a b : Bool) → b ≡ true → (a || b) ≡ true
+pub or_second : (a b : Bool) → b ≡ true → (a || b) ≡ true
 or_second true b e = refl
 or_second false b e = e
 
@@ -131,11 +134,12 @@ module _ (word_of : List ℕ → ℕ) (x : End) (log : List Entry) (first : Entr
 
   -- such an end as this went on to
   goes_by : (turn : Turn) (s : Endpoint Carried) (asked : Bool) → turned turn end beside ≡ record (took s end) { is_asked = asked }
+      → s.standing.context.told.gone ≡ (giving.told_by turn end beside).gone
       → IsSound s → s.standing.context.pack ≡ as_carried → All Readable (course.packets_in s.standing.context.told.events)
       → (asked ≡ true → list_any (asks x others) (log ++ first ∷ news_of x side (map_end written_of s)) ≡ true)
       → (after : Endpoint (List ℕ)) → after ≡ map_end written_of s → new ≡ settled side after → longer ≡ log ++ first ∷ news_of x side after
       → Goes word_of x log others side end beside turn new longer
-  goes_by turn s asked turns sound pack readable was after is news logged =
+  goes_by turn s asked turns gave_up sound pack readable was after is news logged =
       let there : Endpoint (List ℕ) = map_end written_of s in
       let settles : new ≡ settled side there = news ∙ ap (settled side) is in
       let grows : longer ≡ log ++ first ∷ news_of x side there = logged ∙ ap (λ (z : Endpoint (List ℕ)). log ++ first ∷ news_of x side z) is in
@@ -152,6 +156,9 @@ module _ (word_of : List ℕ → ℕ) (x : End) (log : List Entry) (first : Entr
         sent = _;
         packets = ap (λ (z : Side). z.packets) settles;
         good = subst (λ (z : course.Side). Good word_of x longer others new z) (sym turns) here;
+        gone =
+            ap (λ (l : List GivenUp). l ++ given_up x (news_of x side there)) (is_first.gone x)
+            ∙ (gone_news x (same_itself x) (length side.packets) (length (ready_at side.socket)) (association side.socket) there ∙ gave_up);
       }
 
   packing_after : (call : Call) → (called call own).standing.context.pack ≡ as_carried
@@ -166,7 +173,7 @@ module _ (word_of : List ℕ → ℕ) (x : End) (log : List Entry) (first : Entr
   pub call_goes : (call : Call) → ArgumentFits call → (after : Endpoint (List ℕ)) → after ≡ called call side.socket → new ≡ settled side after
       → longer ≡ log ++ first ∷ news_of x side after → Goes word_of x log others side end beside (Calls call) new longer
   call_goes call fits after is news logged =
-      goes_by (Calls call) (called call own) end.is_asked refl (stays_sound call own g.sound fits) (packing_after call)
+      goes_by (Calls call) (called call own) end.is_asked refl refl (stays_sound call own g.sound fits) (packing_after call)
       (readable_after own.standing.context (called call own).standing.context g.image.quiet g.sound.options.mtu_most g.packing (can_be_read call own g.sound fits))
       (was_before (first ∷ news_of x side (map_end written_of (called call own))))
       after (is ∙ mapped_after call) news logged
@@ -214,6 +221,7 @@ module _ (word_of : List ℕ → ℕ) (x : End) (log : List Entry) (first : Entr
     given_as q same q_fits after is news logged =
         let fits : ArgumentFits call = subst (λ (z : PacketTree). ArgumentFits (Packet z)) same q_fits in
         goes_by (course.Gives n sum) (called call own) (end.is_asked || (p.header.verification_tag == 0)) (ap (λ (o : Option Carried). given o sum end) there)
+        (sym (ap (λ (o : Option Carried). (giving.told_given o sum end).gone) there))
         (stays_sound call own g.sound fits) (packing_after call)
         (readable_after own.standing.context (called call own).standing.context g.image.quiet g.sound.options.mtu_most g.packing (can_be_read call own g.sound fits))
         (was_now (news_of x side (map_end written_of (called call own))))
@@ -276,6 +284,7 @@ module _ (word_of : List ℕ → ℕ) (x : End) (log : List Entry) (first : Entr
       let e : refusal q.header.verification_tag q.chunks own.standing.state ≡ Some text =
       ap (refusal q.header.verification_tag q.chunks) (sym state_is) ∙ why in
       goes_by (Refuses q) (called (Packet q) own) end.is_asked (ap (λ (o : Option (List ℕ)). foreign_if o q end) e)
+      (sym (ap (λ (o : Option (List ℕ)). (giving.told_foreign o q end).gone) e))
       (stays_sound_refused q text own g.sound e) (packing_after (Packet q))
       (readable_after own.standing.context (called (Packet q) own).standing.context g.image.quiet g.sound.options.mtu_most g.packing (can_be_read_refused q text own g.sound e))
       (was_before (first ∷ news_of x side (map_end written_of (called (Packet q) own))))
@@ -317,6 +326,7 @@ module _ (word_of : List ℕ → ℕ) (x : End) (log : List Entry) (first : Entr
           sent = [];
           packets = ap (λ (z : Side). z.packets) same ∙ sym (append-nil side.packets);
           good = subst (λ (z : course.Side). Good word_of x longer others new z) (sym (ap (λ (o : Option (List ℕ)). foreign_if o p end) e)) at_new;
+          gone = ap (λ (l : List GivenUp). l ++ []) (is_first.gone x) ∙ sym (ap (λ (o : Option (List ℕ)). (giving.told_foreign o p end).gone) e);
         },
       )
   skipped_goes by bytes is_refused is_false (refused p text a why is) same logged = cc

@@ -1,16 +1,22 @@
 -- Each event of a world is a turn of the course, and each run a course.
-use Rattle.std.proofs.Common.{◌≡◌, ℕ, false, Option, Some, None, List, [], ◌∷◌, ◌++◌, map, slice_get, refl, sym, ap, subst, ◌∙◌, append-nil, append_assoc}
+use Rattle.std.proofs.Common.{◌≡◌, ℕ, true, false, Option, Some, None, List, [], ◌∷◌, ◌++◌, map, slice_get, refl, sym, ap, subst, ◌∙◌, append-nil, append_assoc}
 use Rattle.std.specs.Prelude.{All, option_map}
+use Rattle.std.proofs.lemmas.Grind.{flat_map-append}
+use Rattle.std.proofs.lemmas.List.{map-append}
 use Rattle.std.proofs.lemmas.List.Elements.{All-nil, All-cons, All-head, All-tail}
 use Rattle.std.proofs.lemmas.Option.{slice_get-map}
+use Rattle.sctp_state.specs.Events.{GivenUp}
 use Rattle.sctp_association.specs.Laws as table
 use Rattle.sctp_association.specs.Socket.{Hears}
 use Rattle.sctp_association_laws.specs.Mapped.{Carried, as_written}
 use Rattle.sctp_association_laws.specs.ReadBack.{AreBytes}
 use Rattle.sctp_course.specs.Course.{Pair, Turn, Calls, emitted, goes, turned}
-use Rattle.sctp_world.specs.Judge.{End, A, B, Entry, Given, Foreign, Call}
+use Rattle.sctp_delivery.specs.GivenUp as giving
+use Rattle.sctp_delivery.specs.GivenUp.{given_up_at}
+use Rattle.sctp_world.specs.Judge.{End, A, B, Entry, Given, Foreign, Call, given_up_by, given_up}
 use Rattle.sctp_world.specs.World.{Side, World, Action, CallOf, Give, GiveForeign, TellTime, ComesTo, told, skipped, Gives, Happens, step_of, calls, call_entry, tells_time, time_entry}
 use Rattle.sctp_world_course.specs.Courses.{ActionFits, IsInBytes, is_a, end_of, IsTurnOf}
+use Rattle.sctp_world_course.specs.Delivered.{gone}
 use Rattle.sctp_world_course.proofs.EventLemmas.{Readable}
 use Rattle.sctp_world_course.proofs.SidesLemmas.{Good, stays_good}
 use Rattle.sctp_world_course.proofs.TurnsLemmas.{Goes, get_all, call_goes, given_goes, foreign_goes, skipped_goes}
@@ -82,6 +88,17 @@ pub record Stepped (word_of_a word_of_b : List ℕ → ℕ) (action : Action) (w
   pub is : IsTurnOf word_of_a word_of_b action turn c
   pub extends : Extends w u
   pub both : Both word_of_a word_of_b u (goes (is_a (end_of action)) turn c)
+  pub gone : (x : End) → gone x u.log ≡ gone x w.log ++ given_up_at (is_a x) (is_a (end_of action)) turn c
+
+-- so many more are given up
+pub gone_more : (x : End) (log longer more : List Entry) (new : List ℕ) → longer ≡ log ++ more → gone x more ≡ new → gone x longer ≡ gone x log ++ new
+gone_more x log longer more new e h =
+    ap (gone x) e
+    ∙ (ap (map (λ (g : GivenUp). g.number)) (flat_map-append (given_up_by x) log more)
+    ∙ (map-append (λ (g : GivenUp). g.number) (given_up x log) (given_up x more) ∙ ap (λ (l : List ℕ). gone x log ++ l) h))
+
+pub numbers_of : (gs hs : List GivenUp) → gs ≡ hs → map (λ (g : GivenUp). g.number) gs ≡ map (λ (g : GivenUp). g.number) hs
+numbers_of gs hs e = ap (map (λ (g : GivenUp). g.number)) e
 
 module _ (word_of_a word_of_b : List ℕ → ℕ) where
   stepped_a : (action : Action) (w u : World) (c : Pair) → end_of action ≡ A → Both word_of_a word_of_b w c → (turn : Turn) → IsTurnOf word_of_a word_of_b action turn c
@@ -106,7 +123,12 @@ module _ (word_of_a word_of_b : List ℕ → ℕ) where
           b = ap (λ (z : Side). z.packets) same ∙ sym (append-nil w.b.packets);
         };
         both = subst (λ (x : End). Both word_of_a word_of_b u (goes (is_a x) turn c)) (sym at) (record { a = own; b = three });
+        gone = λ x. subst (λ (y : End). gone x u.log ≡ gone x w.log ++ given_up_at (is_a x) (is_a y) turn c) (sym at) (gives_up x);
       }
+    where
+      gives_up : (x : End) → gone x u.log ≡ gone x w.log ++ given_up_at (is_a x) true turn c
+      gives_up A = gone_more A w.log u.log g.more (given_up_at true true turn c) g.logged (numbers_of (given_up A g.more) (giving.told_by turn c.a c.b).gone g.gone)
+      gives_up B = gone_more B w.log u.log g.more (given_up_at false true turn c) g.logged (numbers_of (given_up B g.more) [] (g.silent B refl).gone)
 
   stepped_b : (action : Action) (w u : World) (c : Pair) → end_of action ≡ B → Both word_of_a word_of_b w c → (turn : Turn) → IsTurnOf word_of_a word_of_b action turn c
       → Goes word_of_b B w.log w.a.packets w.b c.b c.a turn u.b u.log → u.a ≡ w.a → Stepped word_of_a word_of_b action w u c
@@ -130,7 +152,12 @@ module _ (word_of_a word_of_b : List ℕ → ℕ) where
           b = g.packets;
         };
         both = subst (λ (x : End). Both word_of_a word_of_b u (goes (is_a x) turn c)) (sym at) (record { a = three; b = own });
+        gone = λ x. subst (λ (y : End). gone x u.log ≡ gone x w.log ++ given_up_at (is_a x) (is_a y) turn c) (sym at) (gives_up x);
       }
+    where
+      gives_up : (x : End) → gone x u.log ≡ gone x w.log ++ given_up_at (is_a x) false turn c
+      gives_up A = gone_more A w.log u.log g.more (given_up_at true false turn c) g.logged (numbers_of (given_up A g.more) [] (g.silent A refl).gone)
+      gives_up B = gone_more B w.log u.log g.more (given_up_at false false turn c) g.logged (numbers_of (given_up B g.more) (giving.told_by turn c.b c.a).gone g.gone)
 
   -- ---- calls and moments
 
@@ -138,21 +165,21 @@ module _ (word_of_a word_of_b : List ℕ → ℕ) where
       → Stepped word_of_a word_of_b (CallOf x call) w u c
   step_call A call w u c fits e h =
       stepped_a (CallOf A call) w u c refl h (Calls (step_of call)) refl
-      (call_goes word_of_a A w.log (call_entry A call w.a.socket) w.b.packets w.a c.a c.b (record { told = λ y. refl; quiet = λ y o. refl }) h.a u.a u.log (step_of call) fits _ refl
+      (call_goes word_of_a A w.log (call_entry A call w.a.socket) w.b.packets w.a c.a c.b (record { told = λ y. refl; quiet = λ y o. refl; gone = λ y. refl }) h.a u.a u.log (step_of call) fits _ refl
       (ap (λ (z : World). z.a) e) (ap (λ (z : World). z.log) e)) (ap (λ (z : World). z.b) e)
   step_call B call w u c fits e h =
       stepped_b (CallOf B call) w u c refl h (Calls (step_of call)) refl
-      (call_goes word_of_b B w.log (call_entry B call w.b.socket) w.a.packets w.b c.b c.a (record { told = λ y. refl; quiet = λ y o. refl }) h.b u.b u.log (step_of call) fits _ refl
+      (call_goes word_of_b B w.log (call_entry B call w.b.socket) w.a.packets w.b c.b c.a (record { told = λ y. refl; quiet = λ y o. refl; gone = λ y. refl }) h.b u.b u.log (step_of call) fits _ refl
       (ap (λ (z : World). z.b) e) (ap (λ (z : World). z.log) e)) (ap (λ (z : World). z.a) e)
 
   step_time : (x : End) (now : ℕ) (w u : World) (c : Pair) → u ≡ tells_time x now w → Both word_of_a word_of_b w c → Stepped word_of_a word_of_b (TellTime x now) w u c
   step_time A now w u c e h =
       stepped_a (TellTime A now) w u c refl h (Calls (table.Advance now)) refl
-      (call_goes word_of_a A w.log (time_entry A now w.a.socket) w.b.packets w.a c.a c.b (record { told = λ y. refl; quiet = λ y o. refl }) h.a u.a u.log (table.Advance now) tt _ refl
+      (call_goes word_of_a A w.log (time_entry A now w.a.socket) w.b.packets w.a c.a c.b (record { told = λ y. refl; quiet = λ y o. refl; gone = λ y. refl }) h.a u.a u.log (table.Advance now) tt _ refl
       (ap (λ (z : World). z.a) e) (ap (λ (z : World). z.log) e)) (ap (λ (z : World). z.b) e)
   step_time B now w u c e h =
       stepped_b (TellTime B now) w u c refl h (Calls (table.Advance now)) refl
-      (call_goes word_of_b B w.log (time_entry B now w.b.socket) w.a.packets w.b c.b c.a (record { told = λ y. refl; quiet = λ y o. refl }) h.b u.b u.log (table.Advance now) tt _ refl
+      (call_goes word_of_b B w.log (time_entry B now w.b.socket) w.a.packets w.b c.b c.a (record { told = λ y. refl; quiet = λ y o. refl; gone = λ y. refl }) h.b u.b u.log (table.Advance now) tt _ refl
       (ap (λ (z : World). z.b) e) (ap (λ (z : World). z.log) e)) (ap (λ (z : World). z.a) e)
 
   -- ---- packets
@@ -160,14 +187,14 @@ module _ (word_of_a word_of_b : List ℕ → ℕ) where
   step_give : (x : End) (n : ℕ) (w u : World) (c : Pair) → IsInBytes w → Gives x n w u → Both word_of_a word_of_b w c → Stepped word_of_a word_of_b (Give n x) w u c
   step_give A n w u c small g h =
       let found = found_at (as_written word_of_b) (emitted c.b) n g.bytes (ap (λ (ps : List (List ℕ)). slice_get ps n) (sym h.b.image.packets) ∙ g.there) in
-      let went = given_goes word_of_a A w.log (Given A w.a.socket.standing.context.now n) w.b.packets w.a c.a c.b (record { told = λ y. refl; quiet = λ y o. refl }) h.a u.a u.log
+      let went = given_goes word_of_a A w.log (Given A w.a.socket.standing.context.now n) w.b.packets w.a c.a c.b (record { told = λ y. refl; quiet = λ y o. refl; gone = λ y. refl }) h.a u.a u.log
       word_of_b n w.a.socket.standing.context.now found.0 (get_all Readable (emitted c.b) n found.0 found.1 h.b.readable) found.1
       (g.there ∙ ap Some found.2) (subst AreBytes found.2 (get_all AreBytes w.b.packets n g.bytes g.there small.b)) refl
       g.told.takes.word_of g.told.takes.own g.told.after (subst (λ (bytes : List ℕ). Hears g.told.takes.word_of bytes w.a.socket g.told.after) found.2 g.told.takes.hears) g.told.side g.told.logged in
       stepped_a (Give n A) w u c refl h went.0 went.1 went.2 g.other_side
   step_give B n w u c small g h =
       let found = found_at (as_written word_of_a) (emitted c.a) n g.bytes (ap (λ (ps : List (List ℕ)). slice_get ps n) (sym h.a.image.packets) ∙ g.there) in
-      let went = given_goes word_of_b B w.log (Given B w.b.socket.standing.context.now n) w.a.packets w.b c.b c.a (record { told = λ y. refl; quiet = λ y o. refl }) h.b u.b u.log
+      let went = given_goes word_of_b B w.log (Given B w.b.socket.standing.context.now n) w.a.packets w.b c.b c.a (record { told = λ y. refl; quiet = λ y o. refl; gone = λ y. refl }) h.b u.b u.log
       word_of_a n w.b.socket.standing.context.now found.0 (get_all Readable (emitted c.a) n found.0 found.1 h.a.readable) found.1
       (g.there ∙ ap Some found.2) (subst AreBytes found.2 (get_all AreBytes w.a.packets n g.bytes g.there small.a)) refl
       g.told.takes.word_of g.told.takes.own g.told.after (subst (λ (bytes : List ℕ). Hears g.told.takes.word_of bytes w.b.socket g.told.after) found.2 g.told.takes.hears) g.told.side g.told.logged in
@@ -178,22 +205,22 @@ module _ (word_of_a word_of_b : List ℕ → ℕ) where
   foreign_a : (bytes : List ℕ) (w u : World) (c : Pair) → ComesTo A bytes w.a u.a w.log u.log → u.b ≡ w.b → Both word_of_a word_of_b w c
       → Stepped word_of_a word_of_b (GiveForeign A bytes) w u c
   foreign_a bytes w u c (told t judged) same h =
-      let went = foreign_goes word_of_a A w.log (Foreign A w.a.socket.standing.context.now (Some bytes)) w.b.packets w.a c.a c.b (record { told = λ y. refl; quiet = λ y o. refl }) h.a u.a u.log
+      let went = foreign_goes word_of_a A w.log (Foreign A w.a.socket.standing.context.now (Some bytes)) w.b.packets w.a c.a c.b (record { told = λ y. refl; quiet = λ y o. refl; gone = λ y. refl }) h.a u.a u.log
       t.takes.word_of bytes judged t.after t.takes.hears t.side t.logged in
       stepped_a (GiveForeign A bytes) w u c refl h went.0 went.1 went.2 same
   foreign_a bytes w u c (skipped by is_own judged stays logged) same h =
-      let went = skipped_goes word_of_a A w.log (Foreign A w.a.socket.standing.context.now None) w.b.packets w.a c.a c.b (record { told = λ y. refl; quiet = λ y o. refl }) h.a u.a u.log
+      let went = skipped_goes word_of_a A w.log (Foreign A w.a.socket.standing.context.now None) w.b.packets w.a c.a c.b (record { told = λ y. refl; quiet = λ y o. refl; gone = λ y. refl }) h.a u.a u.log
       by bytes false refl judged stays logged in
       stepped_a (GiveForeign A bytes) w u c refl h went.0 went.1 went.2 same
 
   foreign_b : (bytes : List ℕ) (w u : World) (c : Pair) → ComesTo B bytes w.b u.b w.log u.log → u.a ≡ w.a → Both word_of_a word_of_b w c
       → Stepped word_of_a word_of_b (GiveForeign B bytes) w u c
   foreign_b bytes w u c (told t judged) same h =
-      let went = foreign_goes word_of_b B w.log (Foreign B w.b.socket.standing.context.now (Some bytes)) w.a.packets w.b c.b c.a (record { told = λ y. refl; quiet = λ y o. refl }) h.b u.b u.log
+      let went = foreign_goes word_of_b B w.log (Foreign B w.b.socket.standing.context.now (Some bytes)) w.a.packets w.b c.b c.a (record { told = λ y. refl; quiet = λ y o. refl; gone = λ y. refl }) h.b u.b u.log
       t.takes.word_of bytes judged t.after t.takes.hears t.side t.logged in
       stepped_b (GiveForeign B bytes) w u c refl h went.0 went.1 went.2 same
   foreign_b bytes w u c (skipped by is_own judged stays logged) same h =
-      let went = skipped_goes word_of_b B w.log (Foreign B w.b.socket.standing.context.now None) w.a.packets w.b c.b c.a (record { told = λ y. refl; quiet = λ y o. refl }) h.b u.b u.log
+      let went = skipped_goes word_of_b B w.log (Foreign B w.b.socket.standing.context.now None) w.a.packets w.b c.b c.a (record { told = λ y. refl; quiet = λ y o. refl; gone = λ y. refl }) h.b u.b u.log
       by bytes false refl judged stays logged in
       stepped_b (GiveForeign B bytes) w u c refl h went.0 went.1 went.2 same
 

@@ -33,11 +33,13 @@ pub record IsUndisturbed (w : World) : Type 0 where
   pub stands : (x : End) → times_ended x w.log ≡ 0
 
 -- Both ends are joined; what was handed out is a prefix of what became ready, at each point of the log; and as long as the bounds
--- are kept, what became ready fits what was accepted.
+-- are kept, what became ready fits what was accepted, what was skipped was given up, what was reported is ready, and at rest
+-- nothing is left.
 pub record Composes (w : World) (l : IsLed w) : Type 0 where
   pub joined : AreJoined l.a l.b w
   pub handed : (x : End) (early late : List Entry) → w.log ≡ early ++ late → Extends (handed_out x early) (ready x early)
-  pub delivers : IsInBounds l.actions (fresh_world l.a l.b l.words_a l.words_b l.word_of_a l.word_of_b) w l.runs → (x : End) → Delivers x w.log
+  pub delivers : IsInBounds l.actions (fresh_world l.a l.b l.words_a l.words_b l.word_of_a l.word_of_b) w l.runs
+      → (x : End) → Delivers x l.actions (fresh_world l.a l.b l.words_a l.words_b l.word_of_a l.word_of_b) w l.runs
 
 abbrev pub WorldsCompose : Type 0
 WorldsCompose = (w : World) (l : IsLed w) → IsUndisturbed w → Composes w l

@@ -1,17 +1,20 @@
--- Messages that become ready at an end of a world are those that the other end accepted: premises and claim are read off the
--- log, the actions and the values that the sockets hold between them.
+-- Messages that become ready at an end of a world are those that the other end accepted, and what became of the others: premises
+-- and claim are read off the log, the actions and the values that the sockets hold between them.
 use Rattle.std.specs.Prelude.{◌≡◌, ℕ, ◌-◌, ◌^◌, ◌<◌, Bool, true, false, Some, None, List, [], ◌∷◌, ◌++◌, length, map, take, replicate, slice_get, ⊤, All}
 use Rattle.std.specs.List.{flat_map, list_any}
 use Rattle.rand_core.specs.Stream.{Stream}
 use Rattle.sctp_serial.specs.Messages.{Message}
 use Rattle.sctp_state.specs.Options.{Options, IsValid}
+use Rattle.sctp_state.specs.Events.{GivenUp}
+use Rattle.sctp_rules.specs.State.{has}
+use Rattle.sctp_tx_rules.specs.Led.{delivered_by}
 use Rattle.sctp_association_laws.specs.Sound.{OptionsFit}
 use Rattle.sctp_rx.specs.Delivery.{Extends}
 use Rattle.sctp_delivery.specs.Accepted.{Offer}
 use Rattle.sctp_delivery.specs.Windows.{numbered, IsWithin, Stamp, Stamps, no_stamps, IsYoung}
-use Rattle.sctp_delivery.specs.Delivery.{Fits}
-use Rattle.sctp_world.specs.Judge.{End, A, B, same_end, all_unless, Call, Send, SendMany, Reset, Answer, Sent, SentMany, unrefused, Entry, Called, accepted, ready, handed_out}
-use Rattle.sctp_world.specs.World.{Side, World, Action, CallOf, Give, GiveForeign, TellTime, Runs, fresh_world, other}
+use Rattle.sctp_delivery.specs.Delivery.{Fits, SkippedAreGivenUp, IsReady, AllAreDone}
+use Rattle.sctp_world.specs.Judge.{End, A, B, same_end, all_unless, Call, Send, SendMany, Reset, Answer, Sent, SentMany, unrefused, Entry, Called, Happened, accepted, ready, handed_out, given_up}
+use Rattle.sctp_world.specs.World.{Side, World, Action, CallOf, Give, GiveForeign, TellTime, Runs, fresh_world, other, is_at_rest}
 use Rattle.sctp_world_course.specs.Courses.{ActionFits, IsInBytes}
 use Rattle.sctp_world_course.specs.Joined.{FollowsTheRules, times_ended}
 
@@ -28,6 +31,20 @@ offers_by x entry = []
 
 abbrev pub offers : End → List Entry → List Offer
 offers x log = flat_map (offers_by x) log
+
+-- ---- what became of them, as the end that accepted them tells
+
+-- the places of those that it gave up
+abbrev pub gone : End → List Entry → List ℕ
+gone x log = map (λ (g : GivenUp). g.number) (given_up x log)
+
+abbrev pub reported_by : End → Entry → List ℕ
+reported_by x (Happened y event) = all_unless (same_end x y) (delivered_by event)
+reported_by x entry = []
+
+-- the lifecycle ids of those that it told as delivered
+abbrev pub reported : End → List Entry → List ℕ
+reported x log = flat_map (reported_by x) log
 
 -- ---- windows along a run
 
@@ -71,11 +88,25 @@ KeepsStreams actions = list_any resets actions ≡ false
 
 -- ---- the law
 
--- One list of places serves all along the log: at each point its beginning fits.
-pub record Delivers (x : End) (log : List Entry) : Type 0 where
+-- at each world of a run, between its events
+abbrev pub AlongRun : (World → Type 0) → (actions : List Action) (w v : World) → Runs actions w v → Type 0
+AlongRun P [] w v r = P w
+AlongRun P (action ∷ actions) w v r = P w × AlongRun P actions r.0 v r.2
+
+-- of the places of what becomes ready, those of what is ready so far
+abbrev pub ready_places : End → List Entry → (places : List ℕ) → List ℕ
+ready_places x log places = take (length (ready (other x) log)) places
+
+-- Of what end x accepted: one list of places serves all along the log. At each point its beginning fits; an ordered message that
+-- isn't ready, while a later one of its stream is, was given up; and each id that x told as delivered is that of a ready message.
+-- Between events, where nothing is queued at x and no item kept, each message is ready or was given up.
+pub record Delivers (x : End) (actions : List Action) (w v : World) (runs : Runs actions w v) : Type 0 where
   pub places : List ℕ
-  pub fits : (early late : List Entry) → log ≡ early ++ late
-      → Fits (offers x early) (ready (other x) early) (take (length (ready (other x) early)) places)
+  pub fits : (early late : List Entry) → v.log ≡ early ++ late → Fits (offers x early) (ready (other x) early) (ready_places x early places)
+  pub skipped : (early late : List Entry) → v.log ≡ early ++ late → SkippedAreGivenUp (offers x early) (gone x early) (ready_places x early places)
+  pub reports : (early late : List Entry) → v.log ≡ early ++ late → (id : ℕ) → has id (reported x early) ≡ true
+      → IsReady (offers x early) (ready_places x early places) id
+  pub rest : AlongRun (λ u. is_at_rest x u ≡ true → AllAreDone (offers x u.log) (gone x u.log) (ready_places x u.log places)) actions w v runs
 
 -- what a run has to keep
 pub record IsInBounds (actions : List Action) (w v : World) (runs : Runs actions w v) : Type 0 where
@@ -90,7 +121,8 @@ WorldsDeliver =
     → IsValid a → IsValid b → OptionsFit a → OptionsFit b → All ActionFits actions
     → (runs : Runs actions (fresh_world a b words_a words_b word_of_a word_of_b) w) → IsInBytes w
     → FollowsTheRules w → ((x : End) → times_ended x w.log ≡ 0)
-    → IsInBounds actions (fresh_world a b words_a words_b word_of_a word_of_b) w runs → (x : End) → Delivers x w.log
+    → IsInBounds actions (fresh_world a b words_a words_b word_of_a word_of_b) w runs
+    → (x : End) → Delivers x actions (fresh_world a b words_a words_b word_of_a word_of_b) w runs
 
 -- what was handed out, in order, is a prefix of what became ready, at each point of the log
 abbrev pub HandedOutIsAPrefix : Type 0

@@ -1,0 +1,172 @@
+-- Whether a course keeps the windows, computed; and a course that does, in which two messages are delivered.
+use Rattle.std.proofs.Common.{◌≡◌, ℕ, ◌+◌, ◌^◌, ◌<◌, ◌≤◌, ◌&&◌, ◌||◌, Bool, true, false, Option, Some, None, List, [], ◌∷◌, length, slice_get, All, refl, ap, subst, arith}
+use Rattle.std.specs.Prelude.{nat_lt, nat_le}
+use Rattle.std.proofs.lemmas.Bool.{and_parts}
+use Rattle.std.proofs.lemmas.Bool.Decides.{nat_tests}
+use Rattle.std.proofs.lemmas.List.Elements.{All-nil, All-cons}
+use Rattle.rand_core.specs.Stream.{next_u32, next_u64}
+use Rattle.sctp_wire.specs.Fields.{be16, be32, be64}
+use Rattle.sctp_wire.specs.Serialize.{padded_item, inner_items}
+use Rattle.sctp_wire.specs.Parameter.{parameter_value}
+use Rattle.sctp_wire.specs.Cause.{cause_value}
+use Rattle.sctp_wire.specs.CauseText.{cause_text}
+use Rattle.sctp_wire.specs.Show.{joined}
+use Rattle.sctp_packet.specs.Written.{chunk_bytes, chunks_bytes, chunk_value, data_value, idata_value, init_fields, block_bytes, sack_value, skip_bytes, forward_value}
+use Rattle.sctp_serial.specs.Unwrapped.{origin}
+use Rattle.sctp_state.specs.Cookie.{cookie_bytes, capability_bytes, cookie_from, read_cookie}
+use Rattle.sctp_send_queue.specs.Queue.{Queue, stream}
+use Rattle.sctp_outstanding.specs.Item.{Item}
+use Rattle.sctp_outstanding.specs.Items.{next_number}
+use Rattle.sctp_association.specs.Association.{Tcb, State, Closed, CookieWait, Open}
+use Rattle.sctp_association.specs.Time.{ticked}
+use Rattle.sctp_course.specs.Course.{Pair, Turn, Calls, Gives, Refuses, goes, state_of}
+use Rattle.sctp_course.specs.Opens.{at_first}
+use Rattle.sctp_course.specs.Handing.{two_come}
+use Rattle.sctp_course.proofs.HandedCourseLemmas.{one_handed}
+use Rattle.sctp_delivery.specs.Windows.{IsNearNext, KeepsWithin, IsWithin, AreWithin, queue_of, Stamp, stamp, Stamps, no_stamps, stamps_after, stamps_for, IsYoung, IsTimely, KeepsWindows}
+use Rattle.sctp_delivery.specs.Accepted.{accepted}
+use Rattle.sctp_delivery.specs.Delivery.{plain, TwoAreDelivered}
+
+-- ---- an end
+
+pub lt_true : (n m : ℕ) → nat_lt n m ≡ true → n < m
+lt_true n m e = grind (arith, nat_tests, e)
+
+le_true : (n m : ℕ) → nat_le n m ≡ true → n ≤ m
+le_true n m e = grind (arith, nat_tests, e)
+
+unfoldable pub near_next : Queue → Item → Bool
+near_next q i = i.fragment.is_unordered || nat_lt (stream i.fragment.stream_id q.streams).next_ordered_mid (origin + i.fragment.mid + 32000)
+
+or_second : (a b : Bool) → (a || b) ≡ true → a ≡ false → b ≡ true
+or_second true b h e = cc
+or_second false b h e = h
+
+unfoldable pub all_near : Queue → List Item → Bool
+all_near q [] = true
+all_near q (i ∷ is) = near_next q i && all_near q is
+
+near_true : (q : Queue) (i : Item) → near_next q i ≡ true → IsNearNext q i
+unfolding near_next
+near_true q i h e =
+    lt_true (stream i.fragment.stream_id q.streams).next_ordered_mid (origin + i.fragment.mid + 32000)
+    (or_second i.fragment.is_unordered (nat_lt (stream i.fragment.stream_id q.streams).next_ordered_mid (origin + i.fragment.mid + 32000)) h e)
+
+all_near_true : (q : Queue) (is : List Item) → all_near q is ≡ true → All (IsNearNext q) is
+unfolding all_near
+all_near_true q [] h = All-nil (IsNearNext q)
+all_near_true q (i ∷ is) h =
+    let parts = and_parts (near_next q i) (all_near q is) h in
+    All-cons (IsNearNext q) i is (near_true q i parts.0) (all_near_true q is parts.1)
+
+-- with DATA, or with I-DATA
+unfoldable pub keeps_within : Queue → Tcb → Bool
+keeps_within q t =
+    nat_le (length t.sender.outstanding.items.kept) (2 ^ 30)
+    && (all_near q t.sender.outstanding.items.kept && nat_lt (next_number t.sender.outstanding.items) (origin + 2 ^ 32))
+
+within_true : (q : Queue) (t : Tcb) → keeps_within q t ≡ true → KeepsWithin q t
+unfolding keeps_within
+within_true q t h =
+    let n : ℕ = next_number t.sender.outstanding.items in
+    let first = and_parts (nat_le (length t.sender.outstanding.items.kept) (2 ^ 30)) (all_near q t.sender.outstanding.items.kept && nat_lt n (origin + 2 ^ 32)) h in
+    let rest = and_parts (all_near q t.sender.outstanding.items.kept) (nat_lt n (origin + 2 ^ 32)) first.1 in
+    let short = lt_true n (origin + 2 ^ 32) rest.1 in
+    record {
+      items = le_true (length t.sender.outstanding.items.kept) (2 ^ 30) first.0;
+      messages = all_near_true q t.sender.outstanding.items.kept rest.0;
+      fragments = omega (arith, short);
+      interleaved = λ e. short;
+    }
+
+unfoldable pub is_within : State → Queue → Bool
+is_within Closed q = true
+is_within (CookieWait tag first t1) q = true
+is_within (Open phase t) q = keeps_within q t
+
+is_within_true : (s : State) (q : Queue) → is_within s q ≡ true → IsWithin s q
+unfolding is_within
+is_within_true Closed q h = tt
+is_within_true (CookieWait tag first t1) q h = tt
+is_within_true (Open phase t) q h = within_true q t h
+
+-- ---- packets, and courses
+
+unfoldable pub is_young : (now old : Stamp) → Bool
+is_young now old = nat_lt now.a (old.a + 2 ^ 30) && nat_lt now.b (old.b + 2 ^ 30)
+
+young_true : (now old : Stamp) → is_young now old ≡ true → IsYoung now old
+unfolding is_young
+young_true now old h =
+    let parts = and_parts (nat_lt now.a (old.a + 2 ^ 30)) (nat_lt now.b (old.b + 2 ^ 30)) h in
+    record { a = lt_true now.a (old.a + 2 ^ 30) parts.0; b = lt_true now.b (old.b + 2 ^ 30) parts.1 }
+
+unfoldable pub young_if : Stamp → Option Stamp → Bool
+young_if now None = true
+young_if now (Some old) = is_young now old
+
+young_if_true : (now : Stamp) (o : Option Stamp) → young_if now o ≡ true → (old : Stamp) → o ≡ Some old → IsYoung now old
+unfolding young_if
+young_if_true now None h old e = cc
+young_if_true now (Some p) h old e = subst (λ (z : Stamp). IsYoung now z) (ap (λ (o : Option Stamp). elim o [ None ↦ p | Some z ↦ z ]) e) (young_true now p h)
+
+unfoldable pub is_timely : Turn → Stamp → List Stamp → Bool
+is_timely (Gives which checksum) now stamps = young_if now (slice_get stamps which)
+is_timely (Calls call) now stamps = true
+is_timely (Refuses p) now stamps = true
+
+timely_true : (t : Turn) (now : Stamp) (stamps : List Stamp) → is_timely t now stamps ≡ true → IsTimely t now stamps
+unfolding is_timely
+timely_true (Gives which checksum) now stamps h = young_if_true now (slice_get stamps which) h
+timely_true (Calls call) now stamps h = tt
+timely_true (Refuses p) now stamps h = tt
+
+unfoldable pub both_within : Pair → Bool
+both_within w = is_within (state_of w.a) (queue_of w.a) && is_within (state_of w.b) (queue_of w.b)
+
+both_within_true : (w : Pair) → both_within w ≡ true → AreWithin w
+unfolding both_within
+both_within_true w h =
+    let parts = and_parts (is_within (state_of w.a) (queue_of w.a)) (is_within (state_of w.b) (queue_of w.b)) h in
+    record { a = is_within_true (state_of w.a) (queue_of w.a) parts.0; b = is_within_true (state_of w.b) (queue_of w.b) parts.1 }
+
+unfoldable pub keeps_windows : List (Bool × Turn) → Pair → Stamps → Bool
+keeps_windows [] w s = both_within w
+keeps_windows (e ∷ es) w s =
+    both_within w && (is_timely e.1 (stamp w) (stamps_for e.0 s) && keeps_windows es (goes e.0 e.1 w) (stamps_after e.0 e.1 w s))
+
+pub windows_kept : (es : List (Bool × Turn)) (w : Pair) (s : Stamps) → keeps_windows es w s ≡ true → KeepsWindows es w s
+unfolding keeps_windows
+windows_kept [] w s h = both_within_true w h
+windows_kept (e ∷ es) w s h =
+    let first = and_parts (both_within w) (is_timely e.1 (stamp w) (stamps_for e.0 s) && keeps_windows es (goes e.0 e.1 w) (stamps_after e.0 e.1 w s)) h in
+    let rest = and_parts (is_timely e.1 (stamp w) (stamps_for e.0 s)) (keeps_windows es (goes e.0 e.1 w) (stamps_after e.0 e.1 w s)) first.1 in
+    (both_within_true w first.0, timely_true e.1 (stamp w) (stamps_for e.0 s) rest.0, windows_kept es (goes e.0 e.1 w) (stamps_after e.0 e.1 w s) rest.1)
+
+-- ---- the course, computed
+
+windows_are : keeps_windows two_come at_first no_stamps ≡ true
+unfolding keeps_windows both_within is_within keeps_within all_near near_next is_timely young_if is_young next_u32 next_u64 be16 be32 be64 padded_item inner_items parameter_value cause_value cause_text joined chunk_bytes chunks_bytes chunk_value data_value idata_value init_fields block_bytes sack_value skip_bytes forward_value cookie_bytes capability_bytes cookie_from read_cookie ticked
+windows_are = refl
+
+few_accepted : (from_a : Bool) → length (accepted from_a two_come at_first) < 2 ^ 32
+unfolding next_u32 next_u64 be16 be32 be64 padded_item inner_items parameter_value cause_value cause_text joined chunk_bytes chunks_bytes chunk_value data_value idata_value init_fields block_bytes sack_value skip_bytes forward_value cookie_bytes capability_bytes cookie_from read_cookie ticked
+few_accepted true = lt_true 2 (2 ^ 32) refl
+few_accepted false = lt_true 0 (2 ^ 32) refl
+
+two_accepted : accepted true two_come at_first ≡ plain 97 ∷ plain 98 ∷ []
+unfolding next_u32 next_u64 be16 be32 be64 padded_item inner_items parameter_value cause_value cause_text joined chunk_bytes chunks_bytes chunk_value data_value idata_value init_fields block_bytes sack_value skip_bytes forward_value cookie_bytes capability_bytes cookie_from read_cookie ticked
+two_accepted = refl
+
+pub two_delivered : TwoAreDelivered
+two_delivered = record {
+  follows = one_handed.follows;
+  not_ended = one_handed.not_ended;
+  bounds = record {
+    windows = windows_kept two_come at_first no_stamps windows_are;
+    streams = refl;
+    few = few_accepted;
+  };
+  accepts = two_accepted;
+  readies = one_handed.readies;
+}
