@@ -59,24 +59,21 @@ all_near_true q (i ∷ is) h =
     let parts = and_parts (near_next q i) (all_near q is) h in
     All-cons (IsNearNext q) i is (near_true q i parts.0) (all_near_true q is parts.1)
 
--- with DATA, or with I-DATA
 unfoldable pub keeps_within : Queue → Tcb → Bool
 keeps_within q t =
     nat_le (length t.sender.outstanding.items.kept) (2 ^ 30)
-    && (all_near q t.sender.outstanding.items.kept && nat_lt (next_number t.sender.outstanding.items) (origin + 2 ^ 32))
+    && (all_near q t.sender.outstanding.items.kept && nat_lt (next_number t.sender.outstanding.items) (origin + 2 ^ 62))
 
 within_true : (q : Queue) (t : Tcb) → keeps_within q t ≡ true → KeepsWithin q t
 unfolding keeps_within
 within_true q t h =
     let n : ℕ = next_number t.sender.outstanding.items in
-    let first = and_parts (nat_le (length t.sender.outstanding.items.kept) (2 ^ 30)) (all_near q t.sender.outstanding.items.kept && nat_lt n (origin + 2 ^ 32)) h in
-    let rest = and_parts (all_near q t.sender.outstanding.items.kept) (nat_lt n (origin + 2 ^ 32)) first.1 in
-    let short = lt_true n (origin + 2 ^ 32) rest.1 in
+    let first = and_parts (nat_le (length t.sender.outstanding.items.kept) (2 ^ 30)) (all_near q t.sender.outstanding.items.kept && nat_lt n (origin + 2 ^ 62)) h in
+    let rest = and_parts (all_near q t.sender.outstanding.items.kept) (nat_lt n (origin + 2 ^ 62)) first.1 in
     record {
       items = le_true (length t.sender.outstanding.items.kept) (2 ^ 30) first.0;
       messages = all_near_true q t.sender.outstanding.items.kept rest.0;
-      fragments = omega (arith, short);
-      interleaved = λ e. short;
+      fragments = lt_true n (origin + 2 ^ 62) rest.1;
     }
 
 unfoldable pub is_within : State → Queue → Bool
@@ -166,6 +163,7 @@ two_delivered = record {
     windows = windows_kept two_come at_first no_stamps windows_are;
     streams = refl;
     few = few_accepted;
+    limits = refl;
   };
   accepts = two_accepted;
   readies = one_handed.readies;

@@ -16,7 +16,7 @@ use Rattle.sctp_outstanding.specs.Items.{no_items}
 use Rattle.sctp_tx.specs.ForwardPoints.{most_of}
 use Rattle.sctp_rx.specs.Tracker.{IsTracker, tracker}
 use Rattle.sctp_rx.specs.ReassemblyQueue.{reassembly}
-use Rattle.sctp_rules.specs.State.{Message, ForwardPoint, Sender, Transfer, IsAmong, new_sender, count}
+use Rattle.sctp_rules.specs.State.{Message, ForwardPoint, Sender, Transfer, IsAmong, new_sender, fragment, count}
 use Rattle.sctp_rules.specs.Rules.{Event, accept, begin, number, close, give_up, data_comes, late_comes, deliver, send_sack, leave, send_forward, forward_comes, forget, Happens, run}
 use Rattle.sctp_rules.specs.Kept.{Kept}
 use Rattle.sctp_rules.specs.Windows.{Windows}
@@ -114,6 +114,10 @@ pub record WasSaid (Says : ChunkTree → Type 0) (chunk : ChunkTree) : Type 0 wh
   pub says : Says said
 
 -- ---- the sender
+
+-- the index of each fragment that is sent as data is written whole as an FSN
+abbrev pub AreShort : Sender → Type 0
+AreShort o = (t : ℕ) → t < count o → (fragment o t).placeholder ≡ false → (fragment o t).index < 2 ^ 32
 
 -- no stream is to be reset
 pub record IsFlowing (q : Queue) : Type 0 where
@@ -226,7 +230,7 @@ module _ (message : ℕ → Message) (lifecycle : ℕ → Option ℕ) (mixed : B
   abbrev pub ReceiverGoes : Transfer → List messages.Message → (before after : Making Carried) → Type 0
   ReceiverGoes from handed a b = (x : Transfer) → ReceiverClaim message mixed from handed a x → (y : Transfer) × ReceiverClaim message mixed from handed b y
 
-  -- of the sender beside it, its windows, and what comes from there; with I-DATA fewer than 2^32 fragments are numbered
+  -- of the sender beside it, its windows, and what comes from there
   pub record ReceiverPremises (g : Setting) (call : Call) (from : Transfer) : Type 0 where
     pub own : AreGiven g.own
     pub kept : Kept message mixed from
@@ -235,5 +239,5 @@ module _ (message : ℕ → Message) (lifecycle : ℕ → Option ℕ) (mixed : B
     pub beside : SendsIn message lifecycle mixed g.beside queue from
     pub windows : Windows message from
     pub few : AreFew from.sender
-    pub short : mixed ≡ true → count from.sender < 2 ^ 32
+    pub short : AreShort from.sender
     pub hears : HearsData message mixed call (first_out g.beside) from

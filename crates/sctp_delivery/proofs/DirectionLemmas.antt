@@ -1,6 +1,6 @@
 -- Between turns, one direction of two ends: the sender's values, the receiver's, and all packets that either ever emitted, at a
 -- state of the rules.
-use Rattle.std.proofs.Common.{◌≡◌, ℕ, zero, suc, ◌+◌, ◌-◌, ◌^◌, ◌≤◌, Bool, true, false, Option, Some, None, List, [], ◌∷◌, ◌++◌, length, replicate, slice_get, All, refl, sym, ap, subst, ◌∙◌, arith}
+use Rattle.std.proofs.Common.{◌≡◌, ℕ, zero, suc, ◌+◌, ◌-◌, ◌^◌, ◌≤◌, Bool, true, false, Option, Some, None, List, [], ◌∷◌, ◌++◌, length, replicate, slice_get, All, refl, sym, ap, subst, ◌∙◌, arith, ◌<◌}
 use Rattle.std.proofs.lemmas.List.{length-append}
 use Rattle.std.proofs.lemmas.List.Elements.{All-head, All-tail, All-weaker}
 use Rattle.std.specs.Prelude.{⊤}
@@ -16,6 +16,7 @@ use Rattle.sctp_association_laws.specs.Mapped.{Carried}
 use Rattle.sctp_course.specs.Course.{Side, emitted, state_of}
 use Rattle.sctp_delivery.specs.Windows.{Stamp, queue_of}
 use Rattle.sctp_delivery.proofs.ClaimLemmas.{GoesOn, SaysOut, SaysIn, first_out, first_in, IsFlowing, SendsIn, ReceivesIn}
+use Rattle.sctp_delivery.proofs.FilledLemmas.{IsFilled}
 use Rattle.sctp_delivery.proofs.SenderToolLemmas.{Grows, goes_grows, all_out_stay, all_in_stay}
 
 -- ---- packets and their stamps, one by one
@@ -198,9 +199,12 @@ module _ (message : ℕ → Message) (lifecycle : ℕ → Option ℕ) (mixed : B
 -- ---- the direction from s to r
 
 module _ (message : ℕ → Message) (lifecycle : ℕ → Option ℕ) (mixed : Bool) (of : Stamp → ℕ) where
-  -- where so many messages were accepted, these were handed out, and all packets have these stamps
+  -- Where so many messages were accepted, these were handed out, and all packets have these stamps. Each message is shorter than
+  -- an FSN tells.
   pub record Flows (s r : Side) (accepted : ℕ) (handed : List messages.Message) (stamps_s stamps_r : List Stamp) (x : Transfer) : Type 0 where
     pub kept : Kept message mixed x
+    pub filled : IsFilled message x.sender
+    pub short : (p : ℕ) → length (message p).payload < 2 ^ 32
     pub sends : SendsIn message lifecycle mixed (state_of s) (queue_of s) x
     pub flows : IsFlowing (queue_of s)
     pub receives : ReceivesIn message mixed (state_of r) handed x

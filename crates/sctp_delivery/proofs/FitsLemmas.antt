@@ -1,7 +1,8 @@
 -- What became ready fits: these are the messages that the rules made ready, read off what was accepted.
-use Rattle.std.proofs.Common.{◌≡◌, ℕ, zero, suc, ◌+◌, ◌<◌, not, Bool, false, Option, Some, None, inl, inr, List, [], ◌∷◌, ◌++◌, length, map, take, slice_get, slice_index, refl, sym, ap, subst, ◌∙◌, append_assoc, arith}
+use Rattle.std.proofs.Common.{◌≡◌, ℕ, zero, suc, ◌+◌, ◌<◌, not, Bool, false, Option, Some, None, inl, inr, List, [], ◌∷◌, ◌++◌, length, map, take, slice_get, slice_index, refl, sym, ap, subst, ◌∙◌, append_assoc, arith, ◌^◌, All}
 use Rattle.std.specs.Prelude.{option_map}
 use Rattle.std.proofs.lemmas.List.{length-map}
+use Rattle.std.proofs.lemmas.List.Elements.{All-head, All-tail}
 use Rattle.std.proofs.lemmas.Option.{slice_get_cases}
 use Rattle.std.proofs.Math.Seq.{take-append_seam}
 use Rattle.sctp_serial.specs.Messages as messages
@@ -27,6 +28,12 @@ message_of os p = elim (slice_get os p) [ None ↦ record { stream = 0; ordered 
 
 abbrev pub lifecycle_of : List Offer → ℕ → Option ℕ
 lifecycle_of os p = elim (slice_get os p) [ None ↦ None | Some o ↦ o.options.lifecycle_id ]
+
+-- as short as what was accepted
+pub all_short : (os : List Offer) → All (λ (o : Offer). length o.message.payload < 2 ^ 32) os → (p : ℕ) → length (message_of os p).payload < 2 ^ 32
+all_short [] h p = omega arith
+all_short (o ∷ os) h zero = All-head (λ (o : Offer). length o.message.payload < 2 ^ 32) o os h
+all_short (o ∷ os) h (suc p) = all_short os (All-tail (λ (o : Offer). length o.message.payload < 2 ^ 32) o os h) p
 
 get_behind : (xs ys : List Offer) (n : ℕ) (o : Offer) → slice_get xs n ≡ Some o → slice_get (xs ++ ys) n ≡ Some o
 get_behind [] ys n o e = cc

@@ -125,7 +125,7 @@ module _ (message : ℕ → Message) (lifecycle : ℕ → Option ℕ) (mixed : B
     (f : Flows message lifecycle mixed of s r accepted handed stamps_s stamps_r x) (now : Stamp) (at_now : of now ≡ numbered (state_of s))
     (young : (old : Stamp) → IsYoung now old → of now < of old + 2 ^ 30) where
   pub holds : Holds message lifecycle mixed x (queue_of s) f.kept
-  holds = holds_of message lifecycle mixed of o q s r accepted handed stamps_s stamps_r x f mode h.own within
+  holds = holds_of message lifecycle mixed of o q s r accepted handed stamps_s stamps_r x f within
 
   pub counted : of now ≡ count x.sender
   counted = at_now ∙ numbered_is message lifecycle mixed (state_of s) (queue_of s) x f.sends

@@ -1,5 +1,5 @@
 -- What becomes ready at an end are messages that the other end accepted.
-use Rattle.std.proofs.Common.{ℕ, not, Bool, true, false, Option, List, [], refl, sym}
+use Rattle.std.proofs.Common.{ℕ, not, Bool, true, false, Option, List, [], refl, sym, ◌^◌, ◌<◌, length}
 use Rattle.rand_core.specs.Stream.{Stream}
 use Rattle.sctp_state.specs.Options.{Options}
 use Rattle.sctp_state.specs.Capabilities.{agreed}
@@ -16,6 +16,8 @@ use Rattle.sctp_course.proofs.HandingLemmas.{first_halves, nothing_ready}
 use Rattle.sctp_delivery.specs.Accepted.{Offer, accepted}
 use Rattle.sctp_delivery.specs.Windows.{Stamp, no_stamps}
 use Rattle.sctp_delivery.specs.Delivery.{MessagesAreDelivered}
+use Rattle.sctp_delivery.proofs.FilledLemmas.{filled_new}
+use Rattle.sctp_delivery.proofs.LimitLemmas.{all_accepted_short}
 use Rattle.sctp_delivery.proofs.FlowLemmas.{queue_flows}
 use Rattle.sctp_delivery.proofs.SenderKeepsLemmas.{sender_keeps}
 use Rattle.sctp_delivery.proofs.ReceiverKeepsLemmas.{receiver_keeps}
@@ -25,15 +27,17 @@ use Rattle.sctp_delivery.proofs.GoingLemmas.{Parts}
 use Rattle.sctp_delivery.proofs.TakenLemmas.{sends_taken, receives_in_taken}
 use Rattle.sctp_delivery.proofs.OfferedLemmas.{offered_out, offered_in}
 use Rattle.sctp_delivery.proofs.BesideLemmas.{stays}
-use Rattle.sctp_delivery.proofs.FitsLemmas.{message_of, lifecycle_of}
+use Rattle.sctp_delivery.proofs.FitsLemmas.{message_of, lifecycle_of, all_short}
 use Rattle.sctp_delivery.proofs.DeliveryLemmas.{of_end, FlowsFrom, delivers_on}
 
 -- ---- at first nothing was accepted, and nothing came
 
-first_flows : (message : ℕ → Message) (lifecycle : ℕ → Option ℕ) (mixed : Bool) (of : Stamp → ℕ) (o q : Options) (words others : Stream)
+first_flows : (message : ℕ → Message) (lifecycle : ℕ → Option ℕ) (mixed : Bool) (of : Stamp → ℕ) (short : (p : ℕ) → length (message p).payload < 2 ^ 32) (o q : Options) (words others : Stream)
     → Flows message lifecycle mixed of (new_side o words) (new_side q others) 0 [] [] [] start
-first_flows message lifecycle mixed of o q words others = record {
+first_flows message lifecycle mixed of short o q words others = record {
   kept = at_start message mixed;
+  filled = filled_new message 0;
+  short = short;
   sends = record {
     sender = refl;
     acknowledged = refl;
@@ -53,10 +57,10 @@ first_flows message lifecycle mixed of o q words others = record {
   answers = tt;
 }
 
-at_first : (message : ℕ → Message) (lifecycle : ℕ → Option ℕ) (mixed from_a : Bool) (a b : Options) (words_a words_b : Stream)
+at_first : (message : ℕ → Message) (lifecycle : ℕ → Option ℕ) (mixed from_a : Bool) (short : (p : ℕ) → length (message p).payload < 2 ^ 32) (a b : Options) (words_a words_b : Stream)
     → FlowsFrom message lifecycle mixed from_a (course.start a b words_a words_b) no_stamps 0 [] start
-at_first message lifecycle mixed true a b words_a words_b = first_flows message lifecycle mixed (of_end true) a b words_a words_b
-at_first message lifecycle mixed false a b words_a words_b = first_flows message lifecycle mixed (of_end false) b a words_b words_a
+at_first message lifecycle mixed true short a b words_a words_b = first_flows message lifecycle mixed (of_end true) short a b words_a words_b
+at_first message lifecycle mixed false short a b words_a words_b = first_flows message lifecycle mixed (of_end false) short b a words_b words_a
 
 -- nor was anything told
 accounted_first : (lifecycle : ℕ → Option ℕ) (from_a : Bool) (a b : Options) (words_a words_b : Stream)
@@ -86,7 +90,7 @@ delivered a b words_a words_b turns own other follows none bounds from_a =
     let mixed : Bool = (agreed a b).message_interleaving in
     let d = delivers_on all mixed (all_parts (message_of all) (lifecycle_of all) mixed) a b own other refl (bounds.few from_a) from_a turns w no_stamps follows none bounds.windows bounds.streams
     (first_halves a b words_a words_b) (record { a = record { told = refl }; b = record { told = refl } }) [] refl [] [] (sym (nothing_ready (not from_a) a b words_a words_b)) [] start
-    (at_first (message_of all) (lifecycle_of all) mixed from_a a b words_a words_b) (accounted_first (lifecycle_of all) from_a a b words_a words_b) in
+    (at_first (message_of all) (lifecycle_of all) mixed from_a (all_short all (all_accepted_short a b words_a words_b own other turns bounds.limits from_a)) a b words_a words_b) (accounted_first (lifecycle_of all) from_a a b words_a words_b) in
     record {
       places = d.places;
       fits = λ early late is. (d.points early late is).fits;

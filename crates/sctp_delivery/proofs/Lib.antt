@@ -1,6 +1,8 @@
 pub mod ClaimLemmas
 pub mod FrameLemmas
 pub mod WithinLemmas
+pub mod FilledLemmas
+pub mod LimitLemmas
 pub mod FlowLemmas
 pub mod ReadingLemmas
 pub mod ReadingDataLemmas

@@ -1,5 +1,5 @@
 -- What a turn begins with: the claim that nothing is done yet, and what is heard, of packets that are under way.
-use Rattle.std.proofs.Common.{◌≡◌, ℕ, ◌+◌, ◌^◌, ◌<◌, ◌≤◌, Bool, Option, inl, inr, List, [], ◌∷◌, map, All, refl, sym, ap, subst, ◌∙◌, arith}
+use Rattle.std.proofs.Common.{◌≡◌, ℕ, ◌+◌, ◌^◌, ◌<◌, ◌≤◌, Bool, Option, inl, inr, List, [], ◌∷◌, map, All, refl, sym, ap, subst, arith}
 use Rattle.std.proofs.lemmas.Bool.{cases_lt}
 use Rattle.std.proofs.lemmas.List.Elements.{All-nil, All-cons, All-head, All-tail}
 use Rattle.sctp_serial.specs.Messages as messages
@@ -9,22 +9,20 @@ use Rattle.sctp_packet.specs.Packet.{PacketTree}
 use Rattle.sctp_state.specs.Options.{Options}
 use Rattle.sctp_state.specs.Capabilities.{agreed}
 use Rattle.sctp_state.specs.Events.{Told}
-use Rattle.sctp_rules.specs.State.{Message, Transfer, count}
-use Rattle.sctp_rules.specs.Kept.{Kept}
+use Rattle.sctp_rules.specs.State.{Message, Transfer, place_of, count}
 use Rattle.sctp_rules.specs.Windows.{Windows}
 use Rattle.sctp_tx_rules.specs.Led.{recorded, delivered}
-use Rattle.sctp_association.specs.Association.{State, Closed, CookieWait, Open}
 use Rattle.sctp_association.specs.Laws.{Call, Packet}
 use Rattle.sctp_association_laws.specs.Mapped.{Carried}
 use Rattle.sctp_course.specs.Acts.{calm, IsHeard}
 use Rattle.sctp_course.specs.Course.{Side, packets_in, as_heard, AreGiven, state_of}
 use Rattle.sctp_course.proofs.AddedLemmas.{all_at}
-use Rattle.sctp_course.proofs.JoinLemmas.{view_of, Can}
-use Rattle.sctp_course.proofs.CourseLemmas.{Half, setting}
+use Rattle.sctp_course.proofs.CourseLemmas.{setting}
 use Rattle.sctp_delivery.specs.Windows.{Stamp, IsWithin, queue_of}
 use Rattle.sctp_delivery.proofs.ClaimLemmas.{SaysOut, SaysIn, first_out, first_in, WasSaid, SenderClaim, ReceiverClaim, HearsSacks, HearsData, SenderPremises, ReceiverPremises}
 use Rattle.sctp_delivery.proofs.SenderToolLemmas.{reports_none}
-use Rattle.sctp_delivery.proofs.WithinLemmas.{Holds, HasMode, within}
+use Rattle.sctp_delivery.proofs.WithinLemmas.{Holds, within}
+use Rattle.sctp_delivery.proofs.FilledLemmas.{short_index}
 use Rattle.sctp_delivery.proofs.DirectionLemmas.{IsUnderWay, says_out, says_in, Flows, IsSilent}
 
 -- ---- chunks that are heard
@@ -103,23 +101,10 @@ module _ (message : ℕ → Message) (mixed : Bool) (first : ℕ) (x : Transfer)
 
 -- ---- both ends
 
-mode_of : (message : ℕ → Message) (lifecycle : ℕ → Option ℕ) (mixed : Bool) (x : Transfer) (q : _) (k : Kept message mixed x) (own other : Options) (s r : Side)
-    → mixed ≡ (agreed own other).message_interleaving → Half own other s r → HasMode message lifecycle mixed x q k (state_of s)
-mode_of message lifecycle mixed x q k own other s r mode h = by_state (state_of s) (λ phase t e. ap (λ c. c.message_interleaving) (can_be phase t e) ∙ sym mode)
-  where
-    by_state : (z : State) → ((phase : _) (t : _) → z ≡ Open phase t → t.capabilities.message_interleaving ≡ mixed) → HasMode message lifecycle mixed x q k z
-    by_state Closed f = tt
-    by_state (CookieWait tag first t1) f = tt
-    by_state (Open phase t) f = f phase t refl
-
-    can_be : (phase : _) (t : _) → state_of s ≡ Open phase t → t.capabilities ≡ agreed own other
-    can_be phase t e = subst (λ (z : State). Can (agreed own other) (view_of z).can) e h.stands.can
-
 module _ (message : ℕ → Message) (lifecycle : ℕ → Option ℕ) (mixed : Bool) (of : Stamp → ℕ) (own other : Options) (s r : Side)
     (accepted : ℕ) (handed : List messages.Message) (stamps_s stamps_r : List Stamp) (x : Transfer) (f : Flows message lifecycle mixed of s r accepted handed stamps_s stamps_r x) where
-  pub holds_of : mixed ≡ (agreed own other).message_interleaving → Half own other s r → IsWithin (state_of s) (queue_of s) → Holds message lifecycle mixed x (queue_of s) f.kept
-  holds_of mode h w =
-      within message lifecycle mixed x (queue_of s) f.kept (state_of s) (mode_of message lifecycle mixed x (queue_of s) f.kept own other s r mode h) f.sends w
+  pub holds_of : IsWithin (state_of s) (queue_of s) → Holds message lifecycle mixed x (queue_of s) f.kept
+  holds_of w = within message lifecycle mixed x (queue_of s) f.kept (state_of s) f.sends w
 
   pub sender_premises : (asked : Bool) (call : Call) → AreGiven own → mixed ≡ (agreed own other).message_interleaving → HearsSacks call (first_in (state_of r)) x
       → SenderPremises message lifecycle mixed (setting own other s r asked) call x
@@ -143,7 +128,7 @@ module _ (message : ℕ → Message) (lifecycle : ℕ → Option ℕ) (mixed : B
     beside = f.sends;
     windows = holds.windows;
     few = holds.few;
-    short = holds.short;
+    short = short_index message (2 ^ 32) x.sender f.filled (λ t below. f.short (place_of x.sender t));
     hears = hears;
   }
 

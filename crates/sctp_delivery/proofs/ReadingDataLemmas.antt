@@ -21,7 +21,7 @@ use Rattle.sctp_association_laws.specs.Mapped.{Carried}
 use Rattle.sctp_course.specs.Acts.{Making, in_open, IsHeard, is_response}
 use Rattle.sctp_course.proofs.JoinActsLemmas.{Setting, InvAt}
 use Rattle.sctp_course.proofs.JoinLemmas.{Draw, view_of, both_of, Faces}
-use Rattle.sctp_delivery.proofs.ClaimLemmas.{SaysData, SaysPoint, SaysOut, WasSaid, IsWaiting, SendsIn, IsReceiving, first_out, ReceiverPremises}
+use Rattle.sctp_delivery.proofs.ClaimLemmas.{SaysData, SaysPoint, SaysOut, WasSaid, IsWaiting, SendsIn, IsReceiving, first_out, AreShort, ReceiverPremises}
 use Rattle.sctp_delivery.proofs.ReadingLemmas.{DataSaid, PointSaid, data_was_said, idata_was_said, point_was_said, ipoint_was_said, responses_were_said, number_is_read}
 
 -- ---- of one state of the rules, what another says too
@@ -117,8 +117,8 @@ module _ (message : ℕ → Message) (lifecycle : ℕ → Option ℕ) (mixed : B
   pub few_stay : AreFew x.sender
   few_stay = subst AreFew (sym sender) premises.few
 
-  pub short_stays : mixed ≡ true → count x.sender < 2 ^ 32
-  short_stays both = subst (λ (o : Sender). count o < 2 ^ 32) (sym sender) (premises.short both)
+  pub short_stays : AreShort x.sender
+  short_stays = subst AreShort (sym sender) premises.short
 
   abbrev least : ℕ
   least = premises.hears.least
@@ -177,7 +177,7 @@ module _ (message : ℕ → Message) (lifecycle : ℕ → Option ℕ) (mixed : B
   pub idata_is_heard : (tag tsn : ℕ) (is_immediate : Bool) (f : FragmentTree) → IsHeard call tag (idata_chunk tsn is_immediate f)
       → (mixed ≡ true) × DataHeard message mixed x t.tracker tsn f
   idata_is_heard tag tsn is_immediate f heard =
-      let s = idata_was_said message mixed x t.tracker.first least kept short_stays tsn is_immediate f (heard_here tag (idata_chunk tsn is_immediate f) heard) in
+      let s = idata_was_said message mixed x t.tracker.first least short_stays tsn is_immediate f (heard_here tag (idata_chunk tsn is_immediate f) heard) in
       (s.0, data_here tsn f s.1)
 
   pub point_is_heard : (tag tsn : ℕ) (skipped : List SkippedStream) → IsHeard call tag (forward_tsn_chunk tsn skipped)

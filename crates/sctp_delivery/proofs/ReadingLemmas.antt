@@ -1,5 +1,5 @@
 -- What an end hears of the other as sender is read as it was meant: fragments, forward points and responses to requests.
-use Rattle.std.proofs.Common.{◌≡◌, ℕ, suc, ◌+◌, ◌-◌, ◌%◌, ◌^◌, ◌<◌, ◌≤◌, max, Bool, true, false, cond, inl, inr, List, [], ◌∷◌, length, map, refl, sym, ap, ◌∙◌, subst, arith, eqb}
+use Rattle.std.proofs.Common.{◌≡◌, ℕ, suc, ◌+◌, ◌-◌, ◌%◌, ◌^◌, ◌<◌, ◌≤◌, max, Bool, true, false, cond, inl, inr, List, [], ◌∷◌, map, refl, sym, ap, ◌∙◌, subst, arith}
 use Rattle.std.specs.Prelude.{not}
 use Rattle.std.specs.List.{list_all}
 use Rattle.std.proofs.lemmas.Bool.{cond-true, cond-false}
@@ -15,7 +15,7 @@ use Rattle.sctp_outstanding.specs.Entries.{ssn_skip, mid_skip}
 use Rattle.sctp_rx.specs.Tracker as tracker
 use Rattle.sctp_rx.specs.Tracker.{DataTracker, IsTracker}
 use Rattle.sctp_rx.specs.ReassemblyQueue.{Reassembly}
-use Rattle.sctp_rules.specs.State.{Message, Fragment, Entry, ForwardPoint, Transfer, IsAmong, fragment, place_of, count, parts, ordered_of}
+use Rattle.sctp_rules.specs.State.{Message, Entry, ForwardPoint, Transfer, IsAmong, fragment, place_of, count, ordered_of}
 use Rattle.sctp_rules.specs.Rules.{covers}
 use Rattle.sctp_rules.specs.Kept.{Kept}
 use Rattle.sctp_rules.specs.Points.{AreApart}
@@ -29,7 +29,7 @@ use Rattle.sctp_rx_rules.specs.Near.{IsWritten, IsEntry, AreEntries}
 use Rattle.sctp_rx_rules.proofs.NearNumberLemmas.{among_covers}
 use Rattle.sctp_rx_rules.proofs.NearTsnLemmas.{tracker_reads}
 use Rattle.sctp_course.specs.Acts.{is_response}
-use Rattle.sctp_delivery.proofs.ClaimLemmas.{SaysData, SaysPoint, SaysOut, WasSaid}
+use Rattle.sctp_delivery.proofs.ClaimLemmas.{SaysData, SaysPoint, SaysOut, WasSaid, AreShort}
 
 -- ---- a fragment
 
@@ -48,12 +48,6 @@ plain_part f = record f { mid = 0; fsn = 0 }
 
 abbrev mixed_part : FragmentTree → FragmentTree
 mixed_part f = record f { ssn = 0; ppid = cond f.is_beginning f.ppid 0; fsn = cond f.is_beginning 0 f.fsn }
-
-parts_le : (p : ℕ) (fs : List Fragment) → parts p fs ≤ length fs
-parts_le p [] = omega arith
-parts_le p (f ∷ fs) =
-    let ih = parts_le p fs in
-    elim (eqb f.place p) as (λ b. cond b (suc (parts p fs)) (parts p fs) ≤ suc (length fs)) [ true ↦ omega (arith, ih) | false ↦ omega (arith, ih) ]
 
 module _ (message : ℕ → Message) (mixed : Bool) (x : Transfer) (first least : ℕ) where
   ssn_of : (k : ℕ) → ordered_of message (place_of x.sender k) ≡ true → (tree_of message x.sender (fragment x.sender k)).ssn ≡ wire halves 0 (origin + x.sender.number (place_of x.sender k))
@@ -86,13 +80,10 @@ module _ (message : ℕ → Message) (mixed : Bool) (x : Transfer) (first least 
         };
       }
 
-  module _ (kept : Kept message mixed x) (short : count x.sender < 2 ^ 32) where
+  module _ (short : AreShort x.sender) where
     -- an FSN is written whole
-    fsn_of : (k : ℕ) → k < count x.sender → (fragment x.sender k).index % 2 ^ 32 ≡ (fragment x.sender k).index
-    fsn_of k below =
-        let a = kept.indexed.index_below k below in
-        let b = parts_le (place_of x.sender k) x.sender.numbered in
-        omega (arith, a, b, short)
+    fsn_of : (k : ℕ) → k < count x.sender → (fragment x.sender k).placeholder ≡ false → (fragment x.sender k).index % 2 ^ 32 ≡ (fragment x.sender k).index
+    fsn_of k below real = let l = short k below real in omega (arith, l)
 
     mixed_said : (tsn : ℕ) (f g : FragmentTree) → SaysData message first least x.sender tsn g → f ≡ mixed_part g → mixed ≡ true
         → DataSaid message mixed first least x tsn f
@@ -115,7 +106,7 @@ module _ (message : ℕ → Message) (mixed : Bool) (x : Transfer) (first least 
             payload = ap (λ (z : FragmentTree). z.payload) is;
             begins = begins;
             ends = ap (λ (z : FragmentTree). z.is_end) is;
-            fsn = λ m b. ap (λ (z : FragmentTree). z.fsn) is ∙ (cond-false t.is_beginning 0 t.fsn (sym begins ∙ b) ∙ fsn_of k h.carries.below);
+            fsn = λ m b. ap (λ (z : FragmentTree). z.fsn) is ∙ (cond-false t.is_beginning 0 t.fsn (sym begins ∙ b) ∙ fsn_of k h.carries.below h.carries.real);
           };
           written = record {
             ssn = λ p. absurd (not_both both p);
@@ -135,17 +126,17 @@ module _ (message : ℕ → Message) (mixed : Bool) (x : Transfer) (first least 
       part_same e = cc
   said_plain tsn is_immediate f said e h = cc
 
-  said_mixed : Kept message mixed x → count x.sender < 2 ^ 32 → (tsn : ℕ) (is_immediate : Bool) (f : FragmentTree) (said : ChunkTree)
+  said_mixed : AreShort x.sender → (tsn : ℕ) (is_immediate : Bool) (f : FragmentTree) (said : ChunkTree)
       → idata_chunk tsn is_immediate f ≡ carried said → SaysOut message mixed first least x said → DataSaid message mixed first least x tsn f
-  said_mixed kept short tsn is_immediate f (idata_chunk other more g) e h =
-      subst (λ n. DataSaid message mixed first least x n f) (tsn_same e) (mixed_said kept short other f g h.1 (part_same e) h.0)
+  said_mixed short tsn is_immediate f (idata_chunk other more g) e h =
+      subst (λ n. DataSaid message mixed first least x n f) (tsn_same e) (mixed_said short other f g h.1 (part_same e) h.0)
     where
       tsn_same : idata_chunk tsn is_immediate f ≡ idata_chunk other more (mixed_part g) → other ≡ tsn
       tsn_same e = cc
 
       part_same : idata_chunk tsn is_immediate f ≡ idata_chunk other more (mixed_part g) → f ≡ mixed_part g
       part_same e = cc
-  said_mixed kept short tsn is_immediate f said e h = cc
+  said_mixed short tsn is_immediate f said e h = cc
 
   plain_mode : (tsn : ℕ) (is_immediate : Bool) (f : FragmentTree) (said : ChunkTree) → data_chunk tsn is_immediate f ≡ carried said
       → SaysOut message mixed first least x said → mixed ≡ false
@@ -163,11 +154,11 @@ module _ (message : ℕ → Message) (mixed : Bool) (x : Transfer) (first least 
   data_was_said tsn is_immediate f h =
       (plain_mode tsn is_immediate f h.said h.is h.says, said_plain tsn is_immediate f h.said h.is h.says)
 
-  pub idata_was_said : Kept message mixed x → (mixed ≡ true → count x.sender < 2 ^ 32) → (tsn : ℕ) (is_immediate : Bool) (f : FragmentTree)
+  pub idata_was_said : AreShort x.sender → (tsn : ℕ) (is_immediate : Bool) (f : FragmentTree)
       → WasSaid (SaysOut message mixed first least x) (idata_chunk tsn is_immediate f) → (mixed ≡ true) × DataSaid message mixed first least x tsn f
-  idata_was_said kept short tsn is_immediate f h =
+  idata_was_said short tsn is_immediate f h =
       let both : mixed ≡ true = mixed_mode tsn is_immediate f h.said h.is h.says in
-      (both, said_mixed kept (short both) tsn is_immediate f h.said h.is h.says)
+      (both, said_mixed short tsn is_immediate f h.said h.is h.says)
 
 -- ---- a forward point
 

@@ -30,7 +30,7 @@ unfolding next_u32 next_u64 be16 be32 be64 padded_item inner_items parameter_val
 one_skipped = record {
   follows = (inr refl, (tt, (tt, (tt, (tt, (tt, (tt, (tt, (tt, (tt, (tt, (tt, (tt, (tt, (tt, (tt, tt))))))))))))))));
   not_ended = record { a = refl; b = refl };
-  bounds = record { windows = windows_kept one_is_lost at_first no_stamps windows_are; streams = refl; few = few_accepted };
+  bounds = record { windows = windows_kept one_is_lost at_first no_stamps windows_are; streams = refl; few = few_accepted; limits = refl };
   accepts = refl;
   readies = refl;
   gives_up = refl;

@@ -16,6 +16,7 @@ use Rattle.sctp_course.specs.Course.{Side, packets_in, emitted, took, state_of}
 use Rattle.sctp_course.proofs.JoinActsLemmas.{packets_both}
 use Rattle.sctp_delivery.specs.Windows.{Stamp, queue_of, stamped}
 use Rattle.sctp_delivery.proofs.ClaimLemmas.{is_receiving, GoesOn, first_out, first_in, SendsIn, ReceivesIn, SenderClaim, ReceiverClaim}
+use Rattle.sctp_delivery.proofs.FilledLemmas.{has_bytes, filled_goes, receives_filled}
 use Rattle.sctp_delivery.proofs.SenderToolLemmas.{Grows, goes_grows}
 use Rattle.sctp_delivery.proofs.DirectionLemmas.{Saying, IsUnderWay, AllUnderWay, each_behind, says_out, says_in, out_on, in_on, out_first, in_first, Stands, Flows}
 
@@ -106,7 +107,7 @@ outgoing_all (e ∷ es) h = let parts = and_parts (is_sending e) (list_all is_se
     one : (e : Event) → is_sending e ≡ true → is_outgoing e ≡ true
     one accept h = refl
     one (begin p) h = refl
-    one (number p bytes more) h = refl
+    one (number p bytes more) h = h
     one (close p) h = refl
     one (give_up p) h = refl
     one (leave c) h = refl
@@ -117,6 +118,10 @@ outgoing_all (e ∷ es) h = let parts = and_parts (is_sending e) (list_all is_se
     one (send_sack c) h = h
     one (forward_comes f) h = h
     one (forget s c) h = h
+
+outgoing_has : (e : Event) → is_outgoing e ≡ true → has_bytes e ≡ true
+outgoing_has (number p bytes more) h = h
+outgoing_has e h = refl
 
 outgoing : (message : ℕ → Message) (mixed : Bool) (x y : Transfer) → GoesOn message mixed is_sending x y → GoesOn message mixed is_outgoing x y
 outgoing message mixed x y g = record { events = g.events; may = g.may; all = outgoing_all g.events g.all; leads = g.leads }
@@ -173,6 +178,9 @@ module _ (message : ℕ → Message) (lifecycle : ℕ → Option ℕ) (mixed : B
       let acked = offers.acknowledged in
       record {
         kept = c.kept;
+        filled = filled_goes message mixed is_outgoing outgoing_has mid y offers.kept went
+            (filled_goes message mixed is_outgoing outgoing_has x mid f.kept offers.goes f.filled);
+        short = f.short;
         sends = c.shown;
         flows = c.flows;
         receives = stay.receives (state_of r) handed mid y offers.kept went (stay.receives (state_of r) handed x mid f.kept offers.goes f.receives);
@@ -193,6 +201,8 @@ module _ (message : ℕ → Message) (lifecycle : ℕ → Option ℕ) (mixed : B
       let grows : Grows message mixed x y = goes_grows message mixed is_receiving x y f.kept c.goes in
       record {
         kept = c.kept;
+        filled = receives_filled message mixed x y f.kept c.goes f.filled;
+        short = f.short;
         sends = stay.sends (state_of s) (queue_of s) x y f.kept c.goes f.sends;
         flows = f.flows;
         receives = c.shown;

@@ -2,7 +2,6 @@
 use Rattle.std.proofs.Common.{◌≡◌, ℕ, suc, ◌+◌, ◌^◌, ◌<◌, ◌≤◌, Bool, true, false, not, Option, inl, inr, List, [], ◌∷◌, All, refl, sym, ap, ◌∙◌, subst, arith}
 use Rattle.std.proofs.lemmas.List.Elements.{All-head, All-tail}
 use Rattle.std.proofs.lemmas.Bool.{cases_lt}
-use Rattle.std.specs.Prelude.{⊤}
 use Rattle.sctp_serial.specs.Unwrapped.{origin, words, wire}
 use Rattle.sctp_packet.specs.Chunk.{FragmentTree}
 use Rattle.sctp_send_queue.specs.Queue.{Queue, stream}
@@ -77,10 +76,9 @@ module _ (message : ℕ → Message) (lifecycle : ℕ → Option ℕ) (mixed : B
   pub record Holds : Type 0 where
     pub windows : Windows message x
     pub few : AreFew x.sender
-    pub short : mixed ≡ true → count x.sender < 2 ^ 32
 
-  open_holds : (t : Tcb) → t.capabilities.message_interleaving ≡ mixed → IsSending message lifecycle mixed t q x → KeepsWithin q t → Holds
-  open_holds t mode h w =
+  open_holds : (t : Tcb) → IsSending message lifecycle mixed t q x → KeepsWithin q t → Holds
+  open_holds t h w =
       let s : Items = t.sender.outstanding.items in
       let c = kept_count message lifecycle x.sender x.acknowledged s.kept h.shows.items.kept in
       let n = shown_count message lifecycle mixed x q s h.shows in
@@ -93,7 +91,6 @@ module _ (message : ℕ → Message) (lifecycle : ℕ → Option ℕ) (mixed : B
           messages = item_near s h.shows x.acknowledged s.kept h.shows.items.kept w.messages;
         };
         few = record { fragments = omega (arith, n, f); messages = omega (arith, m) };
-        short = λ e. let z = w.interleaved (mode ∙ e) in omega (arith, n, z);
       }
 
   waiting_holds : IsWaiting message lifecycle mixed q x → Holds
@@ -106,16 +103,9 @@ module _ (message : ℕ → Message) (lifecycle : ℕ → Option ℕ) (mixed : B
           messages = λ t a l o. absurd (omega (arith, c, l));
         };
         few = record { fragments = omega (arith, c); messages = omega (arith, m) };
-        short = λ e. omega (arith, c);
       }
 
-  -- what holds of the control block's mode
-  abbrev pub HasMode : State → Type 0
-  HasMode Closed = ⊤
-  HasMode (CookieWait tag first t1) = ⊤
-  HasMode (Open phase t) = t.capabilities.message_interleaving ≡ mixed
-
-  pub within : (s : State) → HasMode s → SendsIn message lifecycle mixed s q x → IsWithin s q → Holds
-  within Closed mode h w = waiting_holds h
-  within (CookieWait tag first t1) mode h w = waiting_holds h
-  within (Open phase t) mode h w = open_holds t mode h w
+  pub within : (s : State) → SendsIn message lifecycle mixed s q x → IsWithin s q → Holds
+  within Closed h w = waiting_holds h
+  within (CookieWait tag first t1) h w = waiting_holds h
+  within (Open phase t) h w = open_holds t h w

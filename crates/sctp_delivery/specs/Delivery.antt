@@ -12,7 +12,7 @@ use Rattle.sctp_course.specs.Handing.{readied, text, two_come}
 use Rattle.sctp_course.specs.Opens.{at_first}
 use Rattle.sctp_delivery.specs.Accepted.{Offer, accepted}
 use Rattle.sctp_delivery.specs.GivenUp.{given_up, IsAtRest}
-use Rattle.sctp_delivery.specs.Windows.{no_stamps, KeepsWindows, KeepsStreams}
+use Rattle.sctp_delivery.specs.Windows.{no_stamps, KeepsWindows, KeepsStreams, KeepsLimits}
 
 -- ---- the judge
 
@@ -76,6 +76,8 @@ pub record IsInBounds (turns : List (Bool × Turn)) (w : Pair) : Type 0 where
   pub windows : KeepsWindows turns w no_stamps
   pub streams : KeepsStreams turns
   pub few : (from_a : Bool) → length (accepted from_a turns w) < 2 ^ 32
+  -- so that each message has fewer than 2^32 bytes, hence fragments: I-DATA counts them by 32 bits (RFC 8260 section 2.1)
+  pub limits : KeepsLimits turns
 
 -- Along each course that follows the rules, until an association first ends.
 abbrev pub MessagesAreDelivered : Type 0

@@ -1,13 +1,13 @@
 -- How many fragments two ends have numbered, and how far what is under way may lie behind: the windows under which numbers
 -- on the wire say what they mean. All is read off the values that the ends hold between turns.
-use Rattle.std.specs.Prelude.{◌≡◌, ℕ, ◌+◌, ◌-◌, ◌^◌, ◌<◌, ◌≤◌, Bool, true, false, Some, List, [], ◌∷◌, ◌++◌, length, replicate, slice_get, ⊤, All}
+use Rattle.std.specs.Prelude.{◌≡◌, ℕ, ◌+◌, ◌-◌, ◌^◌, ◌<◌, ◌≤◌, Bool, true, false, Some, List, [], ◌∷◌, ◌++◌, length, replicate, slice_get, nat_le, ⊤, All}
 use Rattle.std.specs.List.{list_any}
 use Rattle.sctp_serial.specs.Unwrapped.{origin}
 use Rattle.sctp_send_queue.specs.Queue.{Queue, stream}
 use Rattle.sctp_outstanding.specs.Item.{Item}
 use Rattle.sctp_outstanding.specs.Items.{next_number}
 use Rattle.sctp_association.specs.Association.{Tcb, State, Closed, CookieWait, Open}
-use Rattle.sctp_association.specs.Laws.{ResetStreams}
+use Rattle.sctp_association.specs.Laws.{ResetStreams, SetMaxMessageSize}
 use Rattle.sctp_course.specs.Course.{Side, Pair, emitted, Turn, Calls, Gives, Refuses, goes, state_of}
 
 -- ---- what an end keeps
@@ -22,12 +22,11 @@ numbered (Open phase t) = next_number t.sender.outstanding.items - origin
 abbrev pub IsNearNext : Queue → Item → Type 0
 IsNearNext q i = i.fragment.is_unordered ≡ false → (stream i.fragment.stream_id q.streams).next_ordered_mid < origin + i.fragment.mid + 32000
 
--- No item is kept while 2^30 later ones are numbered. I-DATA tells which fragment of its message it is by 32 bits.
+-- no item is kept while 2^30 later ones are numbered
 pub record KeepsWithin (q : Queue) (t : Tcb) : Type 0 where
   pub items : length t.sender.outstanding.items.kept ≤ 2 ^ 30
   pub messages : All (IsNearNext q) t.sender.outstanding.items.kept
   pub fragments : next_number t.sender.outstanding.items < origin + 2 ^ 62
-  pub interleaved : t.capabilities.message_interleaving ≡ true → next_number t.sender.outstanding.items < origin + 2 ^ 32
 
 abbrev pub IsWithin : State → Queue → Type 0
 IsWithin Closed q = ⊤
@@ -96,3 +95,11 @@ resets turn = false
 -- no stream is reset
 abbrev pub KeepsStreams : List (Bool × Turn) → Type 0
 KeepsStreams turns = list_any (λ (e : Bool × Turn). resets e.1) turns ≡ false
+
+abbrev pub sets_more : Turn → Bool
+sets_more (Calls (SetMaxMessageSize bytes)) = nat_le (2 ^ 32) bytes
+sets_more turn = false
+
+-- no limit of messages' sizes is set that doesn't fit 32 bits, as `set_max_message_size` asks
+abbrev pub KeepsLimits : List (Bool × Turn) → Type 0
+KeepsLimits turns = list_any (λ (e : Bool × Turn). sets_more e.1) turns ≡ false

@@ -18,11 +18,10 @@ ghost use Rattle.sctp_delivery.specs.Skipping.{OneIsSkipped};
 /// given up.
 ///
 /// The course keeps these bounds (`IsInBounds`), all read off what the ends hold between turns:
-/// - no fragment is kept while more than 2^30 fragments are numbered from it on, and fewer than 2^62 are numbered in all, with
-///   I-DATA fewer than 2^32;
+/// - no fragment is kept while more than 2^30 fragments are numbered from it on, and fewer than 2^62 are numbered in all;
 /// - on each stream fewer than 32,000 ordered messages are numbered from one with a kept fragment on;
 /// - a packet is given while either end has numbered fewer than 2^30 fragments since the turn that emitted it;
-/// - each end accepts fewer than 2^32 messages;
+/// - each end accepts fewer than 2^32 messages, and a limit on their size is set below 2^32, as `set_max_message_size` asks;
 /// - no stream is reset.
 ///
 /// In one such course, computed, two messages are accepted and become ready (`goes`).

@@ -1,17 +1,17 @@
 -- A turn of one stream, and turns until there is a fragment.
 use Rattle.std.proofs.Common.{◌≡◌, ◌≢◌, ℕ, zero, suc, ◌+◌, ◌^◌, ◌<◌, Bool, true, false, cond, inl, inr, ◌⊎◌, Option, Some, None, List, [], ◌∷◌, ◌++◌, take, drop, refl, sym, ap, ◌∙◌, subst, arith, append-nil, take-append-drop}
-use Rattle.std.specs.Prelude.{is_some, unwrap_or, ◌==◌, ◌&&◌}
+use Rattle.std.specs.Prelude.{is_some, unwrap_or, not, ◌==◌, ◌&&◌}
 use Rattle.std.specs.List.{list_all}
-use Rattle.std.proofs.lemmas.Bool.{cases_eq, false_from_ne_true}
+use Rattle.std.proofs.lemmas.Bool.{cases_eq, false_from_ne_true, and_parts}
 use Rattle.sctp_serial.specs.Unwrapped.{origin}
 use Rattle.sctp_state.specs.Events.{Told}
 use Rattle.sctp_send_queue.specs.declared.send_queue.message.MessageNumbers.{MessageNumbers}
 use Rattle.sctp_send_queue.specs.Queue.{Queued, Queue, Stream, Streams, stream}
 use Rattle.sctp_send_queue.specs.Produced.{Produced, Turn, fresh, dropped, without_stale, streams_without_stale, numbers_of, took, made_of, moved, ends, next_fragment, advanced, turn, next_stream, produce_within}
-use Rattle.sctp_send_queue.specs.InOrder.{are_in_order, are_rising}
+use Rattle.sctp_send_queue.specs.InOrder.{are_in_order, are_rising, has_rest}
 use Rattle.sctp_send_queue.proofs.InOrderLemmas.{fresh_both, put_elsewhere, turn_in_order}
 use Rattle.sctp_send_queue.proofs.NumberLemmas.{turn_numbered, fresh_rising}
-use Rattle.sctp_send_queue.proofs.RestLemmas.{turn_rests}
+use Rattle.sctp_send_queue.proofs.RestLemmas.{turn_rests, without_stale_rests}
 use Rattle.sctp_send_queue.proofs.ProduceLemmas.{idles, gives, turned}
 use Rattle.sctp_outstanding.specs.Items.{Items}
 use Rattle.sctp_rules.specs.State.{Message, Sender, Transfer, IsAmong, place_of, count, put, is_empty, stream_of, ordered_of}
@@ -204,6 +204,15 @@ module _ {P : Type 0} (message : ℕ → Message) (lifecycle : ℕ → Option �
     queued_here : queue_of message y.sender ms1 p ≡ Some (waiting_of m)
     queued_here = queue_some message y.sender ms1 p m live (first_own message lifecycle y.sender ms1 a id m rest here)
 
+    filled : is_empty bytes ≡ false
+    filled = rows.some_bytes m.offset size m.payload some (and_parts (has_rest m) (list_all has_rest rest) all_rest).0
+      where
+        all_rest : list_all has_rest (m ∷ rest) ≡ true
+        all_rest = ap (list_all has_rest) (sym (ap (λ (s : Stream). s.messages) stale_is ∙ e)) ∙ without_stale_rests now id q sh.queue.rests id
+
+    with_bytes : list_all is_sending (number p bytes more ∷ []) ≡ true
+    with_bytes = ap (λ b. not b && true) filled
+
     split : drop m.offset m.payload ≡ bytes ++ more
     split = sym (take-append-drop size (drop m.offset m.payload))
 
@@ -240,7 +249,7 @@ module _ {P : Type 0} (message : ℕ → Message) (lifecycle : ℕ → Option �
     goes_on was has =
         let r = sends.next_fragment message mixed y f.kept_is (queue_of message y.sender ms1) a.queued p (waiting_of m) bytes more queued_here (ap is_some has) split in
         let same : n ≡ was = ap (λ (o : Option MessageNumbers). unwrap_or o fresh_numbers) has in
-        finish y.sender.begun y.sender.partly y.sender.number y.sender.counts y (number p bytes more ∷ []) (λ r d. refl) (λ u l. refl) r refl refl refl (same ∙ entry.numbers live was has)
+        finish y.sender.begun y.sender.partly y.sender.number y.sender.counts y (number p bytes more ∷ []) (λ r d. refl) (λ u l. refl) r refl refl with_bytes (same ∙ entry.numbers live was has)
         (let nx = next_y id in record { ssn = ap (λ (o : Option MessageNumbers). (with_numbers o).next_ssn) has ∙ nx.ssn; ordered_mid = ap (λ (o : Option MessageNumbers). (with_numbers o).next_ordered_mid) has ∙ nx.ordered_mid; unordered_mid = ap (λ (o : Option MessageNumbers). (with_numbers o).next_unordered_mid) has ∙ nx.unordered_mid })
         (λ j d. let nx = next_y j in record { ssn = nx.ssn; ordered_mid = nx.ordered_mid; unordered_mid = nx.unordered_mid })
       where
@@ -286,7 +295,7 @@ module _ {P : Type 0} (message : ℕ → Message) (lifecycle : ℕ → Option �
         let waits = a.queued.waits p (waiting_of m) queued_here (ap is_some none) in
         let few : ((kind : Bool) → o.counts kind id < 2 ^ 32) = (λ kind. let c = counts_within message o f.kept_is.outgoing kind id in let l = sh.queue.few in let same = f.accepted_stays in omega (arith, c, l, same)) in
         finish b.begun b.partly b.number b.counts y (begin p ∷ number p bytes more ∷ [])
-        (λ r d. put_off o.number p _ r d) (λ u l. put_off o.number p _ (place_of o u) (λ c. not_both (sym (ap o.begun c) ∙ f.kept_is.outgoing.place_begun u l) waits.not_begun)) r refl refl refl
+        (λ r d. put_off o.number p _ r d) (λ u l. put_off o.number p _ (place_of o u) (λ c. not_both (sym (ap o.begun c) ∙ f.kept_is.outgoing.place_begun u l) waits.not_begun)) r refl refl with_bytes
         (took_numbers message o id m t none entry.kind entry.on_stream (let nx = next_y id in record { ssn = nx.ssn; ordered_mid = nx.ordered_mid; unordered_mid = nx.unordered_mid }))
         (let nx = took_next message o id m t none entry.kind entry.on_stream few (let nx = next_y id in record { ssn = nx.ssn; ordered_mid = nx.ordered_mid; unordered_mid = nx.unordered_mid }) in
         record { ssn = nx.ssn; ordered_mid = nx.ordered_mid; unordered_mid = nx.unordered_mid })

@@ -1,11 +1,11 @@
 -- Where the rules of a sender lead, and what is told meanwhile.
-use Rattle.std.specs.Prelude.{◌≡◌, ℕ, Bool, true, false, Option, Some, None, List, [], ◌∷◌, ◌++◌, map}
+use Rattle.std.specs.Prelude.{◌≡◌, ℕ, Bool, true, false, not, Option, Some, None, List, [], ◌∷◌, ◌++◌, map}
 use Rattle.std.specs.List.{list_all}
 use Rattle.sctp_state.specs.Events as events
 use Rattle.sctp_state.specs.Events.{Told}
 use Rattle.sctp_send_queue.specs.Queue.{Queue}
 use Rattle.sctp_outstanding.specs.Items.{Items}
-use Rattle.sctp_rules.specs.State.{Message, Transfer}
+use Rattle.sctp_rules.specs.State.{Message, Transfer, is_empty}
 use Rattle.sctp_rules.specs.Rules.{Event, accept, begin, number, close, give_up, data_comes, late_comes, deliver, send_sack, leave, send_forward, forward_comes, forget, Happens, run}
 use Rattle.sctp_rules.specs.Kept.{Kept}
 use Rattle.sctp_tx_rules.specs.Shown.{Shows}
@@ -26,11 +26,11 @@ given_up_by (send_forward f) = []
 given_up_by (forward_comes f) = []
 given_up_by (forget s c) = []
 
--- the rules of a sender, but for acceptance
+-- the rules of a sender, but for acceptance. A fragment has bytes
 abbrev pub is_sending : Event → Bool
 is_sending accept = false
 is_sending (begin p) = true
-is_sending (number p bytes more) = true
+is_sending (number p bytes more) = not (is_empty bytes)
 is_sending (close p) = true
 is_sending (give_up p) = true
 is_sending (data_comes t) = false

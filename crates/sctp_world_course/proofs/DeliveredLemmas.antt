@@ -30,7 +30,7 @@ use Rattle.sctp_world.specs.Judge as judge
 use Rattle.sctp_world.specs.Judge.{End, A, B, same_end, all_unless, unrefused, Entry, Called, Given, Foreign, Answer, Sent, SentMany, accepted_in, accepted_by, Call, Connect, Shutdown, Close, Send, SendMany, Receive, Reset, SetPriority, SetMaxMessageSize, SetLowThreshold, HandOver, ready, handed_out}
 use Rattle.sctp_world.specs.World.{Side, World, Action, CallOf, Give, GiveForeign, TellTime, ComesTo, told, skipped, Gives, Happens, Runs, side_of, settled, news_of, clock, calls, call_entry, after_call, tells_time, time_entry, after_time, step_of, fresh_world, is_at_rest}
 use Rattle.sctp_world_course.specs.Courses.{ActionFits, IsInBytes, is_a, end_of, hearing, IsTurnOf}
-use Rattle.sctp_world_course.specs.Delivered.{gone, reported, AlongRun, ready_places, SideIsWithin, AreWithin, stamp, stamped, stamps_after, IsTimely, KeepsWindows, resets, offers_in, offers_by, offers, Delivers, IsInBounds, WorldsDeliver, HandedOutIsAPrefix, OffersAreAccepted}
+use Rattle.sctp_world_course.specs.Delivered.{gone, reported, AlongRun, ready_places, SideIsWithin, AreWithin, stamp, stamped, stamps_after, IsTimely, KeepsWindows, resets, asks_more, sets_more, offers_in, offers_by, offers, Delivers, IsInBounds, WorldsDeliver, HandedOutIsAPrefix, OffersAreAccepted}
 use Rattle.sctp_world_course.specs.Joined.{FollowsTheRules, times_ended}
 use Rattle.sctp_world_course.proofs.WorldLemmas.{Both, Extends, extends_then, in_bytes_before, Stepped, steps}
 use Rattle.sctp_world_course.proofs.RunsLemmas.{runs_extends, happens_extends, Ran, ran, fresh_both}
@@ -227,6 +227,33 @@ module _ (word_of_a word_of_b : List ℕ → ℕ) where
   turn_resets (GiveForeign x bytes) turn c (inr is) = ap windows.resets is
   turn_resets (TellTime x now) turn c is = ap windows.resets is
 
+  -- ---- limits
+
+  call_more : (call : Call) → windows.sets_more (Calls (step_of call)) ≡ asks_more call
+  call_more Connect = refl
+  call_more Shutdown = refl
+  call_more Close = refl
+  call_more (Send m o) = refl
+  call_more (SendMany ms o) = refl
+  call_more Receive = refl
+  call_more (Reset streams) = refl
+  call_more (SetPriority stream priority) = refl
+  call_more (SetMaxMessageSize bytes) = refl
+  call_more (SetLowThreshold stream bytes) = refl
+  call_more HandOver = refl
+
+  hearing_more : (b : Bool) (n sum : ℕ) → windows.sets_more (hearing b n sum) ≡ false
+  hearing_more true n sum = refl
+  hearing_more false n sum = refl
+
+  turn_more : (action : Action) (turn : Turn) (c : Pair) → IsTurnOf word_of_a word_of_b action turn c → windows.sets_more turn ≡ sets_more action
+  turn_more (CallOf x call) turn c is = ap windows.sets_more is ∙ call_more call
+  turn_more (Give n A) turn c is = ap windows.sets_more is.heard ∙ hearing_more _ n _
+  turn_more (Give n B) turn c is = ap windows.sets_more is.heard ∙ hearing_more _ n _
+  turn_more (GiveForeign x bytes) turn c (inl is) = ap windows.sets_more is.2
+  turn_more (GiveForeign x bytes) turn c (inr is) = ap windows.sets_more is
+  turn_more (TellTime x now) turn c is = ap windows.sets_more is
+
   -- ---- whole runs
 
   -- a world at which so many of the turns have been
@@ -241,6 +268,7 @@ module _ (word_of_a word_of_b : List ℕ → ℕ) where
     pub blocks : Stands turns c → AreBlocks turns c w.log v.log
     pub windows_kept : (s : Stamps) → KeepsWindows actions w v runs s → windows.KeepsWindows turns c s
     pub streams : list_any (λ (e : Bool × Turn). windows.resets e.1) turns ≡ list_any resets actions
+    pub limits : list_any (λ (e : Bool × Turn). windows.sets_more e.1) turns ≡ list_any sets_more actions
     pub points : (all done : List (Bool × Turn)) (first : Pair) → all ≡ done ++ turns → run done first ≡ c → Stands turns c → IsReached first done w.log
         → AlongRun (IsPoint all first) actions w v runs
 
@@ -251,6 +279,7 @@ module _ (word_of_a word_of_b : List ℕ → ℕ) where
     blocks = λ s. ap (λ (z : World). z.log) r;
     windows_kept = λ s k. are_within w c h k;
     streams = refl;
+    limits = refl;
     points = λ all done first split is s reached.
         record { early = done; late = []; split = split; reached = reached; both = subst (Both word_of_a word_of_b w) (sym is) h };
   }
@@ -273,6 +302,7 @@ module _ (word_of_a word_of_b : List ℕ → ℕ) where
               (subst (λ (z : Stamps). KeepsWindows actions u v r.2 z) (stamps_same at_end step.turn w u c s h step.both) k.2),
         );
         streams = both_any (turn_resets action step.turn c step.is) rest.streams;
+        limits = both_any (turn_more action step.turn c step.is) rest.limits;
         points = λ all done first split is s reached.
             let e : Bool × Turn = (at_end, step.turn) in
             let b : IsBlock e c w.log u.log = block_of action w u c step.turn r.1 step.is h step.both s.0 step.gone in (
@@ -357,6 +387,7 @@ module _ (a b : Options) (words_a words_b : Stream) (word_of_a word_of_b : List 
     windows = d.windows_kept windows.no_stamps k.windows;
     streams = d.streams ∙ k.streams;
     few = λ from_a. few_at from_a;
+    limits = d.limits ∙ k.limits;
   }
     where
       few_at : (from_a : Bool) → length (accepted from_a r.turns first_pair) < 2 ^ 32

@@ -1,6 +1,6 @@
 -- Messages that become ready at an end of a world are those that the other end accepted, and what became of the others: premises
 -- and claim are read off the log, the actions and the values that the sockets hold between them.
-use Rattle.std.specs.Prelude.{◌≡◌, ℕ, ◌-◌, ◌^◌, ◌<◌, Bool, true, false, Some, None, List, [], ◌∷◌, ◌++◌, length, map, take, replicate, slice_get, ⊤, All}
+use Rattle.std.specs.Prelude.{◌≡◌, ℕ, ◌-◌, ◌^◌, ◌<◌, Bool, true, false, Some, None, List, [], ◌∷◌, ◌++◌, length, map, take, replicate, slice_get, nat_le, ⊤, All}
 use Rattle.std.specs.List.{flat_map, list_any}
 use Rattle.rand_core.specs.Stream.{Stream}
 use Rattle.sctp_serial.specs.Messages.{Message}
@@ -13,7 +13,7 @@ use Rattle.sctp_rx.specs.Delivery.{Extends}
 use Rattle.sctp_delivery.specs.Accepted.{Offer}
 use Rattle.sctp_delivery.specs.Windows.{numbered, IsWithin, Stamp, Stamps, no_stamps, IsYoung}
 use Rattle.sctp_delivery.specs.Delivery.{Fits, SkippedAreGivenUp, IsReady, AllAreDone}
-use Rattle.sctp_world.specs.Judge.{End, A, B, same_end, all_unless, Call, Send, SendMany, Reset, Answer, Sent, SentMany, unrefused, Entry, Called, Happened, accepted, ready, handed_out, given_up}
+use Rattle.sctp_world.specs.Judge.{End, A, B, same_end, all_unless, Call, Send, SendMany, Reset, SetMaxMessageSize, Answer, Sent, SentMany, unrefused, Entry, Called, Happened, accepted, ready, handed_out, given_up}
 use Rattle.sctp_world.specs.World.{Side, World, Action, CallOf, Give, GiveForeign, TellTime, Runs, fresh_world, other, is_at_rest}
 use Rattle.sctp_world_course.specs.Courses.{ActionFits, IsInBytes}
 use Rattle.sctp_world_course.specs.Joined.{FollowsTheRules, times_ended}
@@ -86,6 +86,18 @@ resets action = false
 abbrev pub KeepsStreams : List Action → Type 0
 KeepsStreams actions = list_any resets actions ≡ false
 
+abbrev pub asks_more : Call → Bool
+asks_more (SetMaxMessageSize bytes) = nat_le (2 ^ 32) bytes
+asks_more call = false
+
+abbrev pub sets_more : Action → Bool
+sets_more (CallOf x call) = asks_more call
+sets_more action = false
+
+-- no limit of messages' sizes is set that doesn't fit 32 bits
+abbrev pub KeepsLimits : List Action → Type 0
+KeepsLimits actions = list_any sets_more actions ≡ false
+
 -- ---- the law
 
 -- at each world of a run, between its events
@@ -113,6 +125,7 @@ pub record IsInBounds (actions : List Action) (w v : World) (runs : Runs actions
   pub windows : KeepsWindows actions w v runs no_stamps
   pub streams : KeepsStreams actions
   pub few : (x : End) → length (offers x v.log) < 2 ^ 32
+  pub limits : KeepsLimits actions
 
 -- In each run that follows the rules, in which no end told that an association is over.
 abbrev pub WorldsDeliver : Type 0

@@ -39,10 +39,10 @@ pub fn messages_are_handed_out_in_order()
 /// And as long as the run keeps its bounds, in either direction and at each point of the log, the messages that became ready at one
 /// end are messages that the other one accepted, byte for byte, each at most once, and on each stream ordered ones in the order of
 /// acceptance (RFC 9260 sections 6.5, 6.6; RFC 8260 section 2.2; RFC 3758 section 3.6). One list of places says which, and grows
-/// at its back. An ordered message that isn't ready, while a later one of its stream is, was given up; each lifecycle id that is
-/// told as delivered is that of a ready message; and between events, where nothing is queued at the sender and no item kept, each
-/// message is ready or was given up. The bounds are read off the log and the values of the sockets between events: those of
-/// `messages_are_delivered` of `sctp_delivery`.
+/// at its back. Of the others, an ordered one that isn't ready, while a later one of its stream is, was given up, and the log names
+/// it (RFC 3758 section 3.5). A lifecycle id that the log tells as delivered is that of a message that is ready. And between events,
+/// where nothing is queued at the sender and it keeps no item, each message that it accepted is ready or was given up. The bounds
+/// are read off the log and the values of the sockets between events: those of `messages_are_delivered` of `sctp_delivery`.
 pub fn worlds_deliver()
     ensures delivered { WorldsDeliver }
 {}
