@@ -17,3 +17,9 @@ pub mod OpensLemmas
 pub mod HandingActsLemmas
 pub mod HandingLemmas
 pub mod HandedCourseLemmas
+pub mod StayLemmas
+pub mod QueueGoesLemmas
+pub mod AskedActsLemmas
+pub mod AskedKeepsLemmas
+pub mod AskedRestoreLemmas
+pub mod AskedLemmas

@@ -3,3 +3,4 @@ pub mod Course
 pub mod Taking
 pub mod Opens
 pub mod Handing
+pub mod Asked

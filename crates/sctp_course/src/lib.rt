@@ -1,10 +1,13 @@
 //! Two ends of an association along all that can happen to them: laws of the table of steps.
 #![tactic(auto)]
 
+ghost use Rattle.sctp_course.specs.Asked.{EachCallKeepsEndsAsAsked, EachCallNumbersOnce, EachEndGoesOn, NewEndsAreAsAsked};
 ghost use Rattle.sctp_course.specs.Course.{EndsAreJoined};
 ghost use Rattle.sctp_course.specs.Handing.{AssociationsStand, HandedGrows, HandedIsAPrefix, MessagesAreHandedInOrder, OneIsHandedOut, ReadiedGrows};
 ghost use Rattle.sctp_course.specs.Opens.{BothConnect, OneConnects};
 ghost use Rattle.sctp_course.specs.Taking.{InvalidPointsChangeNothing, NewDataIsAdded, PointsReachReassembly, RefusedDataChangesNothing};
+
+use sctp_association_laws::a_handover_and_its_restore_give_the_end_back;
 
 /// Two new ends go on by any calls, moments, foreign bytes that they refuse, and packets of the other end, each of which may
 /// come again and in any order. Until an association first ends at one of them, what each end's association can do was
@@ -44,3 +47,17 @@ pub fn courses_open()
     ensures one { OneConnects }
     ensures both { BothConnect }
 {}
+
+/// A new end has what a handover asks of its control block and of its queue, in the form that each call keeps: tags above 0, the
+/// first TSNs and the mode that it was made with, streams by ascending ids, at most their first messages partly sent, something left
+/// of each, and numbers that differ, as long as they don't wrap. A peer names a tag above 0, and what is restored is a valid record.
+/// So whatever is done with a new end to which fewer than 2^32 messages are offered, and whatever it hears: whenever its association
+/// stands and nothing keeps it from being handed over, its record is valid, and a new end that takes it up has it again.
+pub fn each_end_can_be_handed_over()
+    ensures anew { NewEndsAreAsAsked }
+    ensures after { EachCallKeepsEndsAsAsked }
+    ensures numbers { EachCallNumbersOnce }
+    ensures goes_on { EachEndGoesOn }
+{
+    a_handover_and_its_restore_give_the_end_back();
+}

@@ -1,6 +1,6 @@
--- Along each course that follows the rules, records of messages given up are proper.
-use Rattle.std.proofs.Common.{◌≡◌, ℕ, ◌^◌, ◌<◌, Bool, true, false, Option, Some, None, List, [], ◌∷◌, ◌++◌, length, map, slice_get, refl, sym, ap, subst, ◌∙◌, append_assoc, append-nil}
-use Rattle.std.specs.List.{AllByRecursion}
+-- Along each course in which no handover is taken up, records of messages given up are proper.
+use Rattle.std.proofs.Common.{◌≡◌, ℕ, ◌^◌, ◌<◌, ◌||◌, Bool, true, false, Option, Some, None, List, [], ◌∷◌, ◌++◌, length, map, slice_get, refl, sym, ap, subst, ◌∙◌, append_assoc, append-nil}
+use Rattle.std.specs.List.{AllByRecursion, list_any}
 use Rattle.std.proofs.lemmas.List.{length-map, map-append}
 use Rattle.rand_core.specs.Stream.{Stream}
 use Rattle.sctp_serial.specs.Messages.{Message}
@@ -15,12 +15,12 @@ use Rattle.sctp_association.specs.Input.{refusal}
 use Rattle.sctp_association.specs.Laws.{Call, Connect, Close, Shutdown, Send, SendMany, ResetStreams, TakeMessage, SetLowThreshold, SetPriority, SetMaxMessageSize, Advance, HandOver, Restore, Packet, NoPacket, called}
 use Rattle.sctp_association_laws.specs.Mapped.{Carried}
 use Rattle.sctp_course.specs.Acts.{idle, calm, IsOffered, alone, among}
-use Rattle.sctp_course.specs.Course.{Side, Pair, emitted, Turn, Calls, Gives, Refuses, as_heard, took, given, foreign_if, turned, goes, MayCall, MayTurn, side_of, FollowsTheRules, start, state_of}
+use Rattle.sctp_course.specs.Course.{Side, Pair, emitted, Turn, Calls, Gives, Refuses, as_heard, took, given, foreign_if, turned, goes, side_of, start, state_of}
 use Rattle.sctp_course.proofs.PacketActsLemmas.{does_send_buffered}
 use Rattle.sctp_course.proofs.RowActsLemmas.{placed, does_where_open}
 use Rattle.sctp_course.proofs.ActsLemmas.{keeps_call}
 use Rattle.sctp_delivery.specs.Accepted.{Offer, accepted_by, accepted_in, accepted_at, accepted}
-use Rattle.sctp_delivery.specs.Proper.{clock, Acceptance, accepted_then, acceptances, gone_of, gone_given, gone_if, gone_by, gone_at, forgone_then, forgone, IsProper, RecordsAreProper, AcceptancesAreAccepted}
+use Rattle.sctp_delivery.specs.Proper.{clock, Acceptance, accepted_then, acceptances, gone_of, gone_given, gone_if, gone_by, gone_at, forgone_then, forgone, IsProper, restores, RestoresNone, RecordsAreProper, AcceptancesAreAccepted}
 use Rattle.sctp_delivery.proofs.ProperQueueLemmas.{all_behind}
 use Rattle.sctp_delivery.proofs.ProperActsLemmas.{IsProperAt, SoundAt, kept_in, stays_sound}
 use Rattle.sctp_delivery.proofs.ProperOffersLemmas.{proper_more, shorter, offers_sound}
@@ -84,38 +84,38 @@ module _ (old : List Acceptance) (x : Side) where
   nothing_more call steady h =
       subst (λ (xs : List Acceptance). SoundAt xs (calm (called call x.end))) (sym (append-nil old)) (steady_sound old call steady x.end h)
 
-  call_sound : (call : Call) → MayCall call x → length (with_call old call x) < 2 ^ 32 → SoundAt old (calm x.end)
+  call_sound : (call : Call) → restores (Calls call) ≡ false → length (with_call old call x) < 2 ^ 32 → SoundAt old (calm x.end)
       → SoundAt (with_call old call x) (calm (called call x.end))
-  call_sound (Send m o) may few h =
+  call_sound (Send m o) none few h =
       sent_if_sound (with_call old (Send m o) x) (refusal_of m x.end.standing)
       (with_context x.end.standing (offer m o (shown_state (state_of x)) x.end.standing.context)) x.end.words (offered_sound (m ∷ []) o few h)
-  call_sound (SendMany ms o) may few h =
+  call_sound (SendMany ms o) none few h =
       sent_sound (with_call old (SendMany ms o) x) (with_context x.end.standing (offer_all ms o (shown_state (state_of x)) x.end.standing.context)) x.end.words
       (offered_sound ms o few h)
-  call_sound (Restore s) may few h = absurd may
-  call_sound Connect may few h = nothing_more Connect refl h
-  call_sound Close may few h = nothing_more Close refl h
-  call_sound Shutdown may few h = nothing_more Shutdown refl h
-  call_sound (ResetStreams streams) may few h = nothing_more (ResetStreams streams) refl h
-  call_sound TakeMessage may few h = nothing_more TakeMessage refl h
-  call_sound (SetLowThreshold stream bytes) may few h = nothing_more (SetLowThreshold stream bytes) refl h
-  call_sound (SetPriority stream priority) may few h = nothing_more (SetPriority stream priority) refl h
-  call_sound (SetMaxMessageSize bytes) may few h = nothing_more (SetMaxMessageSize bytes) refl h
-  call_sound (Advance now) may few h = nothing_more (Advance now) refl h
-  call_sound HandOver may few h = nothing_more HandOver refl h
-  call_sound (Packet p) may few h = nothing_more (Packet p) refl h
-  call_sound NoPacket may few h = nothing_more NoPacket refl h
+  call_sound (Restore s) none few h = cc
+  call_sound Connect none few h = nothing_more Connect refl h
+  call_sound Close none few h = nothing_more Close refl h
+  call_sound Shutdown none few h = nothing_more Shutdown refl h
+  call_sound (ResetStreams streams) none few h = nothing_more (ResetStreams streams) refl h
+  call_sound TakeMessage none few h = nothing_more TakeMessage refl h
+  call_sound (SetLowThreshold stream bytes) none few h = nothing_more (SetLowThreshold stream bytes) refl h
+  call_sound (SetPriority stream priority) none few h = nothing_more (SetPriority stream priority) refl h
+  call_sound (SetMaxMessageSize bytes) none few h = nothing_more (SetMaxMessageSize bytes) refl h
+  call_sound (Advance now) none few h = nothing_more (Advance now) refl h
+  call_sound HandOver none few h = nothing_more HandOver refl h
+  call_sound (Packet p) none few h = nothing_more (Packet p) refl h
+  call_sound NoPacket none few h = nothing_more NoPacket refl h
 
 -- ---- turns
 
 -- between turns
-abbrev Rests : List Acceptance → Side → Type 0
+abbrev pub Rests : List Acceptance → Side → Type 0
 Rests all x = SoundAt all (calm x.end)
 
 -- after one, with its records
-record Turns (all : List Acceptance) (x : Side) (gone : List GivenUp) : Type 0 where
-  rests : Rests all x
-  proper : AllByRecursion (IsProperAt all (clock x)) gone
+pub record Turns (all : List Acceptance) (x : Side) (gone : List GivenUp) : Type 0 where
+  pub rests : Rests all x
+  pub proper : AllByRecursion (IsProperAt all (clock x)) gone
 
 turns_took : (all : List Acceptance) (e : Endpoint Carried) (x : Side) → SoundAt all (calm e) → Turns all (took e x) (gone_of e)
 turns_took all e x h = record { rests = record { holds = h.holds; stay = h.stay; proper = tt }; proper = h.proper }
@@ -141,23 +141,23 @@ module _ (old : List Acceptance) (x y : Side) (h : Rests old x) where
   abbrev with_turn : Turn → List Acceptance
   with_turn t = old ++ map (accepted_then (clock x)) (accepted_in t x)
 
-  turn_proper : (t : Turn) → MayTurn t x → length (with_turn t) < 2 ^ 32 → Turns (with_turn t) (turned t x y) (gone_by t x y)
-  turn_proper (Calls call) may few = turns_took (with_turn (Calls call)) (called call x.end) x (call_sound old x call may few h)
-  turn_proper (Gives which checksum) may few = no_more old _ _ (turns_given (slice_get (emitted y) which) checksum)
-  turn_proper (Refuses p) may few = no_more old _ _ (turns_refused (refusal p.header.verification_tag p.chunks (state_of x)) p)
+  turn_proper : (t : Turn) → restores t ≡ false → length (with_turn t) < 2 ^ 32 → Turns (with_turn t) (turned t x y) (gone_by t x y)
+  turn_proper (Calls call) none few = turns_took (with_turn (Calls call)) (called call x.end) x (call_sound old x call none few h)
+  turn_proper (Gives which checksum) none few = no_more old _ _ (turns_given (slice_get (emitted y) which) checksum)
+  turn_proper (Refuses p) none few = no_more old _ _ (turns_refused (refusal p.header.verification_tag p.chunks (state_of x)) p)
 
 -- ---- courses
 
 -- with what a turn of either end accepts
-abbrev accepted_now : (x acts : Bool) → Turn → Pair → List Acceptance
+abbrev pub accepted_now : (x acts : Bool) → Turn → Pair → List Acceptance
 accepted_now x acts t w = map (accepted_then (clock (side_of x w))) (accepted_at x acts t w)
 
-goes_on : (old : List Acceptance) (x acts : Bool) (t : Turn) (w : Pair) → MayTurn t (side_of acts w) → length (old ++ accepted_now x acts t w) < 2 ^ 32
+pub goes_on : (old : List Acceptance) (x acts : Bool) (t : Turn) (w : Pair) → restores t ≡ false → length (old ++ accepted_now x acts t w) < 2 ^ 32
     → Rests old (side_of x w) → Turns (old ++ accepted_now x acts t w) (side_of x (goes acts t w)) (gone_at x acts t w)
-goes_on old true true t w may few h = turn_proper old w.a w.b h t may few
-goes_on old false false t w may few h = turn_proper old w.b w.a h t may few
-goes_on old true false t w may few h = no_more old w.a [] (turns_none old w.a h)
-goes_on old false true t w may few h = no_more old w.b [] (turns_none old w.b h)
+goes_on old true true t w none few h = turn_proper old w.a w.b h t none few
+goes_on old false false t w none few h = turn_proper old w.b w.a h t none few
+goes_on old true false t w none few h = no_more old w.a [] (turns_none old w.a h)
+goes_on old false true t w none few h = no_more old w.b [] (turns_none old w.b h)
 
 -- records of a turn, where more messages are accepted later
 all_then : (all more : List Acceptance) (now : ℕ) (gs : List GivenUp) → AllByRecursion (IsProperAt all now) gs
@@ -165,25 +165,34 @@ all_then : (all more : List Acceptance) (now : ℕ) (gs : List GivenUp) → AllB
 all_then all more now [] h = tt
 all_then all more now (g ∷ gs) h = (proper_more all more now g h.0, all_then all more now gs h.1)
 
-run_proper : (x : Bool) (es : List (Bool × Turn)) (old : List Acceptance) (w : Pair) → FollowsTheRules es w → length (old ++ acceptances x es w) < 2 ^ 32
+left_false : (p q : Bool) → (p || q) ≡ false → p ≡ false
+left_false true q e = e
+left_false false q e = refl
+
+right_false : (p q : Bool) → (p || q) ≡ false → q ≡ false
+right_false true q e = cc
+right_false false q e = e
+
+run_proper : (x : Bool) (es : List (Bool × Turn)) (old : List Acceptance) (w : Pair) → RestoresNone es → length (old ++ acceptances x es w) < 2 ^ 32
     → Rests old (side_of x w) → AllByRecursion (IsProper (old ++ acceptances x es w)) (forgone x es w)
-run_proper x [] old w follows few h = tt
-run_proper x (e ∷ es) old w follows few h =
+run_proper x [] old w none few h = tt
+run_proper x (e ∷ es) old w none few h =
     let v : Pair = goes e.0 e.1 w in
+    let later : Bool = list_any (λ (d : Bool × Turn). restores d.1) es in
     let all : List Acceptance = old ++ accepted_now x e.0 e.1 w in
     let more : List Acceptance = acceptances x es v in
     let joins : all ++ more ≡ old ++ (accepted_now x e.0 e.1 w ++ more) = append_assoc old (accepted_now x e.0 e.1 w) more in
     let short : length (all ++ more) < 2 ^ 32 = subst (λ (xs : List Acceptance). length xs < 2 ^ 32) (sym joins) few in
     let now : ℕ = clock (side_of x v) in
-    let t : Turns all (side_of x v) (gone_at x e.0 e.1 w) = goes_on old x e.0 e.1 w follows.0 (shorter all more short) h in
+    let t : Turns all (side_of x v) (gone_at x e.0 e.1 w) = goes_on old x e.0 e.1 w (left_false (restores e.1) later none) (shorter all more short) h in
     subst (λ (xs : List Acceptance). AllByRecursion (IsProper xs) (forgone x (e ∷ es) w)) joins
     (all_behind (IsProper (all ++ more)) (map (forgone_then now) (gone_at x e.0 e.1 w)) (forgone x es v) (all_then all more now (gone_at x e.0 e.1 w) t.proper)
-    (run_proper x es all v follows.1 short t.rests))
+    (run_proper x es all v (right_false (restores e.1) later none) short t.rests))
 
 -- ---- the laws
 
 -- an acceptance's message
-offers_back : (now : ℕ) (os : List Offer) → map (λ (a : Acceptance). a.offer) (map (accepted_then now) os) ≡ os
+pub offers_back : (now : ℕ) (os : List Offer) → map (λ (a : Acceptance). a.offer) (map (accepted_then now) os) ≡ os
 offers_back now [] = refl
 offers_back now (o ∷ os) = ap (λ (rest : List Offer). o ∷ rest) (offers_back now os)
 
@@ -198,11 +207,11 @@ acceptances_accepted x (e ∷ es) w =
 as_many : (x : Bool) (es : List (Bool × Turn)) (w : Pair) → length (accepted x es w) ≡ length (acceptances x es w)
 as_many x es w = sym (ap length (acceptances_accepted x es w)) ∙ length-map (acceptances x es w) (λ (a : Acceptance). a.offer)
 
-at_first : (x : Bool) (a b : Options) (words_a words_b : Stream) → Rests [] (side_of x (start a b words_a words_b))
+pub at_first : (x : Bool) (a b : Options) (words_a words_b : Stream) → Rests [] (side_of x (start a b words_a words_b))
 at_first true a b words_a words_b = record { holds = record { stand = tt; counts = refl }; stay = tt; proper = tt }
 at_first false a b words_a words_b = record { holds = record { stand = tt; counts = refl }; stay = tt; proper = tt }
 
 pub records_proper : RecordsAreProper
-records_proper a b words_a words_b turns follows x few =
+records_proper a b words_a words_b turns none x few =
     let w : Pair = start a b words_a words_b in
-    run_proper x turns [] w follows (subst (λ (n : ℕ). n < 2 ^ 32) (as_many x turns w) few) (at_first x a b words_a words_b)
+    run_proper x turns [] w none (subst (λ (n : ℕ). n < 2 ^ 32) (as_many x turns w) few) (at_first x a b words_a words_b)

@@ -16,6 +16,7 @@ pub two_given_up : TwoAreGivenUp
 unfolding next_u32 next_u64 be16 be32 be64 padded_item inner_items parameter_value cause_value cause_text joined chunk_bytes chunks_bytes chunk_value data_value idata_value init_fields block_bytes sack_value skip_bytes forward_value cookie_bytes capability_bytes cookie_from read_cookie ticked
 two_given_up = record {
   follows = (inr refl, (tt, (tt, (tt, (tt, (tt, (tt, (tt, tt))))))));
+  restores_none = refl;
   not_ended = record { a = refl; b = refl };
   gives_up = refl;
 }

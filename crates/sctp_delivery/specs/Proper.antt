@@ -1,7 +1,7 @@
 -- Along a course: why an end gave messages up. A record is proper where its message was accepted, and either outlived its
 -- lifetime or was sent again as often as it may be.
 use Rattle.std.specs.Prelude.{◌≡◌, ℕ, ◌^◌, ◌≤◌, ◌<◌, Bool, true, false, Option, Some, None, unwrap_or, List, [], ◌∷◌, ◌++◌, length, map, slice_get}
-use Rattle.std.specs.List.{AllByRecursion}
+use Rattle.std.specs.List.{AllByRecursion, list_any}
 use Rattle.rand_core.specs.Stream.{Stream}
 use Rattle.sctp_packet.specs.Packet.{PacketTree}
 use Rattle.sctp_serial.specs.Messages.{Message}
@@ -12,7 +12,7 @@ use Rattle.sctp_state.specs.declared.api.GivenUpCause.{GivenUpCause}
 use Rattle.sctp_state.specs.declared.api.GivenUpCause.TheVariants.{Lifetime, Retransmissions}
 use Rattle.sctp_association.specs.Association.{Endpoint}
 use Rattle.sctp_association.specs.Input.{refusal}
-use Rattle.sctp_association.specs.Laws.{Send, Advance, Packet, called}
+use Rattle.sctp_association.specs.Laws.{Send, Advance, Restore, Packet, called}
 use Rattle.sctp_association_laws.specs.Mapped.{Carried}
 use Rattle.sctp_course.specs.Course.{Side, Pair, emitted, Turn, Calls, Gives, Refuses, as_heard, goes, run, side_of, FollowsTheRules, HasNotEnded, start, state_of}
 use Rattle.sctp_course.specs.Opens.{at_first, one_connects}
@@ -98,11 +98,19 @@ pub record IsProper (accepted : List Acceptance) (f : Forgone) : Type 0 where
 
 -- ---- the laws
 
--- Along each course that follows the rules, ended or not: all records of an end so far are proper, of the messages that it
--- accepted so far, where these are fewer than 2^32.
+abbrev pub restores : Turn → Bool
+restores (Calls (Restore h)) = true
+restores turn = false
+
+-- no handover is taken up
+abbrev pub RestoresNone : List (Bool × Turn) → Type 0
+RestoresNone turns = list_any (λ (e : Bool × Turn). restores e.1) turns ≡ false
+
+-- Along each course in which no handover is taken up: all records of an end so far are proper, of the messages that it accepted
+-- so far, where these are fewer than 2^32.
 abbrev pub RecordsAreProper : Type 0
 RecordsAreProper =
-    (a b : Options) (words_a words_b : Stream) (turns : List (Bool × Turn)) → FollowsTheRules turns (start a b words_a words_b) → (x : Bool)
+    (a b : Options) (words_a words_b : Stream) (turns : List (Bool × Turn)) → RestoresNone turns → (x : Bool)
     → length (accepted x turns (start a b words_a words_b)) < 2 ^ 32
     → AllByRecursion (IsProper (acceptances x turns (start a b words_a words_b))) (forgone x turns (start a b words_a words_b))
 
@@ -126,6 +134,7 @@ two_are_lost =
 
 pub record TwoAreGivenUp : Type 0 where
   pub follows : FollowsTheRules two_are_lost at_first
+  pub restores_none : RestoresNone two_are_lost
   pub not_ended : HasNotEnded (run two_are_lost at_first)
   pub gives_up : forgone true two_are_lost at_first
       ≡ forgone_then ten_seconds (record { number = 0; cause = Retransmissions 0 }) ∷ forgone_then ten_seconds (record { number = 1; cause = Lifetime }) ∷ []

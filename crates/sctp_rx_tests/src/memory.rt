@@ -1,12 +1,16 @@
-//! A scenario of the queue in which any allocation may be refused: each call answers as with ample memory, or that memory
-//! lacks, and what is ready then is a beginning of what becomes ready otherwise.
+//! Scenarios in which any allocation may be refused. Each call of the queue answers as with ample memory, or that memory
+//! lacks, and what is ready then is a beginning of what becomes ready otherwise. A call of the tracker and of a handover that
+//! lacks memory changes nothing: made once more, it and all that follow answer as with ample memory.
 
-ghost use Rattle.std.specs.Prelude.{◌≡◌, ◌∷◌, [], IfOk};
+ghost use Rattle.std.specs.Prelude.{◌≡◌, ◌∷◌, [], true, IfOk};
+ghost use Rattle.sctp_state.specs.Handover.{receive_of};
+ghost use Rattle.sctp_state.specs.Validity.{is_valid_reception};
 
-use sctp_packet::{Data, SkippedStream};
-use sctp_rx::ReassemblyQueue;
-use sctp_serial::{Fsn, Mid, PpId, Ssn, StreamId, StreamKey, Tsn};
-use sctp_state::SocketHandoverState;
+use crate::reassembly_queue::{is_valid, record};
+use sctp_packet::{Data, GapAckBlock, SackChunk, SkippedStream};
+use sctp_rx::{DataTracker, ReassemblyQueue};
+use sctp_serial::{Fsn, Mid, PpId, SocketTime, Ssn, StreamId, StreamKey, Tsn};
+use sctp_state::{Options, SocketHandoverState};
 use std::alloc::{AllocError, Global};
 
 // A fragment of one byte; the number is that of its message.
@@ -160,9 +164,82 @@ fn takes_all_steps(rt: HostRuntime) {
     }
 }
 
+// Whether a TSN is new, where memory lacks once at most.
+fn observe(tracker: &mut DataTracker, tsn: u32) -> Result<bool, AllocError> {
+    let now = SocketTime::zero();
+    match tracker.observe(now, Tsn(tsn), false) {
+        Ok(is_new) => Ok(is_new),
+        Err(_) => tracker.observe(now, Tsn(tsn), false),
+    }
+}
+
+fn is_sack(sack: &SackChunk) -> bool {
+    let blocks = [GapAckBlock::new(2, 2), GapAckBlock::new(4, 5)];
+    sack.cumulative_tsn_ack == Tsn(10)
+        && sack.gap_ack_blocks.as_slice() == blocks.as_slice()
+        && sack.duplicate_tsns.as_slice() == [Tsn(10), Tsn(12)].as_slice()
+}
+
+// Five TSNs with gaps, and two of them again.
+fn tracks(alloc: Global) -> Result<bool, AllocError> {
+    let mut tracker = DataTracker::new(alloc, Tsn(10), &Options::default());
+    for tsn in [15, 10, 12, 14] {
+        if !observe(&mut tracker, tsn)? {
+            return Ok(false);
+        }
+    }
+    if observe(&mut tracker, 12)? || observe(&mut tracker, 10)? {
+        return Ok(false);
+    }
+    match tracker.create_selective_ack(4711) {
+        Ok(sack) => Ok(is_sack(&sack)),
+        Err(_) => Ok(is_sack(&tracker.create_selective_ack(4711)?)),
+    }
+}
+
+fn writes(queue: &ReassemblyQueue, state: &mut SocketHandoverState) -> bool {
+    queue.add_to_handover_state(state).is_ok() || queue.add_to_handover_state(state).is_ok()
+}
+
+fn takes_up(queue: &mut ReassemblyQueue, state: &SocketHandoverState) -> bool
+    requires { is_valid_reception queue.old.streams.is_interleaved (receive_of state.now.rx) ≡ true }
+{
+    queue.restore_from_state(state).is_ok() || queue.restore_from_state(state).is_ok()
+}
+
+fn took_up(alloc: Global, state: &SocketHandoverState) -> Option<ReassemblyQueue> {
+    if !is_valid(state) {
+        return None;
+    }
+    let mut queue = ReassemblyQueue::new(alloc, 1000, state.capabilities.message_interleaving);
+    if takes_up(&mut queue, state) {
+        Some(queue)
+    } else {
+        None
+    }
+}
+
+// A message came on stream 3 before the handover; there the second is in turn.
+fn goes_on(alloc: Global, is_interleaved: bool) -> Result<bool, AllocError> {
+    let mut queue = ReassemblyQueue::new(alloc, 1000, is_interleaved);
+    give(alloc, &mut queue, 1, 3, 0, 97)?;
+    let mut state = record(alloc, is_interleaved);
+    if !writes(&queue, &mut state) {
+        return Ok(false);
+    }
+    let Some(mut other) = took_up(alloc, &state) else {
+        return Ok(false);
+    };
+    give(alloc, &mut other, 2, 3, 1, 98)?;
+    Ok(is_next(&mut other, b"b".as_slice()) == Some(true))
+}
+
 // The test to run with a refused allocation.
 #[test]
 fn tells_want_of_memory(rt: HostRuntime) {
-    assert!(rt; is_sound(rt.alloc(), false));
-    assert!(rt; is_sound(rt.alloc(), true));
+    for is_interleaved in [false, true] {
+        assert!(rt; is_sound(rt.alloc(), is_interleaved));
+        assert!(rt; goes_on(rt.alloc(), is_interleaved) != Ok(false));
+    }
+    assert!(rt; tracks(rt.alloc()) == Ok(true));
 }

@@ -180,8 +180,8 @@ fn goes_on(alloc: Global, queue: &mut ReassemblyQueue) -> Option<bool> {
     Some(is_late && is_next(queue, 99))
 }
 
-// The record of a socket that has sent nothing.
-fn record(alloc: Global, message_interleaving: bool) -> SocketHandoverState {
+/// The record of a socket that has sent nothing.
+pub fn record(alloc: Global, message_interleaving: bool) -> SocketHandoverState {
     let mut state = SocketHandoverState::empty(alloc);
     state.socket_state = HandoverSocketState::Connected;
     state.my_verification_tag = 1;
@@ -192,8 +192,9 @@ fn record(alloc: Global, message_interleaving: bool) -> SocketHandoverState {
     state
 }
 
+/// Whether a record is valid, of a connected socket.
 #[tactic(auto, using(sctp_rx::proofs::ReceptionLemmas::valid_reception))]
-fn is_valid(state: &SocketHandoverState) -> bool
+pub fn is_valid(state: &SocketHandoverState) -> bool
     ensures { IsTrue result → is_valid_reception state.now.capabilities.message_interleaving (receive_of state.now.rx) ≡ true }
 {
     match state.socket_state {

@@ -9,6 +9,7 @@ use std::time::Duration;
 use steps::Step::*;
 use steps::{Heard, Step, at, walk};
 
+mod memory;
 mod parts;
 mod steps;
 

@@ -310,3 +310,18 @@ fn comes_back(alloc: Global) -> Result<bool, AllocError> {
 fn an_item_is_handed_over(rt: HostRuntime) {
     assert!(rt; comes_back(rt.alloc()) == Ok(true));
 }
+
+/// Whether each of these does what it should, or says that memory lacks.
+pub fn do_or_lack(alloc: Global) -> bool {
+    says_what_was_sent(alloc) != Ok(false)
+        && has_sizes(alloc) != Ok(false)
+        && is_lost_by_reports(alloc) != Ok(false)
+        && is_lost_at_once(alloc) != Ok(false)
+        && is_taken_back(alloc) != Ok(false)
+        && stays_given_up(alloc) != Ok(false)
+        && has_limits(alloc) != Ok(false)
+        && is_measured(alloc) != Ok(false)
+        && ends_a_message(alloc) != Ok(false)
+        && is_copied(alloc) != Ok(false)
+        && comes_back(alloc) != Ok(false)
+}

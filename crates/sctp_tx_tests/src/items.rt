@@ -417,3 +417,21 @@ fn measured(alloc: Global) -> Result<bool, AllocError> {
 fn round_trips_are_measured(rt: HostRuntime) {
     assert!(rt; measured(rt.alloc()) == Ok(true));
 }
+
+/// Whether each of these does what it should, or says that memory lacks.
+pub fn do_or_lack(alloc: Global) -> bool {
+    sent_and_counted(alloc) != Ok(false)
+        && acknowledged(alloc) != Ok(false)
+        && delivered(alloc) != Ok(false)
+        && timed_out(alloc) != Ok(false)
+        && discarded(alloc) != Ok(false)
+        && forwarded(alloc) != Ok(false)
+        && named(alloc) != Ok(false)
+        && ascend(alloc) != Ok(false)
+        && written(alloc) != Ok(false)
+        && held_back(alloc) != Ok(false)
+        && expired(alloc) != Ok(false)
+        && sent_again(alloc) != Ok(false)
+        && lost(alloc) != Ok(false)
+        && measured(alloc) != Ok(false)
+}

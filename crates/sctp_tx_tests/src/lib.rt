@@ -6,6 +6,8 @@ mod item;
 #[cfg(test)]
 mod items;
 #[cfg(test)]
+mod memory;
+#[cfg(test)]
 mod parts;
 #[cfg(test)]
 mod sender;

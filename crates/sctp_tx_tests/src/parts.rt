@@ -225,3 +225,14 @@ fn numbers_begin_at_the_first_tsn(rt: HostRuntime) {
     assert!(rt; data.unwrapped(Tsn(9)) == (1 << 32) - 1);
     assert!(rt; data.unwrapped(Tsn(4_294_967_295)) == (1 << 32) - 11);
 }
+
+/// Whether each of these does what it should, or says that memory lacks.
+pub fn do_or_lack(alloc: Global) -> bool {
+    are_entries(alloc) != Ok(false)
+        && have_sizes(alloc) != Ok(false)
+        && is_settled(alloc) != Ok(false)
+        && is_changed(alloc) != Ok(false)
+        && is_ended(alloc) != Ok(false)
+        && is_told(alloc) != Ok(false)
+        && is_summed(alloc) != Ok(false)
+}

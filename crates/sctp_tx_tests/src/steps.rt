@@ -80,9 +80,9 @@ pub enum Step {
 #[derive(Drop)]
 pub struct Sender {
     alloc: Global,
-    queue: SendQueue,
-    items: RetransmissionQueue,
-    events: Events,
+    pub queue: SendQueue,
+    pub items: RetransmissionQueue,
+    pub events: Events,
 }
 
 pub fn fresh(alloc: Global) -> Sender {
@@ -314,7 +314,8 @@ fn goes(sender: &mut Sender, step: Step) -> Result<bool, AllocError> {
     }
 }
 
-fn holds(sender: &mut Sender, step: Step) -> Result<bool, AllocError> {
+/// Whether a call does what it should, or a question has its answer.
+pub fn holds(sender: &mut Sender, step: Step) -> Result<bool, AllocError> {
     match step {
         Step::TimesOut(millis, want) => {
             Ok(sender.items.handle_timeout(at(millis), &mut sender.events)? == want)

@@ -203,6 +203,10 @@ reached_more c done e log mid r b = record {
   reported_are = λ x. reported_turn x e (run done c) log mid b (r.reported_are x) ∙ sym (ap (λ (z : Pair). delivered (side_of (is_a x) z).told) (run_more done e c));
 }
 
+pub same_front : (a xs ys : List Entry) → a ++ xs ≡ a ++ ys → xs ≡ ys
+same_front [] xs ys h = h
+same_front (z ∷ a) xs ys h = same_front a xs ys (ap (λ (l : List Entry). elim l [ [] ↦ a ++ xs | u ∷ us ↦ us ]) h)
+
 -- What holds after each turn, and within each block where it holds before and behind it, holds of each beginning.
 module _ (all : List (Bool × Turn)) (c : Pair) (P : List Entry → Type 0)
     (at_turn : (done rest : List (Bool × Turn)) (log : List Entry) → all ≡ done ++ rest → IsReached c done log → P log)
@@ -242,10 +246,6 @@ module _ (all : List (Bool × Turn)) (c : Pair) (P : List Entry → Type 0)
             subst (λ (z : Entry). P (log ++ z ∷ early)) same
             (within done rest t log mid early m.between e r b more (at_turn done (t ∷ rest) log e r) (at_turn (done ++ t ∷ []) rest mid split next))
       ]
-    where
-      same_front : (a xs ys : List Entry) → a ++ xs ≡ a ++ ys → xs ≡ ys
-      same_front [] xs ys h = h
-      same_front (z ∷ a) xs ys h = same_front a xs ys (ap (λ (l : List Entry). elim l [ [] ↦ a ++ xs | u ∷ us ↦ us ]) h)
 
 -- ---- what is read off a beginning that ends within a block
 

@@ -9,6 +9,7 @@ use Rattle.sctp_world_course.specs.Courses.{ActionFits}
 use Rattle.sctp_world_course.specs.Composed.{IsLed, WorldsCompose}
 use Rattle.sctp_world_course.proofs.JoinedLemmas.{are_joined}
 use Rattle.sctp_world_course.proofs.DeliveredLemmas.{worlds_deliver, handed_is_a_prefix}
+use Rattle.sctp_world_course.proofs.ProperLemmas.{worlds_proper}
 
 runs_on : (early late : List Action) (w u v : World) → Runs early w u → Runs late u v → Runs (early ++ late) w v
 runs_on [] late w u v r s = subst (λ (z : World). Runs late z v) r s
@@ -41,5 +42,6 @@ pub compose : MessagesAreDelivered → WorldsCompose
 compose law w l u = record {
   joined = are_joined ends_joined l.a l.b l.words_a l.words_b l.word_of_a l.word_of_b l.actions w l.valid_a l.valid_b l.fits_a l.fits_b l.fit l.runs u.bytes u.follows u.stands;
   handed = handed_is_a_prefix l.a l.b l.words_a l.words_b l.word_of_a l.word_of_b l.actions w l.valid_a l.valid_b l.fits_a l.fits_b l.fit l.runs u.bytes u.follows u.stands;
+  proper = worlds_proper l.a l.b l.words_a l.words_b l.word_of_a l.word_of_b l.actions w l.fits_a l.fits_b l.fit l.runs u.bytes;
   delivers = worlds_deliver law l.a l.b l.words_a l.words_b l.word_of_a l.word_of_b l.actions w l.valid_a l.valid_b l.fits_a l.fits_b l.fit l.runs u.bytes u.follows u.stands;
 }

@@ -46,15 +46,15 @@ calls_side : (x : End) (call : Call) (w : World) → side_of x (calls x call w) 
 calls_side A call w = refl
 calls_side B call w = refl
 
-calls_log : (x : End) (call : Call) (w : World) → (calls x call w).log ≡ w.log ++ call_entry x call (side_of x w).socket ∷ news_of x (side_of x w) (after_call call (side_of x w).socket)
+pub calls_log : (x : End) (call : Call) (w : World) → (calls x call w).log ≡ w.log ++ call_entry x call (side_of x w).socket ∷ news_of x (side_of x w) (after_call call (side_of x w).socket)
 calls_log A call w = refl
 calls_log B call w = refl
 
-time_side : (x : End) (now : ℕ) (w : World) → side_of x (tells_time x now w) ≡ settled (side_of x w) (after_time now (side_of x w).socket)
+pub time_side : (x : End) (now : ℕ) (w : World) → side_of x (tells_time x now w) ≡ settled (side_of x w) (after_time now (side_of x w).socket)
 time_side A now w = refl
 time_side B now w = refl
 
-time_log : (x : End) (now : ℕ) (w : World) → (tells_time x now w).log ≡ w.log ++ time_entry x now (side_of x w).socket ∷ news_of x (side_of x w) (after_time now (side_of x w).socket)
+pub time_log : (x : End) (now : ℕ) (w : World) → (tells_time x now w).log ≡ w.log ++ time_entry x now (side_of x w).socket ∷ news_of x (side_of x w) (after_time now (side_of x w).socket)
 time_log A now w = refl
 time_log B now w = refl
 

@@ -14,4 +14,6 @@ pub mod BetweenLemmas
 pub mod BlockLemmas
 pub mod PointsLemmas
 pub mod DeliveredLemmas
+pub mod ClockLemmas
+pub mod ProperLemmas
 pub mod ComposedLemmas

@@ -8,10 +8,10 @@ use Rattle.sctp_delivery.specs.Delivery.{message_at, Fits}
 
 -- ---- lists
 
-split_head : {X : Type 0} (x y : X) (xs ys : List X) → x ∷ xs ≡ y ∷ ys → x ≡ y
+pub split_head : {X : Type 0} (x y : X) (xs ys : List X) → x ∷ xs ≡ y ∷ ys → x ≡ y
 split_head {X} x y xs ys e = ap (λ (l : List X). elim l [ [] ↦ x | z ∷ zs ↦ z ]) e
 
-split_tail : {X : Type 0} (x y : X) (xs ys : List X) → x ∷ xs ≡ y ∷ ys → xs ≡ ys
+pub split_tail : {X : Type 0} (x y : X) (xs ys : List X) → x ∷ xs ≡ y ∷ ys → xs ≡ ys
 split_tail {X} x y xs ys e = ap (λ (l : List X). elim l [ [] ↦ xs | z ∷ zs ↦ zs ]) e
 
 pub record Longer {X : Type 0} (short long last : List X) (rest : List X) : Type 0 where

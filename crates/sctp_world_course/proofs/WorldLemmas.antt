@@ -6,13 +6,17 @@ use Rattle.std.proofs.lemmas.List.{map-append}
 use Rattle.std.proofs.lemmas.List.Elements.{All-nil, All-cons, All-head, All-tail}
 use Rattle.std.proofs.lemmas.Option.{slice_get-map}
 use Rattle.sctp_state.specs.Events.{GivenUp}
+use Rattle.sctp_packet.specs.Packet.{PacketTree}
+use Rattle.sctp_association.specs.Input.{refusal}
 use Rattle.sctp_association.specs.Laws as table
 use Rattle.sctp_association.specs.Socket.{Hears}
 use Rattle.sctp_association_laws.specs.Mapped.{Carried, as_written}
 use Rattle.sctp_association_laws.specs.ReadBack.{AreBytes}
+use Rattle.sctp_course.specs.Course as course
 use Rattle.sctp_course.specs.Course.{Pair, Turn, Calls, emitted, goes, turned}
 use Rattle.sctp_delivery.specs.GivenUp as giving
 use Rattle.sctp_delivery.specs.GivenUp.{given_up_at}
+use Rattle.sctp_delivery.specs.Proper.{gone_given, gone_if, gone_by, gone_at}
 use Rattle.sctp_world.specs.Judge.{End, A, B, Entry, Given, Foreign, Call, given_up_by, given_up}
 use Rattle.sctp_world.specs.World.{Side, World, Action, CallOf, Give, GiveForeign, TellTime, ComesTo, told, skipped, Gives, Happens, step_of, calls, call_entry, tells_time, time_entry}
 use Rattle.sctp_world_course.specs.Courses.{ActionFits, IsInBytes, is_a, end_of, IsTurnOf}
@@ -89,6 +93,7 @@ pub record Stepped (word_of_a word_of_b : List ℕ → ℕ) (action : Action) (w
   pub extends : Extends w u
   pub both : Both word_of_a word_of_b u (goes (is_a (end_of action)) turn c)
   pub gone : (x : End) → gone x u.log ≡ gone x w.log ++ given_up_at (is_a x) (is_a (end_of action)) turn c
+  pub records : (x : End) → given_up x extends.more ≡ gone_at (is_a x) (is_a (end_of action)) turn c
 
 -- so many more are given up
 pub gone_more : (x : End) (log longer more : List Entry) (new : List ℕ) → longer ≡ log ++ more → gone x more ≡ new → gone x longer ≡ gone x log ++ new
@@ -99,6 +104,20 @@ gone_more x log longer more new e h =
 
 pub numbers_of : (gs hs : List GivenUp) → gs ≡ hs → map (λ (g : GivenUp). g.number) gs ≡ map (λ (g : GivenUp). g.number) hs
 numbers_of gs hs e = ap (map (λ (g : GivenUp). g.number)) e
+
+-- the records of a turn, told two ways
+given_records : (p : Option Carried) (checksum : ℕ) (own : course.Side) → (giving.told_given p checksum own).gone ≡ gone_given p checksum own
+given_records None checksum own = refl
+given_records (Some p) checksum own = refl
+
+refused_records : (r : Option (List ℕ)) (p : PacketTree) (own : course.Side) → (giving.told_foreign r p own).gone ≡ gone_if r p own
+refused_records None p own = refl
+refused_records (Some text) p own = refl
+
+same_records : (turn : Turn) (own beside : course.Side) → (giving.told_by turn own beside).gone ≡ gone_by turn own beside
+same_records (Calls call) own beside = refl
+same_records (course.Gives which checksum) own beside = given_records (slice_get (emitted beside) which) checksum own
+same_records (course.Refuses p) own beside = refused_records (refusal p.header.verification_tag p.chunks (course.state_of own)) p own
 
 module _ (word_of_a word_of_b : List ℕ → ℕ) where
   stepped_a : (action : Action) (w u : World) (c : Pair) → end_of action ≡ A → Both word_of_a word_of_b w c → (turn : Turn) → IsTurnOf word_of_a word_of_b action turn c
@@ -124,8 +143,13 @@ module _ (word_of_a word_of_b : List ℕ → ℕ) where
         };
         both = subst (λ (x : End). Both word_of_a word_of_b u (goes (is_a x) turn c)) (sym at) (record { a = own; b = three });
         gone = λ x. subst (λ (y : End). gone x u.log ≡ gone x w.log ++ given_up_at (is_a x) (is_a y) turn c) (sym at) (gives_up x);
+        records = λ x. subst (λ (y : End). given_up x g.more ≡ gone_at (is_a x) (is_a y) turn c) (sym at) (tells x);
       }
     where
+      tells : (x : End) → given_up x g.more ≡ gone_at (is_a x) true turn c
+      tells A = g.gone ∙ same_records turn c.a c.b
+      tells B = (g.silent B refl).gone
+
       gives_up : (x : End) → gone x u.log ≡ gone x w.log ++ given_up_at (is_a x) true turn c
       gives_up A = gone_more A w.log u.log g.more (given_up_at true true turn c) g.logged (numbers_of (given_up A g.more) (giving.told_by turn c.a c.b).gone g.gone)
       gives_up B = gone_more B w.log u.log g.more (given_up_at false true turn c) g.logged (numbers_of (given_up B g.more) [] (g.silent B refl).gone)
@@ -153,8 +177,13 @@ module _ (word_of_a word_of_b : List ℕ → ℕ) where
         };
         both = subst (λ (x : End). Both word_of_a word_of_b u (goes (is_a x) turn c)) (sym at) (record { a = three; b = own });
         gone = λ x. subst (λ (y : End). gone x u.log ≡ gone x w.log ++ given_up_at (is_a x) (is_a y) turn c) (sym at) (gives_up x);
+        records = λ x. subst (λ (y : End). given_up x g.more ≡ gone_at (is_a x) (is_a y) turn c) (sym at) (tells x);
       }
     where
+      tells : (x : End) → given_up x g.more ≡ gone_at (is_a x) false turn c
+      tells A = (g.silent A refl).gone
+      tells B = g.gone ∙ same_records turn c.b c.a
+
       gives_up : (x : End) → gone x u.log ≡ gone x w.log ++ given_up_at (is_a x) false turn c
       gives_up A = gone_more A w.log u.log g.more (given_up_at true false turn c) g.logged (numbers_of (given_up A g.more) [] (g.silent A refl).gone)
       gives_up B = gone_more B w.log u.log g.more (given_up_at false false turn c) g.logged (numbers_of (given_up B g.more) (giving.told_by turn c.b c.a).gone g.gone)

@@ -2,3 +2,4 @@ pub mod Courses
 pub mod Joined
 pub mod Delivered
 pub mod Composed
+pub mod Proper

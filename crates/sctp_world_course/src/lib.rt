@@ -8,6 +8,7 @@ ghost use Rattle.sctp_world_course.specs.Composed.{Composes, IsLed, IsUndisturbe
 ghost use Rattle.sctp_world_course.specs.Courses.{ActionFits, WorldsHaveCourses};
 ghost use Rattle.sctp_world_course.specs.Delivered.{HandedOutIsAPrefix, OffersAreAccepted, WorldsDeliver};
 ghost use Rattle.sctp_world_course.specs.Joined.{OpeningFollows, WorldsAreJoined};
+ghost use Rattle.sctp_world_course.specs.Proper.{AcceptancesAreOffers, WorldsAreProper};
 
 use rand_core::Rng;
 use sctp_wire::Checksum;
@@ -45,6 +46,16 @@ pub fn messages_are_handed_out_in_order()
 /// are read off the log and the values of the sockets between events: those of `messages_are_delivered` of `sctp_delivery`.
 pub fn worlds_deliver()
     ensures delivered { WorldsDeliver }
+{}
+
+/// Each record of a message given up is proper, by what stands before it in the log, whatever rules the run follows, and behind the
+/// end of an association too: the message was accepted there, by its place, and its cause holds. Either the message has a lifetime,
+/// and the end's clock isn't before acceptance plus lifetime (RFC 3758 section 4.1); or it was sent again as often as its limit
+/// says, 65,535 times where none was set (RFC 7496 section 3.2). Clocks are those of the log: an event has its end's clock, which
+/// only moments move. An end accepts fewer than 2^32 messages, so that their numbers don't wrap.
+pub fn records_are_proper()
+    ensures proper { WorldsAreProper }
+    ensures offers { AcceptancesAreOffers }
 {}
 
 /// [`World::step`]. A world that a new one was led to is led on; and as long as the opening rules are followed and no association

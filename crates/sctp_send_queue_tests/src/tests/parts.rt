@@ -407,3 +407,18 @@ fn a_queue_interleaves_once_it_is_told(rt: HostRuntime) {
     queue.enable_message_interleaving(true);
     assert!(rt; queue.is_interleaved());
 }
+
+/// Whether each of these does what it should, or says that memory lacks.
+pub fn do_or_lack(alloc: Global) -> bool {
+    goes_in_fragments(alloc) != Ok(false)
+        && is_begun(alloc) != Ok(false)
+        && comes_back(alloc) != Ok(false)
+        && tells_what_it_has(alloc) != Ok(false)
+        && goes_on(alloc) != Ok(false)
+        && is_reset(alloc) != Ok(false)
+        && drops(alloc) != Ok(false)
+        && tell_what_they_have(alloc) != Ok(false)
+        && go_on(alloc) != Ok(false)
+        && are_reset(alloc) != Ok(false)
+        && drop_messages(alloc) != Ok(false)
+}

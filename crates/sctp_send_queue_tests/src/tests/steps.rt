@@ -224,7 +224,8 @@ fn settles(alloc: Global, queue: &mut SendQueue, step: Step) -> Result<bool, All
     }
 }
 
-fn holds(
+/// Whether a call does what it should, or a question has its answer.
+pub fn holds(
     alloc: Global,
     queue: &mut SendQueue,
     events: &mut Events,
