@@ -88,7 +88,7 @@ module _ {P : Type 0} {call : Call} {R : Making P → Making P → Type 0} (k : 
   does_heard_if (Some reason) tag chunk s h is = does_where_open k s.words (λ phase t c. violated reason t c) s.standing (does_violated k s.words reason)
   does_heard_if None tag chunk s h is = does_on_chunk tag chunk s h is
 
-  does_hear : (tag : ℕ) (chunk : ChunkTree) (s : Endpoint P) → IsHeard call tag chunk → R (calm s) (calm (hear tag chunk s).end)
+  pub does_hear : (tag : ℕ) (chunk : ChunkTree) (s : Endpoint P) → IsHeard call tag chunk → R (calm s) (calm (hear tag chunk s).end)
   does_hear tag chunk s h = does_heard_if (violation s.standing.state chunk) tag chunk s h refl
 
   does_hear_rest : (b : Bool) (rest : Endpoint P → Endpoint P) (s : Endpoint P) → ((t : Endpoint P) → R (calm t) (calm (rest t)))
@@ -120,7 +120,7 @@ module _ {P : Type 0} {call : Call} {R : Making P → Making P → Type 0} (k : 
   does_repeats w ShutdownReceived t c = k.same (idle (Open ShutdownReceived t) c w)
   does_repeats w (ShutdownAckSent t2) t c = k.same (idle (Open (ShutdownAckSent t2) t) c w)
 
-  does_repeats_if : (b : Bool) (s : Standing P) (w : Stream) → R (placed s w) (placed (repeats_if b s) w)
+  pub does_repeats_if : (b : Bool) (s : Standing P) (w : Stream) → R (placed s w) (placed (repeats_if b s) w)
   does_repeats_if true s w = does_where_open k w repeats s (does_repeats w)
   does_repeats_if false s w = k.same (placed s w)
 
@@ -132,7 +132,7 @@ module _ {P : Type 0} {call : Call} {R : Making P → Making P → Type 0} (k : 
       (does_send_with k phase w (is_alone phase) (add (selective_ack t) p) (acknowledged t) c))
   does_ended_if false phase t c w = k.same (idle (Open phase t) c w)
 
-  does_ended : (w : Stream) → OpenActs R w ended
+  pub does_ended : (w : Stream) → OpenActs R w ended
   does_ended w phase t c =
       let u : Tcb = at_end c.now t in
       k.through (k.input (ends_packet phase t (idle (Open phase t) c w)))

@@ -179,7 +179,7 @@ module _ (once : CallsNumberOnce) (made : MadeConnected) (call : Call) (fits : H
 
   keeps_packets : (act : PacketAct (List ℕ) call) → R (before_packets act) (after_packets act)
   keeps_packets (begins p m new) = still m.state m.context m.context refl refl
-  keeps_packets (adds_plain chunk m plain) = still m.state m.context m.context refl refl
+  keeps_packets (adds_plain chunk m plain others) = still m.state m.context m.context refl refl
   keeps_packets (emits m some) = still m.state m.context _ refl refl
   keeps_packets (complains kind text m) = still m.state m.context _ refl refl
   keeps_packets (counts m) = still m.state m.context _ refl refl
@@ -243,7 +243,7 @@ module _ (once : CallsNumberOnce) (made : MadeConnected) (call : Call) (fits : H
       opens_by true k (long_word (end_of m)) (Open phase t) m.context m.context (echo_named call fits tag k echoed) refl
   keeps_opening (maintains tag k t1 cookie t m echoed verdict) =
       block (CookieEchoed t1 cookie) Established t t m.context (connected m.context) (lasts_same t) (goes_same m.context.queue) refl
-  keeps_opening (adds_cookie_ack phase t m late) = still (Open phase t) m.context m.context refl refl
+  keeps_opening (adds_cookie_ack tag back phase t m echoed late) = still (Open phase t) m.context m.context refl refl
 
   -- ---- closing
 

@@ -102,7 +102,7 @@ from_unopened (Open phase u) t none = cc
 module _ (g : Setting) (call : Call) (r : Rules g call) (other : call ≡ TakeMessage → ⊥) where
   more_packets : (act : PacketAct Carried call) → More (before_packets act) (after_packets act)
   more_packets (begins p m new) = goes_nowhere m.state
-  more_packets (adds_plain chunk m plain) = goes_nowhere m.state
+  more_packets (adds_plain chunk m plain others) = goes_nowhere m.state
   more_packets (emits m some) = goes_nowhere m.state
   more_packets (complains kind text m) = goes_nowhere m.state
   more_packets (counts m) = goes_nowhere m.state
@@ -121,7 +121,7 @@ module _ (g : Setting) (call : Call) (r : Rules g call) (other : call ≡ TakeMe
   more_opening (restarts tag k phase t m h verdict) inv = absurd (no_restart _ (same_verdict g call r tag k phase t m h inv) verdict)
   more_opening (opens_again tag k phase t m h verdict) inv = absurd (no_again _ (same_verdict g call r tag k phase t m h inv) verdict)
   more_opening (maintains tag k t1 cookie t m h verdict) inv = record { ready = extends_none t.reassembly.ready; stands = λ a e. e }
-  more_opening (adds_cookie_ack phase t m late) inv = record { ready = extends_none t.reassembly.ready; stands = λ a e. e }
+  more_opening (adds_cookie_ack tag back phase t m echoed late) inv = record { ready = extends_none t.reassembly.ready; stands = λ a e. e }
 
   more_closing : (act : ClosingAct Carried call) → HasNoEnd (after_closing act) → More (before_closing act) (after_closing act)
   more_closing (closes e m there is) none = absurd (no_end m (after_closing {call = call} (closes e m there is)) e refl is none)

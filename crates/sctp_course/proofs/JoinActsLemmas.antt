@@ -26,7 +26,7 @@ packets_both [] fs = refl
 packets_both (SendPacket p ∷ es) fs = ap (λ (ps : List Carried). p ∷ ps) (packets_both es fs)
 packets_both (e ∷ es) fs = packets_both es fs
 
-light_packets : (es : List (Event Carried)) → list_all is_light es ≡ true → packets_in es ≡ []
+pub light_packets : (es : List (Event Carried)) → list_all is_light es ≡ true → packets_in es ≡ []
 light_packets [] h = refl
 light_packets (SendPacket p ∷ es) h = cc
 light_packets (e ∷ es) h = light_packets es (and_right (is_light e) (list_all is_light es) h)
@@ -36,12 +36,12 @@ connected_both [] fs = refl
 connected_both (OnConnected ∷ es) fs = refl
 connected_both (e ∷ es) fs = connected_both es fs
 
-light_connected : (es : List (Event Carried)) → list_all is_light es ≡ true → has_connected es ≡ false
+pub light_connected : (es : List (Event Carried)) → list_all is_light es ≡ true → has_connected es ≡ false
 light_connected [] h = refl
 light_connected (OnConnected ∷ es) h = cc
 light_connected (e ∷ es) h = light_connected es (and_right (is_light e) (list_all is_light es) h)
 
-or_false : (b : Bool) → (b || false) ≡ b
+pub or_false : (b : Bool) → (b || false) ≡ b
 or_false true = refl
 or_false false = refl
 

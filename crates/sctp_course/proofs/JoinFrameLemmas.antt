@@ -47,7 +47,7 @@ module _ (g : Setting) (call : Call) (r : Rules g call) where
   keeps_packets (begins p m new) inv =
       inv_made g (view_of m.state) m.context.options m.context.pack m.context.told.events m.packet.tag m.packet.chunks inv p.tag p.chunks
       (subst (All (Utters g (view_of m.state) p.tag)) (sym new) (All-nil (Utters g (view_of m.state) p.tag)))
-  keeps_packets (adds_plain chunk m plain) inv =
+  keeps_packets (adds_plain chunk m plain others) inv =
       adds (view_of m.state) m.context.options m.context.pack m.context.told.events m.packet chunk inv
       (utters_plain g (view_of m.state) m.packet.tag chunk plain)
   keeps_packets (emits m some) inv =
@@ -129,7 +129,7 @@ module _ (g : Setting) (call : Call) (r : Rules g call) where
       let v : View = view_of (Open (CookieEchoed t1 cookie) t) in
       let said : IsEcho g.other (view_of g.beside) tag h.cookie = r.says tag (cookie_echo_chunk h.cookie) h.heard v inv.heard in
       does_late g call r t1 cookie t m.context.options m.context.pack m.context.told.events m.packet.tag m.packet.chunks said.opened inv
-  keeps_opening (adds_cookie_ack phase t m late) inv =
+  keeps_opening (adds_cookie_ack tag back phase t m echoed late) inv =
       adds (view_of (Open phase t)) m.context.options m.context.pack m.context.told.events m.packet cookie_ack_chunk inv refl
 
   -- ---- closing

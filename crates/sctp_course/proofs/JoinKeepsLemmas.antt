@@ -70,7 +70,7 @@ found_by true false method types c = refl
 found_by false true method types c = refl
 found_by false false method types c = refl
 
-cookie_found : (o : Options) (method : ℕ) (c : List ℕ) → cookie_in (announced o method ++ state_cookie c ∷ []) ≡ Some c
+pub cookie_found : (o : Options) (method : ℕ) (c : List ℕ) → cookie_in (announced o method ++ state_cookie c ∷ []) ≡ Some c
 cookie_found o method c = found_by o.enable_partial_reliability (not (method == 0)) method _ c
 
 -- ---- the cookie that comes back

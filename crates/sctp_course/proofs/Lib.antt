@@ -23,3 +23,11 @@ pub mod AskedActsLemmas
 pub mod AskedKeepsLemmas
 pub mod AskedRestoreLemmas
 pub mod AskedLemmas
+pub mod AgreeLemmas
+pub mod AgreeActsLemmas
+pub mod AgreeQuietLemmas
+pub mod AgreeOpeningLemmas
+pub mod AgreeCookieLemmas
+pub mod AgreeHearingLemmas
+pub mod AgreePacketLemmas
+pub mod AgreeCourseLemmas

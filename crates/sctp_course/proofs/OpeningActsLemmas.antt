@@ -1,5 +1,6 @@
 -- The walk over the rows: the handshake.
-use Rattle.std.proofs.Common.{◌≡◌, ℕ, ◌==◌, not, Bool, true, false, Option, Some, None, Result, Ok, Err, List, [], ◌∷◌, codes, refl}
+use Rattle.std.proofs.Common.{◌≡◌, ℕ, ◌==◌, not, Bool, true, false, Option, Some, None, Result, Ok, Err, List, [], ◌∷◌, ◌++◌, codes, refl, ap}
+use Rattle.std.specs.List.{list_all}
 use Rattle.rand_core.specs.Stream.{Stream}
 use Rattle.sctp_wire.specs.Cause.{missing_mandatory_parameter, cookie_received_while_shutting_down}
 use Rattle.sctp_packet.specs.Chunk.{ChunkTree, InitTree, init_chunk, init_ack_chunk, abort_chunk, error_chunk, cookie_echo_chunk, cookie_ack_chunk, shutdown_ack_chunk}
@@ -11,11 +12,11 @@ use Rattle.sctp_state.specs.Capabilities.{zero_checksum_enabled}
 use Rattle.sctp_state.specs.Cookie.{Cookie, read_cookie, refusal_text}
 use Rattle.sctp_state.specs.Events.{OnConnectionRestarted, OnAborted}
 use Rattle.sctp_association.specs.Association.{Tcb, tcb, Phase, CookieEchoed, Established, ShutdownPending, ShutdownSent, ShutdownReceived, ShutdownAckSent, State, Closed, CookieWait, Open, Context, Endpoint}
-use Rattle.sctp_association.specs.Packets.{Packet, add, packet_to, new_packet, rounded, say, emit}
+use Rattle.sctp_association.specs.Packets.{Packet, fits, added_if, add, packet_to, new_packet, rounded, say, emit}
 use Rattle.sctp_association.specs.Sending.{is_alone}
 use Rattle.sctp_association.specs.Opening.{long_word, send_init, t1_init, connect_in, connect, agreed_by, answers, answers_new, answers_again, on_init_open, on_init_in, on_init, cookie_in, without_cookie, t1_cookie, names, echoed, on_init_ack_in, on_init_ack, connected, on_cookie_ack, Verdict, EstablishNew, RestartDetected, SimultaneousInit, MaintainExisting, Discard, InvalidTag, by_tags, new_if, compared, judged, cookie_ack, tcb_by, establishes as establishes_by, kept, too_late, restarts as restarts_by, restarts_in, on_verdict, on_read_cookie, on_cookie_echo}
 use Rattle.sctp_association.specs.Laws.{Call, Connect}
-use Rattle.sctp_course.specs.Acts.{Making, at, nothing, idle, calm, drawn_first, drawn_tag, drew_two, drew_one, echoing, opened_by, IsHeard, IsEchoed, adds_plain, connects, adds_init, answers_new as answers_new_act, answers_waiting, answers_echoed, answers_again as answers_again_act, echoes, establishes, opens, restarts, opens_again, maintains, adds_cookie_ack, Keeps}
+use Rattle.sctp_course.specs.Acts.{Making, at, nothing, idle, calm, drawn_first, drawn_tag, drew_two, drew_one, echoing, opened_by, IsHeard, IsEchoed, is_plain, adds_plain, connects, adds_init, answers_new as answers_new_act, answers_waiting, answers_echoed, answers_again as answers_again_act, echoes, establishes, opens, restarts, opens_again, maintains, adds_cookie_ack, Keeps}
 use Rattle.sctp_course.proofs.PacketActsLemmas.{does_out, does_begin, does_plain, does_complain, does_send_with, does_send_buffered, does_send_cookie}
 use Rattle.sctp_course.proofs.RowActsLemmas.{placed, OpenActs, does_closed, does_send_shutdown_ack}
 
@@ -24,10 +25,10 @@ abbrev pub end_in : {P : Type 0} → State → Endpoint P → Endpoint P
 end_in st s = record s { standing = record s.standing { state = st } }
 
 -- the packet of an INIT ACK, of a COOKIE ACK
-abbrev answering : Options → InitTree → Packet
+abbrev pub answering : Options → InitTree → Packet
 answering o i = record (packet_to i.initiate_tag o.mtu) { is_summed = not (zero_checksum_enabled (agreed_by o i)) }
 
-abbrev accepting : Options → (peer_tag : ℕ) → Tcb → Packet
+abbrev pub accepting : Options → (peer_tag : ℕ) → Tcb → Packet
 accepting o peer_tag t = record (packet_to peer_tag o.mtu) { is_summed = not (zero_checksum_enabled t.capabilities) }
 
 no_new : (a b c d : Bool) → by_tags a b c d ≡ EstablishNew → ⊥
@@ -160,22 +161,22 @@ module _ {P : Type 0} {call : Call} {R : Making P → Making P → Type 0} (k : 
 
   -- ---- COOKIE ECHO
 
-  -- its answer, with data behind it
-  does_accept : (peer_tag : ℕ) (phase : Phase) (t : Tcb) (c : Context P) (w : Stream) → is_alone phase ≡ false
-      → R (idle (Open phase t) c w) (idle (Open phase (cookie_ack peer_tag t c).tcb) (cookie_ack peer_tag t c).context w)
-  does_accept peer_tag phase t c w late =
-      let p : Packet = accepting c.options peer_tag t in
-      k.through (does_begin k (Open phase t) c w p refl)
-      (k.through (k.opening (adds_cookie_ack phase t (at (Open phase t) c w p) late)) (does_send_with k phase w false (add cookie_ack_chunk p) t c))
-
-  -- a new control block, made from this state and context
-  does_anew : (resets : Bool) (a : Cookie) (c : Context P) (s : Endpoint P) (m : Making P) → R m (opened_by resets a (idle s.standing.state c s.words))
-      → R m (calm (establishes_by resets a c s))
-  does_anew resets a c s m h =
-      let n : Making P = opened_by resets a (idle s.standing.state c s.words) in
-      k.through h (does_accept a.peer_tag Established (tcb_by c.options a (long_word s)) n.context n.words refl)
-
   module _ (tag : ℕ) (a : Cookie) (h : IsEchoed call tag a) where
+    -- its answer, with data behind it
+    does_accept : (peer_tag : ℕ) (phase : Phase) (t : Tcb) (c : Context P) (w : Stream) → is_alone phase ≡ false
+        → R (idle (Open phase t) c w) (idle (Open phase (cookie_ack peer_tag t c).tcb) (cookie_ack peer_tag t c).context w)
+    does_accept peer_tag phase t c w late =
+        let p : Packet = accepting c.options peer_tag t in
+        k.through (does_begin k (Open phase t) c w p refl)
+        (k.through (k.opening (adds_cookie_ack tag a phase t (at (Open phase t) c w p) h late)) (does_send_with k phase w false (add cookie_ack_chunk p) t c))
+
+    -- a new control block, made from this state and context
+    does_anew : (resets : Bool) (c : Context P) (s : Endpoint P) (m : Making P) → R m (opened_by resets a (idle s.standing.state c s.words))
+        → R m (calm (establishes_by resets a c s))
+    does_anew resets c s m done =
+        let n : Making P = opened_by resets a (idle s.standing.state c s.words) in
+        k.through done (does_accept a.peer_tag Established (tcb_by c.options a (long_word s)) n.context n.words refl)
+
     does_kept : (phase : Phase) (t : Tcb) (c : Context P) (w : Stream) → compared tag t.identity a ≡ MaintainExisting
         → R (idle (Open phase t) c w) (placed (kept a phase t c) w)
     does_kept (CookieEchoed t1 cookie) t c w is =
@@ -187,6 +188,10 @@ module _ {P : Type 0} {call : Call} {R : Making P → Making P → Type 0} (k : 
     does_kept ShutdownReceived t c w is = does_accept a.peer_tag ShutdownReceived t c w refl
     does_kept (ShutdownAckSent t2) t c w is = does_accept a.peer_tag (ShutdownAckSent t2) t c w refl
 
+    plain_added : (b : Bool) (p : Packet) → p.chunks ≡ [] → list_all is_plain (added_if b shutdown_ack_chunk p).chunks ≡ true
+    plain_added true p new = ap (λ (cs : List ChunkTree). list_all is_plain (cs ++ shutdown_ack_chunk ∷ [])) new
+    plain_added false p new = ap (list_all is_plain) new
+
     -- a restart comes too late
     does_too_late : (phase : Phase) (t : Tcb) (c : Context P) (w : Stream) → R (idle (Open phase t) c w) (idle (Open phase t) (too_late t c) w)
     does_too_late phase t c w =
@@ -195,15 +200,15 @@ module _ {P : Type 0} {call : Call} {R : Making P → Making P → Type 0} (k : 
         let r : Packet = add (error_chunk (cookie_received_while_shutting_down ∷ [])) q in
         let s : State = Open phase t in
         k.through (does_begin k s c w p refl)
-        (k.through (k.packets (adds_plain shutdown_ack_chunk (at s c w p) refl))
-        (k.through (k.packets (adds_plain (error_chunk (cookie_received_while_shutting_down ∷ [])) (at s c w q) refl))
+        (k.through (k.packets (adds_plain shutdown_ack_chunk (at s c w p) refl refl))
+        (k.through (k.packets (adds_plain (error_chunk (cookie_received_while_shutting_down ∷ [])) (at s c w q) refl (plain_added (fits p shutdown_ack_chunk) p refl)))
         (k.through (does_out k s c w r) (does_complain k WrongSequence (codes "Received COOKIE-ECHO while shutting down") s (emit r c) w))))
 
     does_restarts : (phase : Phase) (t : Tcb) (s : Endpoint P) → compared tag t.identity a ≡ RestartDetected
         → R (calm (end_in (Open phase t) s)) (calm (restarts_by a (end_in (Open phase t) s)))
     does_restarts phase t s is =
         let e : Endpoint P = end_in (Open phase t) s in
-        does_anew true a (say OnConnectionRestarted s.standing.context) e (calm e) (k.opening (restarts tag a phase t (calm e) h is))
+        does_anew true (say OnConnectionRestarted s.standing.context) e (calm e) (k.opening (restarts tag a phase t (calm e) h is))
 
     does_restarts_in : (phase : Phase) (t : Tcb) (s : Endpoint P) → compared tag t.identity a ≡ RestartDetected
         → R (calm (end_in (Open phase t) s)) (calm (restarts_in phase t a (end_in (Open phase t) s)))
@@ -225,7 +230,7 @@ module _ {P : Type 0} {call : Call} {R : Making P → Making P → Type 0} (k : 
     does_verdict_open RestartDetected phase t s is = does_restarts_in phase t s is
     does_verdict_open SimultaneousInit phase t s is =
         let e : Endpoint P = end_in (Open phase t) s in
-        does_anew true a s.standing.context e (calm e) (k.opening (opens_again tag a phase t (calm e) h is))
+        does_anew true s.standing.context e (calm e) (k.opening (opens_again tag a phase t (calm e) h is))
     does_verdict_open MaintainExisting phase t s is = does_kept phase t s.standing.context s.words is
     does_verdict_open Discard phase t s is = k.same (calm (end_in (Open phase t) s))
     does_verdict_open InvalidTag phase t s is = does_invalid (end_in (Open phase t) s)
@@ -233,7 +238,7 @@ module _ {P : Type 0} {call : Call} {R : Making P → Making P → Type 0} (k : 
     -- without a control block
     does_new_if : (b : Bool) (s : Endpoint P) → (tag == a.my_tag) ≡ b → ((b ≡ true) → R (calm s) (opened_by false a (calm s)))
         → R (calm s) (calm (on_verdict (new_if b) a s))
-    does_new_if true s is may = does_anew false a s.standing.context s (calm s) (may refl)
+    does_new_if true s is may = does_anew false s.standing.context s (calm s) (may refl)
     does_new_if false s is may = does_invalid s
 
     does_judged : (st : State) (s : Endpoint P) → R (calm (end_in st s)) (calm (on_verdict (judged tag a st) a (end_in st s)))

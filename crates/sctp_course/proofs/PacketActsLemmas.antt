@@ -1,5 +1,6 @@
 -- The walk over the rows: packets and bursts.
-use Rattle.std.proofs.Common.{◌≡◌, ℕ, zero, suc, nat_le, nat_lt, Bool, true, false, Option, Some, None, is_some, List, [], ◌∷◌, refl}
+use Rattle.std.proofs.Common.{◌≡◌, ℕ, zero, suc, nat_le, nat_lt, Bool, true, false, Option, Some, None, is_some, List, [], ◌∷◌, refl, ap}
+use Rattle.std.specs.List.{list_all}
 use Rattle.rand_core.specs.Stream.{Stream}
 use Rattle.sctp_packet.specs.Chunk.{ChunkTree, cookie_echo_chunk}
 use Rattle.sctp_state.specs.declared.api.ErrorKind.{ErrorKind}
@@ -40,7 +41,7 @@ module _ {P : Type 0} {call : Call} {R : Making P → Making P → Type 0} (k : 
   pub does_plain : (chunk : ChunkTree) (p : Packet) (s : State) (c : Context P) (w : Stream) → is_plain chunk ≡ true → p.chunks ≡ []
       → R (idle s c w) (idle s (emit (add chunk p) c) w)
   does_plain chunk p s c w plain new =
-      k.through (does_begin s c w p new) (k.through (k.packets (adds_plain chunk (at s c w p) plain)) (does_out s c w (add chunk p)))
+      k.through (does_begin s c w p new) (k.through (k.packets (adds_plain chunk (at s c w p) plain (ap (list_all is_plain) new))) (does_out s c w (add chunk p)))
 
   pub does_chunk : (chunk : ChunkTree) (phase : Phase) (t : Tcb) (c : Context P) (w : Stream) → is_plain chunk ≡ true
       → R (idle (Open phase t) c w) (idle (Open phase t) (emit_chunk chunk t c) w)

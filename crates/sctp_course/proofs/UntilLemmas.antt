@@ -100,7 +100,7 @@ module _ {P : Type 0} where
 module _ {P : Type 0} {call : Call} where
   grows_packets : (act : PacketAct P call) → Grows (before_packets act) (after_packets act)
   grows_packets (begins p m new) = grows_same m (after_packets {call = call} (begins p m new)) refl
-  grows_packets (adds_plain chunk m plain) = grows_same m (after_packets {call = call} (adds_plain chunk m plain)) refl
+  grows_packets (adds_plain chunk m plain others) = grows_same m (after_packets {call = call} (adds_plain chunk m plain others)) refl
   grows_packets (emits m some) = grows_one _ m (after_packets {call = call} (emits m some)) refl
   grows_packets (complains kind text m) = grows_one (OnError kind text) m (after_packets {call = call} (complains kind text m)) refl
   grows_packets (counts m) = grows_same m (after_packets {call = call} (counts m)) refl
@@ -122,7 +122,7 @@ module _ {P : Type 0} {call : Call} where
   }
   grows_opening (opens_again tag k phase t m echoed verdict) = record { events = OnConnected ∷ []; behind = refl }
   grows_opening (maintains tag k t1 cookie t m echoed verdict) = record { events = OnConnected ∷ []; behind = refl }
-  grows_opening (adds_cookie_ack phase t m late) = record { events = []; behind = sym (append-nil m.context.told.events) }
+  grows_opening (adds_cookie_ack tag back phase t m echoed late) = record { events = []; behind = sym (append-nil m.context.told.events) }
 
   grows_closing : (act : ClosingAct P call) → Grows (before_closing act) (after_closing act)
   grows_closing (closes e m there is) = record { events = e ∷ []; behind = refl }

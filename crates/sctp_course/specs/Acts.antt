@@ -134,21 +134,21 @@ is_plain chunk = false
 pub data PacketAct (P : Type 0) (call : Call) : Type 0 where
   -- another packet is begun; one that didn't go out is dropped
   begins : (p : Packet) (m : Making P) → p.chunks ≡ [] → PacketAct P call
-  adds_plain : (chunk : ChunkTree) (m : Making P) → is_plain chunk ≡ true → PacketAct P call
+  adds_plain : (chunk : ChunkTree) (m : Making P) → is_plain chunk ≡ true → list_all is_plain m.packet.chunks ≡ true → PacketAct P call
   emits : (m : Making P) → has_chunks m.packet ≡ true → PacketAct P call
   complains : (kind : ErrorKind) (text : List ℕ) (m : Making P) → PacketAct P call
   counts : (m : Making P) → PacketAct P call
 
 abbrev pub before_packets : {P : Type 0} {call : Call} → PacketAct P call → Making P
 before_packets (begins p m new) = m
-before_packets (adds_plain chunk m plain) = m
+before_packets (adds_plain chunk m plain others) = m
 before_packets (emits m some) = m
 before_packets (complains kind text m) = m
 before_packets (counts m) = m
 
 abbrev pub after_packets : {P : Type 0} {call : Call} → PacketAct P call → Making P
 after_packets (begins p m new) = with_packet p m
-after_packets (adds_plain chunk m plain) = with_chunk chunk m
+after_packets (adds_plain chunk m plain others) = with_chunk chunk m
 after_packets (emits m some) = record m { context = emit_if true m.packet m.context; packet = emptied m.packet }
 after_packets (complains kind text m) = with_context (complain kind text m.context) m
 after_packets (counts m) = with_context (counted m.context) m
@@ -234,7 +234,8 @@ pub data OpeningAct (P : Type 0) (call : Call) : Type 0 where
       → OpeningAct P call
   maintains : (tag : ℕ) (k : Cookie) (t1 : Timer) (cookie : List ℕ) (t : Tcb) (m : Making P) → IsEchoed call tag k
       → compared tag t.identity k ≡ MaintainExisting → OpeningAct P call
-  adds_cookie_ack : (phase : Phase) (t : Tcb) (m : Making P) → is_alone phase ≡ false → OpeningAct P call
+  adds_cookie_ack : (tag : ℕ) (back : Cookie) (phase : Phase) (t : Tcb) (m : Making P) → IsEchoed call tag back → is_alone phase ≡ false
+      → OpeningAct P call
 
 abbrev pub before_opening : {P : Type 0} {call : Call} → OpeningAct P call → Making P
 before_opening (connects m is) = in_state Closed m
@@ -250,7 +251,7 @@ before_opening (opens tag k m echoed none own) = m
 before_opening (restarts tag k phase t m echoed verdict) = in_open phase t m
 before_opening (opens_again tag k phase t m echoed verdict) = in_open phase t m
 before_opening (maintains tag k t1 cookie t m echoed verdict) = in_open (CookieEchoed t1 cookie) t m
-before_opening (adds_cookie_ack phase t m late) = in_open phase t m
+before_opening (adds_cookie_ack tag back phase t m echoed late) = in_open phase t m
 
 abbrev pub after_opening : {P : Type 0} {call : Call} → OpeningAct P call → Making P
 after_opening (connects m is) = in_state (CookieWait (drawn_tag m) (drawn_first m) (t1_init m.context)) (drew_two m)
@@ -266,7 +267,7 @@ after_opening (opens tag k m echoed none own) = opened_by false k m
 after_opening (restarts tag k phase t m echoed verdict) = opened_by true k (with_context (say OnConnectionRestarted m.context) m)
 after_opening (opens_again tag k phase t m echoed verdict) = opened_by true k m
 after_opening (maintains tag k t1 cookie t m echoed verdict) = in_open Established t (with_context (connected m.context) m)
-after_opening (adds_cookie_ack phase t m late) = with_chunk cookie_ack_chunk (in_open phase t m)
+after_opening (adds_cookie_ack tag back phase t m echoed late) = with_chunk cookie_ack_chunk (in_open phase t m)
 
 -- ---- closing
 

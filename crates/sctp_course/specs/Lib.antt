@@ -4,3 +4,4 @@ pub mod Taking
 pub mod Opens
 pub mod Handing
 pub mod Asked
+pub mod Agreement

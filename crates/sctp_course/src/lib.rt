@@ -1,6 +1,7 @@
 //! Two ends of an association along all that can happen to them: laws of the table of steps.
 #![tactic(auto)]
 
+ghost use Rattle.sctp_course.specs.Agreement.{EndsAgree};
 ghost use Rattle.sctp_course.specs.Asked.{EachCallKeepsEndsAsAsked, EachCallNumbersOnce, EachEndGoesOn, NewEndsAreAsAsked};
 ghost use Rattle.sctp_course.specs.Course.{EndsAreJoined};
 ghost use Rattle.sctp_course.specs.Handing.{AssociationsStand, HandedGrows, HandedIsAPrefix, MessagesAreHandedInOrder, OneIsHandedOut, ReadiedGrows};
@@ -61,3 +62,14 @@ pub fn each_end_can_be_handed_over()
 {
     a_handover_and_its_restore_give_the_end_back();
 }
+
+/// Over every course of two new ends, without the rules of `ends_are_joined`: collisions, restarts, old cookies and repeated
+/// ones, closes, shutdowns and new openings (RFC 9260 section 5.2). Where no end draws a tag twice, and no record of a handover
+/// is taken up: an end that was told in a turn that it is connected, and still holds an association after it, holds one that
+/// the other end holds or held, crossed in tags and first TSNs. What an end held is what it held after one of its turns, or
+/// between two chunks of a packet that it took.
+///
+/// It doesn't say that two ends ever connect, or anything of a sender that knows the tags.
+pub fn ends_agree()
+    ensures agree { EndsAgree }
+{}

@@ -105,8 +105,8 @@ module _ (g : Setting) (call : Call) (r : Rules g call) (other : is_other call �
   frame_opening (opens_again tag c phase t m echoed verdict) none inv = absurd (no_again _ (same_verdict g call r tag c phase t m echoed inv) verdict)
   frame_opening (maintains tag c t1 cookie t m echoed verdict) none inv =
       let a : OpeningAct Carried call = maintains tag c t1 cookie t m echoed verdict in let n = j.opening a none inv in (n, k.opening a tt inv n)
-  frame_opening (adds_cookie_ack phase t m late) none inv =
-      let a : OpeningAct Carried call = adds_cookie_ack phase t m late in let n = j.opening a none inv in (n, k.opening a tt inv n)
+  frame_opening (adds_cookie_ack tag back phase t m echoed late) none inv =
+      let a : OpeningAct Carried call = adds_cookie_ack tag back phase t m echoed late in let n = j.opening a none inv in (n, k.opening a tt inv n)
 
   frame_closing : (act : ClosingAct Carried call) → HasNoEnd (after_closing act) → Joined g R (before_closing act) (after_closing act)
   frame_closing (closes e m there is) none inv = absurd (no_end m (after_closing {call = call} (closes e m there is)) e refl is none)

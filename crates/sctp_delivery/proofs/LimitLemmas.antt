@@ -39,7 +39,7 @@ stays_outcome (Denied streams) c l = l
 module _ (call : Call) (fits : (bytes : ℕ) → call ≡ SetMaxMessageSize bytes → bytes < 2 ^ 32) where
   stays_packets : (act : PacketAct Carried call) → Stays (before_packets act) (after_packets act)
   stays_packets (begins p m new) l = l
-  stays_packets (adds_plain chunk m plain) l = l
+  stays_packets (adds_plain chunk m plain others) l = l
   stays_packets (emits m some) l = l
   stays_packets (complains kind text m) l = l
   stays_packets (counts m) l = l
@@ -58,7 +58,7 @@ module _ (call : Call) (fits : (bytes : ℕ) → call ≡ SetMaxMessageSize byte
   stays_opening (restarts tag k phase t m echoed verdict) l = l
   stays_opening (opens_again tag k phase t m echoed verdict) l = l
   stays_opening (maintains tag k t1 cookie t m echoed verdict) l = l
-  stays_opening (adds_cookie_ack phase t m late) l = l
+  stays_opening (adds_cookie_ack tag back phase t m echoed late) l = l
 
   stays_closing : (act : ClosingAct Carried call) → Stays (before_closing act) (after_closing act)
   stays_closing (closes e m there is) l = l

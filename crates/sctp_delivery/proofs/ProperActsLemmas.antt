@@ -144,7 +144,7 @@ module _ (accepted : List Acceptance) where
   module _ (call : Call) (offers : (m : Message) (o : SendOptions) → IsOffered call m o → ⊥) (restores : (s : HandoverState) → call ≡ Restore s → ⊥) where
     sound_packets : (act : PacketAct Carried call) → Onward (before_packets act) (after_packets act)
     sound_packets (begins p m new) h = h
-    sound_packets (adds_plain chunk m plain) h = h
+    sound_packets (adds_plain chunk m plain others) h = h
     sound_packets (emits m some) h = h
     sound_packets (complains kind text m) h = h
     sound_packets (counts m) h = h
@@ -171,7 +171,7 @@ module _ (accepted : List Acceptance) where
         anew t.sender.outstanding.items.kept m.context.now m.context.queue _ m.context.told.gone
         (holds_for true (negotiated m.context.options k.peer_capabilities).message_interleaving m.context.queue) h
     sound_opening (maintains tag k t1 cookie t m echoed verdict) h = h
-    sound_opening (adds_cookie_ack phase t m late) h = h
+    sound_opening (adds_cookie_ack tag back phase t m echoed late) h = h
 
     sound_closing : (act : ClosingAct Carried call) → Onward (before_closing act) (after_closing act)
     sound_closing (closes e m there is) h = anew (kept_in m.state) m.context.now m.context.queue m.context.queue m.context.told.gone (λ k. k) h

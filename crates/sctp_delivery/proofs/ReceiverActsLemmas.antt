@@ -74,7 +74,7 @@ module _ (message : ℕ → Message) (lifecycle : ℕ → Option ℕ) (mixed : B
 
   pub goes_packets : (act : PacketAct Carried call) → InvAt g (before_packets act) → Goes (before_packets act) (after_packets act)
   goes_packets (begins packet m new) inv = goes_begun message lifecycle mixed from handed packet m new
-  goes_packets (adds_plain chunk m plain) inv =
+  goes_packets (adds_plain chunk m plain others) inv =
       goes_adding message lifecycle mixed from handed m chunk (λ x. plain_says (first_in m.state) from.acknowledged (count from.sender) x chunk plain)
   goes_packets (emits m some) inv = goes_emitted message lifecycle mixed from handed m inv.packing
   goes_packets (complains kind text m) inv =
@@ -147,7 +147,7 @@ module _ (message : ℕ → Message) (lifecycle : ℕ → Option ℕ) (mixed : B
   goes_opening (maintains tag k t1 cookie t m echoed verdict) lasts inv next =
       goes_same message lifecycle mixed from handed (in_open (CookieEchoed t1 cookie) t m) (after_opening {call = call} (maintains tag k t1 cookie t m echoed verdict))
       (λ x h. h) refl (one_more m.context.told.events OnConnected refl) refl
-  goes_opening (adds_cookie_ack phase t m late) lasts inv next = goes_adding message lifecycle mixed from handed (in_open phase t m) cookie_ack_chunk (λ x. tt)
+  goes_opening (adds_cookie_ack tag back phase t m echoed late) lasts inv next = goes_adding message lifecycle mixed from handed (in_open phase t m) cookie_ack_chunk (λ x. tt)
 
   -- ---- closing
 

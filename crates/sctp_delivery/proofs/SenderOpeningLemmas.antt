@@ -205,5 +205,5 @@ module _ (message : ℕ → Message) (lifecycle : ℕ → Option ℕ) (mixed : B
     light_opening (restarts tag c phase t m heard verdict) on inv later = absurd on
     light_opening (opens_again tag c phase t m heard verdict) on inv later = absurd on
     light_opening (maintains tag c t1 cookie t m heard verdict) on inv later = goes_late t1 cookie t m
-    light_opening (adds_cookie_ack phase t m late) on inv later =
+    light_opening (adds_cookie_ack tag back phase t m echoed late) on inv later =
         goes_adding message lifecycle mixed from (in_open phase t m) cookie_ack_chunk (λ first least x. tt)

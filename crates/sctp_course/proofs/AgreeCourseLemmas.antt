@@ -1,0 +1,302 @@
+-- Along each course in which no end draws a tag twice: an end that is told of a connection holds what the other holds or held.
+use Rattle.std.proofs.Common.{◌≡◌, ℕ, ◌==◌, ◌||◌, Bool, true, false, Option, Some, None, List, [], ◌∷◌, ◌++◌, map, slice_get, length, drop, All, inl, inr, refl, sym, ap, subst, ◌∙◌, append-nil}
+use Rattle.std.specs.Prelude.{⊤}
+use Rattle.std.proofs.lemmas.List.Elements.{All-nil, All-cons, All-head, All-tail, All-weaker}
+use Rattle.rand_core.specs.Stream.{Stream}
+use Rattle.sctp_packet.specs.Chunk.{ChunkTree}
+use Rattle.sctp_packet.specs.Grammar.{carried}
+use Rattle.sctp_packet.specs.Packet.{PacketTree}
+use Rattle.sctp_state.specs.declared.api.ErrorKind.TheVariants.{ParseFailed}
+use Rattle.sctp_state.specs.Options.{Options}
+use Rattle.sctp_state.specs.Events.{Event}
+use Rattle.sctp_association.specs.Association.{State, Closed, CookieWait, Open, Context, Endpoint}
+use Rattle.sctp_association.specs.Opening.{connect, complains}
+use Rattle.sctp_association.specs.Input.{refusal, counts, taken_if, handled, on_standing, repeats_if, has_data}
+use Rattle.sctp_association.specs.Laws.{Call, Connect, Restore, Packet, called}
+use Rattle.sctp_association_laws.specs.Mapped.{Carried}
+use Rattle.sctp_course.specs.Acts.{calm, nothing}
+use Rattle.sctp_course.specs.Course.{Side, Pair, as_carried, new_side, packets_in, emitted, has_connected, Turn, Calls, Gives, Refuses, took, as_heard, given, foreign_if, turned, goes, AreGiven, start, state_of}
+use Rattle.sctp_course.specs.Agreement.{Association, crossed, Has, Notes, held_in, drawn_to_connect, noted, noted_taking, noted_given, noted_by, Book, blank, new_book, writes, written, AreDistinct, NoneTwice, IsAllowed, AreAllowed, told_since, AgreesAlong, EndsAgree}
+use Rattle.sctp_course.proofs.PacketActsLemmas.{does_complain}
+use Rattle.sctp_course.proofs.OpeningActsLemmas.{end_in}
+use Rattle.sctp_course.proofs.ActsLemmas.{keeps_call}
+use Rattle.sctp_course.proofs.AddedLemmas.{all_get}
+use Rattle.sctp_course.proofs.AgreeLemmas.{Past, view_of, IsUnder, Says, says_carried, Stands, stands_later, Agreed, Later, later_same, Said, said_later}
+use Rattle.sctp_course.proofs.AgreeActsLemmas.{Setting, Inv, InvAt}
+use Rattle.sctp_course.proofs.AgreeQuietLemmas.{Quiet, quiet}
+use Rattle.sctp_course.proofs.AgreeOpeningLemmas.{Known, kept_quiet, does_connect}
+use Rattle.sctp_course.proofs.AgreeCookieLemmas.{past_of, bounded, Goes, has_behind, goes_held}
+use Rattle.sctp_course.proofs.AgreePacketLemmas.{Admitted, admitted, shape_carried, distinct_behind, distinct_hearing, takes_packet}
+
+-- ---- between turns
+
+pub record Knows (o : Options) (x : Side) (mine theirs : Past) : Type 0 where
+  pub stands : Stands mine theirs (view_of (state_of x))
+  pub size : ℕ
+  pub options : x.end.standing.context.options ≡ record o { max_message_size = size }
+  pub packing : x.end.standing.context.pack ≡ as_carried
+  pub quiet : x.end.standing.context.told.events ≡ []
+  pub said : All (Said mine theirs) (packets_in x.told)
+  pub known : Known mine
+
+-- a turn of an end, from these notes to those
+pub record Turned (o : Options) (x z : Side) (n : Notes) (echoed : List Association) (m : Notes) (theirs : Past) : Type 0 where
+  pub more : List Association
+  pub later : Later (past_of n echoed) (past_of m more)
+  pub knows : Knows o z (past_of m more) theirs
+  pub agrees : has_connected (told_since x z) ≡ true → (a : Association) → Has a (held_in (state_of z)) → Has (crossed a) theirs.held
+
+drop_told : (xs ys : List (Event Carried)) → drop (length xs) (xs ++ ys) ≡ ys
+drop_told [] ys = refl
+drop_told (x ∷ xs) ys = drop_told xs ys
+
+agreed_at : (y : Past) (s : State) (a : Association) → Agreed y (view_of s) → Has a (held_in s) → Has (crossed a) y.held
+agreed_at y Closed a h n = absurd n
+agreed_at y (CookieWait tag first t1) a h n = absurd n
+agreed_at y (Open phase t) a h n = elim n [ inl e ↦ subst (λ (b : Association). Has (crossed b) y.held) (sym e) h | inr r ↦ absurd r ]
+
+no_both : {A : Type 0} (b : Bool) → b ≡ true → b ≡ false → A
+no_both b e f = cc
+
+module _ (o : Options) (x : Side) (y : Past) where
+  begins : (u : Option ℕ) (px : Past) → Knows o x px y → IsUnder u (view_of (state_of x)) → InvAt (bounded o x.told u None) px y (calm x.end)
+  begins u px k fits =
+      let g : Setting = bounded o x.told u None in
+      let c : Context Carried = x.end.standing.context in
+      let inv : Inv g px y (view_of (state_of x)) c.options c.pack [] nothing.tag [] = record {
+        stands = k.stands;
+        size = k.size;
+        options = k.options;
+        packing = k.packing;
+        agreed = λ e. cc;
+        tagged = record { under = fits; same = tt };
+        said = subst (λ (es : List (Event Carried)). All (Said px y) (packets_in es)) (sym (append-nil x.told)) k.said;
+        made = All-nil (Says px y nothing.tag);
+        shape = inl refl;
+      } in
+      subst (λ (es : List (Event Carried)). Inv g px y (view_of (state_of x)) c.options c.pack es nothing.tag []) (sym k.quiet) inv
+
+  ends : (u : Option ℕ) (n m : Notes) (e1 : List Association) (asked : Bool) (e : Endpoint Carried) → Goes (bounded o x.told u None) y n e1 m e
+      → Turned o x (record (took e x) { is_asked = asked }) n e1 m y
+  ends u n m e1 asked e h = record {
+    more = h.more;
+    later = h.later;
+    knows = record {
+      stands = h.inv.stands;
+      size = h.inv.size;
+      options = h.inv.options;
+      packing = h.inv.packing;
+      quiet = refl;
+      said = h.inv.said;
+      known = h.known;
+    };
+    agrees = λ t a there. agreed_at y e.standing.state a
+        (h.inv.agreed (sym (ap has_connected (drop_told x.told e.standing.context.told.events)) ∙ t)) there;
+  }
+
+  same : (n : Notes) (e1 : List Association) → Knows o x (past_of n e1) y → Turned o x x n e1 (noted [] (state_of x) n) y
+  same n e1 k =
+      let m : Notes = noted [] (state_of x) n in
+      let l : Later (past_of n e1) (past_of m e1) =
+      record { drawn = λ d h. h; held = λ a h. has_behind a (held_in (state_of x)) n.held h; echoed = λ a h. h } in
+      let silent : told_since x x ≡ [] = ap (drop (length x.told)) (sym (append-nil x.told)) ∙ drop_told x.told [] in
+      record {
+        more = e1;
+        later = l;
+        knows = record {
+          stands = stands_later (past_of n e1) y (past_of m e1) y l (later_same y) refl (view_of (state_of x)) k.stands;
+          size = k.size;
+          options = k.options;
+          packing = k.packing;
+          quiet = k.quiet;
+          said = All-weaker (Said (past_of n e1) y) (Said (past_of m e1) y) (said_later (past_of n e1) y (past_of m e1) y l (later_same y)) (packets_in x.told) k.said;
+          known = k.known;
+        };
+        agrees = λ t a there. no_both (has_connected (told_since x x)) t (ap has_connected silent);
+      }
+
+-- the other end's half stays, as this end goes on
+knows_other : (o : Options) (y : Side) (mine theirs now : Past) → Later theirs now → Knows o y mine theirs → Knows o y mine now
+knows_other o y mine theirs now l k = record {
+  stands = stands_later mine theirs mine now (later_same mine) l refl (view_of (state_of y)) k.stands;
+  size = k.size;
+  options = k.options;
+  packing = k.packing;
+  quiet = k.quiet;
+  said = All-weaker (Said mine theirs) (Said mine now) (said_later mine theirs mine now (later_same mine) l) (packets_in y.told) k.said;
+  known = k.known;
+}
+
+-- ---- calls
+
+abbrev IsQuietCall : Call → Type 0
+IsQuietCall Connect = ⊥
+IsQuietCall (Restore h) = ⊥
+IsQuietCall (Packet p) = ⊥
+IsQuietCall call = ⊤
+
+quiet_user : (call : Call) → IsQuietCall call → Quiet call
+quiet_user call u = record {
+  hears = λ tag chunk h. absurd (subst IsQuietCall h.given u);
+  connects = λ e. subst IsQuietCall e u;
+  restores = λ h e. subst IsQuietCall e u;
+}
+
+module _ (o : Options) (x : Side) (y : Past) (fine : AreGiven o) (n : Notes) (e1 : List Association) (k : Knows o x (past_of n e1) y) where
+  abbrev g : Setting
+  g = bounded o x.told None None
+
+  started : InvAt g (past_of n e1) y (calm x.end)
+  started = begins o x y None (past_of n e1) k tt
+
+  user_calls : (call : Call) → IsQuietCall call
+      → Turned o x (took (called call x.end) x) n e1 (noted [] (called call x.end).standing.state n) y
+  user_calls call u =
+      let e : Endpoint Carried = called call x.end in
+      ends o x y None n (noted [] e.standing.state n) e1 x.is_asked e
+      (goes_held g y n e1 e k.known (keeps_call call (quiet g (past_of n e1) y call fine (quiet_user call u)) x.end started))
+
+  connects_in : (st : State) (s : Endpoint Carried) → AreDistinct (drawn_to_connect st s ++ n.drawn) → has_connected s.standing.context.told.events ≡ false
+      → InvAt g (past_of n e1) y (calm (end_in st s))
+      → Goes g y n e1 (noted [] (connect (end_in st s)).standing.state (noted (drawn_to_connect st s) Closed n)) (connect (end_in st s))
+  connects_in Closed s mine silent inv = record {
+    more = e1;
+    later = record { drawn = λ d h. inr h; held = λ a h. h; echoed = λ a h. h };
+    known = λ b h. inr (k.known b h);
+    inv = does_connect g y fine (past_of n e1) s k.known mine silent (record { under = tt; same = tt }) inv;
+  }
+  connects_in (CookieWait tag first t1) s mine silent inv = goes_held g y n e1 (end_in (CookieWait tag first t1) s) k.known inv
+  connects_in (Open phase t) s mine silent inv = goes_held g y n e1 (end_in (Open phase t) s) k.known inv
+
+  user_connects : AreDistinct (drawn_to_connect (state_of x) x.end ++ n.drawn)
+      → Turned o x (took (connect x.end) x) n e1 (noted [] (connect x.end).standing.state (noted (drawn_to_connect (state_of x) x.end) Closed n)) y
+  user_connects mine =
+      ends o x y None n (noted [] (connect x.end).standing.state (noted (drawn_to_connect (state_of x) x.end) Closed n)) e1 x.is_asked (connect x.end)
+      (connects_in (state_of x) x.end mine (ap has_connected k.quiet) started)
+
+  -- ---- packets
+
+  refuses : (text : List ℕ) → InvAt g (past_of n e1) y (calm (complains text (counts x.end)))
+  refuses text = does_complain (kept_quiet g y fine (past_of n e1)) ParseFailed text (state_of x) (counts x.end).standing.context x.end.words started
+
+  foreign : (r : Option (List ℕ)) (p : PacketTree) → refusal p.header.verification_tag p.chunks (state_of x) ≡ r
+      → Turned o x (foreign_if r p x) n e1 (noted [] (state_of (foreign_if r p x)) n) y
+  foreign None p is = same o x y n e1 k
+  foreign (Some text) p is =
+      let e : Endpoint Carried = called (Packet p) x.end in
+      let here : e ≡ complains text (counts x.end) = ap (λ (r : Option (List ℕ)). taken_if r p.header.verification_tag p.chunks (counts x.end)) is in
+      ends o x y None n (noted [] e.standing.state n) e1 x.is_asked e
+      (goes_held g y n e1 e k.known (subst (λ (z : Endpoint Carried). InvAt g (past_of n e1) y (calm z)) (sym here) (refuses text)))
+
+  says_all : (tag : ℕ) (cs : List ChunkTree) → All (Says y (past_of n e1) tag) cs → All (Says y (past_of n e1) tag) (map carried cs)
+  says_all tag [] h = All-nil (Says y (past_of n e1) tag)
+  says_all tag (c ∷ cs) h =
+      All-cons (Says y (past_of n e1) tag) (carried c) (map carried cs) (says_carried y (past_of n e1) tag c (All-head (Says y (past_of n e1) tag) c cs h))
+      (says_all tag cs (All-tail (Says y (past_of n e1) tag) c cs h))
+
+  module _ (theirs : AreDistinct y.drawn) (p : Carried) (checksum : ℕ) (asked : Bool) (said : Said y (past_of n e1) p) where
+    abbrev q : PacketTree
+    q = as_heard p checksum
+
+    taken_by : (r : Option (List ℕ)) → refusal q.header.verification_tag q.chunks (state_of x) ≡ r → AreDistinct (noted_taking r q x.end n).drawn
+        → Turned o x (record (took (taken_if r q.header.verification_tag q.chunks (counts x.end)) x) { is_asked = asked }) n e1
+        (noted [] (taken_if r q.header.verification_tag q.chunks (counts x.end)).standing.state (noted_taking r q x.end n)) y
+    taken_by None is mine =
+        let tag : ℕ = q.header.verification_tag in
+        let may : Admitted tag q.chunks (state_of x) = admitted tag q.chunks (state_of x) (shape_carried p.chunks said.shape) is in
+        let e : Endpoint Carried = handled tag q.chunks (counts x.end) in
+        ends o x y may.under n (noted [] e.standing.state (noted_taking None q x.end n)) e1 asked e
+        (takes_packet o x.told y fine theirs q may.under n e1 x.end k.known may.comes (says_all tag p.chunks said.says) mine
+        (begins o x y may.under (past_of n e1) k may.fits))
+    taken_by (Some text) is mine =
+        let e : Endpoint Carried = complains text (counts x.end) in
+        ends o x y None n (noted [] e.standing.state n) e1 asked e (goes_held g y n e1 e k.known (refuses text))
+
+  given_by : (theirs : AreDistinct y.drawn) (ps : List Carried) (p : Option Carried) (checksum which : ℕ) → All (Said y (past_of n e1)) ps → slice_get ps which ≡ p
+      → AreDistinct (noted_given p checksum x n).drawn
+      → Turned o x (given p checksum x) n e1 (noted [] (state_of (given p checksum x)) (noted_given p checksum x n)) y
+  given_by theirs ps None checksum which all is mine = same o x y n e1 k
+  given_by theirs ps (Some p) checksum which all is mine =
+      taken_by theirs p checksum (x.is_asked || (p.header.verification_tag == 0)) (all_get (Said y (past_of n e1)) ps which p is all)
+      (refusal (as_heard p checksum).header.verification_tag (as_heard p checksum).chunks (state_of x)) refl mine
+
+-- ---- turns
+
+module _ (o q : Options) (x y : Side) (fine : AreGiven o) (n r : Notes) (e1 e2 : List Association) (k : Knows o x (past_of n e1) (past_of r e2))
+    (l : Knows q y (past_of r e2) (past_of n e1)) (theirs : AreDistinct r.drawn) where
+  pub turns : (t : Turn) → IsAllowed t → AreDistinct (noted_by t x y n).drawn → Turned o x (turned t x y) n e1 (noted_by t x y n) (past_of r e2)
+  turns (Calls Connect) may mine = user_connects o x (past_of r e2) fine n e1 k mine
+  turns (Calls (Restore h)) may mine = absurd may
+  turns (Calls (Packet p)) may mine = absurd may
+  turns (Calls call) may mine = user_calls o x (past_of r e2) fine n e1 k call tt
+  turns (Gives which checksum) may mine =
+      given_by o x (past_of r e2) fine n e1 k theirs (emitted y) (slice_get (emitted y) which) checksum which l.said refl mine
+  turns (Refuses p) may mine = foreign o x (past_of r e2) fine n e1 k (refusal p.header.verification_tag p.chunks (state_of x)) p refl
+
+-- ---- draws before
+
+distinct_taking : (r : Option (List ℕ)) (p : PacketTree) (e : Endpoint Carried) (n : Notes) → AreDistinct (noted_taking r p e n).drawn → AreDistinct n.drawn
+distinct_taking None p e n h = distinct_hearing p.header.verification_tag p.chunks (on_standing (repeats_if (has_data p.chunks)) (counts e)) n h
+distinct_taking (Some text) p e n h = h
+
+distinct_given : (p : Option Carried) (checksum : ℕ) (x : Side) (n : Notes) → AreDistinct (noted_given p checksum x n).drawn → AreDistinct n.drawn
+distinct_given None checksum x n h = h
+distinct_given (Some p) checksum x n h =
+    distinct_taking (refusal (as_heard p checksum).header.verification_tag (as_heard p checksum).chunks (state_of x)) (as_heard p checksum) x.end n h
+
+distinct_turn : (t : Turn) (x y : Side) (n : Notes) → AreDistinct (noted_by t x y n).drawn → AreDistinct n.drawn
+distinct_turn (Calls Connect) x y n h = distinct_behind (drawn_to_connect (state_of x) x.end) n.drawn h
+distinct_turn (Calls call) x y n h = h
+distinct_turn (Gives which checksum) x y n h = distinct_given (slice_get (emitted y) which) checksum x n h
+distinct_turn (Refuses p) x y n h = h
+
+none_before : (at_a : Bool) (t : Turn) (w : Pair) (k : Book) → NoneTwice (writes at_a t w k) → NoneTwice k
+none_before true t w k h = (distinct_turn t w.a w.b k.a h.0, h.1)
+none_before false t w k h = (h.0, distinct_turn t w.b w.a k.b h.1)
+
+none_at_first : (es : List (Bool × Turn)) (w : Pair) (k : Book) → NoneTwice (written es w k) → NoneTwice k
+none_at_first [] w k h = h
+none_at_first (e ∷ es) w k h = none_before e.0 e.1 w k (none_at_first es (goes e.0 e.1 w) (writes e.0 e.1 w k) h)
+
+-- ---- courses
+
+record Halves (o q : Options) (w : Pair) (k : Book) : Type 0 where
+  e1 : List Association
+  e2 : List Association
+  a : Knows o w.a (past_of k.a e1) (past_of k.b e2)
+  b : Knows q w.b (past_of k.b e2) (past_of k.a e1)
+
+module _ (o q : Options) (fine : AreGiven o) (fine_too : AreGiven q) where
+  along : (es : List (Bool × Turn)) (w : Pair) (k : Book) → Halves o q w k → AreAllowed es → NoneTwice (written es w k) → AgreesAlong es w k
+  along [] w k h may none = tt
+  along ((true, t) ∷ es) w k h may none =
+      let next : Book = writes true t w k in
+      let distinct : NoneTwice next = none_at_first es (goes true t w) next none in
+      let d : Turned o w.a (turned t w.a w.b) k.a h.e1 next.a (past_of k.b h.e2) = turns o q w.a w.b fine k.a k.b h.e1 h.e2 h.a h.b distinct.1 t may.0 distinct.0 in (
+        d.agrees,
+        along es (goes true t w) next
+            (record { e1 = d.more; e2 = h.e2; a = d.knows; b = knows_other q w.b (past_of k.b h.e2) (past_of k.a h.e1) (past_of next.a d.more) d.later h.b }) may.1 none,
+      )
+  along ((false, t) ∷ es) w k h may none =
+      let next : Book = writes false t w k in
+      let distinct : NoneTwice next = none_at_first es (goes false t w) next none in
+      let d : Turned q w.b (turned t w.b w.a) k.b h.e2 next.b (past_of k.a h.e1) = turns q o w.b w.a fine_too k.b k.a h.e2 h.e1 h.b h.a distinct.0 t may.0 distinct.1 in (
+        d.agrees,
+        along es (goes false t w) next
+            (record { e1 = h.e1; e2 = d.more; a = knows_other o w.a (past_of k.a h.e1) (past_of k.b h.e2) (past_of next.b d.more) d.later h.a; b = d.knows }) may.1 none,
+      )
+
+knows_start : (o : Options) (x : Stream) → Knows o (new_side o x) (past_of blank []) (past_of blank [])
+knows_start o x = record {
+  stands = tt;
+  size = o.max_message_size;
+  options = refl;
+  packing = refl;
+  quiet = refl;
+  said = All-nil (Said (past_of blank []) (past_of blank []));
+  known = λ b h. absurd h;
+}
+
+pub ends_agree : EndsAgree
+ends_agree a b words_a words_b es fine_a fine_b may none =
+    along a b fine_a fine_b es (start a b words_a words_b) new_book (record { e1 = []; e2 = []; a = knows_start a words_a; b = knows_start b words_b }) may none

@@ -1,0 +1,194 @@
+-- A packet that an end takes, over every course: under which tag it came, and what it leaves.
+use Rattle.std.proofs.Common.{◌≡◌, ℕ, ◌==◌, ◌&&◌, Bool, true, false, Option, Some, None, List, [], ◌∷◌, ◌++◌, map, All, inl, inr, refl, sym, ap, ◌∙◌, arith}
+use Rattle.std.specs.List.{list_all}
+use Rattle.std.proofs.lemmas.Bool.Decides.{nat_tests}
+use Rattle.std.proofs.lemmas.List.Elements.{All-nil, All-cons, All-head, All-tail, All-weaker}
+use Rattle.sctp_packet.specs.Chunk.{ChunkTree, init_chunk, cookie_echo_chunk, abort_chunk, shutdown_complete_chunk, shutdown_ack_chunk}
+use Rattle.sctp_packet.specs.Grammar.{carried}
+use Rattle.sctp_packet.specs.Packet.{PacketTree}
+use Rattle.sctp_state.specs.Events.{Event}
+use Rattle.sctp_state.specs.Options.{Options}
+use Rattle.sctp_association.specs.Association.{State, Closed, CookieWait, Open, Endpoint}
+use Rattle.sctp_association.specs.Input.{my_tag, abort_flag, complete_flag, has_shutdown_ack, begins_with_cookie, is_single_init, plain_refusal, refusal_by, refusal, Heard, hear, hear_all, hear_rest, has_data, repeats_if, on_standing, ended, handled, counts}
+use Rattle.sctp_association.specs.Laws.{NoPacket}
+use Rattle.sctp_association_laws.specs.Mapped.{Carried}
+use Rattle.sctp_course.specs.Acts.{calm, Keeps}
+use Rattle.sctp_course.specs.Course.{AreGiven}
+use Rattle.sctp_course.specs.Agreement.{Draw, Association, Notes, drawn_for, noted, noted_after, noted_hearing, noted_taking, AreDistinct}
+use Rattle.sctp_course.proofs.RowActsLemmas.{does_where_open}
+use Rattle.sctp_course.proofs.ActsLemmas.{does_repeats_if, does_ended}
+use Rattle.sctp_course.proofs.AgreeLemmas.{Past, view_of, IsUnder, is_mild, is_no_answer, Shape, Says, says_later, Later, later_same}
+use Rattle.sctp_course.proofs.AgreeActsLemmas.{Setting, InvAt}
+use Rattle.sctp_course.proofs.AgreeOpeningLemmas.{Known, kept_quiet}
+use Rattle.sctp_course.proofs.AgreeCookieLemmas.{past_of, bounded, Goes, goes_held}
+use Rattle.sctp_course.proofs.AgreeHearingLemmas.{Comes, goes_through, hears}
+
+-- ---- under which tag a packet is taken
+
+and_parts : (a b : Bool) → (a && b) ≡ true → (a ≡ true) × (b ≡ true)
+and_parts true b h = (refl, h)
+and_parts false b h = cc
+
+mild_carried : (c : ChunkTree) → is_mild (carried c) ≡ is_mild c
+mild_carried (init_chunk i) = refl
+mild_carried c = refl
+
+no_abort : (cs : List ChunkTree) → list_all is_mild cs ≡ true → abort_flag cs ≡ None
+no_abort [] h = refl
+no_abort (abort_chunk reflected causes ∷ cs) h = cc
+no_abort (c ∷ cs) h = no_abort cs (and_parts (is_mild c) (list_all is_mild cs) h).1
+
+no_complete : (cs : List ChunkTree) → list_all is_mild cs ≡ true → complete_flag cs ≡ None
+no_complete [] h = refl
+no_complete (shutdown_complete_chunk reflected ∷ cs) h = cc
+no_complete (c ∷ cs) h = no_complete cs (and_parts (is_mild c) (list_all is_mild cs) h).1
+
+no_shutdown_ack : (cs : List ChunkTree) → list_all is_mild cs ≡ true → has_shutdown_ack cs ≡ false
+no_shutdown_ack [] h = refl
+no_shutdown_ack (shutdown_ack_chunk ∷ cs) h = cc
+no_shutdown_ack (c ∷ cs) h = no_shutdown_ack cs (and_parts (is_mild c) (list_all is_mild cs) h).1
+
+no_cookie : (cs : List ChunkTree) → list_all is_mild cs ≡ true → begins_with_cookie cs ≡ false
+no_cookie [] h = refl
+no_cookie (cookie_echo_chunk c ∷ cs) h = cc
+no_cookie (c ∷ cs) h = refl
+
+pub record Admitted (tag : ℕ) (cs : List ChunkTree) (s : State) : Type 0 where
+  pub under : Option ℕ
+  pub comes : All (Comes under tag) cs
+  pub fits : IsUnder under (view_of s)
+
+comes_mild : (tag : ℕ) (cs : List ChunkTree) → list_all is_mild cs ≡ true → All (Comes (Some tag) tag) cs
+comes_mild tag [] h = All-nil (Comes (Some tag) tag)
+comes_mild tag (c ∷ cs) h =
+    let parts = and_parts (is_mild c) (list_all is_mild cs) h in
+    All-cons (Comes (Some tag) tag) c cs (record { answers = λ e. refl; cookies = λ e. differ (is_mild c) parts.0 e }) (comes_mild tag cs parts.1)
+  where
+    differ : {A : Type 0} (b : Bool) → b ≡ true → b ≡ false → A
+    differ b e f = cc
+
+comes_silent : (tag : ℕ) (cs : List ChunkTree) → list_all is_no_answer cs ≡ true → All (Comes None tag) cs
+comes_silent tag [] h = All-nil (Comes None tag)
+comes_silent tag (c ∷ cs) h =
+    let parts = and_parts (is_no_answer c) (list_all is_no_answer cs) h in
+    All-cons (Comes None tag) c cs (record { answers = λ e. differ (is_no_answer c) parts.0 e; cookies = λ e. refl }) (comes_silent tag cs parts.1)
+  where
+    differ : {A : Type 0} (b : Bool) → b ≡ true → b ≡ false → A
+    differ b e f = cc
+
+under_own : (s : State) (tag : ℕ) → my_tag s ≡ tag → IsUnder (Some tag) (view_of s)
+under_own Closed tag e = tt
+under_own (CookieWait own first t1) tag e = e
+under_own (Open phase t) tag e = e
+
+single : (tag : ℕ) (cs : List ChunkTree) (s : State) → is_single_init cs ≡ true → Admitted tag cs s
+single tag [] s h = cc
+single tag (init_chunk i ∷ []) s h = record {
+  under = None;
+  comes = All-cons (Comes None tag) (init_chunk i) [] (record { answers = λ e. cc; cookies = λ e. cc }) (All-nil (Comes None tag));
+  fits = tt;
+}
+single tag (init_chunk i ∷ d ∷ cs) s h = cc
+single tag (c ∷ cs) s h = cc
+
+same_tags : (a b : ℕ) → (a == b) ≡ true → b ≡ a
+same_tags a b h = grind (arith, nat_tests)
+
+by_tag : (is_zero is_init is_own : Bool) (tag own : ℕ) (cs : List ChunkTree) (s : State) → list_all is_mild cs ≡ true → (is_init ≡ true → is_single_init cs ≡ true)
+    → (is_own ≡ true → my_tag s ≡ tag) → plain_refusal false is_zero is_init is_own tag own ≡ None → Admitted tag cs s
+by_tag true true is_own tag own cs s h f e refused = single tag cs s (f refl)
+by_tag true false is_own tag own cs s h f e refused = cc
+by_tag false is_init true tag own cs s h f e refused = record { under = Some tag; comes = comes_mild tag cs h; fits = under_own s tag (e refl) }
+by_tag false is_init false tag own cs s h f e refused = cc
+
+pub admitted : (tag : ℕ) (cs : List ChunkTree) (s : State) → Shape cs → refusal tag cs s ≡ None → Admitted tag cs s
+admitted tag cs s (inr h) refused = record { under = None; comes = comes_silent tag cs h; fits = tt }
+admitted tag cs s (inl h) refused =
+    by_tag (tag == 0) (is_single_init cs) (tag == my_tag s) tag (my_tag s) cs s h (λ e. e) (λ e. same_tags tag (my_tag s) e)
+    (sym (ap (λ (a : Option Bool). refusal_by a (complete_flag cs) (has_shutdown_ack cs) tag cs s) (no_abort cs h)
+    ∙ (ap (λ (a : Option Bool). refusal_by None a (has_shutdown_ack cs) tag cs s) (no_complete cs h)
+    ∙ (ap (λ (a : Bool). refusal_by None None a tag cs s) (no_shutdown_ack cs h)
+    ∙ ap (λ (a : Bool). plain_refusal a (tag == 0) (is_single_init cs) (tag == my_tag s) tag (my_tag s)) (no_cookie cs h))))
+    ∙ refused)
+
+all_carried : (test : ChunkTree → Bool) → ((c : ChunkTree) → test (carried c) ≡ test c) → (cs : List ChunkTree) → list_all test (map carried cs) ≡ list_all test cs
+all_carried test f [] = refl
+all_carried test f (c ∷ cs) = ap (λ (b : Bool). b && list_all test (map carried cs)) (f c) ∙ ap (λ (b : Bool). test c && b) (all_carried test f cs)
+
+no_answer_carried : (c : ChunkTree) → is_no_answer (carried c) ≡ is_no_answer c
+no_answer_carried (init_chunk i) = refl
+no_answer_carried c = refl
+
+pub shape_carried : (cs : List ChunkTree) → Shape cs → Shape (map carried cs)
+shape_carried cs (inl h) = inl (all_carried is_mild mild_carried cs ∙ h)
+shape_carried cs (inr h) = inr (all_carried is_no_answer no_answer_carried cs ∙ h)
+
+-- ---- draws before
+
+pub distinct_behind : (ds es : List Draw) → AreDistinct (ds ++ es) → AreDistinct es
+distinct_behind [] es h = h
+distinct_behind (d ∷ ds) es h = distinct_behind ds es h.1
+
+distinct_after : (b : Bool) (rest : Endpoint Carried → Notes → Notes) (e : Endpoint Carried) (m : Notes) → ((k : Notes) → AreDistinct (rest e k).drawn → AreDistinct k.drawn)
+    → AreDistinct (noted_after rest (record { end = e; goes_on = b }) m).drawn → AreDistinct m.drawn
+distinct_after true rest e m f h = f m h
+distinct_after false rest e m f h = h
+
+pub distinct_hearing : (tag : ℕ) (cs : List ChunkTree) (e : Endpoint Carried) (n : Notes) → AreDistinct (noted_hearing tag cs e n).drawn → AreDistinct n.drawn
+distinct_hearing tag [] e n h = h
+distinct_hearing tag (c ∷ cs) e n h =
+    let x : Heard Carried = hear tag c e in
+    let m : Notes = noted (drawn_for c e) x.end.standing.state n in
+    distinct_behind (drawn_for c e) n.drawn
+    (distinct_after x.goes_on (noted_hearing tag cs) x.end m (λ k q. distinct_hearing tag cs x.end k q) h)
+
+-- ---- chunk by chunk
+
+module _ (o : Options) (past : List (Event Carried)) (y : Past) (fine : AreGiven o) (theirs : AreDistinct y.drawn) (p : PacketTree) (under : Option ℕ) where
+  abbrev g : Setting
+  g = bounded o past under None
+
+  abbrev tag : ℕ
+  tag = p.header.verification_tag
+
+  says_on : (cs : List ChunkTree) (n m : Notes) (e1 e2 : List Association) → Later (past_of n e1) (past_of m e2) → All (Says y (past_of n e1) tag) cs
+      → All (Says y (past_of m e2) tag) cs
+  says_on cs n m e1 e2 l h = All-weaker (Says y (past_of n e1) tag) (Says y (past_of m e2) tag) (says_later y (past_of n e1) y (past_of m e2) (later_same y) l tag) cs h
+
+  hears_rest : (b : Bool) (rest : Endpoint Carried → Notes → Notes) (f : Endpoint Carried → Endpoint Carried) (e : Endpoint Carried) (n m : Notes) (e1 : List Association)
+      → Goes g y n e1 m e → ((a : Goes g y n e1 m e) → AreDistinct (rest e m).drawn → Goes g y m a.more (rest e m) (f e))
+      → AreDistinct (noted_after rest (record { end = e; goes_on = b }) m).drawn
+      → Goes g y n e1 (noted_after rest (record { end = e; goes_on = b }) m) (hear_rest f (record { end = e; goes_on = b }))
+  hears_rest true rest f e n m e1 a next h = goes_through g y n e1 m (rest e m) e (f e) a (next a h)
+  hears_rest false rest f e n m e1 a next h = a
+
+  hears_all : (cs : List ChunkTree) (n : Notes) (e1 : List Association) (e : Endpoint Carried) → Known (past_of n e1) → All (Comes under tag) cs
+      → All (Says y (past_of n e1) tag) cs → AreDistinct (noted_hearing tag cs e n).drawn → InvAt g (past_of n e1) y (calm e)
+      → Goes g y n e1 (noted_hearing tag cs e n) (hear_all tag cs e)
+  hears_all [] n e1 e known comes said mine inv = record { more = e1; later = later_same (past_of n e1); known = known; inv = inv }
+  hears_all (c ∷ cs) n e1 e known comes said mine inv =
+      let x : Heard Carried = hear tag c e in
+      let m : Notes = noted (drawn_for c e) x.end.standing.state n in
+      let first : Goes g y n e1 m x.end =
+      hears o past y fine theirs p under n e1 known c e (All-head (Comes under tag) c cs comes) (All-head (Says y (past_of n e1) tag) c cs said)
+      (distinct_hearing tag (c ∷ cs) e n mine) inv in
+      hears_rest x.goes_on (noted_hearing tag cs) (hear_all tag cs) x.end n m e1 first
+      (λ a d. hears_all cs m a.more x.end a.known (All-tail (Comes under tag) c cs comes)
+      (says_on cs n m e1 a.more a.later (All-tail (Says y (past_of n e1) tag) c cs said)) d a.inv) mine
+
+  -- ---- the packet
+
+  pub takes_packet : (n : Notes) (e1 : List Association) (e : Endpoint Carried) → Known (past_of n e1) → All (Comes under tag) p.chunks
+      → All (Says y (past_of n e1) tag) p.chunks → AreDistinct (noted_taking None p e n).drawn → InvAt g (past_of n e1) y (calm e)
+      → Goes g y n e1 (noted [] (handled tag p.chunks (counts e)).standing.state (noted_taking None p e n)) (handled tag p.chunks (counts e))
+  takes_packet n e1 e known comes said mine inv =
+      let x : Past = past_of n e1 in
+      let first : Endpoint Carried = on_standing (repeats_if (has_data p.chunks)) (counts e) in
+      let m : Notes = noted_taking None p e n in
+      let begun : InvAt g x y (calm first) = does_repeats_if (kept_quiet g y fine x) (has_data p.chunks) (counts e).standing e.words inv in
+      let a : Goes g y n e1 m (hear_all tag p.chunks first) = hears_all p.chunks n e1 first known comes said mine begun in
+      let middle : Endpoint Carried = hear_all tag p.chunks first in
+      let last : Endpoint Carried = handled tag p.chunks (counts e) in
+      let q : Keeps NoPacket (λ s t. InvAt g (past_of m a.more) y s → InvAt g (past_of m a.more) y t) = kept_quiet g y fine (past_of m a.more) in
+      let done : InvAt g (past_of m a.more) y (calm last) = does_where_open q middle.words ended middle.standing (does_ended q middle.words) a.inv in
+      goes_through g y n e1 m (noted [] last.standing.state m) middle last a (goes_held g y m a.more last a.known done)

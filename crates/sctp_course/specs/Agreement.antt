@@ -1,0 +1,174 @@
+-- Along any course of two ends: what each drew and held, and what an end that is told of a connection knows of the other.
+use Rattle.std.specs.Prelude.{◌≡◌, ℕ, Bool, true, false, Option, Some, None, List, [], ◌∷◌, ◌++◌, slice_get, length, drop, ⊤, ◌⊎◌}
+use Rattle.rand_core.specs.Stream.{Stream}
+use Rattle.sctp_packet.specs.Chunk.{ChunkTree, init_chunk}
+use Rattle.sctp_packet.specs.Packet.{PacketTree}
+use Rattle.sctp_state.specs.Options.{Options}
+use Rattle.sctp_state.specs.Events.{Event}
+use Rattle.sctp_association.specs.Association.{Tcb, Phase, CookieEchoed, Established, ShutdownPending, ShutdownSent, ShutdownReceived, ShutdownAckSent, State, Closed, CookieWait, Open, Endpoint}
+use Rattle.sctp_association.specs.Opening.{tsn_from, tag_from, word, drew_word, next_first}
+use Rattle.sctp_association.specs.Input.{Heard, refusal, counts, on_standing, repeats_if, has_data, hear}
+use Rattle.sctp_association.specs.Laws.{Call, Connect, Restore, Packet}
+use Rattle.sctp_association_laws.specs.Mapped.{Carried}
+use Rattle.sctp_course.specs.Course.{Side, Pair, has_connected, emitted, as_heard, Turn, Calls, Gives, Refuses, turned, goes, AreGiven, start, state_of}
+
+-- a verification tag, and the first TSN that goes with it
+pub record Draw : Type 0 where
+  pub tag : ℕ
+  pub first : ℕ
+
+pub record Association : Type 0 where
+  pub mine : Draw
+  pub peer : Draw
+
+abbrev pub crossed : Association → Association
+crossed a = record { mine = a.peer; peer = a.mine }
+
+abbrev pub Has : {A : Type 0} → A → List A → Type 0
+Has x [] = ⊥
+Has x (y ∷ ys) = (x ≡ y) ⊎ Has x ys
+
+-- ---- what an end drew and held, the newest first
+
+pub record Notes : Type 0 where
+  pub drawn : List Draw
+  pub held : List Association
+
+abbrev pub association_of : Tcb → Association
+association_of t = record {
+  mine = record { tag = t.identity.my_tag; first = t.identity.my_first };
+  peer = record { tag = t.identity.peer_tag; first = t.identity.peer_first };
+}
+
+abbrev pub held_in : State → List Association
+held_in Closed = []
+held_in (CookieWait tag first t1) = []
+held_in (Open phase t) = association_of t ∷ []
+
+-- a first TSN and a tag are drawn; or the tag alone, by an end that may take up another association in this one's place
+abbrev pub two_drawn : {P : Type 0} → Endpoint P → List Draw
+two_drawn e = record { tag = tag_from (word (drew_word e)); first = tsn_from (word e) } ∷ []
+
+abbrev pub one_drawn : {P : Type 0} → Tcb → Endpoint P → List Draw
+one_drawn t e = record { tag = tag_from (word e); first = next_first t } ∷ []
+
+abbrev pub drawn_open : {P : Type 0} → Phase → Tcb → Endpoint P → List Draw
+drawn_open (CookieEchoed t1 cookie) t e = []
+drawn_open Established t e = one_drawn t e
+drawn_open ShutdownPending t e = one_drawn t e
+drawn_open (ShutdownSent t2) t e = one_drawn t e
+drawn_open ShutdownReceived t e = one_drawn t e
+drawn_open (ShutdownAckSent t2) t e = []
+
+-- for the answer to an INIT
+abbrev pub drawn_for_init : {P : Type 0} → State → Endpoint P → List Draw
+drawn_for_init Closed e = two_drawn e
+drawn_for_init (CookieWait tag first t1) e = []
+drawn_for_init (Open phase t) e = drawn_open phase t e
+
+abbrev pub drawn_for : {P : Type 0} → ChunkTree → Endpoint P → List Draw
+drawn_for (init_chunk i) e = drawn_for_init e.standing.state e
+drawn_for chunk e = []
+
+abbrev pub drawn_to_connect : {P : Type 0} → State → Endpoint P → List Draw
+drawn_to_connect Closed e = two_drawn e
+drawn_to_connect s e = []
+
+abbrev pub noted : (drew : List Draw) → State → Notes → Notes
+noted drew s n = record { drawn = drew ++ n.drawn; held = held_in s ++ n.held }
+
+-- chunk by chunk
+abbrev pub noted_after : {P : Type 0} → (Endpoint P → Notes → Notes) → Heard P → Notes → Notes
+noted_after rest h n = elim h.goes_on [ true ↦ rest h.end n | false ↦ n ]
+
+abbrev pub noted_hearing : {P : Type 0} → (tag : ℕ) → List ChunkTree → Endpoint P → Notes → Notes
+noted_hearing tag [] e n = n
+noted_hearing tag (c ∷ cs) e n = noted_after (noted_hearing tag cs) (hear tag c e) (noted (drawn_for c e) (hear tag c e).end.standing.state n)
+
+abbrev pub noted_taking : {P : Type 0} → Option (List ℕ) → PacketTree → Endpoint P → Notes → Notes
+noted_taking None p e n = noted_hearing p.header.verification_tag p.chunks (on_standing (repeats_if (has_data p.chunks)) (counts e)) n
+noted_taking (Some text) p e n = n
+
+abbrev pub noted_given : Option Carried → (checksum : ℕ) → Side → Notes → Notes
+noted_given None checksum x n = n
+noted_given (Some p) checksum x n =
+    let q : PacketTree = as_heard p checksum in
+    noted_taking (refusal q.header.verification_tag q.chunks (state_of x)) q x.end n
+
+-- of one turn: within it, and after it
+abbrev pub noted_in : Turn → (x y : Side) → Notes → Notes
+noted_in (Calls Connect) x y n = noted (drawn_to_connect (state_of x) x.end) Closed n
+noted_in (Calls call) x y n = n
+noted_in (Gives which checksum) x y n = noted_given (slice_get (emitted y) which) checksum x n
+noted_in (Refuses p) x y n = n
+
+abbrev pub noted_by : Turn → (x y : Side) → Notes → Notes
+noted_by turn x y n = noted [] (state_of (turned turn x y)) (noted_in turn x y n)
+
+-- ---- of both ends, along a course
+
+pub record Book : Type 0 where
+  pub a : Notes
+  pub b : Notes
+
+abbrev pub blank : Notes
+blank = record { drawn = []; held = [] }
+
+abbrev pub new_book : Book
+new_book = record { a = blank; b = blank }
+
+abbrev pub writes : Bool → Turn → Pair → Book → Book
+writes true turn w k = record k { a = noted_by turn w.a w.b k.a }
+writes false turn w k = record k { b = noted_by turn w.b w.a k.b }
+
+abbrev pub written : List (Bool × Turn) → Pair → Book → Book
+written [] w k = k
+written (e ∷ es) w k = written es (goes e.0 e.1 w) (writes e.0 e.1 w k)
+
+-- no tag is drawn twice
+abbrev pub AreDistinct : List Draw → Type 0
+AreDistinct [] = ⊤
+AreDistinct (d ∷ ds) = ((e : Draw) → Has e ds → e.tag ≡ d.tag → ⊥) × AreDistinct ds
+
+abbrev pub NoneTwice : Book → Type 0
+NoneTwice k = AreDistinct k.a.drawn × AreDistinct k.b.drawn
+
+-- ---- what is allowed: no record of a handover is taken up. Packets that can be read are given, not called
+
+abbrev pub IsPlainCall : Call → Type 0
+IsPlainCall (Restore h) = ⊥
+IsPlainCall (Packet p) = ⊥
+IsPlainCall call = ⊤
+
+abbrev pub IsAllowed : Turn → Type 0
+IsAllowed (Calls call) = IsPlainCall call
+IsAllowed turn = ⊤
+
+abbrev pub AreAllowed : List (Bool × Turn) → Type 0
+AreAllowed [] = ⊤
+AreAllowed (e ∷ es) = IsAllowed e.1 × AreAllowed es
+
+-- ---- the law
+
+-- told since
+abbrev pub told_since : (before after : Side) → List (Event Carried)
+told_since before after = drop (length before.told) after.told
+
+-- where an end was told in a turn that it is connected, the other end holds or held crossed what it holds then
+abbrev pub Agrees : (before after : Side) → (other : Notes) → Type 0
+Agrees before after other =
+    has_connected (told_since before after) ≡ true → (a : Association) → Has a (held_in (state_of after)) → Has (crossed a) other.held
+
+abbrev pub AgreesAt : Bool → Turn → Pair → Book → Type 0
+AgreesAt true turn w k = Agrees w.a (turned turn w.a w.b) k.b
+AgreesAt false turn w k = Agrees w.b (turned turn w.b w.a) k.a
+
+abbrev pub AgreesAlong : List (Bool × Turn) → Pair → Book → Type 0
+AgreesAlong [] w k = ⊤
+AgreesAlong (e ∷ es) w k = AgreesAt e.0 e.1 w k × AgreesAlong es (goes e.0 e.1 w) (writes e.0 e.1 w k)
+
+-- Along each course in which no end draws a tag twice.
+abbrev pub EndsAgree : Type 0
+EndsAgree =
+    (a b : Options) (words_a words_b : Stream) (turns : List (Bool × Turn)) → AreGiven a → AreGiven b → AreAllowed turns
+    → NoneTwice (written turns (start a b words_a words_b) new_book) → AgreesAlong turns (start a b words_a words_b) new_book
