@@ -31,3 +31,4 @@ pub mod AgreeCookieLemmas
 pub mod AgreeHearingLemmas
 pub mod AgreePacketLemmas
 pub mod AgreeCourseLemmas
+pub mod ReopensLemmas

@@ -5,3 +5,4 @@ pub mod Opens
 pub mod Handing
 pub mod Asked
 pub mod Agreement
+pub mod Reopens

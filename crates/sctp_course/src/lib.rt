@@ -6,6 +6,7 @@ ghost use Rattle.sctp_course.specs.Asked.{EachCallKeepsEndsAsAsked, EachCallNumb
 ghost use Rattle.sctp_course.specs.Course.{EndsAreJoined};
 ghost use Rattle.sctp_course.specs.Handing.{AssociationsStand, HandedGrows, HandedIsAPrefix, MessagesAreHandedInOrder, OneIsHandedOut, ReadiedGrows};
 ghost use Rattle.sctp_course.specs.Opens.{BothConnect, OneConnects};
+ghost use Rattle.sctp_course.specs.Reopens.{AnOldCookieOpens, ARestartOpens};
 ghost use Rattle.sctp_course.specs.Taking.{InvalidPointsChangeNothing, NewDataIsAdded, PointsReachReassembly, RefusedDataChangesNothing};
 
 use sctp_association_laws::a_handover_and_its_restore_give_the_end_back;
@@ -69,7 +70,12 @@ pub fn each_end_can_be_handed_over()
 /// the other end holds or held, crossed in tags and first TSNs. What an end held is what it held after one of its turns, or
 /// between two chunks of a packet that it took.
 ///
+/// Two such courses, computed: after both ends closed, an old cookie opens one of them again; and an end that closed and
+/// connects anew opens the other one, that still held the old association.
+///
 /// It doesn't say that two ends ever connect, or anything of a sender that knows the tags.
 pub fn ends_agree()
     ensures agree { EndsAgree }
+    ensures old_cookie { AnOldCookieOpens }
+    ensures restart { ARestartOpens }
 {}
