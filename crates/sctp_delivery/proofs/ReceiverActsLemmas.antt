@@ -27,11 +27,12 @@ use Rattle.sctp_course.specs.Acts.{Making, IsHeard, with_chunk, in_open, in_stat
 use Rattle.sctp_course.specs.Course.{packets_in}
 use Rattle.sctp_course.proofs.AddedLemmas.{holds_added}
 use Rattle.sctp_course.proofs.JoinActsLemmas.{Setting, InvAt, packets_both}
-use Rattle.sctp_delivery.proofs.ClaimLemmas.{SaysIn, first_in, IsFresh, IsReceiving, ReceivesIn, ReceiverClaim, ReceiverPremises, ReceiverGoes}
+use Rattle.sctp_delivery.proofs.ClaimLemmas.{is_receiving, SaysIn, first_in, IsFresh, IsReceiving, ReceivesIn, ReceiverClaim, ReceiverPremises, ReceiverGoes}
 use Rattle.sctp_delivery.proofs.FrameLemmas.{Lasts, GoesOnShut}
 use Rattle.sctp_delivery.proofs.ReadingDataLemmas.{windows_stay, few_stay, data_is_heard, idata_is_heard, point_is_heard, ipoint_is_heard}
 use Rattle.sctp_delivery.proofs.TrackerStaysLemmas.{tracker_new, tracker_told}
-use Rattle.sctp_delivery.proofs.ReceiverToolLemmas.{SameSender, receiving_none, sender_stays, no_chunks_said, no_packets_said}
+use Rattle.sctp_delivery.proofs.ReceiverToolLemmas.{SameSender, sender_stays, no_chunks_said, no_packets_said}
+use Rattle.sctp_delivery.proofs.SenderToolLemmas.{goes_none}
 use Rattle.sctp_delivery.proofs.ReceiverDataLemmas.{Leads, taken_leads, passed_leads}
 use Rattle.sctp_delivery.proofs.ReceiverSackLemmas.{sack_sent, sack_goes, sack_shown, sack_says}
 use Rattle.sctp_delivery.proofs.ReceiverStepLemmas.{plain_says, acknowledging_changes, step_claims, goes_through, goes_same, goes_led, goes_adding, goes_begun, goes_emitted}
@@ -95,7 +96,7 @@ module _ (message : ℕ → Message) (lifecycle : ℕ → Option ℕ) (mixed : B
         x,
         step_claims message lifecycle mixed from handed a b x x claim
             (record {
-              goes = receiving_none message mixed x;
+              goes = goes_none message mixed is_receiving x;
               shown = shown x fresh;
               told = λ h. subst (λ (ps : List Carried). All (λ (q : Carried). All (SaysIn other from.acknowledged (count from.sender) x) q.chunks) ps) (sym packets)
                   (no_packets_said x fresh.no_sacks one other from.acknowledged (count from.sender) (packets_in a.context.told.events) h);

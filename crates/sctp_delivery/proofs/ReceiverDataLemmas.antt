@@ -23,7 +23,8 @@ use Rattle.sctp_association.specs.Association.{Tcb}
 use Rattle.sctp_association.specs.Data.{added_unless, skipped_if, taken, forwarded}
 use Rattle.sctp_delivery.proofs.ClaimLemmas.{is_receiving, GoesOn, IsReceiving}
 use Rattle.sctp_delivery.proofs.ReadingDataLemmas.{DataHeard, PointHeard}
-use Rattle.sctp_delivery.proofs.ReceiverToolLemmas.{ready_is_receiving, receiving_none, receiving_goes}
+use Rattle.sctp_delivery.proofs.ReceiverToolLemmas.{ready_is_receiving, receiving_goes}
+use Rattle.sctp_delivery.proofs.SenderToolLemmas.{goes_none}
 use Rattle.sctp_delivery.proofs.TrackerStaysLemmas.{tracker_observes, tracker_passes}
 
 -- the rules go on to a state that these values show
@@ -55,7 +56,7 @@ module _ (message : ℕ → Message) (mixed : Bool) (first : ℕ) (handed : List
     stays : (u : Tracker) → Receives message mixed shift x handed u r → IsTracker u → Arrives message mixed first handed x u r
     stays u receives later = record {
       to = x;
-      goes = receiving_none message mixed x;
+      goes = goes_none message mixed is_receiving x;
       shift = shift;
       receives = receives;
       near = near;

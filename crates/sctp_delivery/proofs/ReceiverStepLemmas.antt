@@ -21,7 +21,8 @@ use Rattle.sctp_course.specs.Course.{as_carried, packets_in}
 use Rattle.sctp_course.proofs.AddedLemmas.{holds_added, holds_all_added}
 use Rattle.sctp_course.proofs.JoinActsLemmas.{packets_both}
 use Rattle.sctp_delivery.proofs.ClaimLemmas.{is_receiving, GoesOn, SaysIn, first_in, IsReceiving, ReceivesIn, ReceiverClaim, ReceiverGoes}
-use Rattle.sctp_delivery.proofs.ReceiverToolLemmas.{receiving_none, receiving_on, receiving_keeps, chunks_said, packets_said}
+use Rattle.sctp_delivery.proofs.ReceiverToolLemmas.{chunks_said, packets_said}
+use Rattle.sctp_delivery.proofs.SenderToolLemmas.{goes_none, goes_on, goes_kept}
 use Rattle.sctp_delivery.proofs.ReceiverDataLemmas.{Leads}
 
 -- chunks of no weight here
@@ -88,8 +89,8 @@ module _ (message : ℕ → Message) (lifecycle : ℕ → Option ℕ) (mixed : B
   step_claims a b x y c s =
       let first = first_in a.state in
       record {
-        kept = receiving_keeps message mixed x y c.kept s.goes;
-        goes = receiving_on message mixed from x y c.goes s.goes;
+        kept = goes_kept message mixed is_receiving x y c.kept s.goes;
+        goes = goes_on message mixed is_receiving from x y c.goes s.goes;
         shown = s.shown;
         told = s.told (packets_said message mixed x y s.goes first from.acknowledged (count from.sender) (packets_in a.context.told.events) c.told);
         made = s.made (chunks_said message mixed x y s.goes first from.acknowledged (count from.sender) a.packet.chunks c.made);
@@ -105,7 +106,7 @@ module _ (message : ℕ → Message) (lifecycle : ℕ → Option ℕ) (mixed : B
     x,
     step_claims a b x x claim
         (record {
-          goes = receiving_none message mixed x;
+          goes = goes_none message mixed is_receiving x;
           shown = shown x claim.shown;
           told = λ h. subst (λ (n : ℕ). SaysAll n x (packets_in b.context.told.events)) (sym first) (subst (SaysAll (first_in a.state) x) (sym packets) h);
           made = λ h. subst (λ (n : ℕ). Says n x b.packet.chunks) (sym first) (subst (Says (first_in a.state) x) (sym chunks) h);
@@ -135,7 +136,7 @@ module _ (message : ℕ → Message) (lifecycle : ℕ → Option ℕ) (mixed : B
     x,
     step_claims m (with_chunk chunk m) x x claim
         (record {
-          goes = receiving_none message mixed x;
+          goes = goes_none message mixed is_receiving x;
           shown = claim.shown;
           told = λ h. h;
           made = λ h. holds_added (λ tag. SaysIn (first_in m.state) from.acknowledged (count from.sender) x) m.packet chunk h (says x);
@@ -148,7 +149,7 @@ module _ (message : ℕ → Message) (lifecycle : ℕ → Option ℕ) (mixed : B
     x,
     step_claims m (with_packet (add_all chunks m.packet) m) x x claim
         (record {
-          goes = receiving_none message mixed x;
+          goes = goes_none message mixed is_receiving x;
           shown = claim.shown;
           told = λ h. h;
           made = λ h. holds_all_added (λ tag. SaysIn (first_in m.state) from.acknowledged (count from.sender) x) chunks m.packet h (λ tag. says x);
@@ -160,7 +161,7 @@ module _ (message : ℕ → Message) (lifecycle : ℕ → Option ℕ) (mixed : B
     x,
     step_claims m (with_packet p m) x x claim
         (record {
-          goes = receiving_none message mixed x;
+          goes = goes_none message mixed is_receiving x;
           shown = claim.shown;
           told = λ h. h;
           made = λ h. subst (Says (first_in m.state) x) (sym new) (All-nil (SaysIn (first_in m.state) from.acknowledged (count from.sender) x));
@@ -179,7 +180,7 @@ module _ (message : ℕ → Message) (lifecycle : ℕ → Option ℕ) (mixed : B
         x,
         step_claims m (record m { context = emit_if true m.packet m.context; packet = record m.packet { chunks = [] } }) x x claim
             (record {
-              goes = receiving_none message mixed x;
+              goes = goes_none message mixed is_receiving x;
               shown = claim.shown;
               told = λ h. subst (SaysAll first x) (sym (packets_both m.context.told.events (SendPacket p ∷ []))) (All-push Q (packets_in m.context.told.events) p h says);
               made = λ h. All-nil (SaysIn first from.acknowledged (count from.sender) x);

@@ -1,9 +1,8 @@
 -- Rules of a receiver that lead on: the sender's part and what is under way stay, SACKs only grow, and what was said stays true.
-use Rattle.std.proofs.Common.{◌≡◌, ℕ, ◌&&◌, Bool, true, inr, List, [], ◌∷◌, ◌++◌, map, All, refl, sym, ap, ◌∙◌, subst, append-nil}
+use Rattle.std.proofs.Common.{◌≡◌, ℕ, Bool, true, inr, List, [], ◌∷◌, ◌++◌, map, All, refl, ap, ◌∙◌, subst, append-nil}
 use Rattle.std.specs.List.{list_all}
 use Rattle.std.proofs.lemmas.Bool.{and_parts}
 use Rattle.std.proofs.lemmas.List.Elements.{All-weaker}
-use Rattle.std.proofs.lemmas.List.Folds.{list_all-append}
 use Rattle.sctp_serial.specs.Messages as messages
 use Rattle.sctp_packet.specs.Chunk.{ChunkTree, sack_chunk}
 use Rattle.sctp_state.specs.Events as events
@@ -11,9 +10,7 @@ use Rattle.sctp_state.specs.Events.{Told, SendPacket}
 use Rattle.sctp_rx.specs.Tracker.{Tracker}
 use Rattle.sctp_rx.specs.ReassemblyQueue.{Reassembly}
 use Rattle.sctp_rules.specs.State.{Message, Transfer, IsAmong}
-use Rattle.sctp_rules.specs.Rules.{Event, accept, begin, number, close, give_up, data_comes, late_comes, deliver, send_sack, leave, send_forward, forward_comes, forget, Happens, after, run}
-use Rattle.sctp_rules.specs.Kept.{Kept}
-use Rattle.sctp_rules.proofs.KeepsLemmas.{all_kept}
+use Rattle.sctp_rules.specs.Rules.{Event, accept, begin, number, close, give_up, data_comes, late_comes, deliver, send_sack, leave, send_forward, forward_comes, forget, after, run}
 use Rattle.sctp_rx_rules.specs.Receives.{Goes}
 use Rattle.sctp_association_laws.specs.Mapped.{Carried}
 use Rattle.sctp_course.specs.Course.{packets_in}
@@ -27,35 +24,10 @@ ready_is_receiving [] = refl
 ready_is_receiving (p ∷ ps) = ready_is_receiving ps
 
 module _ (message : ℕ → Message) (mixed : Bool) where
-  -- ---- one run after another
-
-  happens_both : (es fs : List Event) (x : Transfer) → Happens message mixed x es → Happens message mixed (run message mixed x es) fs
-      → Happens message mixed x (es ++ fs)
-  happens_both [] fs x a b = b
-  happens_both (e ∷ es) fs x a b = (a.0, happens_both es fs (after message mixed x e) a.1 b)
-
-  run_both : (es fs : List Event) (x : Transfer) → run message mixed x (es ++ fs) ≡ run message mixed (run message mixed x es) fs
-  run_both [] fs x = refl
-  run_both (e ∷ es) fs x = run_both es fs (after message mixed x e)
-
-  pub receiving_none : (x : Transfer) → GoesOn message mixed is_receiving x x
-  receiving_none x = record { events = []; may = tt; all = refl; leads = refl }
-
-  pub receiving_on : (x y z : Transfer) → GoesOn message mixed is_receiving x y → GoesOn message mixed is_receiving y z → GoesOn message mixed is_receiving x z
-  receiving_on x y z a b = record {
-    events = a.events ++ b.events;
-    may = happens_both a.events b.events x a.may (subst (λ w. Happens message mixed w b.events) (sym a.leads) b.may);
-    all = list_all-append is_receiving a.events b.events ∙ (ap (λ (t : Bool). t && list_all is_receiving b.events) a.all ∙ b.all);
-    leads = run_both a.events b.events x ∙ (ap (λ w. run message mixed w b.events) a.leads ∙ b.leads);
-  }
-
   -- by the laws of the receiver's values
   pub receiving_goes : (shift : ℕ) (x : Transfer) (es : List Event) (handed : List messages.Message) (t : Tracker) (r : Reassembly)
       → Goes message mixed shift x es handed t r → list_all is_receiving es ≡ true → GoesOn message mixed is_receiving x (run message mixed x es)
   receiving_goes shift x es handed t r goes all = record { events = es; may = goes.may; all = all; leads = refl }
-
-  pub receiving_keeps : (x y : Transfer) → Kept message mixed x → GoesOn message mixed is_receiving x y → Kept message mixed y
-  receiving_keeps x y k g = subst (λ (z : Transfer). Kept message mixed z) g.leads (all_kept message mixed g.events x k g.may)
 
   -- ---- what stays
 
