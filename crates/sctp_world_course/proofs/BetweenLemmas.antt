@@ -8,6 +8,7 @@ use Rattle.sctp_rules.specs.State.{has}
 use Rattle.sctp_rules.proofs.ToolsLemmas.{has_at, has_keeps}
 use Rattle.sctp_delivery.specs.Accepted.{Offer}
 use Rattle.sctp_delivery.specs.Delivery.{message_at, Fits, SkippedAreGivenUp, IsReady}
+use Rattle.sctp_course.proofs.JoinLemmas.{not_both}
 use Rattle.sctp_world_course.proofs.NewsLemmas.{same_number}
 use Rattle.sctp_world_course.proofs.TurnsLemmas.{or_second}
 use Rattle.sctp_world_course.proofs.PrefixLemmas.{length_front, index_front, fits_front}
@@ -29,9 +30,6 @@ same_delivered o p m n g h r s places a b c d i =
 one_of : (a b : Bool) → (a || b) ≡ true → (a ≡ true) ⊎ (b ≡ true)
 one_of true b e = inl refl
 one_of false b e = inr e
-
-both_ways : (b : Bool) → b ≡ true → b ≡ false → ⊥
-both_ways b t f = cc
 
 pub record IsAt (p : ℕ) (xs : List ℕ) : Type 0 where
   pub index : ℕ
@@ -71,7 +69,7 @@ skipped_shorter offers ready gone places m n small f skipped p q o r first secon
 
     later : (j : IsAt p (take n places)) → (j.index < length (take m places)) ⊎ (length (take m places) ≤ j.index) → ⊥
     later j (inl l) =
-        both_ways (has p (take m places))
+        not_both (has p (take m places))
         (subst (λ (z : ℕ). has z (take m places) ≡ true) (index_front m n places j.index small l ∙ j.there) (has_at (take m places) j.index l)) not_ready
     later j (inr l) =
         let within = k.within in

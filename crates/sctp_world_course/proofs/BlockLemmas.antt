@@ -5,6 +5,7 @@ use Rattle.std.specs.List.{flat_map}
 use Rattle.std.proofs.lemmas.Grind.{flat_map-append}
 use Rattle.sctp_serial.specs.Messages.{Message}
 use Rattle.sctp_rx.specs.Delivery.{Extends}
+use Rattle.sctp_rx.proofs.ExtendsLemmas.{extends_by}
 use Rattle.sctp_association.specs.Association.{State, Closed, CookieWait, Open}
 use Rattle.sctp_association.specs.Calls.{ready_in, taken_in}
 use Rattle.sctp_association.specs.Laws.{TakeMessage}
@@ -21,7 +22,7 @@ use Rattle.sctp_world.specs.Judge.{End, A, B, Entry, ready_by, ready, handed_out
 use Rattle.sctp_world_course.specs.Courses.{is_a}
 use Rattle.sctp_world_course.specs.Delivered.{offers_by, offers, gone, reported_by, reported}
 use Rattle.sctp_world_course.proofs.WorldLemmas.{gone_more, numbers_of}
-use Rattle.sctp_world_course.proofs.TellingLemmas.{IsTold}
+use Rattle.sctp_world_course.proofs.TellingLemmas.{IsTold, none_new}
 use Rattle.sctp_world_course.proofs.PrefixLemmas.{one_is_longer, no_front}
 
 -- ---- courses, by one turn more
@@ -100,10 +101,6 @@ module _ (e : Bool × Turn) (c : Pair) (log mid : List Entry) (b : IsBlock e c l
       more_of (offers_by x) log mid block (accepted_at (is_a x) e.0 e.1 c) b.logged
       (ap (λ (z : List Offer). z ++ flat_map (offers_by x) b.more) h
       ∙ (ap (λ (z : List Offer). accepted_at (is_a x) e.0 e.1 c ++ z) (b.quiet x) ∙ append-nil (accepted_at (is_a x) e.0 e.1 c)))
-
-none_new : (ms : List Message) → new_behind ms ms ≡ []
-none_new [] = refl
-none_new (m ∷ ms) = none_new ms
 
 first_offers : (x : End) (e : Bool × Turn) (c : Pair) (log mid : List Entry) (b : IsBlock e c log mid) → offers_by x b.first ≡ accepted_at (is_a x) e.0 e.1 c
 first_offers A (true, t) c log mid b = b.offers
@@ -289,9 +286,6 @@ module _ (e : Bool × Turn) (d : Pair) (log mid front behind : List Entry) (b : 
   ready_before y = flat_map-append (ready_by y) log (b.first ∷ front)
 
 -- ---- what was handed out is the beginning of what became ready
-
-extends_by : (before after more : List Message) → after ≡ before ++ more → Extends before after
-extends_by before after more e = record { more = more; made = e }
 
 extends_more : (before after more longer : List Message) → Extends before after → longer ≡ after ++ more → Extends before longer
 extends_more before after more longer h e =

@@ -1,5 +1,5 @@
 -- A world that a new one was led to is led on by each run, and composes.
-use Rattle.std.proofs.Common.{List, [], ◌∷◌, ◌++◌, refl, subst}
+use Rattle.std.proofs.Common.{OnOk, Result, Ok, Err, List, [], ◌∷◌, ◌++◌, refl, subst}
 use Rattle.std.specs.Prelude.{All}
 use Rattle.std.proofs.lemmas.List.Elements.{All-nil, All-cons, All-append}
 use Rattle.sctp_course.proofs.CourseLemmas.{ends_joined}
@@ -10,6 +10,14 @@ use Rattle.sctp_world_course.specs.Composed.{IsLed, WorldsCompose}
 use Rattle.sctp_world_course.proofs.JoinedLemmas.{are_joined}
 use Rattle.sctp_world_course.proofs.DeliveredLemmas.{worlds_deliver, handed_is_a_prefix}
 use Rattle.sctp_world_course.proofs.ProperLemmas.{worlds_proper}
+
+pub on_ok : {A E P Q : Type 0} (r : Result A E) → (P → Q) → OnOk r P → OnOk r Q
+on_ok (Ok x) f h = f h
+on_ok (Err e) f h = h
+
+pub on_each : {A E P : Type 0} (r : Result A E) → P → OnOk r P
+on_each (Ok x) h = h
+on_each (Err e) h = tt
 
 runs_on : (early late : List Action) (w u v : World) → Runs early w u → Runs late u v → Runs (early ++ late) w v
 runs_on [] late w u v r s = subst (λ (z : World). Runs late z v) r s

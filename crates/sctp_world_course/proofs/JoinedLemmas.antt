@@ -13,7 +13,7 @@ use Rattle.sctp_world.specs.Judge.{End, A, B, Entry, crossed, held}
 use Rattle.sctp_world.specs.World.{Side, fresh_world}
 use Rattle.sctp_world_course.specs.Joined.{ended_by, times_ended, WorldsAreJoined}
 use Rattle.sctp_world_course.proofs.EventLemmas.{ended_told}
-use Rattle.sctp_world_course.proofs.NewsLemmas.{ended_by_told}
+use Rattle.sctp_world_course.proofs.NewsLemmas.{ended_by_told, made_same}
 use Rattle.sctp_world_course.proofs.SidesLemmas.{Good}
 use Rattle.sctp_world_course.proofs.RunsLemmas.{Ran, ran, fresh_both}
 
@@ -29,14 +29,8 @@ opened Closed i e = cc
 opened (CookieWait tag first t1) i e = cc
 opened (Open phase t) i e = (phase, t, refl, sym (ap (λ (o : Option Association). elim o [ None ↦ i | Some z ↦ z ]) e))
 
-abbrev of_numbers : (i j k l : ℕ) → Association
-of_numbers i j k l = record { my_tag = i; my_initial_tsn = j; peer_tag = k; peer_initial_tsn = l }
-
-same_numbers : (i j k l m n o p : ℕ) → i ≡ m → j ≡ n → k ≡ o → l ≡ p → of_numbers i j k l ≡ of_numbers m n o p
-same_numbers i j k l m n o p a b c d = cc
-
 crossed_of : (i j : Identity) → AreCrossed i j → of j ≡ crossed (of i)
-crossed_of i j c = same_numbers j.my_tag j.my_first j.peer_tag j.peer_first i.peer_tag i.peer_first i.my_tag i.my_first (sym c.peer_tag) (sym c.peer_first) (sym c.tag) (sym c.first)
+crossed_of i j c = made_same j.my_tag j.my_first j.peer_tag j.peer_first i.peer_tag i.peer_first i.my_tag i.my_first (sym c.peer_tag) (sym c.peer_first) (sym c.tag) (sym c.first)
 
 module _ (word_of : List ℕ → ℕ) (x : End) (log : List Entry) (others : List (List ℕ)) (side : Side) (end : course.Side) (g : Good word_of x log others side end) where
   pub none_ended : times_ended x log ≡ 0 → endings end.told ≡ 0

@@ -115,10 +115,10 @@ pub both_right : (a b : Bool) → (a && b) ≡ true → b ≡ true
 both_right true b e = e
 both_right false b e = cc
 
-abbrev of_numbers : (i j k l : ℕ) → Association
+abbrev pub of_numbers : (i j k l : ℕ) → Association
 of_numbers i j k l = record { my_tag = i; my_initial_tsn = j; peer_tag = k; peer_initial_tsn = l }
 
-made_same : (i j k l m n o p : ℕ) → i ≡ m → j ≡ n → k ≡ o → l ≡ p → of_numbers i j k l ≡ of_numbers m n o p
+pub made_same : (i j k l m n o p : ℕ) → i ≡ m → j ≡ n → k ≡ o → l ≡ p → of_numbers i j k l ≡ of_numbers m n o p
 made_same i j k l m n o p a b c d = cc
 
 pub one_association : (o p : Option Association) → same_association o p ≡ true → o ≡ p

@@ -26,8 +26,10 @@ use Rattle.sctp_world_course.specs.Courses.{ActionFits, IsInBytes, is_a, end_of,
 use Rattle.sctp_world_course.specs.Delivered.{offers_by, offers}
 use Rattle.sctp_world_course.specs.Proper.{clock_if, clock_after, clock_from, clock, acceptances_by, acceptances, WorldsAreProper, AcceptancesAreOffers}
 use Rattle.sctp_world_course.proofs.LoggedLemmas.{IsQuietOn, none_in_news}
-use Rattle.sctp_world_course.proofs.ClockLemmas.{clash, moves, turn_still}
-use Rattle.sctp_world_course.proofs.TellingLemmas.{same_self, not_other, BeginsWith, call_begins, given_accepts, foreign_accepts}
+use Rattle.sctp_course.proofs.JoinLemmas.{not_both}
+use Rattle.sctp_world_course.proofs.EventLemmas.{same_itself}
+use Rattle.sctp_world_course.proofs.ClockLemmas.{moves, turn_still}
+use Rattle.sctp_world_course.proofs.TellingLemmas.{not_other, BeginsWith, call_begins, given_accepts, foreign_accepts}
 use Rattle.sctp_world_course.proofs.WorldLemmas.{Both, Extends, extends_then, in_bytes_before, Stepped, steps}
 use Rattle.sctp_world_course.proofs.RunsLemmas.{runs_extends, happens_extends, fresh_both}
 use Rattle.sctp_world_course.proofs.PrefixLemmas.{split_head, split_tail}
@@ -60,7 +62,7 @@ at_each x all now [] [] behind g h is = cc
 at_each x all now [] (f ∷ before) behind g h is = cc
 at_each x all now (d ∷ log) [] behind g h is =
     subst (λ (l : List Acceptance). IsProperAt l now g) (sym (append-nil all))
-    (subst (IsRight x all now) (split_head d (GaveUp x g) log behind is) h.0 (same_self x))
+    (subst (IsRight x all now) (split_head d (GaveUp x g) log behind is) h.0 (same_itself x))
 at_each x all now (d ∷ log) (f ∷ before) behind g h is =
     subst (λ (e : Entry). IsProperAt (all ++ (acceptances_by x e ++ acceptances x before)) (clock_from x (clock_after x now e) before) g) (split_head d f log (before ++ GaveUp x g ∷ behind) is)
     (subst (λ (l : List Acceptance). IsProperAt l (clock_from x (clock_after x now d) before) g) (append_assoc all (acceptances_by x d) (acceptances x before))
@@ -110,7 +112,7 @@ module _ (x : End) (all : List Acceptance) (now : ℕ) where
       go : (b : Bool) → same_end x y ≡ b → AllByRecursion (IsProperAt all now) (none_unless b g ++ given_up x more)
           → (AllByRecursion (IsProperAt all now) (given_up x more) → Each x (all ++ []) now more) → Each x all now (GaveUp y g ∷ more)
       go true is k rest = (λ e. k.0, rest k.1)
-      go false is k rest = (λ e. absurd (clash (same_end x y) e is), rest k)
+      go false is k rest = (λ e. absurd (not_both (same_end x y) e is), rest k)
   each_quiet (e ∷ more) h k = (tt, each_more more (each_quiet more h k))
 
 -- ---- one event at end x, which was `own` in the course and is `next`
@@ -147,7 +149,7 @@ marks_by x turn own next log longer first more n logged quiet h offers none then
   gone = h.gone;
   accepts = h.takes x ∙ (ap (map (accepted_then n)) offers ∙ then);
   accepts_none = h.takes (other x) ∙ ap (map (accepted_then n)) none;
-  ticks = λ m. h.ticks x m ∙ (ap (λ (b : Bool). clock_if b n m) (same_self x) ∙ is);
+  ticks = λ m. h.ticks x m ∙ (ap (λ (b : Bool). clock_if b n m) (same_itself x) ∙ is);
   ticks_none = λ m. h.ticks (other x) m ∙ ap (λ (b : Bool). clock_if b n m) (not_other x);
 }
 

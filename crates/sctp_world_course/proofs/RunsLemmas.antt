@@ -16,6 +16,7 @@ use Rattle.sctp_world.specs.Judge.{End, A, B, Entry, Answer, Called, Call, Conne
 use Rattle.sctp_world.specs.World.{Side, World, Action, CallOf, Give, GiveForeign, TellTime, ComesTo, told, skipped, Happens, Runs, settled, side_of, news_of, calls, call_entry, after_call, after_time, clock, answer_to, step_of, fresh_side, fresh_world}
 use Rattle.sctp_world_course.specs.Courses.{ActionFits, IsInBytes, is_a, end_of, hearing, IsHearing, IsForeign, IsTurnOf, AreTurnsOf, WorldsHaveCourses}
 use Rattle.sctp_world_course.specs.Joined.{asks, MayFollow, FollowsTheRules}
+use Rattle.sctp_course.proofs.JoinLemmas.{not_both}
 use Rattle.sctp_world_course.proofs.EventLemmas.{Readable, connected_told}
 use Rattle.sctp_world_course.proofs.NewsLemmas.{connected_by_told}
 use Rattle.sctp_world_course.proofs.SidesLemmas.{Good, any_more}
@@ -87,11 +88,8 @@ module _ (word_of : List ℕ → ℕ) (x : End) (log : List Entry) (others : Lis
   not_true true f = absurd (f refl)
   not_true false f = refl
 
-  clash : (b : Bool) → b ≡ true → b ≡ false → ⊥
-  clash b t f = cc
-
   not_asked : (new : List (List ℕ)) → list_any (asks x (others ++ new)) log ≡ false → end.is_asked ≡ false
-  not_asked new none = not_true end.is_asked (λ e. clash (list_any (asks x (others ++ new)) log) (any_more x others new log (g.asked e)) none)
+  not_asked new none = not_true end.is_asked (λ e. not_both (list_any (asks x (others ++ new)) log) (any_more x others new log (g.asked e)) none)
 
   may_connect : (all new : List (List ℕ)) → all ≡ others ++ new → (1 ≤ times_connected x log) ⊎ (list_any (asks x all) log ≡ false)
       → (has_connected end.told ≡ true) ⊎ (end.is_asked ≡ false)

@@ -23,13 +23,10 @@ use Rattle.sctp_world.specs.World as worlds
 use Rattle.sctp_world.specs.World.{Side, World, Action, CallOf, Give, GiveForeign, TellTime, ComesTo, told, skipped, Happens, side_of, other, association, ready_before, news_of, settled, recorded, handed_by as record_by, step_of, answer_to, call_entry, after_call, time_entry, after_time, clock}
 use Rattle.sctp_world_course.specs.Courses.{hearing, IsHearing, IsForeign}
 use Rattle.sctp_world_course.specs.Delivered.{offers_in, offers_by, gone, reported_by, reported}
+use Rattle.sctp_world_course.proofs.EventLemmas.{same_itself}
 use Rattle.sctp_world_course.proofs.LoggedLemmas.{quiet_offers, quiet_handed, quiet_gone, quiet_reported, none_in_news, ready_news, ready_news_other, first_handed, one_offer, many_offers}
 
 -- ---- ends
-
-pub same_self : (x : End) → same_end x x ≡ true
-same_self A = refl
-same_self B = refl
 
 pub not_other : (x : End) → same_end (other x) x ≡ false
 not_other A = refl
@@ -57,7 +54,7 @@ same_behind (Open phase b) t h ms =
     ap (λ (o : Option Association). drop (ready_before (same_association (association_in (Open phase b)) o) (length b.reassembly.ready)) ms) (h _ refl)
     ∙ ap (λ (z : Bool). drop (ready_before z (length b.reassembly.ready)) ms) (association_same (association_in (Open phase b)))
 
-none_new : (ms : List Message) → new_behind ms ms ≡ []
+pub none_new : (ms : List Message) → new_behind ms ms ≡ []
 none_new [] = refl
 none_new (m ∷ ms) = none_new ms
 
@@ -176,7 +173,7 @@ module _ (f : Carried → List ℕ) (x : End) (turn : Turn) (own beside next : c
         no_offers = b.no_offers;
         ready =
             ap (λ (z : List Message). z ++ flat_map (ready_by x) news) (b.ready x)
-            ∙ (ready_news x (same_self x) n m (association side.socket) after
+            ∙ (ready_news x (same_itself x) n m (association side.socket) after
             ∙ (ap (λ (s : State). drop (ready_before (same_association (association_in s) (association_in after.standing.state)) (length (ready_in s))) (ready_in after.standing.state)) state_is
             ∙ (ap (λ (s : State). drop (ready_before (same_association (association_in (course.state_of own)) (association_in s)) (length (ready_in (course.state_of own)))) (ready_in s)) then
             ∙ same_behind (course.state_of own) (course.state_of next) stands (ready_in (course.state_of next)))));
@@ -228,10 +225,10 @@ module _ (f : Carried → List ℕ) (x : End) (turn : Turn) (own beside next : c
 module _ (f : Carried → List ℕ) (x : End) (own : course.Side) where
   pub call_begins : (s : Endpoint (List ℕ)) → s ≡ map_end f own.end → (call : Call) → BeginsWith x (Calls (step_of call)) own (call_entry x call s)
   call_begins s is call = record {
-    offers = ap (λ (b : Bool). all_unless b (offers_in call (answer_to call s))) (same_self x) ∙ call_offers f x own s is call;
+    offers = ap (λ (b : Bool). all_unless b (offers_in call (answer_to call s))) (same_itself x) ∙ call_offers f x own s is call;
     no_offers = ap (λ (b : Bool). all_unless b (offers_in call (answer_to call s))) (not_other x);
     ready = λ y. refl;
-    handed = ap (λ (b : Bool). all_unless b (handed_out_in (answer_to call s))) (same_self x) ∙ call_hands f x own s is call;
+    handed = ap (λ (b : Bool). all_unless b (handed_out_in (answer_to call s))) (same_itself x) ∙ call_hands f x own s is call;
     none_handed = ap (λ (b : Bool). all_unless b (handed_out_in (answer_to call s))) (not_other x);
     gone = λ y. refl;
     reported = λ y. refl;
