@@ -18,6 +18,7 @@ pub mod Rows
 pub mod Wire
 pub mod PacketView
 pub mod Views
+pub mod Lending
 pub mod Socket
 pub mod Laws
 pub mod ResetLaws
