@@ -1,9 +1,10 @@
 -- A chunk whose parts fit is read back as soon as it can be written.
-use Rattle.std.proofs.Common.{◌≡◌, ℕ, ◌+◌, ◌^◌, ◌<◌, ◌&&◌, Bool, true, false, List, [], ◌∷◌, length, map, nat_lt, refl, arith}
+use Rattle.std.proofs.Common.{◌≡◌, ◌+◌, ◌^◌, ◌<◌, true, false, List, [], ◌∷◌, length, map, nat_lt, arith}
 use Rattle.std.specs.Prelude.{All}
 use Rattle.std.specs.List.{list_all}
 use Rattle.std.proofs.lemmas.List.{length-append}
 use Rattle.std.proofs.lemmas.List.Elements.{All-cons, All-nil}
+use Rattle.std.proofs.lemmas.Bool.{and_parts, ltb-true}
 use Rattle.sctp_wire.specs.Item.{Item}
 use Rattle.sctp_wire.specs.Serialize.{is_encodable, padded_item, inner_items}
 use Rattle.sctp_wire.specs.Parameter.{ParameterTree, parameter_item, parameter_is_whole, IsOfItsVariant, ParameterFits}
@@ -65,13 +66,6 @@ inner_fit (i ∷ []) h = (omega (arith, inner_one i, h), tt)
 inner_fit (i ∷ j ∷ is) h =
     (omega (arith, inner_more i j is, length_padded_item i, h), inner_fit (j ∷ is) (omega (arith, inner_more i j is, h)))
 
-split_and : (a b : Bool) → (a && b) ≡ true → (a ≡ true) × (b ≡ true)
-split_and true b h = (refl, h)
-split_and false b h = cc
-
-below : (n m : ℕ) → nat_lt n m ≡ true → n < m
-below n m h = grind (arith)
-
 parameters_read : (ps : List ParameterTree) → length (inner_items (map parameter_item ps)) < 2 ^ 16 → list_all parameter_is_whole ps ≡ true → Each IsFairParameter ps
     → All ParameterReadsBack ps
 parameters_read ps short whole fair = each ps (inner_fit (map parameter_item ps) short) whole fair
@@ -79,7 +73,7 @@ parameters_read ps short whole fair = each ps (inner_fit (map parameter_item ps)
     each : (qs : List ParameterTree) → Each Fits (map parameter_item qs) → list_all parameter_is_whole qs ≡ true → Each IsFairParameter qs → All ParameterReadsBack qs
     each [] h w f = All-nil ParameterReadsBack
     each (p ∷ qs) h w f =
-        let both = split_and (parameter_is_whole p) (list_all parameter_is_whole qs) w in
+        let both = and_parts (parameter_is_whole p) (list_all parameter_is_whole qs) w in
         All-cons ParameterReadsBack p qs (record { encodable = h.0; fits = f.0.fits; whole = both.0; of_its_variant = f.0.of_its_variant })
         (each qs h.1 both.1 f.1)
 
@@ -120,6 +114,6 @@ readable (i_forward_tsn_chunk tsn skipped) h w f = tt
 
 pub fair_reads : (t : ChunkTree) → IsFair t → is_encodable (chunk_item t) (chunk_is_whole t) ≡ true → ChunkReadsBack t
 fair_reads t fair h =
-    let both = split_and (nat_lt (4 + length (chunk_item t).value) (2 ^ 16)) (chunk_is_whole t) h in
-    let short : 4 + length (chunk_value t) < 2 ^ 16 = below (4 + length (chunk_value t)) (2 ^ 16) both.0 in
+    let both = and_parts (nat_lt (4 + length (chunk_item t).value) (2 ^ 16)) (chunk_is_whole t) h in
+    let short : 4 + length (chunk_value t) < 2 ^ 16 = ltb-true (4 + length (chunk_value t)) (2 ^ 16) both.0 in
     record { encodable = short; whole = both.1; fits = fair.fits; readable = readable t short both.1 fair.inside }

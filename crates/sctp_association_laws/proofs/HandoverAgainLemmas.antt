@@ -5,7 +5,7 @@ use Rattle.std.specs.List.Sorted.{IsStrictlySortedBy}
 use Rattle.std.specs.Map.{keys_of}
 use Rattle.std.specs.Ordering.{nat_cmp}
 use Rattle.std.proofs.lemmas.Nat.{le_or_l, le_or_r}
-use Rattle.std.proofs.lemmas.Bool.Decides.{nat_tests}
+use Rattle.std.proofs.lemmas.Bool.{and_from, eqb-true}
 use Rattle.rand_core.specs.Stream.{Stream as Words}
 use Rattle.sctp_serial.specs.Serial.{serial_sum}
 use Rattle.sctp_serial.specs.Unwrapped.{words, halves, wire}
@@ -43,7 +43,7 @@ use Rattle.sctp_association.specs.Requests.{Request}
 use Rattle.sctp_association.specs.Handover.{is_strict, receiving, pending, request_readiness, block_readiness, readiness, handover_state, handed_over, method_if, left_if, restored_unless, invalid_unless}
 use Rattle.sctp_association.specs.Laws.{Packing}
 use Rattle.sctp_association_laws.specs.HandoverRoundTrip.{IsConnected, IsQueue, Fits, queue_bytes, item_bytes, standing, successor, block_again, context_again, ItemsComeBack, QueueComesBack, ordered_again, unordered_again, ReceptionComesBack, NothingWaits, HandoverGoesOn, MadeConnected}
-use Rattle.sctp_association_laws.proofs.HandoverValidLemmas.{and, rises, outgoing_rise, Each, each, AreLeft, messages_are_valid, numbers_differ, IsOrdered, first_alone, one_is_begun, in_one_state, count_items, next_is, queue_bytes_are, item_bytes_are}
+use Rattle.sctp_association_laws.proofs.HandoverValidLemmas.{rises, outgoing_rise, Each, each, AreLeft, messages_are_valid, numbers_differ, IsOrdered, first_alone, one_is_begun, in_one_state, count_items, next_is, queue_bytes_are, item_bytes_are}
 
 -- ---- what was received
 
@@ -62,7 +62,7 @@ small_number n =
 
 small_numbers : (es : received.Entries OrderedStream) → has_small_numbers (ordered_records false es) ≡ true
 small_numbers [] = refl
-small_numbers (e ∷ es) = and (nat_le (wire halves 0 e.1.next) 65535) (has_small_numbers (ordered_records false es)) (small_number e.1.next) (small_numbers es)
+small_numbers (e ∷ es) = and_from (nat_le (wire halves 0 e.1.next) 65535) (has_small_numbers (ordered_records false es)) (small_number e.1.next) (small_numbers es)
 
 numbers_fit : (b : Bool) (es : received.Entries OrderedStream) → (b || has_small_numbers (ordered_records b es)) ≡ true
 numbers_fit true es = refl
@@ -73,9 +73,9 @@ reception_valid : (mode b : Bool) (ordered : received.Entries OrderedStream) (un
     → (rises_from 0 (ordered_ids (ordered_records b ordered)) && (rises_from 0 (unordered_ids (unordered_records unordered))
     && (mode || has_small_numbers (ordered_records b ordered)))) ≡ true
 reception_valid mode b ordered unordered same s r =
-    and (rises_from 0 (ordered_ids (ordered_records b ordered))) (rises_from 0 (unordered_ids (unordered_records unordered)) && (mode || has_small_numbers (ordered_records b ordered)))
+    and_from (rises_from 0 (ordered_ids (ordered_records b ordered))) (rises_from 0 (unordered_ids (unordered_records unordered)) && (mode || has_small_numbers (ordered_records b ordered)))
     (ap (rises_from 0) (ordered_are b ordered) ∙ rises (keys_of ordered) s)
-    (and (rises_from 0 (unordered_ids (unordered_records unordered))) (mode || has_small_numbers (ordered_records b ordered))
+    (and_from (rises_from 0 (unordered_ids (unordered_records unordered))) (mode || has_small_numbers (ordered_records b ordered))
     (ap (rises_from 0) (unordered_are unordered) ∙ rises (keys_of unordered) r)
     (ap (λ (x : Bool). x || has_small_numbers (ordered_records b ordered)) (sym same) ∙ numbers_fit b ordered))
 
@@ -121,9 +121,9 @@ queue_valid now mode q same h =
     let differ : Bool = message_ids_differ (queued_messages now es) in
     let alone : Bool = first_alone_is_partly_sent (queued_messages now es) in
     let one : Bool = mode || nat_le (partly_sent_count (queued_messages now es)) 1 in
-    and (nat_le q.next_number (2 ^ 32)) (valid && (differ && (alone && one))) (at_most q.next_number (omega (arith, h.next)))
-    (and valid (differ && (alone && one)) (messages_are_valid now q.next_number es (left_of q h) h.numbers)
-    (and differ (alone && one) (numbers_differ now q.next_number es h.numbers) (and alone one (first_alone now es h.sorted (ordered q h)) (one_at_most now mode q same h))))
+    and_from (nat_le q.next_number (2 ^ 32)) (valid && (differ && (alone && one))) (at_most q.next_number (omega (arith, h.next)))
+    (and_from valid (differ && (alone && one)) (messages_are_valid now q.next_number es (left_of q h) h.numbers)
+    (and_from differ (alone && one) (numbers_differ now q.next_number es h.numbers) (and_from alone one (first_alone now es h.sorted (ordered q h)) (one_at_most now mode q same h))))
 
 items_valid : (now first acked : ℕ) (is : List Item) → length is < 2 ^ 30
     → (nat_lt (length (item_records now is)) (2 ^ 30)
@@ -131,8 +131,8 @@ items_valid : (now first acked : ℕ) (is : List Item) → length is < 2 ^ 30
 items_valid now first acked is h =
     let next : Bool = wire words first (acked + 1 + length is) == (wire words first acked + 1 + length (item_records now is)) % 2 ^ 32 in
     let few : length (item_records now is) < 2 ^ 30 = omega (arith, h, count_items now is) in
-    and (nat_lt (length (item_records now is)) (2 ^ 30)) (next && are_in_one_state (item_records now is)) (lt-ltb (length (item_records now is)) (2 ^ 30) few)
-    (and next (are_in_one_state (item_records now is)) (next_is first acked (length is) (length (item_records now is)) (count_items now is)) (in_one_state now is))
+    and_from (nat_lt (length (item_records now is)) (2 ^ 30)) (next && are_in_one_state (item_records now is)) (lt-ltb (length (item_records now is)) (2 ^ 30) few)
+    (and_from next (are_in_one_state (item_records now is)) (next_is first acked (length is) (length (item_records now is)) (count_items now is)) (in_one_state now is))
 
 open_window : (n : ℕ) → 0 < n → nat_lt 0 (min n most_u32) ≡ true
 open_window n h =
@@ -157,19 +157,19 @@ module _ (t : Tcb) (c : Context (List ℕ)) (k : IsConnected t c) (q : IsQueue c
       let tx : Transmission = its_record.tx in
       let es : Entries = c.queue.streams.entries in
       let is : List Item = t.sender.outstanding.items.kept in
-      and (nat_lt 0 tx.cwnd) (rises_from 0 (outgoing_ids tx.streams) && (has_valid_queue mode tx && (has_valid_items tx && payload_fits tx)))
+      and_from (nat_lt 0 tx.cwnd) (rises_from 0 (outgoing_ids tx.streams) && (has_valid_queue mode tx && (has_valid_items tx && payload_fits tx)))
       (open_window t.sender.windows.cwnd f.window)
-      (and (rises_from 0 (outgoing_ids tx.streams)) (has_valid_queue mode tx && (has_valid_items tx && payload_fits tx)) (outgoing_rise es q.sorted)
-      (and (has_valid_queue mode tx) (has_valid_items tx && payload_fits tx) (queue_valid c.now mode c.queue k.mode_queued q)
-      (and (has_valid_items tx) (payload_fits tx) (items_valid c.now t.sender.outstanding.first t.sender.outstanding.items.acked is f.few)
+      (and_from (rises_from 0 (outgoing_ids tx.streams)) (has_valid_queue mode tx && (has_valid_items tx && payload_fits tx)) (outgoing_rise es q.sorted)
+      (and_from (has_valid_queue mode tx) (has_valid_items tx && payload_fits tx) (queue_valid c.now mode c.queue k.mode_queued q)
+      (and_from (has_valid_items tx) (payload_fits tx) (items_valid c.now t.sender.outstanding.first t.sender.outstanding.items.acked is f.few)
       (bytes_fit c.now es is f.short))))
 
   is_valid : is_valid_state its_record ≡ true
   is_valid =
       let tags : Bool = is_valid_reception mode its_record.rx && is_valid_transmission mode its_record.tx in
-      and (nat_lt 0 t.identity.my_tag) (nat_lt 0 t.identity.peer_tag && tags) (lt-ltb 0 t.identity.my_tag k.my_tag)
-      (and (nat_lt 0 t.identity.peer_tag) tags (lt-ltb 0 t.identity.peer_tag k.peer_tag)
-      (and (is_valid_reception mode its_record.rx) (is_valid_transmission mode its_record.tx)
+      and_from (nat_lt 0 t.identity.my_tag) (nat_lt 0 t.identity.peer_tag && tags) (lt-ltb 0 t.identity.my_tag k.my_tag)
+      (and_from (nat_lt 0 t.identity.peer_tag) tags (lt-ltb 0 t.identity.peer_tag k.peer_tag)
+      (and_from (is_valid_reception mode its_record.rx) (is_valid_transmission mode its_record.tx)
       (reception_valid mode t.reassembly.streams.is_interleaved t.reassembly.streams.ordered t.reassembly.streams.unordered k.mode_received f.ordered f.unordered)
       transmission_valid))
 
@@ -194,7 +194,7 @@ reception_back t c k = record {
   mode = sym k.mode_received;
 }
 
-heard_mode : (ids : List ℕ) (ss : Streams) (s : Scheduler) → (each_heard ids ss s).is_interleaved ≡ s.is_interleaved
+pub heard_mode : (ids : List ℕ) (ss : Streams) (s : Scheduler) → (each_heard ids ss s).is_interleaved ≡ s.is_interleaved
 heard_mode [] ss s = refl
 heard_mode (id ∷ ids) ss s = heard_mode ids ss _ ∙ hears_mode id _ _ s
 
@@ -250,14 +250,11 @@ nothing_waits t c h =
 
 -- ---- the method in place of the checksum
 
-is_none : (n : ℕ) → (n == 0) ≡ true → n ≡ 0
-is_none n h = grind (arith, nat_tests)
-
 own_or_none : (own : ℕ) → own ≡ method_if (not (own == 0)) own
 own_or_none own = go (own == 0) refl
   where
     go : (b : Bool) → (own == 0) ≡ b → own ≡ method_if (not b) own
-    go true e = is_none own e
+    go true e = eqb-true own 0 e
     go false e = refl
 
 same_or_none : (own other : ℕ) → same_method own other ≡ method_if (not (same_method own other == 0)) own
@@ -267,7 +264,7 @@ same_or_none own other = go (own == other)
     go true = own_or_none own
     go false = refl
 
-read_again : (enabled : Bool) (own : ℕ) → method_if enabled own ≡ method_if (not (method_if enabled own == 0)) own
+pub read_again : (enabled : Bool) (own : ℕ) → method_if enabled own ≡ method_if (not (method_if enabled own == 0)) own
 read_again true own = own_or_none own
 read_again false own = refl
 

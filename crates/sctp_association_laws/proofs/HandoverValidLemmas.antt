@@ -8,6 +8,7 @@ use Rattle.std.specs.BTreeMap.{is_at}
 use Rattle.std.proofs.lemmas.Bool.Decides.{nat_tests}
 use Rattle.std.proofs.lemmas.List.Folds.{list_all-append}
 use Rattle.std.proofs.lemmas.List.Sums.{sum_by-cons, sum_by-append}
+use Rattle.std.proofs.lemmas.Bool.{and_from, and_parts, eq-eqb, or_from, or_right}
 use Rattle.sctp_serial.specs.Unwrapped.{words, wire}
 use Rattle.sctp_state.specs.declared.api.handover.HandoverOutgoingStream.{HandoverOutgoingStream}
 use Rattle.sctp_state.specs.Handover.{StreamMessage, OutstandingData}
@@ -22,20 +23,6 @@ use Rattle.sctp_send_queue.specs.InOrder.{is_waiting, is_begun_or_waiting, are_i
 use Rattle.sctp_send_queue.proofs.AgainLemmas.{AreAbove, are_above}
 use Rattle.sctp_association_laws.specs.HandoverRoundTrip.{one_if, numbered, numbered_in, message_bytes, queue_bytes, item_bytes}
 
-pub and : (a b : Bool) → a ≡ true → b ≡ true → (a && b) ≡ true
-and a b p q = ap (λ (x : Bool). x && b) p ∙ q
-
-both : (a b : Bool) → (a && b) ≡ true → (a ≡ true) × (b ≡ true)
-both true b h = (refl, h)
-both false b h = absurd (cc)
-
-or_right : (a b : Bool) → b ≡ true → (a || b) ≡ true
-or_right true b h = refl
-or_right false b h = h
-
-nor : (a b : Bool) → a ≡ false → b ≡ false → (a || b) ≡ false
-nor a b p q = ap (λ (x : Bool). x || b) p ∙ q
-
 -- ---- ids that ascend
 
 next_above : (k n : ℕ) → nat_cmp k n ≡ Less → nat_le (k + 1) n ≡ true
@@ -47,12 +34,12 @@ from_zero n = grind (arith, nat_tests)
 rises_behind : (k : ℕ) (ns : List ℕ) → IsStrictlySortedBy nat_cmp (k ∷ ns) → rises_from (k + 1) ns ≡ true
 unfolding IsStrictlySortedBy
 rises_behind k [] s = refl
-rises_behind k (n ∷ ns) s = and (nat_le (k + 1) n) (rises_from (n + 1) ns) (next_above k n s.0.0) (rises_behind n ns s.1)
+rises_behind k (n ∷ ns) s = and_from (nat_le (k + 1) n) (rises_from (n + 1) ns) (next_above k n s.0.0) (rises_behind n ns s.1)
 
 pub rises : (ns : List ℕ) → IsStrictlySortedBy nat_cmp ns → rises_from 0 ns ≡ true
 unfolding IsStrictlySortedBy
 rises [] s = refl
-rises (n ∷ ns) s = and (nat_le 0 n) (rises_from (n + 1) ns) (from_zero n) (rises_behind n ns s)
+rises (n ∷ ns) s = and_from (nat_le 0 n) (rises_from (n + 1) ns) (from_zero n) (rises_behind n ns s)
 
 outgoing_are : (es : Entries) → outgoing_ids (outgoing_streams es) ≡ keys_of es
 outgoing_are [] = refl
@@ -115,13 +102,10 @@ has_more : (s : HandoverOutgoingStream) (ss : List HandoverOutgoingStream) (es :
 has_more s ss [] h = tt
 has_more s ss (e ∷ es) h = (or_right (s.id == e.0) (has_stream ss e.0) h.0, has_more s ss es h.1)
 
-itself : (n : ℕ) → (n == n) ≡ true
-itself n = grind (arith, nat_tests)
-
 has_all : (es : Entries) → Has (outgoing_streams es) es
 has_all [] = tt
 has_all (e ∷ es) = (
-  ap (λ (b : Bool). b || has_stream (outgoing_streams es) e.0) (itself e.0),
+  ap (λ (b : Bool). b || has_stream (outgoing_streams es) e.0) (eq-eqb e.0 e.0 refl),
   has_more (outgoing_stream e.0 e.1) (outgoing_streams es) es (has_all es),
 )
 
@@ -138,10 +122,10 @@ messages_valid : (now next id : ℕ) (ss : List HandoverOutgoingStream) (ms : Li
     → list_all (is_below next) ms ≡ true → are_valid_messages ss next (map (queued_message now id) ms) ≡ true
 messages_valid now next id ss [] there rests below = refl
 messages_valid now next id ss (m ∷ ms) there rests below =
-    let r = both (has_rest m) (list_all has_rest ms) rests in
-    let n = both (is_below next m) (list_all (is_below next) ms) below in
-    and (is_valid_message ss next (queued_message now id m)) (are_valid_messages ss next (map (queued_message now id) ms))
-    (and (has_rest m) (has_stream ss id && is_below next m) r.0 (and (has_stream ss id) (is_below next m) there n.0))
+    let r = and_parts (has_rest m) (list_all has_rest ms) rests in
+    let n = and_parts (is_below next m) (list_all (is_below next) ms) below in
+    and_from (is_valid_message ss next (queued_message now id m)) (are_valid_messages ss next (map (queued_message now id) ms))
+    (and_from (has_rest m) (has_stream ss id && is_below next m) r.0 (and_from (has_stream ss id) (is_below next m) there n.0))
     (messages_valid now next id ss ms there r.1 n.1)
 
 all_valid : (now next : ℕ) (ss : List HandoverOutgoingStream) (es : Entries) → Has ss es → Each AreLeft es → Each (AreBelow next) es
@@ -151,7 +135,7 @@ all_valid now next ss (e ∷ es) there rests below =
     let first : List StreamMessage = messages_of now e.0 e.1 in
     let rest : List StreamMessage = queued_messages now es in
     list_all-append (is_valid_message ss next) first rest
-    ∙ and (are_valid_messages ss next first) (are_valid_messages ss next rest)
+    ∙ and_from (are_valid_messages ss next first) (are_valid_messages ss next rest)
     (messages_valid now next e.0 ss e.1.messages there.0 rests.0 below.0) (all_valid now next ss es there.1 rests.1 below.1)
 
 -- a number that a message has was given
@@ -162,8 +146,8 @@ given false k h = absurd (omega (arith, h))
 are_below : (next k : ℕ) (ms : List Queued) → ((n : ℕ) → numbered n ms ≤ one_if (nat_lt n next)) → AreBelow next k ms
 are_below next k [] h = refl
 are_below next k (m ∷ ms) h =
-    and (is_below next m) (list_all (is_below next) ms)
-    (given (nat_lt m.number next) (numbered m.number ms) (omega (arith, h m.number, ap one_if (itself m.number))))
+    and_from (is_below next m) (list_all (is_below next) ms)
+    (given (nat_lt m.number next) (numbered m.number ms) (omega (arith, h m.number, ap one_if (eq-eqb m.number m.number refl))))
     (are_below next k ms (λ n. omega (arith, h n)))
 
 all_below : (next : ℕ) (es : Entries) → ((n : ℕ) → numbered_in n es ≤ one_if (nat_lt n next)) → Each (AreBelow next) es
@@ -208,8 +192,8 @@ ids_differ : (ms : List StreamMessage) → ((n : ℕ) → ids n ms ≤ 1) → me
 unfolding ids
 ids_differ [] h = refl
 ids_differ (m ∷ ms) h =
-    and (not (has_message_id m.message_id ms)) (message_ids_differ ms)
-    (ap not (absent_id m.message_id ms (omega (arith, h m.message_id, ap one_if (itself m.message_id)))))
+    and_from (not (has_message_id m.message_id ms)) (message_ids_differ ms)
+    (ap not (absent_id m.message_id ms (omega (arith, h m.message_id, ap one_if (eq-eqb m.message_id m.message_id refl)))))
     (ids_differ ms (λ n. omega (arith, h n)))
 
 one_at_most : (b : Bool) → one_if b ≤ 1
@@ -240,19 +224,19 @@ never true = refl
 never false = refl
 
 waiting_unsent : (m : Queued) → is_waiting m ≡ true → nat_lt 0 m.offset ≡ false
-waiting_unsent m h = unsent m.offset (both (not (is_some m.numbers)) (m.offset == 0) h).1
+waiting_unsent m h = unsent m.offset (and_parts (not (is_some m.numbers)) (m.offset == 0) h).1
 
 waiting_none : (now id k : ℕ) (ms : List Queued) → list_all is_waiting ms ≡ true → has_partly_sent k (map (queued_message now id) ms) ≡ false
 waiting_none now id k [] h = refl
 waiting_none now id k (m ∷ ms) h =
-    let hs = both (is_waiting m) (list_all is_waiting ms) h in
-    nor ((id == k) && nat_lt 0 m.offset) (has_partly_sent k (map (queued_message now id) ms))
+    let hs = and_parts (is_waiting m) (list_all is_waiting ms) h in
+    or_from ((id == k) && nat_lt 0 m.offset) (has_partly_sent k (map (queued_message now id) ms))
     (ap (λ (b : Bool). (id == k) && b) (waiting_unsent m hs.0) ∙ never (id == k)) (waiting_none now id k ms hs.1)
 
 other_none : (now id k : ℕ) (ms : List Queued) → (id == k) ≡ false → has_partly_sent k (map (queued_message now id) ms) ≡ false
 other_none now id k [] h = refl
 other_none now id k (m ∷ ms) h =
-    nor ((id == k) && nat_lt 0 m.offset) (has_partly_sent k (map (queued_message now id) ms))
+    or_from ((id == k) && nat_lt 0 m.offset) (has_partly_sent k (map (queued_message now id) ms))
     (ap (λ (b : Bool). b && nat_lt 0 m.offset) h) (other_none now id k ms h)
 
 apart : (k m : ℕ) → k < m → (m == k) ≡ false
@@ -267,18 +251,18 @@ waiting_alone : (now id : ℕ) (ms : List Queued) (rest : List StreamMessage) �
     → first_alone_is_partly_sent rest ≡ true → first_alone_is_partly_sent (map (queued_message now id) ms ++ rest) ≡ true
 waiting_alone now id [] rest h none alone = alone
 waiting_alone now id (m ∷ ms) rest h none alone =
-    let hs = both (is_waiting m) (list_all is_waiting ms) h in
+    let hs = and_parts (is_waiting m) (list_all is_waiting ms) h in
     let front : List StreamMessage = map (queued_message now id) ms in
-    and (not (has_partly_sent id (front ++ rest))) (first_alone_is_partly_sent (front ++ rest))
+    and_from (not (has_partly_sent id (front ++ rest))) (first_alone_is_partly_sent (front ++ rest))
     (ap not (partly_append id front rest (waiting_none now id id ms hs.1) none)) (waiting_alone now id ms rest hs.1 none alone)
 
 order_alone : (now id : ℕ) (ms : List Queued) (rest : List StreamMessage) → are_in_order ms ≡ true → has_partly_sent id rest ≡ false
     → first_alone_is_partly_sent rest ≡ true → first_alone_is_partly_sent (map (queued_message now id) ms ++ rest) ≡ true
 order_alone now id [] rest h none alone = alone
 order_alone now id (m ∷ ms) rest h none alone =
-    let hs = both (is_begun_or_waiting m) (list_all is_waiting ms) h in
+    let hs = and_parts (is_begun_or_waiting m) (list_all is_waiting ms) h in
     let front : List StreamMessage = map (queued_message now id) ms in
-    and (not (has_partly_sent id (front ++ rest))) (first_alone_is_partly_sent (front ++ rest))
+    and_from (not (has_partly_sent id (front ++ rest))) (first_alone_is_partly_sent (front ++ rest))
     (ap not (partly_append id front rest (waiting_none now id id ms hs.1) none)) (waiting_alone now id ms rest hs.1 none alone)
 
 pub first_alone : (now : ℕ) (es : Entries) → IsStrictlySortedBy nat_cmp (keys_of es) → Each (λ k ms. are_in_order ms ≡ true) es
@@ -299,7 +283,7 @@ one_of m = part (is_partly_sent m)
 waiting_count : (now id : ℕ) (ms : List Queued) → list_all is_waiting ms ≡ true → partly_sent_count (map (queued_message now id) ms) ≡ 0
 waiting_count now id [] h = refl
 waiting_count now id (m ∷ ms) h =
-    let hs = both (is_waiting m) (list_all is_waiting ms) h in
+    let hs = and_parts (is_waiting m) (list_all is_waiting ms) h in
     let none : part (nat_lt 0 m.offset) ≡ 0 = ap part (waiting_unsent m hs.0) in
     omega (arith, sum_by-cons one_of (queued_message now id m) (map (queued_message now id) ms), none, waiting_count now id ms hs.1)
 
@@ -314,7 +298,7 @@ front_count b false n h e = omega (arith, ap part (unsent n h))
 order_count : (now id : ℕ) (b : Bool) (ms : List Queued) → are_in_order ms ≡ true → is_first_begun ms ≡ b → partly_sent_count (map (queued_message now id) ms) ≤ one_if b
 order_count now id b [] h e = omega arith
 order_count now id b (m ∷ ms) h e =
-    let hs = both (is_begun_or_waiting m) (list_all is_waiting ms) h in
+    let hs = and_parts (is_begun_or_waiting m) (list_all is_waiting ms) h in
     omega (arith, sum_by-cons one_of (queued_message now id m) (map (queued_message now id) ms), front_count b (is_some m.numbers) m.offset hs.0 e, waiting_count now id ms hs.1)
 
 these : Option ℕ → Entries → ℕ
@@ -369,7 +353,7 @@ one_state GivenUp = refl
 
 pub in_one_state : (now : ℕ) (is : List Item) → are_in_one_state (item_records now is) ≡ true
 in_one_state now [] = refl
-in_one_state now (i ∷ is) = and (is_in_one_state (item_record now i)) (are_in_one_state (item_records now is)) (one_state i.state) (in_one_state now is)
+in_one_state now (i ∷ is) = and_from (is_in_one_state (item_record now i)) (are_in_one_state (item_records now is)) (one_state i.state) (in_one_state now is)
 
 pub count_items : (now : ℕ) (is : List Item) → length (item_records now is) ≡ length is
 count_items now [] = refl
@@ -379,7 +363,7 @@ count_items now (i ∷ is) = ap suc (count_items now is)
 pub next_is : (first acked count more : ℕ) → more ≡ count → (wire words first (acked + 1 + count) == (wire words first acked + 1 + more) % 2 ^ 32) ≡ true
 next_is first acked count more e =
     let same : wire words first (acked + 1 + count) ≡ (wire words first acked + 1 + more) % 2 ^ 32 = omega (arith, e) in
-    ap (λ (n : ℕ). wire words first (acked + 1 + count) == n) (sym same) ∙ itself (wire words first (acked + 1 + count))
+    ap (λ (n : ℕ). wire words first (acked + 1 + count) == n) (sym same) ∙ (eq-eqb (wire words first (acked + 1 + count)) (wire words first (acked + 1 + count)) refl)
 
 -- ---- bytes
 

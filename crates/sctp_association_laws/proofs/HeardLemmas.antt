@@ -74,7 +74,7 @@ abbrev pub FitsRead : Result Cookie StateCookieError → Type 0
 FitsRead (Ok k) = FitsCookie k
 FitsRead (Err fault) = Unit {0}
 
-word_in_fits : (place : ℕ) (bytes : List ℕ) → Each IsByte bytes → u32_in place bytes < 2 ^ 32
+pub word_in_fits : (place : ℕ) (bytes : List ℕ) → Each IsByte bytes → u32_in place bytes < 2 ^ 32
 word_in_fits place bytes h = word_small (take 4 (drop place bytes)) (each_take IsByte 4 (drop place bytes) (each_drop IsByte place bytes h))
 
 cookie_fits : (bytes : List ℕ) → Each IsByte bytes → FitsCookie (cookie_from bytes)

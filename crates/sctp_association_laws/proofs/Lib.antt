@@ -46,6 +46,6 @@ mod CallLivesLemmas
 mod InputLivesLemmas
 pub mod LifecycleLemmas
 mod HandoverValidLemmas
-mod HandoverAgainLemmas
+pub mod HandoverAgainLemmas
 mod NumberedOnceLemmas
 mod NewEndLemmas

@@ -1,9 +1,10 @@
 -- Chunks that an end makes of what it has are fair.
 use Rattle.std.proofs.Common.{◌≡◌, ℕ, zero, suc, ◌==◌, ◌^◌, ◌<◌, Bool, true, false, cond, not, List, [], ◌∷◌, ◌++◌, refl, arith}
-use Rattle.std.specs.Prelude.{codes, nat_lt, ◌&&◌}
+use Rattle.std.specs.Prelude.{codes, nat_lt}
 use Rattle.std.specs.List.{list_all}
 use Rattle.std.specs.Str.{IsUtf8, IsAscii}
 use Rattle.std.proofs.lemmas.Str.{IsUtf8-from_ascii}
+use Rattle.std.proofs.lemmas.Bool.{and_parts}
 use Rattle.sctp_wire.specs.Parameter.{ParameterTree, state_cookie, supported_extensions, forward_tsn_supported, zero_checksum_acceptable}
 use Rattle.sctp_packet.specs.Grammar.{Each}
 use Rattle.sctp_state.specs.Options.{Options}
@@ -22,14 +23,10 @@ is_letter b = nat_lt b 128
 below : (b : ℕ) → is_letter b ≡ true → b < 128
 below b h = grind (arith)
 
-both : (a b : Bool) → (a && b) ≡ true → (a ≡ true) × (b ≡ true)
-both true b h = (refl, h)
-both false b h = cc
-
 letter_at : (bs : List ℕ) → list_all is_letter bs ≡ true → IsAscii bs
 letter_at [] h i = omega arith
-letter_at (b ∷ bs) h zero = below b (both (is_letter b) (list_all is_letter bs) h).0
-letter_at (b ∷ bs) h (suc i) = letter_at bs (both (is_letter b) (list_all is_letter bs) h).1 i
+letter_at (b ∷ bs) h zero = below b (and_parts (is_letter b) (list_all is_letter bs) h).0
+letter_at (b ∷ bs) h (suc i) = letter_at bs (and_parts (is_letter b) (list_all is_letter bs) h).1 i
 
 -- a text of letters
 pub is_text : (bs : List ℕ) → list_all (λ (b : ℕ). nat_lt b 128) bs ≡ true → IsUtf8 bs

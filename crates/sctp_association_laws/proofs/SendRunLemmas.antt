@@ -2,6 +2,7 @@
 use Rattle.std.proofs.Common.{◌≡◌, ℕ, ◌+◌, ◌-◌, ◌%◌, ◌^◌, ◌<◌, ◌≤◌, ◌==◌, ◌&&◌, nat_lt, nat_le, if◌then◌else◌, Bool, true, false, Option, None, List, [], ◌∷◌, ◌++◌, length, refl, ap, ◌∙◌, arith}
 use Rattle.std.specs.Prelude.{unwrap_or}
 use Rattle.std.proofs.lemmas.Bool.Decides.{nat_tests}
+use Rattle.std.proofs.lemmas.Bool.{le-leb}
 use Rattle.rand_core.specs.Stream.{next_u64}
 use Rattle.rand_core.specs.Stream as rng
 use Rattle.sctp_serial.specs.Messages.{Message}
@@ -47,9 +48,6 @@ not_large n h = grind (arith)
 short_length : (n : ℕ) → n ≤ 1000 → nat_lt (4 + (12 + n)) 65536 ≡ true
 short_length n h = grind (arith)
 
-has_room : (n most : ℕ) → n ≤ most → nat_le n most ≡ true
-has_room n most h = grind (arith)
-
 -- the first TSN is written as itself
 pub first_written : (first : ℕ) → first < 2 ^ 32 → (first + 4294967296) % 4294967296 ≡ first
 first_written first h = omega (arith, h)
@@ -74,7 +72,7 @@ data_fits tsn is_summed tag f few =
     let long : length (chunk_bytes (data_chunk tsn false f)) ≤ 7 + (12 + length f.payload) = length_chunk (data_chunk tsn false f) (12 + length f.payload) size in
     ap (λ (n : ℕ). (nat_lt (4 + n) 65536 && true) && nat_le (length (chunk_bytes (data_chunk tsn false f))) (room p)) size
     ∙ ap (λ (b : Bool). (b && true) && nat_le (length (chunk_bytes (data_chunk tsn false f))) (room p)) (short_length (length f.payload) few)
-    ∙ has_room (length (chunk_bytes (data_chunk tsn false f))) (room p) (omega (arith, long, few, length_none))
+    ∙ le-leb (length (chunk_bytes (data_chunk tsn false f))) (room p) (omega (arith, long, few, length_none))
 
 -- the queue takes it
 pub accepts_message : {P : Type 0} (pack : Packing P) (m : Message) → IsSmall m → refusal m Connected (open_a pack 2 2) ≡ None

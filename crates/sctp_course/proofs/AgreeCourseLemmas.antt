@@ -2,6 +2,7 @@
 use Rattle.std.proofs.Common.{◌≡◌, ℕ, ◌==◌, ◌||◌, Bool, true, false, Option, Some, None, List, [], ◌∷◌, ◌++◌, map, slice_get, length, drop, All, inl, inr, refl, sym, ap, subst, ◌∙◌, append-nil}
 use Rattle.std.specs.Prelude.{⊤}
 use Rattle.std.proofs.lemmas.List.Elements.{All-nil, All-cons, All-head, All-tail, All-weaker}
+use Rattle.std.proofs.lemmas.Bool.{both_ways}
 use Rattle.rand_core.specs.Stream.{Stream}
 use Rattle.sctp_packet.specs.Chunk.{ChunkTree}
 use Rattle.sctp_packet.specs.Grammar.{carried}
@@ -54,9 +55,6 @@ agreed_at : (y : Past) (s : State) (a : Association) → Agreed y (view_of s) �
 agreed_at y Closed a h n = absurd n
 agreed_at y (CookieWait tag first t1) a h n = absurd n
 agreed_at y (Open phase t) a h n = elim n [ inl e ↦ subst (λ (b : Association). Has (crossed b) y.held) (sym e) h | inr r ↦ absurd r ]
-
-no_both : {A : Type 0} (b : Bool) → b ≡ true → b ≡ false → A
-no_both b e f = cc
 
 module _ (o : Options) (x : Side) (y : Past) where
   begins : (u : Option ℕ) (px : Past) → Knows o x px y → IsUnder u (view_of (state_of x)) → InvAt (bounded o x.told u None) px y (calm x.end)
@@ -112,7 +110,7 @@ module _ (o : Options) (x : Side) (y : Past) where
           said = All-weaker (Said (past_of n e1) y) (Said (past_of m e1) y) (said_later (past_of n e1) y (past_of m e1) y l (later_same y)) (packets_in x.told) k.said;
           known = k.known;
         };
-        agrees = λ t a there. no_both (has_connected (told_since x x)) t (ap has_connected silent);
+        agrees = λ t a there. absurd (both_ways (has_connected (told_since x x)) (ap has_connected silent) t);
       }
 
 -- the other end's half stays, as this end goes on

@@ -3,6 +3,7 @@ use Rattle.std.proofs.Common.{◌≡◌, ℕ, ◌==◌, ◌&&◌, Bool, true, fa
 use Rattle.std.specs.List.{list_all}
 use Rattle.std.proofs.lemmas.Bool.Decides.{nat_tests}
 use Rattle.std.proofs.lemmas.List.Elements.{All-nil, All-cons, All-head, All-tail, All-weaker}
+use Rattle.std.proofs.lemmas.Bool.{and_parts, both_ways}
 use Rattle.sctp_packet.specs.Chunk.{ChunkTree, init_chunk, cookie_echo_chunk, abort_chunk, shutdown_complete_chunk, shutdown_ack_chunk}
 use Rattle.sctp_packet.specs.Grammar.{carried}
 use Rattle.sctp_packet.specs.Packet.{PacketTree}
@@ -24,10 +25,6 @@ use Rattle.sctp_course.proofs.AgreeCookieLemmas.{past_of, bounded, Goes, goes_he
 use Rattle.sctp_course.proofs.AgreeHearingLemmas.{Comes, goes_through, hears}
 
 -- ---- under which tag a packet is taken
-
-and_parts : (a b : Bool) → (a && b) ≡ true → (a ≡ true) × (b ≡ true)
-and_parts true b h = (refl, h)
-and_parts false b h = cc
 
 mild_carried : (c : ChunkTree) → is_mild (carried c) ≡ is_mild c
 mild_carried (init_chunk i) = refl
@@ -62,19 +59,13 @@ comes_mild : (tag : ℕ) (cs : List ChunkTree) → list_all is_mild cs ≡ true 
 comes_mild tag [] h = All-nil (Comes (Some tag) tag)
 comes_mild tag (c ∷ cs) h =
     let parts = and_parts (is_mild c) (list_all is_mild cs) h in
-    All-cons (Comes (Some tag) tag) c cs (record { answers = λ e. refl; cookies = λ e. differ (is_mild c) parts.0 e }) (comes_mild tag cs parts.1)
-  where
-    differ : {A : Type 0} (b : Bool) → b ≡ true → b ≡ false → A
-    differ b e f = cc
+    All-cons (Comes (Some tag) tag) c cs (record { answers = λ e. refl; cookies = λ e. absurd (both_ways (is_mild c) e parts.0) }) (comes_mild tag cs parts.1)
 
 comes_silent : (tag : ℕ) (cs : List ChunkTree) → list_all is_no_answer cs ≡ true → All (Comes None tag) cs
 comes_silent tag [] h = All-nil (Comes None tag)
 comes_silent tag (c ∷ cs) h =
     let parts = and_parts (is_no_answer c) (list_all is_no_answer cs) h in
-    All-cons (Comes None tag) c cs (record { answers = λ e. differ (is_no_answer c) parts.0 e; cookies = λ e. refl }) (comes_silent tag cs parts.1)
-  where
-    differ : {A : Type 0} (b : Bool) → b ≡ true → b ≡ false → A
-    differ b e f = cc
+    All-cons (Comes None tag) c cs (record { answers = λ e. absurd (both_ways (is_no_answer c) e parts.0); cookies = λ e. refl }) (comes_silent tag cs parts.1)
 
 under_own : (s : State) (tag : ℕ) → my_tag s ≡ tag → IsUnder (Some tag) (view_of s)
 under_own Closed tag e = tt

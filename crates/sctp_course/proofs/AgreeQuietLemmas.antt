@@ -1,6 +1,7 @@
 -- The acts of calls that hear nothing of an opening: what holds of an end, over every course, is kept.
 use Rattle.std.proofs.Common.{◌≡◌, ℕ, Bool, true, false, Some, None, List, [], ◌∷◌, ◌++◌, inl, inr, refl, sym, ap, subst, ◌∙◌, All, arith}
 use Rattle.std.proofs.lemmas.List.Elements.{All-nil}
+use Rattle.std.proofs.lemmas.Bool.{both_ways}
 use Rattle.sctp_packet.specs.Chunk.{ChunkTree, InitTree, init_chunk, init_ack_chunk, cookie_echo_chunk, cookie_ack_chunk, re_config_chunk}
 use Rattle.sctp_state.specs.Capabilities.{announced}
 use Rattle.sctp_state.specs.Cookie.{Cookie, CapabilitiesFit}
@@ -90,11 +91,8 @@ module _ (g : Setting) (x y : Past) (call : Call) (own : AreGiven g.own) (q : Qu
 
   -- ---- the handshake
 
-  not_so : {A : Type 0} (b : Bool) → b ≡ true → b ≡ false → A
-  not_so b e f = cc
-
   no_echo : {A : Type 0} (tag : ℕ) (k : Cookie) → IsEchoed call tag k → A
-  no_echo tag k h = not_so (opens_nothing (cookie_echo_chunk h.cookie)) (q.hears tag (cookie_echo_chunk h.cookie) h.heard) refl
+  no_echo tag k h = absurd (both_ways (opens_nothing (cookie_echo_chunk h.cookie)) refl (q.hears tag (cookie_echo_chunk h.cookie) h.heard))
 
   keeps_opening : (act : OpeningAct Carried call) → InvAt g x y (before_opening act) → InvAt g x y (after_opening act)
   keeps_opening (connects m is) inv = absurd (q.connects is)
@@ -105,11 +103,11 @@ module _ (g : Setting) (x y : Past) (call : Call) (own : AreGiven g.own) (q : Qu
       adds g x y v o m.context.pack m.context.told.events m.packet (init_chunk i) inv
       (record { own = inv.stands.own; fits = fits_init g.own o inv.size tag first own inv.options inv.stands.fits })
       (one_alone m.packet (packet_to 0 o.mtu) (init_chunk i) to (inl refl))
-  keeps_opening (answers_new tag i m h to) inv = not_so false (q.hears tag (init_chunk i) h) refl
-  keeps_opening (answers_waiting tag i my_tag first t1 m h to) inv = not_so false (q.hears tag (init_chunk i) h) refl
-  keeps_opening (answers_echoed tag i t1 cookie t m h to) inv = not_so false (q.hears tag (init_chunk i) h) refl
-  keeps_opening (answers_again tag i phase t m h late to) inv = not_so false (q.hears tag (init_chunk i) h) refl
-  keeps_opening (echoes tag i cookie my_tag first t1 m h brought) inv = not_so false (q.hears tag (init_ack_chunk i) h) refl
+  keeps_opening (answers_new tag i m h to) inv = absurd (both_ways false refl (q.hears tag (init_chunk i) h))
+  keeps_opening (answers_waiting tag i my_tag first t1 m h to) inv = absurd (both_ways false refl (q.hears tag (init_chunk i) h))
+  keeps_opening (answers_echoed tag i t1 cookie t m h to) inv = absurd (both_ways false refl (q.hears tag (init_chunk i) h))
+  keeps_opening (answers_again tag i phase t m h late to) inv = absurd (both_ways false refl (q.hears tag (init_chunk i) h))
+  keeps_opening (echoes tag i cookie my_tag first t1 m h brought) inv = absurd (both_ways false refl (q.hears tag (init_ack_chunk i) h))
   keeps_opening (adds_cookie t1 cookie t m to) inv =
       let v : View = view_of (Open (CookieEchoed t1 cookie) t) in
       let o : Options = m.context.options in
@@ -125,7 +123,7 @@ module _ (g : Setting) (x y : Past) (call : Call) (own : AreGiven g.own) (q : Qu
         under = ap (λ (p : Packet). p.tag) to;
       })
       (one_alone m.packet (packet_to t.identity.peer_tag o.mtu) (cookie_echo_chunk cookie) to (inr refl))
-  keeps_opening (establishes tag t1 cookie t m h) inv = not_so false (q.hears tag cookie_ack_chunk h) refl
+  keeps_opening (establishes tag t1 cookie t m h) inv = absurd (both_ways false refl (q.hears tag cookie_ack_chunk h))
   keeps_opening (opens tag k m h none is) inv = no_echo tag k h
   keeps_opening (restarts tag k phase t m h verdict) inv = no_echo tag k h
   keeps_opening (opens_again tag k phase t m h verdict) inv = no_echo tag k h

@@ -1,15 +1,14 @@
 -- Each act keeps what a handover asks of an end.
-use Rattle.std.proofs.Common.{◌≡◌, ℕ, ◌^◌, ◌<◌, ◌||◌, ◌==◌, ◌&&◌, not, Bool, true, false, Result, Ok, Err, List, [], ◌∷◌, ◌++◌, inl, inr, refl, sym, ap, subst, ◌∙◌, arith}
-use Rattle.std.specs.Int.{w32, from_be_bytes}
-use Rattle.std.specs.Prelude.{zero, suc, take, drop, slice_index}
+use Rattle.std.proofs.Common.{◌≡◌, ℕ, ◌^◌, ◌<◌, ◌||◌, ◌==◌, not, Bool, true, false, Result, Ok, Err, List, [], ◌∷◌, ◌++◌, inl, inr, refl, sym, ap, subst, ◌∙◌, arith}
 use Rattle.std.proofs.lemmas.Bool.Decides.{nat_tests}
+use Rattle.std.proofs.lemmas.Bool.{and_parts}
 use Rattle.sctp_serial.specs.Unwrapped.{words}
 use Rattle.sctp_packet.specs.Chunk.{ChunkTree, cookie_echo_chunk}
 use Rattle.sctp_packet.specs.Packet.{PacketTree}
 use Rattle.sctp_packet.specs.Grammar.{Each}
 use Rattle.sctp_state.specs.Capabilities.{zero_checksum_enabled}
 use Rattle.sctp_state.specs.declared.state_cookie.StateCookieError.{StateCookieError}
-use Rattle.sctp_state.specs.Cookie.{Cookie, u32_in, cookie_from, has_tags, tested, read_cookie}
+use Rattle.sctp_state.specs.Cookie.{Cookie, cookie_from, has_tags, tested, read_cookie}
 use Rattle.sctp_send_queue.specs.Queue.{Queue}
 use Rattle.sctp_send_queue.specs.Settings.{set_mode}
 use Rattle.sctp_send_queue.specs.Restarted.{reset}
@@ -20,7 +19,7 @@ use Rattle.sctp_association.specs.Handover.{method_if}
 use Rattle.sctp_association.specs.Opening.{queue_anew, queue_if, other_mode, queue_for}
 use Rattle.sctp_association.specs.Laws.{Call}
 use Rattle.sctp_association_laws.specs.HandoverRoundTrip.{IsConnected, IsNumberedOnce, CallsNumberOnce}
-use Rattle.sctp_association_laws.proofs.HeardLemmas.{IsByte, each_take, each_drop}
+use Rattle.sctp_association_laws.proofs.HeardLemmas.{IsByte, word_in_fits}
 use Rattle.sctp_course.specs.Acts.{IsHeard, IsEchoed}
 use Rattle.sctp_course.specs.Asked.{IsAssociated, IsOrdered, IsAsked, NamesPeer, HandsIn}
 use Rattle.sctp_course.proofs.StayLemmas.{Lasts, lasts_same}
@@ -45,36 +44,16 @@ pub record IsNamed (k : Cookie) : Type 0 where
   pub my_first : k.my_initial_tsn < words
   pub peer_first : k.peer_initial_tsn < words
 
-word_small : (place : ℕ) (bytes : List ℕ) → Each IsByte bytes → u32_in place bytes < 2 ^ 32
-word_small place bytes h = four (take 4 (drop place bytes)) (each_take IsByte 4 (drop place bytes) (each_drop IsByte place bytes h))
-  where
-    byte_at : (bs : List ℕ) → Each IsByte bs → (i : ℕ) → slice_index bs i < 2 ^ 8
-    byte_at [] b i = omega arith
-    byte_at (x ∷ bs) b zero = b.0
-    byte_at (x ∷ bs) b (suc i) = byte_at bs b.1 i
-
-    four : (bs : List ℕ) → Each IsByte bs → from_be_bytes w32 bs < 2 ^ 32
-    four bs b =
-        let x = byte_at bs b 0 in
-        let y = byte_at bs b 1 in
-        let z = byte_at bs b 2 in
-        let u = byte_at bs b 3 in
-        omega (arith, x, y, z, u)
-
 firsts_small : (bytes : List ℕ) → Each IsByte bytes → ((cookie_from bytes).my_initial_tsn < words) × ((cookie_from bytes).peer_initial_tsn < words)
 unfolding cookie_from
-firsts_small bytes h = (word_small 20 bytes h, word_small 16 bytes h)
+firsts_small bytes h = (word_in_fits 20 bytes h, word_in_fits 16 bytes h)
 
 not_zero : (n : ℕ) → not (n == 0) ≡ true → 0 < n
 not_zero n e = grind (arith, nat_tests)
 
-both : (a b : Bool) → (a && b) ≡ true → (a ≡ true) × (b ≡ true)
-both true b h = (refl, h)
-both false b h = absurd (cc)
-
 tags_some : (k : Cookie) → has_tags k ≡ true → (0 < k.my_tag) × (0 < k.peer_tag)
 tags_some k e =
-    let parts = both (not (k.peer_tag == 0)) (not (k.my_tag == 0)) e in
+    let parts = and_parts (not (k.peer_tag == 0)) (not (k.my_tag == 0)) e in
     (not_zero k.my_tag parts.1, not_zero k.peer_tag parts.0)
 
 tested_named : (a b c : Bool) (d k : Cookie) → has_tags d ≡ c → (d.my_initial_tsn < words) × (d.peer_initial_tsn < words) → tested a b c d ≡ Ok k → IsNamed k

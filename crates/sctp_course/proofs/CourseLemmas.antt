@@ -2,6 +2,7 @@
 use Rattle.std.proofs.Common.{◌≡◌, ℕ, ◌==◌, ◌||◌, Bool, true, false, Option, Some, None, List, [], ◌∷◌, ◌++◌, map, slice_get, All, refl, sym, ap, subst, ◌∙◌, append-nil, arith}
 use Rattle.std.proofs.lemmas.Bool.Decides.{nat_tests}
 use Rattle.std.proofs.lemmas.List.Elements.{All-nil, All-cons, All-head, All-tail, All-weaker}
+use Rattle.std.proofs.lemmas.Bool.{or_right, or_left}
 use Rattle.rand_core.specs.Stream.{Stream}
 use Rattle.sctp_packet.specs.Chunk.{ChunkTree, init_ack_chunk}
 use Rattle.sctp_packet.specs.Grammar.{carried}
@@ -152,14 +153,6 @@ all_carried g v tag (c ∷ cs) h =
     All-cons (Uttered g v tag) (carried c) (map carried cs)
     (says_carried g.other g.own (view_of g.beside) v g.other_asked tag c (All-head (Uttered g v tag) c cs h))
     (all_carried g v tag cs (All-tail (Uttered g v tag) c cs h))
-
-or_right : (a b : Bool) → b ≡ true → (a || b) ≡ true
-or_right true b e = refl
-or_right false b e = e
-
-pub or_left : (a b : Bool) → a ≡ true → (a || b) ≡ true
-or_left true b e = refl
-or_left false b e = cc
 
 is_zero : (n : ℕ) → n ≡ 0 → (n == 0) ≡ true
 is_zero n e = grind (arith, nat_tests, e)

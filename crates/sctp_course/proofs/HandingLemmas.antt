@@ -3,6 +3,7 @@ use Rattle.std.proofs.Common.{◌≡◌, ℕ, ◌≤◌, ◌||◌, ◌==◌, Boo
 use Rattle.std.proofs.Math.ListN.{drop_of_length-le}
 use Rattle.std.proofs.Math.Seq.{drop-append_seam}
 use Rattle.std.proofs.lemmas.List.{take-append-drop, length-drop}
+use Rattle.std.proofs.lemmas.Bool.{or_left}
 use Rattle.rand_core.specs.Stream.{Stream}
 use Rattle.sctp_serial.specs.Messages.{Message}
 use Rattle.sctp_packet.specs.Packet.{PacketTree}
@@ -20,7 +21,7 @@ use Rattle.sctp_course.specs.Course.{Side, Pair, emitted, Turn, Calls, Gives, Re
 use Rattle.sctp_course.specs.Handing.{ready_at, handed_by, handed_at, new_behind, handed, readied, AreHandedInOrder}
 use Rattle.sctp_course.proofs.UntilLemmas.{until_end}
 use Rattle.sctp_course.proofs.JoinActsLemmas.{Setting}
-use Rattle.sctp_course.proofs.CourseLemmas.{setting, begins, rules_call, rules_given, or_left, Halves, swapped, none_of, before_run, goes_joined, first_half}
+use Rattle.sctp_course.proofs.CourseLemmas.{setting, begins, rules_call, rules_given, Halves, swapped, none_of, before_run, goes_joined, first_half}
 use Rattle.sctp_course.proofs.HandingActsLemmas.{GoesOn, goes_nowhere, readies}
 
 -- ---- lists

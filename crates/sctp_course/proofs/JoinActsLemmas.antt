@@ -1,7 +1,8 @@
 -- What each act leaves of two ends that open an association.
-use Rattle.std.proofs.Common.{◌≡◌, ℕ, ◌||◌, ◌&&◌, Bool, true, false, List, [], ◌∷◌, ◌++◌, map, All, refl, sym, ap, subst, ◌∙◌, append_assoc, append-nil}
+use Rattle.std.proofs.Common.{◌≡◌, ℕ, ◌||◌, Bool, true, false, List, [], ◌∷◌, ◌++◌, map, All, refl, sym, ap, subst, ◌∙◌, append_assoc, append-nil}
 use Rattle.std.specs.List.{list_all}
 use Rattle.std.proofs.lemmas.List.Elements.{All-nil, All-cons, All-push, All-weaker}
+use Rattle.std.proofs.lemmas.Bool.{and_parts}
 use Rattle.sctp_packet.specs.Chunk.{ChunkTree, FragmentTree, init_chunk, init_ack_chunk, cookie_echo_chunk, cookie_ack_chunk}
 use Rattle.sctp_state.specs.Options.{Options}
 use Rattle.sctp_state.specs.Events.{Event, SendPacket, OnConnected}
@@ -17,10 +18,6 @@ use Rattle.sctp_course.proofs.JoinLemmas.{View, view_of, Says, Leads, says_leads
 
 -- ---- what is told
 
-and_right : (a b : Bool) → (a && b) ≡ true → b ≡ true
-and_right true b h = h
-and_right false b h = cc
-
 pub packets_both : (es fs : List (Event Carried)) → packets_in (es ++ fs) ≡ packets_in es ++ packets_in fs
 packets_both [] fs = refl
 packets_both (SendPacket p ∷ es) fs = ap (λ (ps : List Carried). p ∷ ps) (packets_both es fs)
@@ -29,7 +26,7 @@ packets_both (e ∷ es) fs = packets_both es fs
 pub light_packets : (es : List (Event Carried)) → list_all is_light es ≡ true → packets_in es ≡ []
 light_packets [] h = refl
 light_packets (SendPacket p ∷ es) h = cc
-light_packets (e ∷ es) h = light_packets es (and_right (is_light e) (list_all is_light es) h)
+light_packets (e ∷ es) h = light_packets es (and_parts (is_light e) (list_all is_light es) h).1
 
 pub connected_both : (es fs : List (Event Carried)) → has_connected (es ++ fs) ≡ (has_connected es || has_connected fs)
 connected_both [] fs = refl
@@ -39,7 +36,7 @@ connected_both (e ∷ es) fs = connected_both es fs
 pub light_connected : (es : List (Event Carried)) → list_all is_light es ≡ true → has_connected es ≡ false
 light_connected [] h = refl
 light_connected (OnConnected ∷ es) h = cc
-light_connected (e ∷ es) h = light_connected es (and_right (is_light e) (list_all is_light es) h)
+light_connected (e ∷ es) h = light_connected es (and_parts (is_light e) (list_all is_light es) h).1
 
 pub or_false : (b : Bool) → (b || false) ≡ b
 or_false true = refl

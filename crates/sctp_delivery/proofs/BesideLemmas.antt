@@ -17,53 +17,22 @@ use Rattle.sctp_rx_rules.proofs.NearRowLemmas.{sender_keeps}
 use Rattle.sctp_rx_rules.proofs.NearKeptLemmas.{sender_keeps_mids}
 use Rattle.sctp_association.specs.Association.{State, Closed, CookieWait, Open}
 use Rattle.sctp_delivery.proofs.ClaimLemmas.{is_receiving, GoesOn, IsWaiting, SendsIn, IsFresh, ReceivesIn}
+use Rattle.sctp_delivery.proofs.ReceiverToolLemmas.{SameSender, sender_stays}
 use Rattle.sctp_delivery.proofs.TurnLemmas.{is_outgoing, Stay}
 
 module _ (message : ℕ → Message) (lifecycle : ℕ → Option ℕ) (mixed : Bool) where
   -- ---- a receiver's rules leave the sender as it is
 
-  record SameSender (x y : Transfer) : Type 0 where
-    sender : y.sender ≡ x.sender
-    acknowledged : y.acknowledged ≡ x.acknowledged
-    reports : y.reports ≡ x.reports
-    points : y.forward_points ≡ x.forward_points
-
-  same_none : (x : Transfer) → SameSender x x
-  same_none x = record { sender = refl; acknowledged = refl; reports = refl; points = refl }
-
-  same_sender : (x : Transfer) (e : Event) → is_receiving e ≡ true → SameSender x (after message mixed x e)
-  same_sender x (data_comes t) s = record { sender = refl; acknowledged = refl; reports = refl; points = refl }
-  same_sender x (late_comes t) s = record { sender = refl; acknowledged = refl; reports = refl; points = refl }
-  same_sender x (deliver p) s = record { sender = refl; acknowledged = refl; reports = refl; points = refl }
-  same_sender x (send_sack c) s = record { sender = refl; acknowledged = refl; reports = refl; points = refl }
-  same_sender x (forward_comes f) s = record { sender = refl; acknowledged = refl; reports = refl; points = refl }
-  same_sender x (forget t c) s = record { sender = refl; acknowledged = refl; reports = refl; points = refl }
-  same_sender x accept s = cc
-  same_sender x (begin p) s = cc
-  same_sender x (number p bytes more) s = cc
-  same_sender x (close p) s = cc
-  same_sender x (give_up p) s = cc
-  same_sender x (leave c) s = cc
-  same_sender x (send_forward f) s = cc
-
-  same_along : (es : List Event) (x : Transfer) → list_all is_receiving es ≡ true → SameSender x (run message mixed x es)
-  same_along [] x h = same_none x
-  same_along (e ∷ es) x h =
-      let parts = and_parts (is_receiving e) (list_all is_receiving es) h in
-      let a = same_sender x e parts.0 in
-      let b = same_along es (after message mixed x e) parts.1 in
-      record { sender = b.sender ∙ a.sender; acknowledged = b.acknowledged ∙ a.acknowledged; reports = b.reports ∙ a.reports; points = b.points ∙ a.points }
-
-  waits_again : (x y : Transfer) (q : Queue) → SameSender x y → IsWaiting message lifecycle mixed q x → IsWaiting message lifecycle mixed q y
+  waits_again : (x y : Transfer) (q : Queue) → SameSender message mixed x y → IsWaiting message lifecycle mixed q x → IsWaiting message lifecycle mixed q y
   waits_again x y q s h = record {
     sender = subst (λ (o : Sender). o ≡ record new_sender { accepted = o.accepted }) (sym s.sender) h.sender;
     acknowledged = s.acknowledged ∙ h.acknowledged;
-    no_points = s.points ∙ h.no_points;
+    no_points = s.forward_points ∙ h.no_points;
     no_reports = s.reports ∙ h.no_reports;
     shows = shown_again message lifecycle false x y q (no_items false false) s.sender s.acknowledged h.shows;
   }
 
-  sends_again : (s : State) (q : Queue) (x y : Transfer) → SameSender x y → SendsIn message lifecycle mixed s q x → SendsIn message lifecycle mixed s q y
+  sends_again : (s : State) (q : Queue) (x y : Transfer) → SameSender message mixed x y → SendsIn message lifecycle mixed s q x → SendsIn message lifecycle mixed s q y
   sends_again Closed q x y e h = waits_again x y q e h
   sends_again (CookieWait tag first t1) q x y e h = waits_again x y q e h
   sends_again (Open phase t) q x y e h = record {
@@ -74,7 +43,7 @@ module _ (message : ℕ → Message) (lifecycle : ℕ → Option ℕ) (mixed : B
   }
 
   sends_stay : (s : State) (q : Queue) (x y : Transfer) → Kept message mixed x → GoesOn message mixed is_receiving x y → SendsIn message lifecycle mixed s q x → SendsIn message lifecycle mixed s q y
-  sends_stay s q x y k g h = sends_again s q x y (subst (λ (z : Transfer). SameSender x z) g.leads (same_along g.events x g.all)) h
+  sends_stay s q x y k g h = sends_again s q x y (sender_stays message mixed x y g) h
 
   -- ---- a sender's rules, and acceptance, leave the receiver as it is
 

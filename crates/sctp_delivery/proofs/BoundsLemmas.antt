@@ -1,8 +1,7 @@
 -- Whether a course keeps the windows, computed; and a course that does, in which two messages are delivered.
-use Rattle.std.proofs.Common.{◌≡◌, ℕ, ◌+◌, ◌^◌, ◌<◌, ◌≤◌, ◌&&◌, ◌||◌, Bool, true, false, Option, Some, None, List, [], ◌∷◌, length, slice_get, All, refl, ap, subst, arith}
+use Rattle.std.proofs.Common.{◌≡◌, ℕ, ◌+◌, ◌^◌, ◌<◌, ◌&&◌, ◌||◌, Bool, true, false, Option, Some, None, List, [], ◌∷◌, length, slice_get, All, refl, ap, subst}
 use Rattle.std.specs.Prelude.{nat_lt, nat_le}
-use Rattle.std.proofs.lemmas.Bool.{and_parts}
-use Rattle.std.proofs.lemmas.Bool.Decides.{nat_tests}
+use Rattle.std.proofs.lemmas.Bool.{and_parts, leb-true, ltb-true}
 use Rattle.std.proofs.lemmas.List.Elements.{All-nil, All-cons}
 use Rattle.rand_core.specs.Stream.{next_u32, next_u64}
 use Rattle.sctp_wire.specs.Fields.{be16, be32, be64}
@@ -29,12 +28,6 @@ use Rattle.sctp_delivery.specs.Delivery.{plain, TwoAreDelivered}
 
 -- ---- an end
 
-pub lt_true : (n m : ℕ) → nat_lt n m ≡ true → n < m
-lt_true n m e = grind (arith, nat_tests, e)
-
-le_true : (n m : ℕ) → nat_le n m ≡ true → n ≤ m
-le_true n m e = grind (arith, nat_tests, e)
-
 unfoldable pub near_next : Queue → Item → Bool
 near_next q i = i.fragment.is_unordered || nat_lt (stream i.fragment.stream_id q.streams).next_ordered_mid (origin + i.fragment.mid + 32000)
 
@@ -49,7 +42,7 @@ all_near q (i ∷ is) = near_next q i && all_near q is
 near_true : (q : Queue) (i : Item) → near_next q i ≡ true → IsNearNext q i
 unfolding near_next
 near_true q i h e =
-    lt_true (stream i.fragment.stream_id q.streams).next_ordered_mid (origin + i.fragment.mid + 32000)
+    ltb-true (stream i.fragment.stream_id q.streams).next_ordered_mid (origin + i.fragment.mid + 32000)
     (or_second i.fragment.is_unordered (nat_lt (stream i.fragment.stream_id q.streams).next_ordered_mid (origin + i.fragment.mid + 32000)) h e)
 
 all_near_true : (q : Queue) (is : List Item) → all_near q is ≡ true → All (IsNearNext q) is
@@ -71,9 +64,9 @@ within_true q t h =
     let first = and_parts (nat_le (length t.sender.outstanding.items.kept) (2 ^ 30)) (all_near q t.sender.outstanding.items.kept && nat_lt n (origin + 2 ^ 62)) h in
     let rest = and_parts (all_near q t.sender.outstanding.items.kept) (nat_lt n (origin + 2 ^ 62)) first.1 in
     record {
-      items = le_true (length t.sender.outstanding.items.kept) (2 ^ 30) first.0;
+      items = leb-true (length t.sender.outstanding.items.kept) (2 ^ 30) first.0;
       messages = all_near_true q t.sender.outstanding.items.kept rest.0;
-      fragments = lt_true n (origin + 2 ^ 62) rest.1;
+      fragments = ltb-true n (origin + 2 ^ 62) rest.1;
     }
 
 unfoldable pub is_within : State → Queue → Bool
@@ -96,7 +89,7 @@ young_true : (now old : Stamp) → is_young now old ≡ true → IsYoung now old
 unfolding is_young
 young_true now old h =
     let parts = and_parts (nat_lt now.a (old.a + 2 ^ 30)) (nat_lt now.b (old.b + 2 ^ 30)) h in
-    record { a = lt_true now.a (old.a + 2 ^ 30) parts.0; b = lt_true now.b (old.b + 2 ^ 30) parts.1 }
+    record { a = ltb-true now.a (old.a + 2 ^ 30) parts.0; b = ltb-true now.b (old.b + 2 ^ 30) parts.1 }
 
 unfoldable pub young_if : Stamp → Option Stamp → Bool
 young_if now None = true
@@ -148,8 +141,8 @@ windows_are = refl
 
 few_accepted : (from_a : Bool) → length (accepted from_a two_come at_first) < 2 ^ 32
 unfolding next_u32 next_u64 be16 be32 be64 padded_item inner_items parameter_value cause_value cause_text joined chunk_bytes chunks_bytes chunk_value data_value idata_value init_fields block_bytes sack_value skip_bytes forward_value cookie_bytes capability_bytes cookie_from read_cookie ticked
-few_accepted true = lt_true 2 (2 ^ 32) refl
-few_accepted false = lt_true 0 (2 ^ 32) refl
+few_accepted true = ltb-true 2 (2 ^ 32) refl
+few_accepted false = ltb-true 0 (2 ^ 32) refl
 
 two_accepted : accepted true two_come at_first ≡ plain 97 ∷ plain 98 ∷ []
 unfolding next_u32 next_u64 be16 be32 be64 padded_item inner_items parameter_value cause_value cause_text joined chunk_bytes chunks_bytes chunk_value data_value idata_value init_fields block_bytes sack_value skip_bytes forward_value cookie_bytes capability_bytes cookie_from read_cookie ticked

@@ -1,6 +1,7 @@
 -- Each turn of the receiver's end leaves the direction at a later state of the rules.
 use Rattle.std.proofs.Common.{◌≡◌, ℕ, ◌+◌, ◌^◌, ◌<◌, ◌≤◌, ◌==◌, ◌||◌, Bool, true, false, Option, Some, None, List, [], ◌∷◌, ◌++◌, take, slice_get, All, refl, sym, ap, subst, append-nil}
 use Rattle.std.proofs.lemmas.List.Elements.{All-nil}
+use Rattle.std.proofs.lemmas.Bool.{or_left}
 use Rattle.sctp_serial.specs.Messages as messages
 use Rattle.sctp_packet.specs.Chunk.{ChunkTree}
 use Rattle.sctp_packet.specs.Packet.{PacketTree}
@@ -20,7 +21,7 @@ use Rattle.sctp_course.specs.Course.{Side, packets_in, emitted, Turn, Calls, Giv
 use Rattle.sctp_course.specs.Handing.{handed_by}
 use Rattle.sctp_course.proofs.JoinActsLemmas.{Setting}
 use Rattle.sctp_course.proofs.JoinKeepsLemmas.{Rules}
-use Rattle.sctp_course.proofs.CourseLemmas.{setting, begins, rules_call, rules_given, or_left, Halves, swapped, none_of}
+use Rattle.sctp_course.proofs.CourseLemmas.{setting, begins, rules_call, rules_given, Halves, swapped, none_of}
 use Rattle.sctp_course.proofs.HandingLemmas.{hands}
 use Rattle.sctp_delivery.specs.Windows.{Stamp, IsYoung, IsTimely, IsWithin, queue_of, numbered, stamped, resets}
 use Rattle.sctp_delivery.proofs.ClaimLemmas.{is_receiving, SaysIn, first_out, first_in, ReceivesIn, ReceiverClaim, HearsData, ReceiverGoes, ReceiverPremises}

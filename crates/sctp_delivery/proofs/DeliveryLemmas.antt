@@ -1,6 +1,7 @@
 -- Along a course each direction is a run of the rules, turn by turn, and at each point what became ready fits.
-use Rattle.std.proofs.Common.{◌≡◌, ℕ, ◌+◌, ◌^◌, ◌<◌, ◌||◌, not, Bool, true, false, Option, Some, None, List, [], ◌∷◌, ◌++◌, length, map, slice_get, refl, sym, ap, subst, ◌∙◌, append-nil, append_assoc, length-append, arith}
+use Rattle.std.proofs.Common.{◌≡◌, ℕ, ◌+◌, ◌^◌, ◌<◌, not, Bool, true, false, Option, Some, None, List, [], ◌∷◌, ◌++◌, length, map, slice_get, refl, sym, ap, subst, ◌∙◌, append-nil, append_assoc, length-append, arith}
 use Rattle.std.specs.List.{list_any}
+use Rattle.std.proofs.lemmas.Bool.{or_parts}
 use Rattle.sctp_serial.specs.Messages as messages
 use Rattle.sctp_packet.specs.Packet.{PacketTree}
 use Rattle.sctp_state.specs.Options.{Options}
@@ -142,10 +143,6 @@ first_turn (e ∷ es) d = e
 abbrev other_turns : List (Bool × Turn) → List (Bool × Turn)
 other_turns [] = []
 other_turns (e ∷ es) = es
-
-or_parts : (p q : Bool) → (p || q) ≡ false → (p ≡ false) × (q ≡ false)
-or_parts true q h = cc
-or_parts false q h = (refl, h)
 
 module _ (all : List Offer) (mixed : Bool) (parts : Parts (message_of all) (lifecycle_of all) mixed) (a b : Options) (own : AreGiven a) (other : AreGiven b)
     (mode : mixed ≡ (agreed a b).message_interleaving) (few : length all < 2 ^ 32) (from_a : Bool) where

@@ -1,7 +1,6 @@
 -- At one point of a course: what became ready fits, and what became of the other messages.
 use Rattle.std.proofs.Common.{◌≡◌, ℕ, ◌<◌, ◌==◌, not, Bool, true, false, inl, inr, Option, Some, None, List, [], ◌∷◌, ◌++◌, length, map, take, slice_get, refl, sym, ap, subst, ◌∙◌, arith}
-use Rattle.std.proofs.lemmas.Bool.{or_cases, or_left, or_right}
-use Rattle.std.proofs.lemmas.Bool.Decides.{nat_tests}
+use Rattle.std.proofs.lemmas.Bool.{or_cases, or_left, or_right, eq-eqb, eqb-true}
 use Rattle.std.proofs.lemmas.Option.{slice_get_cases}
 use Rattle.sctp_serial.specs.Messages as messages
 use Rattle.sctp_send_queue.specs.Queue.{Queue, is_empty}
@@ -38,12 +37,6 @@ record Reported (lifecycle : ℕ → Option ℕ) (ps : List ℕ) (id : ℕ) : Ty
   among : has place ps ≡ true
   its_id : lifecycle place ≡ Some id
 
-is_same : (p q : ℕ) → (p == q) ≡ true → p ≡ q
-is_same p q h = grind (arith, nat_tests, h)
-
-same_is : (p : ℕ) → (p == p) ≡ true
-same_is p = grind (arith, nat_tests)
-
 reported_behind : (lifecycle : ℕ → Option ℕ) (p : ℕ) (ps : List ℕ) (id : ℕ) → Reported lifecycle ps id → Reported lifecycle (p ∷ ps) id
 reported_behind lifecycle p ps id r = record { place = r.place; among = or_right (r.place == p) (has r.place ps) r.among; its_id = r.its_id }
 
@@ -56,7 +49,7 @@ reported_at lifecycle (p ∷ ps) id h = by_id (lifecycle p) refl h (reported_at 
     by_id None e h rest = reported_behind lifecycle p ps id (rest h)
     by_id (Some k) e h rest =
         elim (or_cases (id == k) (has id (ids_at lifecycle ps)) h) [
-          | inl same ↦ record { place = p; among = or_left (p == p) (has p ps) (same_is p); its_id = e ∙ ap (λ (n : ℕ). Some n) (sym (is_same id k same)) }
+          | inl same ↦ record { place = p; among = or_left (p == p) (has p ps) (eq-eqb p p refl); its_id = e ∙ ap (λ (n : ℕ). Some n) (sym (eqb-true id k same)) }
           | inr later ↦ reported_behind lifecycle p ps id (rest later)
         ]
 

@@ -2,6 +2,7 @@
 -- association ends. Messages are offered and handed out elsewhere.
 use Rattle.std.proofs.Common.{◌≡◌, Bool, true, false, refl, ap, ◌∙◌}
 use Rattle.std.specs.Prelude.{⊤}
+use Rattle.std.proofs.lemmas.Bool.{both_ways}
 use Rattle.sctp_state.specs.Events.{OnClosed}
 use Rattle.sctp_association.specs.Association.{Endpoint}
 use Rattle.sctp_association.specs.Laws.{Call, Connect, Close, Shutdown, Send, SendMany, ResetStreams, TakeMessage, SetLowThreshold, SetPriority, SetMaxMessageSize, Advance, HandOver, Restore, Packet, NoPacket, called}
@@ -72,10 +73,7 @@ abbrev pub Joined : Setting → (Making Carried → Making Carried → Type 0) �
 Joined g R a b = InvAt g a → InvAt g b × R a b
 
 not_other : (call c : Call) → is_other call ≡ true → call ≡ c → is_other c ≡ false → ⊥
-not_other call c other e f = not_both (is_other call) other (ap is_other e ∙ f)
-  where
-    not_both : (b : Bool) → b ≡ true → b ≡ false → ⊥
-    not_both b e f = cc
+not_other call c other e f = (both_ways (is_other call) (ap is_other e ∙ f) other)
 
 module _ (g : Setting) (call : Call) (r : Rules g call) (other : is_other call ≡ true) {R : Making Carried → Making Carried → Type 0} (k : KeepsJoined g call R) where
   j : KeepsUntilEnd call (λ a b. InvAt g a → InvAt g b)

@@ -2,6 +2,7 @@
 use Rattle.std.proofs.Common.{◌≡◌, ℕ, ◌+◌, ◌-◌, ◌^◌, ◌<◌, ◌≤◌, ◌==◌, ◌||◌, not, Bool, true, false, Option, Some, None, List, [], ◌∷◌, ◌++◌, length, replicate, take, slice_get, All, refl, sym, ap, subst, ◌∙◌, append-nil, append_assoc, arith}
 use Rattle.std.specs.Prelude.{⊤}
 use Rattle.std.proofs.lemmas.List.Elements.{All-nil}
+use Rattle.std.proofs.lemmas.Bool.{or_left}
 use Rattle.sctp_serial.specs.Messages as messages
 use Rattle.sctp_packet.specs.Chunk.{ChunkTree}
 use Rattle.sctp_packet.specs.Packet.{PacketTree}
@@ -26,7 +27,7 @@ use Rattle.sctp_course.specs.Acts.{Making, calm, HasNoEnd}
 use Rattle.sctp_course.specs.Course.{Side, packets_in, emitted, Turn, Calls, Gives, Refuses, as_heard, given, foreign_if, turned, MayCall, MayTurn, AreGiven, state_of}
 use Rattle.sctp_course.proofs.JoinActsLemmas.{Setting, InvAt}
 use Rattle.sctp_course.proofs.JoinKeepsLemmas.{Rules}
-use Rattle.sctp_course.proofs.CourseLemmas.{setting, begins, rules_call, rules_given, or_left, Halves, none_of}
+use Rattle.sctp_course.proofs.CourseLemmas.{setting, begins, rules_call, rules_given, Halves, none_of}
 use Rattle.sctp_course.proofs.HandingLemmas.{hands}
 use Rattle.sctp_delivery.specs.Accepted.{Offer, accepted_by, accepted_in}
 use Rattle.sctp_delivery.specs.GivenUp.{told_of, told_given, told_foreign, given_up_by}

@@ -1,9 +1,10 @@
 -- No message that is accepted is longer than its end's limit, which fits 32 bits as long as none is set that doesn't.
-use Rattle.std.proofs.Common.{◌≡◌, ℕ, ◌^◌, ◌<◌, ◌||◌, Bool, true, false, Option, Some, None, List, [], ◌∷◌, length, slice_get, All, refl, sym, ap, ◌∙◌, arith}
+use Rattle.std.proofs.Common.{◌≡◌, ℕ, ◌^◌, ◌<◌, Bool, true, false, Option, Some, None, List, [], ◌∷◌, length, slice_get, All, refl, sym, ap, ◌∙◌, arith}
 use Rattle.std.specs.Prelude.{nat_lt, nat_le}
 use Rattle.std.specs.List.{list_any}
 use Rattle.std.proofs.lemmas.Bool.Decides.{nat_tests}
 use Rattle.std.proofs.lemmas.List.Elements.{All-nil, All-cons, All-append}
+use Rattle.std.proofs.lemmas.Bool.{or_parts}
 use Rattle.rand_core.specs.Stream.{Stream}
 use Rattle.sctp_serial.specs.Messages.{Message}
 use Rattle.sctp_packet.specs.Packet.{PacketTree}
@@ -221,13 +222,9 @@ all_short_at false true t w a b = All-nil IsShort
 pub accepted_short : (x : Bool) (es : List (Bool × Turn)) (w : Pair) → KeepsLimits es → IsLimited w.a → IsLimited w.b → All IsShort (accepted x es w)
 accepted_short x [] w k a b = All-nil IsShort
 accepted_short x (e ∷ es) w k a b =
-    let both = neither (sets_more e.1) (list_any (λ (e : Bool × Turn). sets_more e.1) es) k in
+    let both = or_parts (sets_more e.1) (list_any (λ (e : Bool × Turn). sets_more e.1) es) k in
     let on = limited_goes e.0 e.1 w both.0 a b in
     All-append IsShort (accepted_at x e.0 e.1 w) (accepted x es (goes e.0 e.1 w)) (all_short_at x e.0 e.1 w a b) (accepted_short x es (goes e.0 e.1 w) both.1 on.0 on.1)
-  where
-    neither : (p q : Bool) → (p || q) ≡ false → (p ≡ false) × (q ≡ false)
-    neither true q h = cc
-    neither false q h = (refl, h)
 
 limited_new : (o : Options) (words : Stream) → AreGiven o → IsLimited (new_side o words)
 limited_new o words h = let l = h.valid.sizes.message in omega (arith, l)

@@ -2,6 +2,8 @@
 use Rattle.std.proofs.Common.{◌≡◌, ℕ, ◌+◌, ◌==◌, ◌^◌, ◌<◌, not, Bool, true, false, Option, Some, None, List, [], ◌∷◌, ◌++◌, length, refl, sym, ap, subst, ◌∙◌, length-append, arith}
 use Rattle.std.specs.Prelude.{unwrap_or}
 use Rattle.std.proofs.lemmas.Bool.Decides.{nat_tests}
+use Rattle.std.proofs.lemmas.Bool.{true≢false}
+use Rattle.std.proofs.Math.Bool.{not-not}
 use Rattle.sctp_serial.specs.Messages as messages
 use Rattle.sctp_state.specs.declared.api.SocketState.{SocketState}
 use Rattle.sctp_state.specs.declared.api.errors.SendError.{SendError}
@@ -60,10 +62,6 @@ queued_as p m lifecycle expires limit = record {
   fsn = 0;
 }
 
-not_not : (b : Bool) → not (not b) ≡ b
-not_not true = refl
-not_not false = refl
-
 abbrev offer_of : messages.Message → SendOptions → Offer
 offer_of m how = record { message = m; options = how }
 
@@ -73,7 +71,7 @@ module _ (message : ℕ → Message) (lifecycle : ℕ → Option ℕ) (p now : �
   queued_is n e =
       let expires : Option ℕ = expiry_of now how.lifetime in
       let limit : ℕ = unwrap_or how.max_retransmissions 65535 in
-      ap (λ (b : Bool). record (queued n now m how) { is_unordered = b }) (sym (not_not how.unordered))
+      ap (λ (b : Bool). record (queued n now m how) { is_unordered = b }) (sym (not-not how.unordered))
       ∙ (ap (λ (k : ℕ). queued_as k (message_in (offer_of m how)) how.lifecycle_id expires limit) e
       ∙ (ap (λ (z : Message). queued_as p z how.lifecycle_id expires limit) (sym is) ∙ ap (λ (z : Option ℕ). queued_as p (message p) z expires limit) (sym id)))
 
@@ -98,16 +96,13 @@ module _ (message : ℕ → Message) (lifecycle : ℕ → Option ℕ) (mixed : B
         runs = λ e. record {
           next_same = λ t l f. absurd (omega (arith, none, l));
           tail_partly = λ t l f. absurd (omega (arith, none, l));
-          single = λ p q f g. absurd (not_both (sym f ∙ ap (λ (o : Sender). o.partly p) h.sender));
+          single = λ p q f g. absurd (true≢false (sym f ∙ ap (λ (o : Sender). o.partly p) h.sender));
         };
         acknowledged_true = k.acknowledged_true;
         sacks_true = k.sacks_true;
         forwards_true = λ f a. absurd (subst (λ z. IsAmong f z) h.no_points a);
         reports_true = k.reports_true;
       }
-    where
-      not_both : true ≡ false → ⊥
-      not_both e = cc
 
   module _ (x : Transfer) (kept : Kept message mixed x) (p_few : x.sender.accepted + 1 < 2 ^ 32) (expires : Option ℕ) (limit : ℕ) (some : 0 < length (message x.sender.accepted).payload) where
     abbrev next_queue : Queue → Queue

@@ -1,7 +1,7 @@
 -- Each act but for an acceptance leaves what an end knows of its messages, and makes right records alone.
-use Rattle.std.proofs.Common.{◌≡◌, ℕ, ◌≤◌, ◌||◌, nat_lt, Bool, true, false, Option, Some, None, List, [], ◌∷◌, length, slice_get, refl, sym, subst, arith}
+use Rattle.std.proofs.Common.{◌≡◌, ℕ, ◌≤◌, ◌||◌, Bool, true, false, Option, Some, None, List, [], ◌∷◌, length, slice_get, refl, sym, subst, arith}
 use Rattle.std.specs.List.{AllByRecursion}
-use Rattle.std.proofs.lemmas.Bool.Decides.{nat_tests}
+use Rattle.std.proofs.lemmas.Bool.{ltb-false}
 use Rattle.sctp_serial.specs.Messages.{Message}
 use Rattle.sctp_serial.specs.Time.{later}
 use Rattle.sctp_state.specs.Numbers.{ms}
@@ -93,9 +93,6 @@ pub record Sound (accepted : List Acceptance) (kept : List Item) (now : ℕ) (q 
 
 abbrev pub SoundAt : List Acceptance → Making Carried → Type 0
 SoundAt accepted m = Sound accepted (kept_in m.state) m.context.now m.context.queue m.context.told.gone
-
-not_before : (a b : ℕ) → nat_lt a b ≡ false → b ≤ a
-not_before a b e = grind (arith, nat_tests)
 
 module _ (accepted : List Acceptance) where
   abbrev pub Onward : (before after : Making Carried) → Type 0
@@ -217,7 +214,7 @@ module _ (accepted : List Acceptance) where
 
     sound_time : (act : TimeAct Carried call) → Onward (before_time act) (after_time act)
     sound_time (advances now m is on) h =
-        record { holds = h.holds; stay = h.stay; proper = proper_on accepted m.context.now now m.context.told.gone (not_before now m.context.now on) h.proper }
+        record { holds = h.holds; stay = h.stay; proper = proper_on accepted m.context.now now m.context.told.gone (ltb-false now m.context.now on) h.proper }
     sound_time (delay_ends phase t m) h = h
     sound_time (times_out phase t m due) h =
         onward t.sender _ m.context.now m.context.queue m.context.told _

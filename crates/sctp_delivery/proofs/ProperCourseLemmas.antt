@@ -2,6 +2,7 @@
 use Rattle.std.proofs.Common.{◌≡◌, ℕ, ◌^◌, ◌<◌, ◌||◌, Bool, true, false, Option, Some, None, List, [], ◌∷◌, ◌++◌, length, map, slice_get, refl, sym, ap, subst, ◌∙◌, append_assoc, append-nil}
 use Rattle.std.specs.List.{AllByRecursion, list_any}
 use Rattle.std.proofs.lemmas.List.{length-map, map-append}
+use Rattle.std.proofs.lemmas.Bool.{both_ways}
 use Rattle.rand_core.specs.Stream.{Stream}
 use Rattle.sctp_serial.specs.Messages.{Message}
 use Rattle.sctp_packet.specs.Packet.{PacketTree}
@@ -45,10 +46,7 @@ is_steady (Packet p) = true
 is_steady NoPacket = true
 
 not_steady : (call c : Call) → is_steady call ≡ true → call ≡ c → is_steady c ≡ false → ⊥
-not_steady call c e same f = not_both (is_steady call) e (ap is_steady same ∙ f)
-  where
-    not_both : (b : Bool) → b ≡ true → b ≡ false → ⊥
-    not_both b e f = cc
+not_steady call c e same f = (both_ways (is_steady call) (ap is_steady same ∙ f) e)
 
 no_offer : (call : Call) → is_steady call ≡ true → (m : Message) (o : SendOptions) → IsOffered call m o → ⊥
 no_offer call e m o (alone is) = not_steady call (Send m o) e is refl

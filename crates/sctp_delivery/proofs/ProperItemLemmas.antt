@@ -1,9 +1,9 @@
 -- What is known of the message of a kept item stays known until the item is given up; and where a message is given up for an
 -- item, the record is right.
-use Rattle.std.proofs.Common.{◌≡◌, ℕ, zero, suc, ◌-◌, ◌≤◌, ◌&&◌, ◌||◌, not, nat_lt, nat_le, Bool, true, false, cond, Option, Some, None, List, [], ◌∷◌, ◌++◌, length, map, drop, slice_get, refl, subst, sym, ◌∙◌, arith}
+use Rattle.std.proofs.Common.{◌≡◌, ℕ, zero, suc, ◌-◌, ◌≤◌, ◌&&◌, ◌||◌, not, nat_lt, nat_le, Bool, true, false, cond, Option, Some, None, List, [], ◌∷◌, ◌++◌, length, map, drop, slice_get, refl, subst, sym, ◌∙◌}
 use Rattle.std.specs.Prelude.{unwrap_or, option_map}
 use Rattle.std.specs.List.{AllByRecursion}
-use Rattle.std.proofs.lemmas.Bool.Decides.{nat_tests}
+use Rattle.std.proofs.lemmas.Bool.{and_parts, leb-true}
 use Rattle.sctp_packet.specs.declared.sack.GapAckBlock.{GapAckBlock}
 use Rattle.sctp_packet.specs.Covered.{is_covered}
 use Rattle.sctp_packet.specs.Chunk.{FragmentTree}
@@ -12,7 +12,7 @@ use Rattle.sctp_state.specs.declared.api.GivenUpCause.TheVariants.{Lifetime, Ret
 use Rattle.sctp_state.specs.Events.{GivenUp, Told}
 use Rattle.sctp_outstanding.specs.declared.item.ItemState.{ItemState}
 use Rattle.sctp_outstanding.specs.declared.item.ItemState.TheVariants.{InFlight, Missing, Queued, QueuedFast, Acked, GivenUp as Gone}
-use Rattle.sctp_outstanding.specs.Item.{Item, flies, lacks, is_gone, is_of, is_fast, is_lost, is_used_up, is_nacked, is_outstanding, should_be_retransmitted, has_expired, acked, uncovered, nacked, resent as resent_state, slowed, ack, uncover, nack, abandon, mark_as_retransmitted, miss_fast}
+use Rattle.sctp_outstanding.specs.Item.{Item, flies, lacks, is_gone, is_of, is_fast, is_lost, is_used_up, is_nacked, is_outstanding, should_be_retransmitted, has_expired, ack, uncover, nack, abandon, mark_as_retransmitted, miss_fast}
 use Rattle.sctp_outstanding.specs.Item as item
 use Rattle.sctp_outstanding.specs.Items.{Items, change_at, lay_down, last_of}
 use Rattle.sctp_outstanding.specs.Losses.{placeholder, placeholders, abandon_message, Step, first_step, given_up, change_items, loses, gives_up, nack_item, nack_below, nack_all, expires, expired_of, option_bind, given_up_if, expire_below, expire_outstanding}
@@ -26,20 +26,10 @@ use Rattle.sctp_tx.specs.Retransmission.{Sender, sender_if, told_if, timed_out_s
 use Rattle.sctp_tx.specs.Resent.{resent, resent_fast, may_send_new, timed_if, send_fast}
 use Rattle.sctp_tx.specs.ForwardPoints.{expired}
 use Rattle.sctp_tx.specs.Sending.{Filling, offered, item_of, appended, Turned, turned_if, turned, fill, discard_all, without_discards, filled_with, send}
+use Rattle.sctp_tx_rules.proofs.ItemsLemmas.{acked_same, uncovered_same, resent_same, slowed_same, nacked_same}
 use Rattle.sctp_delivery.proofs.ProperQueueLemmas.{Holds, Makes, Turns, all_behind, due_right, same_discards, holds_discards, produces}
 
 -- ---- tests
-
-first : (a b : Bool) → (a && b) ≡ true → a ≡ true
-first true b e = refl
-first false b e = cc
-
-second : (a b : Bool) → (a && b) ≡ true → b ≡ true
-second true b e = e
-second false b e = cc
-
-at_most : (a b : ℕ) → nat_le a b ≡ true → a ≤ b
-at_most a b e = grind (arith, nat_tests)
 
 same_due : (now : ℕ) (o : Option ℕ) → queued.is_due now o ≡ item.is_due now o
 same_due now None = refl
@@ -63,51 +53,6 @@ lacks_stays Acked e = refl
 lacks_stays Gone e = cc
 
 -- ---- an item that changes is given up where it was before
-
-acked_same : (s : ItemState) → is_gone (acked s) ≡ is_gone s
-acked_same InFlight = refl
-acked_same Missing = refl
-acked_same Queued = refl
-acked_same QueuedFast = refl
-acked_same Acked = refl
-acked_same Gone = refl
-
-uncovered_same : (s : ItemState) → is_gone (uncovered s) ≡ is_gone s
-uncovered_same InFlight = refl
-uncovered_same Missing = refl
-uncovered_same Queued = refl
-uncovered_same QueuedFast = refl
-uncovered_same Acked = refl
-uncovered_same Gone = refl
-
-resent_same : (s : ItemState) → is_gone (resent_state s) ≡ is_gone s
-resent_same InFlight = refl
-resent_same Missing = refl
-resent_same Queued = refl
-resent_same QueuedFast = refl
-resent_same Acked = refl
-resent_same Gone = refl
-
-slowed_same : (s : ItemState) → is_gone (slowed s) ≡ is_gone s
-slowed_same InFlight = refl
-slowed_same Missing = refl
-slowed_same Queued = refl
-slowed_same QueuedFast = refl
-slowed_same Acked = refl
-slowed_same Gone = refl
-
-nacked_stays : (lost fast : Bool) → is_gone (nacked lost fast) ≡ false
-nacked_stays true true = refl
-nacked_stays true false = refl
-nacked_stays false fast = refl
-
-nacked_same : (lost fast : Bool) (s : ItemState) → is_gone (cond (flies s) (nacked lost fast) s) ≡ is_gone s
-nacked_same lost fast InFlight = nacked_stays lost fast
-nacked_same lost fast Missing = nacked_stays lost fast
-nacked_same lost fast Queued = refl
-nacked_same lost fast QueuedFast = refl
-nacked_same lost fast Acked = refl
-nacked_same lost fast Gone = refl
 
 module _ (Known : ℕ → Option ℕ → ℕ → Type 0) where
   abbrev pub Stays : Item → Type 0
@@ -234,11 +179,11 @@ module _ {P : Type 0} (Known : ℕ → Option ℕ → ℕ → Type 0) (Right : G
   nacks_item : (b at_once fast is_lossy : Bool) (k : ℕ) (i : Item) (x : Step P) → gives_up x.items.is_partial at_once i ≡ b → Stays Known i → Fares x
       → Fares (cond b (given_up i.number (Retransmissions (i.sent - 1)) x) (record x { items = change_items k (nack at_once fast) x.items; is_lossy = is_lossy }))
   nacks_item true at_once fast is_lossy k i x e s h =
-      let lost : loses at_once i ≡ true = first (loses at_once i) (x.items.is_partial && is_used_up i) e in
-      let flown : flies i.state ≡ true = first (is_outstanding i) (is_lost at_once i) lost in
-      let spent : is_used_up i ≡ true = second x.items.is_partial (is_used_up i) (second (loses at_once i) (x.items.is_partial && is_used_up i) e) in
+      let lost : loses at_once i ≡ true = (and_parts (loses at_once i) (x.items.is_partial && is_used_up i) e).0 in
+      let flown : flies i.state ≡ true = (and_parts (is_outstanding i) (is_lost at_once i) lost).0 in
+      let spent : is_used_up i ≡ true = (and_parts x.items.is_partial (is_used_up i) (and_parts (loses at_once i) (x.items.is_partial && is_used_up i) e).1).1 in
       gives i.number (Retransmissions (i.sent - 1)) x
-      (used i.number i.limit (i.sent - 1) i.expires (s (flies_stays i.state flown)) (at_most i.limit (i.sent - 1) spent)) h
+      (used i.number i.limit (i.sent - 1) i.expires (s (flies_stays i.state flown)) (leb-true i.limit (i.sent - 1) spent)) h
   nacks_item false at_once fast is_lossy k i x e s h =
       record { stay = changed Known (nack at_once fast) k x.items.kept (nack_stays Known at_once fast) h.stay; right = h.right }
 
@@ -257,9 +202,9 @@ module _ {P : Type 0} (Known : ℕ → Option ℕ → ℕ → Type 0) (Right : G
   expires_item : (b : Bool) (i : Item) (x : Step P) → (x.items.is_partial && expires now i) ≡ b → Stays Known i → Fares x
       → Fares (given_up_if (cond b (Some i.number) None) x)
   expires_item true i x e s h =
-      let over : expires now i ≡ true = second x.items.is_partial (expires now i) e in
-      let lost : lacks i.state ≡ true = first (is_nacked i) (has_expired now i) over in
-      let due : has_expired now i ≡ true = second (is_nacked i) (has_expired now i) over in
+      let over : expires now i ≡ true = (and_parts x.items.is_partial (expires now i) e).1 in
+      let lost : lacks i.state ≡ true = (and_parts (is_nacked i) (has_expired now i) over).0 in
+      let due : has_expired now i ≡ true = (and_parts (is_nacked i) (has_expired now i) over).1 in
       gives i.number Lifetime x
       (due_right Known Right now late i.number i.limit i.expires (s (lacks_stays i.state lost)) (same_due now i.expires ∙ due)) h
   expires_item false i x e s h = h

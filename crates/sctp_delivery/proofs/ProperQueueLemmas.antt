@@ -1,13 +1,13 @@
 -- What a queue knows of each message that waits it knows for good; and of a message that is dropped because it expired, the
 -- record is right.
-use Rattle.std.proofs.Common.{◌≡◌, ℕ, zero, suc, ◌+◌, ◌==◌, ◌≤◌, ◌&&◌, not, nat_le, Bool, true, false, cond, Less, Equal, Greater, Option, Some, None, List, [], ◌∷◌, ◌++◌, length, filter, refl, ap, subst, ◌∙◌, arith}
+use Rattle.std.proofs.Common.{◌≡◌, ℕ, zero, suc, ◌+◌, ◌==◌, ◌≤◌, not, Bool, true, false, cond, Less, Equal, Greater, Option, Some, None, List, [], ◌∷◌, ◌++◌, length, filter, refl, ap, subst, ◌∙◌}
 use Rattle.std.specs.Prelude.{⊤, is_some, unwrap_or, option_map}
 use Rattle.std.specs.List.{AllByRecursion}
 use Rattle.std.specs.Map.{lookup, set_value, keys_of}
 use Rattle.std.specs.Ordering.{nat_cmp, match_ordering}
 use Rattle.std.specs.declared.cmp.Ordering.{Ordering}
 use Rattle.std.specs.BTreeMap.{is_at, insert_entry}
-use Rattle.std.proofs.lemmas.Bool.Decides.{nat_tests}
+use Rattle.std.proofs.lemmas.Bool.{and_parts, leb-true}
 use Rattle.sctp_state.specs.declared.api.GivenUpCause.TheVariants.{Lifetime}
 use Rattle.sctp_state.specs.Events.{GivenUp, Told, give_up, tell_all, expiry}
 use Rattle.sctp_send_queue.specs.declared.send_queue.message.MessageNumbers.{MessageNumbers}
@@ -30,14 +30,7 @@ all_behind Q (x ∷ xs) ys h k = (h.0, all_behind Q xs ys h.1 k)
 -- a moment that is due has come
 pub due_came : (now : ℕ) (o : Option ℕ) → is_due now o ≡ true → (moment : ℕ) × (o ≡ Some moment) × (moment ≤ now)
 due_came now None e = cc
-due_came now (Some moment) e = (moment, refl, came moment now e)
-  where
-    came : (a b : ℕ) → nat_le a b ≡ true → a ≤ b
-    came a b e = grind (arith, nat_tests)
-
-stale_due : (a b : Bool) → (a && b) ≡ true → b ≡ true
-stale_due true b e = e
-stale_due false b e = cc
+due_came now (Some moment) e = (moment, refl, leb-true moment now e)
 
 -- ---- of each message, by its number, the moment from which it is expired, and how often it may be sent again
 
@@ -253,7 +246,7 @@ module _ (Known : ℕ → Option ℕ → ℕ → Type 0) (Right : GivenUp → Ty
       expired n limit d.0 (subst (λ (z : Option ℕ). Known n z limit) d.1 k) d.2
 
   stale_right : (m : Queued) → Waits Known m → is_stale now m ≡ true → Right (record { number = m.number; cause = Lifetime })
-  stale_right m w e = due_right m.number m.limit m.expires w (stale_due (not (is_some m.numbers)) (is_due now m.expires) e)
+  stale_right m w e = due_right m.number m.limit m.expires w (and_parts (not (is_some m.numbers)) (is_due now m.expires) e).1
 
 -- ---- what is told
 

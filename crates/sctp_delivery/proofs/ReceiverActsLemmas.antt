@@ -1,7 +1,7 @@
 -- Acts that leave the rules of a receiver where they are, or make them go on: packets, what opens and shuts an association, and
 -- what the peer sends.
 use Rattle.std.proofs.Common.{◌≡◌, ℕ, ◌++◌, not, Bool, true, false, Option, List, [], ◌∷◌, All, refl, sym, ap, ◌∙◌, subst, append-nil}
-use Rattle.std.proofs.lemmas.Bool.{and_parts}
+use Rattle.std.proofs.lemmas.Bool.{and_parts, true≢false}
 use Rattle.sctp_serial.specs.Messages as messages
 use Rattle.sctp_serial.specs.Unwrapped.{origin}
 use Rattle.sctp_packet.specs.Chunk.{ChunkTree, FragmentTree, data_chunk, idata_chunk, forward_tsn_chunk, i_forward_tsn_chunk, cookie_echo_chunk, cookie_ack_chunk}
@@ -43,14 +43,11 @@ one_more es e none = packets_both es (e ∷ []) ∙ (ap (λ (ps : List Carried).
 
 -- ---- a control block is made
 
-not_false : true ≡ false → ⊥
-not_false e = cc
-
 module _ (message : ℕ → Message) (mixed : Bool) (handed : List messages.Message) (x : Transfer) where
   fresh_at : (s : State) → is_opened s ≡ false → ReceivesIn message mixed s handed x → IsFresh message mixed handed x
   fresh_at Closed e h = h
   fresh_at (CookieWait tag first t1) e h = h
-  fresh_at (Open phase t) e h = absurd (not_false e)
+  fresh_at (Open phase t) e h = absurd (true≢false e)
 
   fresh_receives : (o : Options) (i : Identity) (a_rwnd : ℕ) (k : Capabilities) → mixed ≡ k.message_interleaving → IsFresh message mixed handed x
       → IsReceiving message mixed handed (tcb o i a_rwnd k) x

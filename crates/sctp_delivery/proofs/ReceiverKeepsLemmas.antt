@@ -2,7 +2,7 @@
 -- so all of them.
 use Rattle.std.proofs.Common.{◌≡◌, ℕ, ◌++◌, Bool, true, false, Option, List, [], ◌∷◌, map, All, refl, subst}
 use Rattle.std.specs.List.{list_all}
-use Rattle.std.proofs.lemmas.Bool.{and_parts}
+use Rattle.std.proofs.lemmas.Bool.{and_parts, false≢true}
 use Rattle.std.proofs.lemmas.List.Elements.{All-nil, All-cons}
 use Rattle.sctp_serial.specs.Messages as messages
 use Rattle.sctp_wire.specs.Parameter.{ParameterTree}
@@ -26,7 +26,7 @@ use Rattle.sctp_delivery.proofs.ClaimLemmas.{SaysIn, ReceiverPremises, ReceiverG
 use Rattle.sctp_delivery.proofs.FrameLemmas.{IsSetting, IsHeardReset, KeepsJoined}
 use Rattle.sctp_delivery.proofs.ReadingDataLemmas.{responses_are_heard}
 use Rattle.sctp_delivery.proofs.TrackerStaysLemmas.{tracker_timed, tracker_asked, tracker_ends_packet, tracker_waited}
-use Rattle.sctp_delivery.proofs.ReceiverToolLemmas.{packets_stay}
+use Rattle.sctp_delivery.proofs.SenderToolLemmas.{same_packets}
 use Rattle.sctp_delivery.proofs.ReceiverStepLemmas.{rest_changes, acknowledging_changes, goes_through, goes_same, goes_adding, goes_adding_all}
 use Rattle.sctp_delivery.proofs.ReceiverActsLemmas.{goes_packets, goes_opening, goes_closing, goes_data, goes_acknowledging}
 
@@ -56,9 +56,6 @@ among_all : {A : Type 0} (p : A → Bool) (before behind : List A) (x : A) → l
 among_all p [] behind x h = (and_parts (p x) (list_all p behind) h).0
 among_all p (y ∷ before) behind x h = among_all p before behind x (and_parts (p y) (list_all p (before ++ x ∷ behind)) h).1
 
-no_request : false ≡ true → ⊥
-no_request e = cc
-
 module _ (message : ℕ → Message) (lifecycle : ℕ → Option ℕ) (mixed : Bool) (g : Setting) (call : Call) (from : Transfer)
     (p : ReceiverPremises message lifecycle mixed g call from) (handed : List messages.Message) where
   abbrev Goes : (a b : Making Carried) → Type 0
@@ -70,7 +67,7 @@ module _ (message : ℕ → Message) (lifecycle : ℕ → Option ℕ) (mixed : B
   goes_sack (takes_sack tag k phase t m heard valid) =
       let act : SackAct Carried call = takes_sack tag k phase t m heard valid in
       goes_same message lifecycle mixed from handed (in_open phase t m) (after_sack act)
-      (λ x h. rest_changes message mixed handed t _ t.rtt t.requests x h) refl (packets_stay m.context.told (after_sack act).context.told (light_sack act)) refl
+      (λ x h. rest_changes message mixed handed t _ t.rtt t.requests x h) refl (same_packets m.context.told (after_sack act).context.told (light_sack act)) refl
   goes_sack (samples r phase t m) =
       let act : SackAct Carried call = samples r phase t m in
       goes_same message lifecycle mixed from handed (in_open phase t m) (after_sack act)
@@ -89,7 +86,7 @@ module _ (message : ℕ → Message) (lifecycle : ℕ → Option ℕ) (mixed : B
   goes_sending (expires phase t m) inv =
       let act : SendingAct Carried call = expires phase t m in
       goes_same message lifecycle mixed from handed (in_open phase t m) (after_sending act)
-      (λ x h. rest_changes message mixed handed t _ t.rtt t.requests x h) refl (packets_stay m.context.told (after_sending act).context.told (light_sending act)) refl
+      (λ x h. rest_changes message mixed handed t _ t.rtt t.requests x h) refl (same_packets m.context.told (after_sending act).context.told (light_sending act)) refl
   goes_sending (adds_forward phase t m due) inv =
       goes_adding message lifecycle mixed from handed (in_open phase t m) (forward_chunk t.sender)
       (λ x. forward_says t.tracker.first from.acknowledged (count from.sender) x _ t.sender)
@@ -111,7 +108,7 @@ module _ (message : ℕ → Message) (lifecycle : ℕ → Option ℕ) (mixed : B
       (goes_adding_all message lifecycle mixed from handed (in_open phase t m) chunks
       (λ x. data_says t.tracker.first from.acknowledged (count from.sender) x t (is_small m.context.options f.sender) f.chunks))
       (goes_same message lifecycle mixed from handed filled (after_sending act)
-      (λ x h. rest_changes message mixed handed t f.sender t.rtt t.requests x h) refl (packets_stay m.context.told (after_sending act).context.told (light_sending act)) refl)
+      (λ x h. rest_changes message mixed handed t f.sender t.rtt t.requests x h) refl (same_packets m.context.told (after_sending act).context.told (light_sending act)) refl)
   goes_sending (sends_fast phase t m some) inv =
       let act : SendingAct Carried call = sends_fast phase t m some in
       let resent : List (ℕ × FragmentTree) = (resent_fast (fast_most m.context.options) t.sender).chunks in
@@ -133,7 +130,7 @@ module _ (message : ℕ → Message) (lifecycle : ℕ → Option ℕ) (mixed : B
   goes_time (times_out phase t m due) =
       let act : TimeAct Carried call = times_out phase t m due in
       goes_same message lifecycle mixed from handed (in_open phase t m) (after_time act)
-      (λ x h. rest_changes message mixed handed t _ t.rtt t.requests x h) refl (packets_stay m.context.told (after_time act).context.told (light_time act)) refl
+      (λ x h. rest_changes message mixed handed t _ t.rtt t.requests x h) refl (same_packets m.context.told (after_time act).context.told (light_time act)) refl
   goes_time (beats b m) = goes_same message lifecycle mixed from handed m (after_time {call = call} (beats b m)) (λ x h. h) refl refl refl
   goes_time (times_init tag first old new m) =
       goes_same message lifecycle mixed from handed (in_state (CookieWait tag first old) m) (in_state (CookieWait tag first new) m) (λ x h. h) refl refl refl
@@ -151,10 +148,10 @@ module _ (message : ℕ → Message) (lifecycle : ℕ → Option ℕ) (mixed : B
   goes_calls (takes_message phase t m is) set = absurd set
   goes_calls (refuses offer o e m offered is) set =
       let act : CallAct Carried call = refuses offer o e m offered is in
-      goes_same message lifecycle mixed from handed m (after_call act) (λ x h. h) refl (packets_stay m.context.told (after_call act).context.told (light_call act)) refl
+      goes_same message lifecycle mixed from handed m (after_call act) (λ x h. h) refl (same_packets m.context.told (after_call act).context.told (light_call act)) refl
   goes_calls (sets_low_threshold stream bytes m is) set =
       let act : CallAct Carried call = sets_low_threshold stream bytes m is in
-      goes_same message lifecycle mixed from handed m (after_call act) (λ x h. h) refl (packets_stay m.context.told (after_call act).context.told (light_call act)) refl
+      goes_same message lifecycle mixed from handed m (after_call act) (λ x h. h) refl (same_packets m.context.told (after_call act).context.told (light_call act)) refl
   goes_calls (sets_priority stream priority m is) set =
       goes_same message lifecycle mixed from handed m (after_call {call = call} (sets_priority stream priority m is)) (λ x h. h) refl refl refl
   goes_calls (sets_max_message_size bytes m is) set =
@@ -170,15 +167,15 @@ module _ (message : ℕ → Message) (lifecycle : ℕ → Option ℕ) (mixed : B
 
   goes_resets : (act : ResetAct Carried call) → IsHeardReset act → Goes (before_reset act) (after_reset act)
   goes_resets (prepares stream phase t m asked can) heard = absurd heard
-  goes_resets (defers number response last_tsn streams phase t m asked known ahead) heard = absurd (no_request (not_asked _ asked))
-  goes_resets (performs number response last_tsn streams phase t m asked known there) heard = absurd (no_request (not_asked _ asked))
+  goes_resets (defers number response last_tsn streams phase t m asked known ahead) heard = absurd (false≢true (not_asked _ asked))
+  goes_resets (performs number response last_tsn streams phase t m asked known there) heard = absurd (false≢true (not_asked _ asked))
   goes_resets (processes number streams phase t m asked known) heard =
       goes_same message lifecycle mixed from handed (in_open phase t m) (after_reset {call = call} (processes number streams phase t m asked known))
       (λ x h. rest_changes message mixed handed t t.sender t.rtt _ x h) refl refl refl
   goes_resets (takes_response rto number result sender receiver phase t m asked) heard =
       let act : ResetAct Carried call = takes_response rto number result sender receiver phase t m asked in
       goes_same message lifecycle mixed from handed (in_open phase t m) (after_reset act)
-      (λ x h. rest_changes message mixed handed t t.sender t.rtt _ x h) refl (packets_stay m.context.told (after_reset act).context.told (light_reset act)) refl
+      (λ x h. rest_changes message mixed handed t t.sender t.rtt _ x h) refl (same_packets m.context.told (after_reset act).context.told (light_reset act)) refl
   goes_resets (adds_responses responses phase t m are) heard =
       goes_adding message lifecycle mixed from handed (in_open phase t m) (re_config_chunk responses) (λ x. tt)
 

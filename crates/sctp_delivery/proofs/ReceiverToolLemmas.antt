@@ -1,21 +1,16 @@
 -- Rules of a receiver that lead on: the sender's part and what is under way stay, SACKs only grow, and what was said stays true.
-use Rattle.std.proofs.Common.{◌≡◌, ℕ, Bool, true, inr, List, [], ◌∷◌, ◌++◌, map, All, refl, ap, ◌∙◌, subst, append-nil}
+use Rattle.std.proofs.Common.{◌≡◌, ℕ, Bool, true, inr, List, [], ◌∷◌, map, All, refl, ◌∙◌, subst}
 use Rattle.std.specs.List.{list_all}
 use Rattle.std.proofs.lemmas.Bool.{and_parts}
 use Rattle.std.proofs.lemmas.List.Elements.{All-weaker}
 use Rattle.sctp_serial.specs.Messages as messages
 use Rattle.sctp_packet.specs.Chunk.{ChunkTree, sack_chunk}
-use Rattle.sctp_state.specs.Events as events
-use Rattle.sctp_state.specs.Events.{Told, SendPacket}
 use Rattle.sctp_rx.specs.Tracker.{Tracker}
 use Rattle.sctp_rx.specs.ReassemblyQueue.{Reassembly}
 use Rattle.sctp_rules.specs.State.{Message, Transfer, IsAmong}
 use Rattle.sctp_rules.specs.Rules.{Event, accept, begin, number, close, give_up, data_comes, late_comes, deliver, send_sack, leave, send_forward, forward_comes, forget, after, run}
 use Rattle.sctp_rx_rules.specs.Receives.{Goes}
 use Rattle.sctp_association_laws.specs.Mapped.{Carried}
-use Rattle.sctp_course.specs.Course.{packets_in}
-use Rattle.sctp_course.proofs.ToldLemmas.{is_light, TellsLightly}
-use Rattle.sctp_course.proofs.JoinActsLemmas.{packets_both}
 use Rattle.sctp_delivery.proofs.ClaimLemmas.{is_receiving, GoesOn, SaysIn}
 
 -- what becomes ready is a receiver's
@@ -121,15 +116,3 @@ module _ (x : Transfer) (none : x.sacks ≡ []) (one other least most : ℕ) whe
   no_packets_said ps a =
       All-weaker (λ (p : Carried). All (SaysIn one least most x) p.chunks) (λ (p : Carried). All (SaysIn other least most x) p.chunks)
       (λ p s. no_chunks_said p.chunks s) ps a
-
--- ---- what is told lightly are no packets
-
-no_packets : (es : List (events.Event Carried)) → list_all is_light es ≡ true → packets_in es ≡ []
-no_packets [] h = refl
-no_packets (SendPacket p ∷ es) h = cc
-no_packets (e ∷ es) h = no_packets es (and_parts (is_light e) (list_all is_light es) h).1
-
-pub packets_stay : (t u : Told Carried) → TellsLightly t u → packets_in u.events ≡ packets_in t.events
-packets_stay t u l =
-    ap packets_in l.behind
-    ∙ (packets_both t.events l.events ∙ (ap (λ (ps : List Carried). packets_in t.events ++ ps) (no_packets l.events l.light) ∙ append-nil (packets_in t.events)))

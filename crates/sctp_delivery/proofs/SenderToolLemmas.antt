@@ -11,10 +11,11 @@ use Rattle.sctp_state.specs.Events.{Told, SendPacket, OnLifecycleMessageDelivere
 use Rattle.sctp_rules.specs.State.{Message, ForwardPoint, Transfer, IsAmong, count}
 use Rattle.sctp_rules.specs.Rules.{Event, accept, begin, number, close, give_up, data_comes, late_comes, deliver, send_sack, leave, send_forward, forward_comes, forget, Happens, after, run}
 use Rattle.sctp_rules.specs.Kept.{Kept}
+use Rattle.sctp_rules.proofs.GrowsLemmas.{run_more}
 use Rattle.sctp_rules.proofs.KeepsLemmas.{keeps, all_kept}
 use Rattle.sctp_rules.proofs.StepLemmas.{later}
 use Rattle.sctp_tx_rules.specs.Led.{given_ups, recorded, is_sending, Leads, delivered, ids_at}
-use Rattle.sctp_tx_rules.proofs.LedLemmas.{happens_more, run_more, given_more}
+use Rattle.sctp_tx_rules.proofs.LedLemmas.{happens_more, given_more}
 use Rattle.sctp_tx_rules.proofs.SackLemmas.{delivered_more, ids_more}
 use Rattle.sctp_tx_rules.proofs.SendLemmas.{carries_along}
 use Rattle.sctp_association_laws.specs.Mapped.{Carried}

@@ -1,5 +1,6 @@
 -- The course in which a message is skipped, computed.
 use Rattle.std.proofs.Common.{◌≡◌, ◌^◌, ◌<◌, Bool, true, false, length, refl, inr}
+use Rattle.std.proofs.lemmas.Bool.{ltb-true}
 use Rattle.rand_core.specs.Stream.{next_u32, next_u64}
 use Rattle.sctp_wire.specs.Fields.{be16, be32, be64}
 use Rattle.sctp_wire.specs.Serialize.{padded_item, inner_items}
@@ -14,7 +15,7 @@ use Rattle.sctp_course.specs.Opens.{at_first}
 use Rattle.sctp_delivery.specs.Accepted.{accepted}
 use Rattle.sctp_delivery.specs.Windows.{no_stamps}
 use Rattle.sctp_delivery.specs.Skipping.{one_is_lost, OneIsSkipped}
-use Rattle.sctp_delivery.proofs.BoundsLemmas.{lt_true, near_next, all_near, keeps_within, is_within, is_young, young_if, is_timely, both_within, keeps_windows, windows_kept}
+use Rattle.sctp_delivery.proofs.BoundsLemmas.{near_next, all_near, keeps_within, is_within, is_young, young_if, is_timely, both_within, keeps_windows, windows_kept}
 
 windows_are : keeps_windows one_is_lost at_first no_stamps ≡ true
 unfolding keeps_windows both_within is_within keeps_within all_near near_next is_timely young_if is_young next_u32 next_u64 be16 be32 be64 padded_item inner_items parameter_value cause_value cause_text joined chunk_bytes chunks_bytes chunk_value data_value idata_value init_fields block_bytes sack_value skip_bytes forward_value cookie_bytes capability_bytes cookie_from read_cookie ticked
@@ -22,8 +23,8 @@ windows_are = refl
 
 few_accepted : (from_a : Bool) → length (accepted from_a one_is_lost at_first) < 2 ^ 32
 unfolding next_u32 next_u64 be16 be32 be64 padded_item inner_items parameter_value cause_value cause_text joined chunk_bytes chunks_bytes chunk_value data_value idata_value init_fields block_bytes sack_value skip_bytes forward_value cookie_bytes capability_bytes cookie_from read_cookie ticked
-few_accepted true = lt_true 3 (2 ^ 32) refl
-few_accepted false = lt_true 0 (2 ^ 32) refl
+few_accepted true = ltb-true 3 (2 ^ 32) refl
+few_accepted false = ltb-true 0 (2 ^ 32) refl
 
 pub one_skipped : OneIsSkipped
 unfolding next_u32 next_u64 be16 be32 be64 padded_item inner_items parameter_value cause_value cause_text joined chunk_bytes chunks_bytes chunk_value data_value idata_value init_fields block_bytes sack_value skip_bytes forward_value cookie_bytes capability_bytes cookie_from read_cookie ticked

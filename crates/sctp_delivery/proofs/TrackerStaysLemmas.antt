@@ -1,7 +1,7 @@
 -- What is true of every tracker is true after each step of it: a new one, a number that comes, a forward point, and what
 -- acknowledging does.
 use Rattle.std.proofs.Common.{◌≡◌, ◌⊎◌, inl, inr, ℕ, suc, ◌+◌, ◌-◌, ◌<◌, ◌≤◌, Bool, true, false, if◌then◌else◌, leb, ltb, eqb, ◌||◌, ◌&&◌, not, None, List, [], ◌∷◌, length, refl, sym, ◌∙◌, arith}
-use Rattle.std.proofs.lemmas.Bool.{cases_lt, lt-ltb, le-ltb}
+use Rattle.std.proofs.lemmas.Bool.{cases_lt, lt-ltb, le-ltb, or_right}
 use Rattle.std.proofs.lemmas.Bool.Decides.{nat_tests}
 use Rattle.sctp_serial.specs.Unwrapped.{origin}
 use Rattle.sctp_state.specs.Options.{Options}
@@ -126,10 +126,6 @@ stopped Becoming = refl
 stopped Delayed = tt
 stopped Immediate = refl
 
-or_true : (a b : Bool) → b ≡ true → (a || b) ≡ true
-or_true true b e = refl
-or_true false b e = e
-
 pub tracker_observes : (t : Tracker) (n : ℕ) (is_immediate : Bool) → IsTracker t → is_valid t n ≡ true → IsTracker (observe n is_immediate t)
 tracker_observes t n is_immediate i valid =
     let u : Tracker = observe n is_immediate t in
@@ -139,7 +135,7 @@ tracker_observes t n is_immediate i valid =
     (record {
       begin = refl;
       runs = IsInRuns-add n t.seen i.runs (omega (arith, least, begun));
-      more = λ m h. contains-add n m t.seen i.runs ∙ or_true (eqb m n) (contains t.seen m) h;
+      more = λ m h. contains-add n m t.seen i.runs ∙ or_right (eqb m n) (contains t.seen m) h;
       less = λ m h. one_of m n (contains t.seen m) (sym (contains-add n m t.seen i.runs) ∙ h);
       few = few_duplicates (not (has_seen t n)) n t.duplicates i.few;
       delay = stopped u.ack;
@@ -156,7 +152,7 @@ tracker_passes t n i valid =
     (record {
       begin = refl;
       runs = IsInRuns-up_to n t.seen i.runs;
-      more = λ m h. contains-up_to n m t.seen ∙ or_true (leb m n) (contains t.seen m) h;
+      more = λ m h. contains-up_to n m t.seen ∙ or_right (leb m n) (contains t.seen m) h;
       less = λ m h. one_of m n (contains t.seen m) (sym (contains-up_to n m t.seen) ∙ h);
       few = i.few;
       delay = stopped u.ack;

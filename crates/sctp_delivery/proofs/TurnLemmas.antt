@@ -1,8 +1,8 @@
 -- A turn of either end leaves one direction at a later state of the rules.
-use Rattle.std.proofs.Common.{◌≡◌, ℕ, ◌+◌, ◌-◌, ◌^◌, ◌≤◌, ◌&&◌, Bool, true, false, Option, List, [], ◌∷◌, ◌++◌, length, replicate, All, refl, sym, ap, subst, ◌∙◌, arith}
+use Rattle.std.proofs.Common.{◌≡◌, ℕ, ◌+◌, ◌-◌, ◌^◌, ◌≤◌, Bool, true, Option, List, [], ◌∷◌, ◌++◌, length, replicate, All, refl, sym, ap, subst, ◌∙◌, arith}
 use Rattle.std.specs.List.{list_all}
 use Rattle.std.proofs.lemmas.List.Elements.{All-weaker}
-use Rattle.std.proofs.lemmas.Bool.{and_parts}
+use Rattle.std.proofs.lemmas.Bool.{and_parts, and_from}
 use Rattle.sctp_serial.specs.Messages as messages
 use Rattle.sctp_rules.specs.State.{Message, Transfer, count}
 use Rattle.sctp_rules.specs.Rules.{Event, accept, begin, number, close, give_up, data_comes, late_comes, deliver, send_sack, leave, send_forward, forward_comes, forget, after, run}
@@ -98,12 +98,8 @@ pub record Stay (message : ℕ → Message) (lifecycle : ℕ → Option ℕ) (mi
 
 outgoing_all : (es : List Event) → list_all is_sending es ≡ true → list_all is_outgoing es ≡ true
 outgoing_all [] h = refl
-outgoing_all (e ∷ es) h = let parts = and_parts (is_sending e) (list_all is_sending es) h in both (is_outgoing e) (list_all is_outgoing es) (one e parts.0) (outgoing_all es parts.1)
+outgoing_all (e ∷ es) h = let parts = and_parts (is_sending e) (list_all is_sending es) h in and_from (is_outgoing e) (list_all is_outgoing es) (one e parts.0) (outgoing_all es parts.1)
   where
-    both : (a b : Bool) → a ≡ true → b ≡ true → (a && b) ≡ true
-    both true b p q = q
-    both false b p q = cc
-
     one : (e : Event) → is_sending e ≡ true → is_outgoing e ≡ true
     one accept h = refl
     one (begin p) h = refl

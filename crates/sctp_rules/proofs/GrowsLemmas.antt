@@ -27,11 +27,11 @@ module _ (message : ℕ → Message) (mixed : Bool) where
       let b = all es (after message mixed x e) in
       (a.0 ++ b.0, b.1 ∙ (ap (λ z. z ++ b.0) a.1 ∙ append_assoc x.receiver.places a.0 b.0))
 
-  split : (es fs : List Event) (x : Transfer) → run message mixed x (es ++ fs) ≡ run message mixed (run message mixed x es) fs
-  split [] fs x = refl
-  split (e ∷ es) fs x = split es fs (after message mixed x e)
+  pub run_more : (es fs : List Event) (x : Transfer) → run message mixed x (es ++ fs) ≡ run message mixed (run message mixed x es) fs
+  run_more [] fs x = refl
+  run_more (e ∷ es) fs x = run_more es fs (after message mixed x e)
 
   pub grown : (es fs : List Event) → Grows (run message mixed start es) (run message mixed start (es ++ fs))
   grown es fs =
       let b = all fs (run message mixed start es) in
-      (b.0, ap (λ z. z.receiver.places) (split es fs start) ∙ b.1)
+      (b.0, ap (λ z. z.receiver.places) (run_more es fs start) ∙ b.1)

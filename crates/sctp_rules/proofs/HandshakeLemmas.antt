@@ -1,8 +1,8 @@
 -- What an end's state and packets say of both ends, and that each step keeps it.
-use Rattle.std.proofs.Common.{◌≡◌, ℕ, suc, zero, Bool, true, false, cond, List, [], ◌∷◌, Option, Some, None, refl, ap, sym, subst, ◌∙◌, arith, inl, inr}
+use Rattle.std.proofs.Common.{◌≡◌, ℕ, suc, zero, Bool, true, false, cond, List, [], ◌∷◌, Option, Some, None, refl, ap, sym, subst, ◌∙◌, inl, inr}
 use Rattle.std.specs.Prelude.{slice_get, ◌==◌, ⊤, not}
-use Rattle.std.proofs.lemmas.Bool.Decides.{nat_tests}
 use Rattle.std.proofs.lemmas.Option.{same_Some}
+use Rattle.std.proofs.lemmas.Bool.{eqb-true, not-false}
 use Rattle.sctp_rules.specs.State.{IsAmong}
 use Rattle.sctp_rules.specs.Handshake.{Draw, Association, crossed, Cookie, association_of, Phase, established, shutdown_pending, shutdown_sent, shutdown_received, shutdown_ack_sent, State, closed, cookie_wait, cookie_echoed, connected, Packet, init, init_ack, cookie_echo, cookie_ack, shutdown_ack, Endpoint, holds, emits, draws, connects, init_comes, init_ack_comes, opens, restarts, resolves, establishes, cookie_echo_comes, cookie_ack_comes, closes, shutdown_ack_comes, packet_comes, resends, shuts, Event, connect, receive, resend, shut, close, acts, AreDistinct, AgreesWith}
 
@@ -185,13 +185,6 @@ acts_init x y d yd h m (connected shutdown_sent a t) e = fresh_ack x y d yd t h 
 acts_init x y d yd h m (connected shutdown_received a t) e = fresh_ack x y d yd t h m
 acts_init x y d yd h m (connected shutdown_ack_sent a t) e = acts_shutdown_ack x y a.peer.tag h
 
-same_tags : (a b : ℕ) → (a == b) ≡ true → a ≡ b
-same_tags a b h = grind (arith, nat_tests)
-
-not_false : (b : Bool) → not b ≡ false → b ≡ true
-not_false true h = refl
-not_false false h = cc
-
 by_bool : (x y v w : Endpoint) (b : Bool) → (b ≡ true → Acts x y v) → Acts x y w → Acts x y (cond b v w)
 by_bool x y v w true f g = f refl
 by_bool x y v w false f g = g
@@ -307,11 +300,11 @@ acts_echo x y tie v c h s m ux uy (cookie_wait w) e = by_bool x y (opens x tie c
 acts_echo x y tie v c h s m ux uy (cookie_echoed a t k) e =
     let st = subst (Stands x y) e h.stands in
     acts_resolves x y tie v c (emits (establishes x a t) (cookie_ack c.peer.tag)) h s m (not (v == a.mine.tag)) (not (c.peer.tag == a.peer.tag)) (c.tie == t)
-    (λ p q. acts_neither x y a v c h s m ux uy st.0 st.1 (subst (λ z. IsAmong z x.held) st.2 st.3.held) (same_tags v a.mine.tag (not_false (v == a.mine.tag) p)) (same_tags c.peer.tag a.peer.tag (not_false (c.peer.tag == a.peer.tag) q)) t)
+    (λ p q. acts_neither x y a v c h s m ux uy st.0 st.1 (subst (λ z. IsAmong z x.held) st.2 st.3.held) (eqb-true v a.mine.tag (not-false (v == a.mine.tag) p)) (eqb-true c.peer.tag a.peer.tag (not-false (c.peer.tag == a.peer.tag) q)) t)
 acts_echo x y tie v c h s m ux uy (connected phase a t) e =
     let st = subst (Stands x y) e h.stands in
     acts_resolves x y tie v c (emits x (cookie_ack c.peer.tag)) h s m (not (v == a.mine.tag)) (not (c.peer.tag == a.peer.tag)) (c.tie == t)
-    (λ p q. acts_keeps x y a v c h s m ux uy st.0 st.1 st.2 (same_tags v a.mine.tag (not_false (v == a.mine.tag) p)) (same_tags c.peer.tag a.peer.tag (not_false (c.peer.tag == a.peer.tag) q)))
+    (λ p q. acts_keeps x y a v c h s m ux uy st.0 st.1 st.2 (eqb-true v a.mine.tag (not-false (v == a.mine.tag) p)) (eqb-true c.peer.tag a.peer.tag (not-false (c.peer.tag == a.peer.tag) q)))
 
 acts_acked : (x y : Endpoint) (v : ℕ) → Half x y → Says y x (cookie_ack v) → (s : State) → x.state ≡ s → Acts x y (cookie_ack_comes x s v)
 acts_acked x y v h s closed e = acts_same x y h
@@ -321,7 +314,7 @@ acts_acked x y v h s (cookie_echoed a t k) e =
     let st = subst (Stands x y) e h.stands in
     by_bool x y (establishes x a t) x (v == a.mine.tag)
     (λ b.
-    let same : s.0 ≡ k = st.4 s.0.mine.tag s.0 s.2 (s.1 ∙ same_tags v a.mine.tag b) in
+    let same : s.0 ≡ k = st.4 s.0.mine.tag s.0 s.2 (s.1 ∙ eqb-true v a.mine.tag b) in
     acts_establishes x y a t h st.0 st.1 (subst (λ z. IsAmong z x.held) st.2 st.3.held) (subst (λ z. IsAmong z y.held) (ap association_of same ∙ ap crossed st.2) s.3))
     (acts_same x y h)
 
@@ -331,7 +324,7 @@ acts_init_ack x y tie v yd c h u s (cookie_echoed a t k) e = acts_same x y h
 acts_init_ack x y tie v yd c h u s (connected phase a t) e = acts_same x y h
 acts_init_ack x y tie v yd c h u s (cookie_wait m) e =
     by_bool x y (record x { state = cookie_echoed (record { mine = m; peer = yd }) tie c; held = record { mine = m; peer = yd } ∷ x.held; packets = cookie_echo yd.tag c ∷ x.packets }) x (v == m.tag)
-    (λ b. acts_waited x y tie v m yd c h e u s (same_tags v m.tag b)) (acts_same x y h)
+    (λ b. acts_waited x y tie v m yd c h e u s (eqb-true v m.tag b)) (acts_same x y h)
 
 acts_shut_ack : (x y : Endpoint) (v : ℕ) → Half x y → (s : State) → Acts x y (shutdown_ack_comes x s v)
 acts_shut_ack x y v h closed = acts_same x y h

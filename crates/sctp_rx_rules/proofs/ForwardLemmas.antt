@@ -1,7 +1,7 @@
 -- A forward point that comes is a few of the rules.
 use Rattle.std.proofs.Common.{◌≡◌, ℕ, ◌+◌, ◌-◌, ◌^◌, ◌<◌, ◌≤◌, Bool, true, false, cond, Option, Some, None, List, map, refl, ap, sym, ◌∙◌, subst, arith}
 use Rattle.std.specs.Prelude.{not, ◌&&◌, ◌||◌, ◌==◌, nat_lt, nat_le}
-use Rattle.std.proofs.lemmas.Bool.{cond-false}
+use Rattle.std.proofs.lemmas.Bool.{cond-false, or_from, or_parts}
 use Rattle.std.proofs.lemmas.Bool.Decides.{nat_tests}
 use Rattle.sctp_serial.specs.Messages as messages
 use Rattle.sctp_serial.specs.Unwrapped.{origin}
@@ -121,14 +121,6 @@ module _ (mixed : Bool) (shift : ℕ) (ss : Streams) (ready : List messages.Mess
       ∙ (ap (λ z. z || (not mixed && (not kind && below_of mixed (key_of_held mixed shift h) f.upto))) (sym (covers_is kind s (h.number - origin)))
       ∙ ap (λ z. covers es kind s (h.number - origin) || z) (below_is mixed kind h file.index_from)))
 
-  neither : (a b : Bool) → a ≡ false → b ≡ false → (a || b) ≡ false
-  neither true b p q = cc
-  neither false b p q = q
-
-  both_not : (a b : Bool) → (a || b) ≡ false → (a ≡ false) × (b ≡ false)
-  both_not true b p = cc
-  both_not false b p = (refl, p)
-
   abbrev v : View
   v = view_with ss ready
 
@@ -146,13 +138,13 @@ module _ (mixed : Bool) (shift : ℕ) (ss : Streams) (ready : List messages.Mess
   not_dropped kind s id h a =
       let there = was_there kind s h a in
       let file = p.filed kind s h there in
-      drops_is kind s id h file ∙ neither (covers es kind s (h.number - origin)) (behind mixed kind n h) (cut_uncovered kind s es h (held_on (dropped_to n ss) kind s) file.index_below a)
+      drops_is kind s id h file ∙ or_from (covers es kind s (h.number - origin)) (behind mixed kind n h) (cut_uncovered kind s es h (held_on (dropped_to n ss) kind s) file.index_below a)
       (dropped_above ss n mixed kind s h mode file.index_below (unnumbered_at kind s h there) (cut_sub kind s es h (held_on (dropped_to n ss) kind s) a))
 
   stays_there : (kind : Bool) (s id : ℕ) (h : Held) → IsAmong h (held_on ss kind s) → drops (key_of_held mixed shift h) (chunk_of_held id h) ≡ false → IsAmong h (w.held kind s)
   stays_there kind s id h there d =
       let file = p.filed kind s h there in
-      let t = both_not (covers es kind s (h.number - origin)) (behind mixed kind n h) (sym (drops_is kind s id h file) ∙ d) in
+      let t = or_parts (covers es kind s (h.number - origin)) (behind mixed kind n h) (sym (drops_is kind s id h file) ∙ d) in
       cut_kept kind s es h (held_on (dropped_to n ss) kind s) file.index_below (kept_above ss n mixed kind s h mode file.index_below (unnumbered_at kind s h there) there t.1) t.0
 
   unnamed : mixed ≡ false → (s : ℕ) (e : Entry) → IsAmong e es → is_named e false s ≡ false

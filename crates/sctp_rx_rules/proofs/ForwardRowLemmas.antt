@@ -1,7 +1,7 @@
 -- A forward point that comes is a few of the rules.
 use Rattle.std.proofs.Common.{◌≡◌, ℕ, suc, ◌+◌, ◌-◌, ◌^◌, ◌<◌, Bool, true, false, inl, inr, Some, None, List, [], ◌∷◌, ◌++◌, map, refl, ap, sym, ◌∙◌, subst, arith, append_assoc, leb}
 use Rattle.std.specs.Prelude.{◌||◌, nat_lt, unwrap_or}
-use Rattle.std.proofs.lemmas.Bool.{cond-false}
+use Rattle.std.proofs.lemmas.Bool.{cond-false, true≢false}
 use Rattle.std.proofs.lemmas.Bool.Decides.{nat_tests}
 use Rattle.sctp_serial.specs.Messages as messages
 use Rattle.sctp_serial.specs.Unwrapped.{origin}
@@ -116,10 +116,7 @@ module _ (message : ℕ → Message) (mixed : Bool) (before : ℕ) (x : Transfer
     where
       untouched : (b : Bool) → mixed ≡ b → (e : Entry) → IsAmong e es → e.ordered ≡ false → unordered_at (dropped_to n r.streams) e.stream ≡ unordered_at r.streams e.stream
       untouched true c e a o = unordered_kept r.streams n true (shown.mode ∙ c) e.stream
-      untouched false c e a o = absurd (no (sym (all_ordered mixed r.streams (by_stream xs) es c sorted e a) ∙ o))
-        where
-          no : true ≡ false → ⊥
-          no p = cc
+      untouched false c e a o = absurd (true≢false (sym (all_ordered mixed r.streams (by_stream xs) es c sorted e a) ∙ o))
 
   view_is : view_of handed (made outcome (came tsn r)) ≡ view_with outcome.streams (ready ++ outcome.messages)
   view_is = ap (λ z. view_with outcome.streams z) (sym (append_assoc handed r.ready outcome.messages))

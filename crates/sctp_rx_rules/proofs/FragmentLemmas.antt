@@ -3,6 +3,7 @@ use Rattle.std.proofs.Common.{◌≡◌, ℕ, ◌+◌, ◌-◌, ◌^◌, ◌<◌
 use Rattle.std.specs.Prelude.{not, ◌&&◌, ◌||◌, nat_lt}
 use Rattle.std.proofs.lemmas.Bool.{cond-true, cond-false, eqb-true, and_parts, or_right}
 use Rattle.std.proofs.lemmas.Bool.Decides.{nat_tests}
+use Rattle.std.proofs.Math.Bool.{not-not}
 use Rattle.sctp_serial.specs.Messages as messages
 use Rattle.sctp_serial.specs.Unwrapped.{origin}
 use Rattle.sctp_packet.specs.Chunk.{FragmentTree}
@@ -24,13 +25,9 @@ use Rattle.sctp_rx_rules.specs.Read.{Carries, IsRead, number_read, is_behind}
 abbrev pub item : Reassembly → ℕ → FragmentTree → Held
 item r tsn f = held_as r.streams.is_interleaved (number_read f.is_unordered f r.streams) (number_of r tsn) f
 
-back : (b : Bool) → not (not b) ≡ b
-back true = refl
-back false = refl
-
 module _ (message : ℕ → Message) (mixed : Bool) (shift : ℕ) (o : Sender) (r : Reassembly) (k tsn : ℕ) (f : FragmentTree) (carries : Carries message mixed o k f) (read : IsRead message mixed shift o r k tsn f) (mode : r.streams.is_interleaved ≡ mixed) where
   kind_is : not f.is_unordered ≡ ordered_of message (rules.place_of o k)
-  kind_is = ap not carries.kind ∙ back (ordered_of message (rules.place_of o k))
+  kind_is = ap not carries.kind ∙ not-not (ordered_of message (rules.place_of o k))
 
   number_is : number_read f.is_unordered f r.streams - origin ≡ (chunk_of message mixed o k).number
   number_is = let e = read.number_is in omega (arith, e)
@@ -119,7 +116,7 @@ module _ (message : ℕ → Message) (mixed : Bool) (shift : ℕ) (x : Transfer)
   not_below a b c e g l = grind (arith, nat_tests)
 
   ordered_is : (b : Bool) → f.is_unordered ≡ b → ordered_of message place ≡ not b
-  ordered_is b e = sym (back (ordered_of message place)) ∙ (ap not (sym carries.kind) ∙ ap not e)
+  ordered_is b e = sym (not-not (ordered_of message place)) ∙ (ap not (sym carries.kind) ∙ ap not e)
 
   behind : Bool → Bool → Bool
   behind m b = (b || m) && nat_lt number (floor x.receiver b (stream_of message place))

@@ -20,6 +20,7 @@ use Rattle.sctp_rules.specs.Kept.{Kept}
 use Rattle.sctp_rules.specs.Reassembly.{Chunk, Queue, KeyOf, next_of, key_of, below_of, chunk_of, KeyLaws}
 use Rattle.sctp_rules.specs.Reassembly as queues
 use Rattle.sctp_rules.proofs.ReceiverRowLemmas.{key_laws, new_chunk, late_chunk}
+use Rattle.sctp_rules.proofs.ToolsLemmas.{not_both}
 use Rattle.sctp_rx_rules.specs.View.{IsSeenAs, was_seen, chunk_of_held, key_of_held, ordered_at, unordered_at, held_on, view_with, view_of}
 use Rattle.sctp_rx_rules.specs.Read.{Carries, IsRead, shift_after, number_read, is_behind}
 use Rattle.sctp_rx_rules.specs.Receives.{Receives, Goes}
@@ -80,9 +81,6 @@ module _ (message : ℕ → Message) (mixed : Bool) (before : ℕ) (x : Transfer
 
   abbrev outcome : Outcome
   outcome = streams.add (number_of r tsn) f r.streams
-
-  not_both : {b : Bool} → b ≡ true → b ≡ false → ⊥
-  not_both a b = cc
 
   unseen_there : x.receiver.seen k ≡ false
   unseen_there = sym (shown.seen k) ∙ unseen

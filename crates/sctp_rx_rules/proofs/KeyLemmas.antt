@@ -1,7 +1,7 @@
 -- Keys of held fragments, and maps that are changed at keys.
 use Rattle.std.proofs.Common.{◌≡◌, ℕ, suc, ◌-◌, ◌^◌, ◌<◌, Bool, true, false, ◌⊎◌, inl, inr, Option, Some, None, List, [], ◌∷◌, refl, ap, sym, ◌∙◌, arith}
 use Rattle.std.specs.Prelude.{not, ◌&&◌, ◌==◌}
-use Rattle.std.proofs.lemmas.Bool.{cases_eq}
+use Rattle.std.proofs.lemmas.Bool.{cases_eq, and_parts}
 use Rattle.sctp_serial.specs.Unwrapped.{origin}
 use Rattle.sctp_rx.specs.Key.{pair_rank}
 use Rattle.sctp_rx.specs.Runs.{is_next}
@@ -61,10 +61,6 @@ pub record Next (g h : Held) : Type 0 where
   pub no_end : g.fragment.is_end ≡ false
   pub no_beginning : h.fragment.is_beginning ≡ false
 
-next_goes : (a b : Bool) → (a && b) ≡ true → b ≡ true
-next_goes true b e = e
-next_goes false b e = cc
-
 not_one : (a b : Bool) → (not a && not b) ≡ true → (a ≡ false) × (b ≡ false)
 not_one true b e = cc
 not_one false true e = cc
@@ -76,7 +72,7 @@ pairs a b c d p q e = (omega (arith, p, q, e), omega (arith, p, q, e))
 pub next_item : (g h : Held) → g.index < 2 ^ 63 → h.index < 2 ^ 63 → is_next rank_of goes_on g h ≡ true → Next g h
 next_item g h p q e =
     let r = pairs g.number g.index h.number h.index p q (next_rank rank_of goes_on g h e) in
-    let n = not_one g.fragment.is_end h.fragment.is_beginning (next_goes (rank_of h == suc (rank_of g)) (goes_on g h) e) in
+    let n = not_one g.fragment.is_end h.fragment.is_beginning (and_parts (rank_of h == suc (rank_of g)) (goes_on g h) e).1 in
     record { number = r.0; index = r.1; no_end = n.0; no_beginning = n.1 }
 
 pub next_key : (mixed : Bool) (shift : ℕ) (kind : Bool) (s : ℕ) (g h : Held) → IsFiled mixed shift kind s g → IsFiled mixed shift kind s h → Next g h → next_of mixed (key_of_held mixed shift g) ≡ key_of_held mixed shift h

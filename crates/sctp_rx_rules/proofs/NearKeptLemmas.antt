@@ -1,7 +1,7 @@
 -- The MIDs of unordered streams stay near as the rules go on.
 use Rattle.std.proofs.Common.{◌≡◌, ◌≢◌, ℕ, zero, suc, ◌+◌, ◌-◌, ◌^◌, ◌<◌, ◌≤◌, Bool, true, false, ◌⊎◌, inl, inr, None, List, refl, sym, ap, ◌∙◌, subst, arith}
 use Rattle.std.specs.Prelude.{◌||◌, not, nat_lt}
-use Rattle.std.proofs.lemmas.Bool.{cases_eq, cases_lt, cond-true, or_cases, or_right, ltb-true}
+use Rattle.std.proofs.lemmas.Bool.{cases_eq, cases_lt, cond-true, or_cases, or_right, ltb-true, false≢true}
 use Rattle.sctp_serial.specs.Messages as messages
 use Rattle.sctp_serial.specs.Unwrapped.{origin}
 use Rattle.sctp_packet.specs.Chunk.{FragmentTree}
@@ -331,9 +331,6 @@ module _ (message : ℕ → Message) (mixed : Bool) (x : Transfer) (kept : Kept 
 
 pub new_mids : (message : ℕ → Message) (mixed : Bool) (max_size : ℕ) → AreNearStreams message start (reassembly max_size mixed)
 new_mids message mixed max_size = record {
-  streams = λ s. record { number = 0; near_is = refl; met = inl refl; seen = λ t h on. absurd (no h) };
+  streams = λ s. record { number = 0; near_is = refl; met = inl refl; seen = λ t h on. absurd (false≢true h) };
   points = λ f a. absurd a;
 }
-  where
-    no : false ≡ true → ⊥
-    no h = cc

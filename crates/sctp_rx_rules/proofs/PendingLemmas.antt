@@ -1,7 +1,7 @@
 -- What the entries of a forward point leave of a view, before anything becomes ready.
 use Rattle.std.proofs.Common.{◌≡◌, ◌≢◌, ℕ, suc, ◌+◌, ◌-◌, ◌^◌, ◌<◌, max, Bool, true, false, cond, ◌⊎◌, inl, inr, List, [], ◌∷◌, refl, ap, sym, ◌∙◌, arith}
 use Rattle.std.specs.Prelude.{◌&&◌, ◌||◌, ◌==◌, nat_lt, nat_le}
-use Rattle.std.proofs.lemmas.Bool.{cases_eq, cond-true, cond-false, eq-eqb, ne_eqb, eqb-true}
+use Rattle.std.proofs.lemmas.Bool.{cases_eq, cond-true, cond-false, eq-eqb, ne_eqb, eqb-true, false≢true}
 use Rattle.std.proofs.lemmas.Bool.Decides.{nat_tests}
 use Rattle.sctp_serial.specs.Messages.{Message}
 use Rattle.sctp_serial.specs.Unwrapped.{origin}
@@ -141,13 +141,10 @@ pub pending_moved : (e : Entry) (es : List Entry) → e.ordered ≡ true → ((d
 pending_moved e es o others v hs n ms = record {
   held = λ k a. held k a (place_cases k true a e.stream);
   next = λ a. next a (cases_eq a e.stream);
-  passed = λ a. ap (lift es false a) (sym (cond-false (is_named e false a) (max (v.passed a) (suc (origin + e.number))) (v.passed a) (named_off e false a (λ p q. no (p ∙ o)))));
+  passed = λ a. ap (lift es false a) (sym (cond-false (is_named e false a) (max (v.passed a) (suc (origin + e.number))) (v.passed a) (named_off e false a (λ p q. false≢true (p ∙ o)))));
   ready = refl;
 }
   where
-    no : false ≡ true → ⊥
-    no p = cc
-
     held : (k : Bool) (a : ℕ) → ((k ≡ true) × (a ≡ e.stream)) ⊎ (k ≡ true → a ≡ e.stream → ⊥)
         → cut es k a (cond (is_place true e.stream k a) hs (v.held k a)) ≡ cond (is_place true e.stream k a) hs (cut (e ∷ es) k a (v.held k a))
     held k a (inl p) =
@@ -192,10 +189,7 @@ pub pending_first : (e : Entry) (es : List Entry) (v w : View) → ((k : Bool) (
     → AreAlike (pending (e ∷ es) v) (pending es w)
 pending_first e es v w held o next passed ready = record {
   held = λ k a. ap (cut es k a) (held k a);
-  next = λ a. ap (lift es true a) (next a ∙ sym (cond-false (is_named e true a) (max (v.next a) (suc (origin + e.number))) (v.next a) (named_off e true a (λ p q. no (sym (p ∙ o))))));
+  next = λ a. ap (lift es true a) (next a ∙ sym (cond-false (is_named e true a) (max (v.next a) (suc (origin + e.number))) (v.next a) (named_off e true a (λ p q. false≢true (sym (p ∙ o))))));
   passed = λ a. ap (lift es false a) (passed a);
   ready = ready;
 }
-  where
-    no : false ≡ true → ⊥
-    no p = cc

@@ -9,6 +9,7 @@ use Rattle.sctp_rx.specs.Held.{Held, rank_of, goes_on, begins, ends, intervals_o
 use Rattle.sctp_rx.specs.Settled.{AreInOrder}
 use Rattle.sctp_rules.specs.State.{Message, Sender, IsAmong, fragment, place_of, count}
 use Rattle.sctp_rules.specs.Reassembly.{Chunk, MessageKey, Queue, KeyOf, next_of, key_of, below_of, chunk_of, nth, ReadyRun, KeyLaws}
+use Rattle.sctp_rules.proofs.ToolsLemmas.{not_both}
 use Rattle.sctp_rx_rules.specs.View.{View, IsFiled, IsSeenAs, chunk_of_held, key_of_held}
 use Rattle.sctp_rx_rules.proofs.IntervalLemmas.{none_held}
 use Rattle.sctp_rx_rules.proofs.KeyLemmas.{twice_not}
@@ -182,6 +183,3 @@ module _ (message : ℕ → Message) (mixed : Bool) (shift : ℕ) (o : Sender) (
             let there' = subst (λ z. (h : Held) → IsAmong h (item 0 ∷ tail 0 n) → IsAmong h (v.held z stream)) k there in
             not_both whole (none_held is_complete (v.held false stream) (item 0) (tail 0 n) (rest.order false stream) (rest.complete stream) message_is there')
       ]
-    where
-      not_both : {b : Bool} → b ≡ true → b ≡ false → ⊥
-      not_both p q = cc

@@ -1,6 +1,6 @@
 -- Entry after entry, what became ready is a run of the queue that all entries had left.
 use Rattle.std.proofs.Common.{◌≡◌, ◌≢◌, ℕ, suc, ◌+◌, ◌^◌, ◌<◌, max, Bool, true, false, cond, ◌⊎◌, inl, inr, List, [], ◌∷◌, ◌++◌, length, refl, ap, sym, ◌∙◌, subst, arith, append_assoc, append-nil}
-use Rattle.std.proofs.lemmas.Bool.{cases_eq, cond-true, cond-false}
+use Rattle.std.proofs.lemmas.Bool.{cases_eq, cond-true, cond-false, true≢false}
 use Rattle.std.proofs.lemmas.Bool.Decides.{nat_tests}
 use Rattle.sctp_serial.specs.Messages.{Message}
 use Rattle.sctp_serial.specs.Unwrapped.{origin, words, halves, nearest}
@@ -130,11 +130,8 @@ module _ (mixed : Bool) (shift : ℕ) (decide : Decided mixed) where
         unordered = λ d a k. changed_off fresh_unordered e.stream d.stream (λ s. apart d a (o ∙ sym k) (sym s)) (unordered_forward (origin + e.number) (unordered_at ss e.stream)) ss.unordered;
       }
 
-      no : true ≡ false → ⊥
-      no p = cc
-
       held_past : (k : Bool) (a : ℕ) → held_on past k a ≡ cond (is_named e k a) (from_rank rank_of (pair_rank (suc (origin + e.number)) 0) (held_on ss k a)) (held_on ss k a)
-      held_past true a = sym (cond-false (is_named e true a) (from_rank rank_of (pair_rank (suc (origin + e.number)) 0) (held_on ss true a)) (held_on ss true a) (named_off e true a (λ p q. no (p ∙ o))))
+      held_past true a = sym (cond-false (is_named e true a) (from_rank rank_of (pair_rank (suc (origin + e.number)) 0) (held_on ss true a)) (held_on ss true a) (named_off e true a (λ p q. true≢false (p ∙ o))))
       held_past false a = go (cases_eq a e.stream)
         where
           go : (a ≡ e.stream) ⊎ (a ≢ e.stream) → held_on past false a ≡ cond (is_named e false a) (from_rank rank_of (pair_rank (suc (origin + e.number)) 0) (held_on ss false a)) (held_on ss false a)

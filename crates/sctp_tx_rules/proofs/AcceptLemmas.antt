@@ -9,6 +9,7 @@ use Rattle.std.proofs.lemmas.Bool.{cases_eq, lt-ltb, false_from_ne_true}
 use Rattle.std.proofs.lemmas.Bool.Decides.{nat_tests}
 use Rattle.std.proofs.Math.Nat.{mod-eq_of_lt}
 use Rattle.std.specs.Duration.{as_nanos}
+use Rattle.std.proofs.Math.Bool.{not-not}
 use Rattle.sctp_serial.specs.declared.api.Message as given
 use Rattle.sctp_state.specs.declared.api.options.SendOptions.{SendOptions}
 use Rattle.sctp_send_queue.specs.Views.{queued_of}
@@ -244,17 +245,13 @@ module _ (message : ℕ → Message) (lifecycle : ℕ → Option ℕ) (mixed : B
 
 -- ---- a message as it is offered
 
-not_not : (b : Bool) → not (not b) ≡ b
-not_not true = refl
-not_not false = refl
-
 pub offer_row : (message : ℕ → Message) (lifecycle : ℕ → Option ℕ) (p now : ℕ) (m : given.Message) (options : SendOptions) → message p ≡ message_of m options → lifecycle p ≡ options.lifecycle_id
     → queued_of p now m options ≡ offered message lifecycle p (expiry_of now (option_map as_nanos options.lifetime)) (unwrap_or options.max_retransmissions 65535)
 offer_row message lifecycle p now m options e f = λ i. record {
   number = p;
   ppid = (sym e i).protocol_id;
   payload = (sym e i).payload;
-  is_unordered = (sym (not_not options.unordered) ∙ ap (λ (z : Message). not z.ordered) (sym e)) i;
+  is_unordered = (sym (not-not options.unordered) ∙ ap (λ (z : Message). not z.ordered) (sym e)) i;
   expires = expiry_of now (option_map as_nanos options.lifetime);
   limit = unwrap_or options.max_retransmissions 65535;
   lifecycle = sym f i;

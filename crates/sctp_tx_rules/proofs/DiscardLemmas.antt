@@ -2,8 +2,7 @@
 use Rattle.std.proofs.Common.{◌≡◌, ◌≢◌, ℕ, Bool, true, false, cond, inl, inr, ◌⊎◌, Option, Some, None, List, [], ◌∷◌, refl, sym, ap, ◌∙◌, subst, arith}
 use Rattle.std.specs.Prelude.{is_some, ◌==◌}
 use Rattle.std.specs.List.{list_all}
-use Rattle.std.proofs.lemmas.Bool.{cases_eq, ne_eqb, and_parts}
-use Rattle.std.proofs.lemmas.Bool.Decides.{nat_tests}
+use Rattle.std.proofs.lemmas.Bool.{cases_eq, ne_eqb, and_parts, eq-eqb, eqb-true}
 use Rattle.sctp_state.specs.Events.{Told, silent}
 use Rattle.sctp_send_queue.specs.Queue as queue
 use Rattle.sctp_send_queue.specs.Queue.{Queued, Queue, Stream, Streams, blank, stream}
@@ -80,11 +79,8 @@ module _ {P : Type 0} (message : ℕ → Message) (lifecycle : ℕ → Option �
   front_off [] e r d = ap (found r) e
   front_off (m ∷ rest) e r d = by (m.number == number) refl
     where
-      is : (a b : ℕ) → (a == b) ≡ true → a ≡ b
-      is a b h = grind (arith, nat_tests)
-
       by : (b : Bool) → (m.number == number) ≡ b → found r (let t : Stream = cond b (record s0 { messages = rest; pause = settled s0.pause }) s0 in t).messages ≡ found r (m ∷ rest)
-      by true h = sym (found_off r m rest (λ c. d (sym c ∙ is m.number number h)))
+      by true h = sym (found_off r m rest (λ c. d (sym c ∙ eqb-true m.number number h)))
       by false h = ap (found r) e
 
   -- it isn't there any more, where only the first of a stream has its numbers
@@ -93,9 +89,6 @@ module _ {P : Type 0} (message : ℕ → Message) (lifecycle : ℕ → Option �
   front_gone [] e least most r h has = ap (found number) e
   front_gone (m ∷ rest) e least most r h has = by (cases_eq m.number number)
     where
-      is_here : (a b : ℕ) → a ≡ b → (a == b) ≡ true
-      is_here a b c = grind (arith, nat_tests)
-
       left : Bool → Stream
       left b = cond b (record s0 { messages = rest; pause = settled s0.pause }) s0
 
@@ -105,7 +98,7 @@ module _ {P : Type 0} (message : ℕ → Message) (lifecycle : ℕ → Option �
           absurd (not_both (has n (found_off number m rest d ∙ g)) (behind_waits number rest n (and_parts (is_begun_or_waiting m) (list_all is_waiting rest) h).1 g))
 
       by : (m.number ≡ number) ⊎ (m.number ≢ number) → found number (left (m.number == number)).messages ≡ None
-      by (inl c) = ap (λ b. found number (left b).messages) (is_here m.number number c) ∙ (ap (λ n. found n rest) (sym c) ∙ once least most m rest r)
+      by (inl c) = ap (λ b. found number (left b).messages) (eq-eqb m.number number c) ∙ (ap (λ n. found n rest) (sym c) ∙ once least most m rest r)
       by (inr d) =
           ap (λ b. found number (left b).messages) (ne_eqb m.number number d)
           ∙ (ap (found number) e ∙ (found_off number m rest d ∙ behind_none (found number rest) refl d))

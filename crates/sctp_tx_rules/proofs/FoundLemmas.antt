@@ -1,8 +1,7 @@
 -- Messages are found by their places.
 use Rattle.std.proofs.Common.{◌≡◌, ◌≢◌, ℕ, ◌+◌, ◌<◌, ◌≤◌, true, cond, inl, inr, Option, Some, None, List, [], ◌∷◌, ◌++◌, refl, sym, ap, ◌∙◌, arith, eqb}
 use Rattle.std.specs.Prelude.{nat_le, nat_lt, ◌&&◌}
-use Rattle.std.proofs.lemmas.Bool.{cases_eq, eq-eqb, ne_eqb, cond-true, cond-false, and_parts}
-use Rattle.std.proofs.lemmas.Bool.Decides.{nat_tests}
+use Rattle.std.proofs.lemmas.Bool.{cases_eq, eq-eqb, ne_eqb, cond-true, cond-false, and_parts, leb-true, ltb-true}
 use Rattle.sctp_send_queue.specs.Queue.{Queued}
 use Rattle.sctp_send_queue.specs.InOrder.{are_rising}
 use Rattle.sctp_tx_rules.specs.Shown.{found}
@@ -32,12 +31,6 @@ found_is p (a ∷ rest) m e =
 
 -- ---- places rise along a stream
 
-is_le : (least n : ℕ) → nat_le least n ≡ true → least ≤ n
-is_le least n e = grind (arith, nat_tests)
-
-is_lt : (n most : ℕ) → nat_lt n most ≡ true → n < most
-is_lt n most e = grind (arith, nat_tests)
-
 pub record Rises (least most : ℕ) (m : Queued) (rest : List Queued) : Type 0 where
   pub low : least ≤ m.number
   pub high : m.number < most
@@ -47,7 +40,7 @@ pub rises : (least most : ℕ) (m : Queued) (rest : List Queued) → are_rising 
 rises least most m rest h =
     let a = and_parts (nat_le least m.number && nat_lt m.number most) (are_rising (m.number + 1) most rest) h in
     let b = and_parts (nat_le least m.number) (nat_lt m.number most) a.0 in
-    record { low = is_le least m.number b.0; high = is_lt m.number most b.1; behind = a.1 }
+    record { low = leb-true least m.number b.0; high = ltb-true m.number most b.1; behind = a.1 }
 
 pub none_below : (p least most : ℕ) (ms : List Queued) → p < least → are_rising least most ms ≡ true → found p ms ≡ None
 none_below p least most [] l h = refl

@@ -69,7 +69,7 @@ pub record Alike (i j : Item) : Type 0 where
   pub lifecycle_id : j.lifecycle ≡ i.lifecycle
   pub gone : is_abandoned j ≡ is_abandoned i
 
-acked_same : (s : ItemState) → is_gone (acked s) ≡ is_gone s
+pub acked_same : (s : ItemState) → is_gone (acked s) ≡ is_gone s
 acked_same InFlight = refl
 acked_same Missing = refl
 acked_same Queued = refl
@@ -77,7 +77,7 @@ acked_same QueuedFast = refl
 acked_same Acked = refl
 acked_same GivenUp = refl
 
-uncovered_same : (s : ItemState) → is_gone (uncovered s) ≡ is_gone s
+pub uncovered_same : (s : ItemState) → is_gone (uncovered s) ≡ is_gone s
 uncovered_same InFlight = refl
 uncovered_same Missing = refl
 uncovered_same Queued = refl
@@ -85,7 +85,7 @@ uncovered_same QueuedFast = refl
 uncovered_same Acked = refl
 uncovered_same GivenUp = refl
 
-resent_same : (s : ItemState) → is_gone (resent s) ≡ is_gone s
+pub resent_same : (s : ItemState) → is_gone (resent s) ≡ is_gone s
 resent_same InFlight = refl
 resent_same Missing = refl
 resent_same Queued = refl
@@ -93,7 +93,7 @@ resent_same QueuedFast = refl
 resent_same Acked = refl
 resent_same GivenUp = refl
 
-slowed_same : (s : ItemState) → is_gone (slowed s) ≡ is_gone s
+pub slowed_same : (s : ItemState) → is_gone (slowed s) ≡ is_gone s
 slowed_same InFlight = refl
 slowed_same Missing = refl
 slowed_same Queued = refl
@@ -106,7 +106,7 @@ nacked_lives true true = refl
 nacked_lives true false = refl
 nacked_lives false f = refl
 
-nacked_same : (l f : Bool) (s : ItemState) → is_gone (cond (flies s) (nacked l f) s) ≡ is_gone s
+pub nacked_same : (l f : Bool) (s : ItemState) → is_gone (cond (flies s) (nacked l f) s) ≡ is_gone s
 nacked_same l f InFlight = nacked_lives l f
 nacked_same l f Missing = nacked_lives l f
 nacked_same l f Queued = refl

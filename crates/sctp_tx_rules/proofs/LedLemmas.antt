@@ -8,6 +8,7 @@ use Rattle.sctp_outstanding.specs.Items.{Items}
 use Rattle.sctp_rules.specs.State.{Message, Transfer}
 use Rattle.sctp_rules.specs.Rules.{Event, Happens, after, run}
 use Rattle.sctp_rules.specs.Kept.{Kept}
+use Rattle.sctp_rules.proofs.GrowsLemmas.{run_more}
 use Rattle.sctp_tx_rules.specs.Shown.{Shows}
 use Rattle.sctp_tx_rules.specs.Led.{is_sending, given_up_by, given_ups, recorded, Leads, LeadsTo}
 
@@ -15,10 +16,6 @@ module _ (message : ℕ → Message) (mixed : Bool) where
   pub happens_more : (es fs : List Event) (x : Transfer) → Happens message mixed x es → Happens message mixed (run message mixed x es) fs → Happens message mixed x (es ++ fs)
   happens_more [] fs x a b = b
   happens_more (e ∷ es) fs x a b = (a.0, happens_more es fs (after message mixed x e) a.1 b)
-
-  pub run_more : (es fs : List Event) (x : Transfer) → run message mixed x (es ++ fs) ≡ run message mixed (run message mixed x es) fs
-  run_more [] fs x = refl
-  run_more (e ∷ es) fs x = run_more es fs (after message mixed x e)
 
   pub given_more : (es fs : List Event) → given_ups (es ++ fs) ≡ given_ups es ++ given_ups fs
   given_more [] fs = refl
@@ -31,7 +28,7 @@ module _ (message : ℕ → Message) (mixed : Bool) where
   leads_on x y z ps qs a b = record {
     events = a.events ++ b.events;
     may = happens_more a.events b.events x a.may (subst (λ w. Happens message mixed w b.events) (sym a.leads) b.may);
-    leads = run_more a.events b.events x ∙ (ap (λ w. run message mixed w b.events) a.leads ∙ b.leads);
+    leads = run_more message mixed a.events b.events x ∙ (ap (λ w. run message mixed w b.events) a.leads ∙ b.leads);
     sends = list_all-append is_sending a.events b.events ∙ (ap (λ z. z && list_all is_sending b.events) a.sends ∙ b.sends);
     given_up = given_more a.events b.events ∙ (ap (λ w. w ++ given_ups b.events) a.given_up ∙ ap (λ w. ps ++ w) b.given_up);
     rest_stays = b.rest_stays ∙ ap with_sender a.rest_stays;

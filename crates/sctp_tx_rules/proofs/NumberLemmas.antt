@@ -3,6 +3,7 @@ use Rattle.std.proofs.Common.{◌≡◌, ◌≢◌, ℕ, suc, ◌+◌, ◌-◌, 
 use Rattle.std.specs.Prelude.{◌==◌, ◌&&◌, nat_le, nat_lt}
 use Rattle.std.proofs.lemmas.Bool.Decides.{nat_tests}
 use Rattle.std.proofs.lemmas.List.{get_or_push, get_or_append_left, drop-drop, length-take}
+use Rattle.std.proofs.lemmas.Bool.{false≢true, ltb-true}
 use Rattle.sctp_serial.specs.Unwrapped.{words, halves, wire}
 use Rattle.sctp_send_queue.specs.declared.send_queue.message.MessageNumbers.{MessageNumbers}
 use Rattle.sctp_send_queue.specs.Queue.{Queued}
@@ -43,12 +44,9 @@ not_zero a h = grind (arith, nat_tests)
 -- where something is left, the fragment has bytes
 pub some_bytes : (offset size : ℕ) (payload : List ℕ) → 0 < size → nat_lt offset (length payload) ≡ true → is_empty (take size (drop offset payload)) ≡ false
 some_bytes offset size payload some rest =
-    let l = less offset (length payload) rest in
+    let l = ltb-true offset (length payload) rest in
     empty_length (take size (drop offset payload))
     ∙ not_zero (length (take size (drop offset payload))) (omega (arith, length-take size (drop offset payload), length-drop offset payload, some, l))
-  where
-    less : (a b : ℕ) → nat_lt a b ≡ true → a < b
-    less a b e = grind (arith, nat_tests)
 
 module _ (message : ℕ → Message) (lifecycle : ℕ → Option ℕ) (o : Sender) (ms : ℕ → List Queued) (a : AreQueued message lifecycle o ms)
     (id : ℕ) (m : Queued) (rest : List Queued) (h : ms id ≡ m ∷ rest) (none : found m.number rest ≡ None) (live : o.given_up m.number ≡ false) (size : ℕ) (some : 0 < size)
@@ -173,12 +171,9 @@ module _ (message : ℕ → Message) (lifecycle : ℕ → Option ℕ) (o : Sende
       carried = tree_is;
       lifecycle_id = with_end (ends size m) (is_empty more) (sym ends_so);
       gone = sym live;
-      placeholder = λ e. absurd (no e);
+      placeholder = λ e. absurd (false≢true e);
     }
       where
-        no : false ≡ true → ⊥
-        no e = cc
-
         with_end : (b c : Bool) → b ≡ c → cond b m.lifecycle None ≡ cond (c && true) (lifecycle p) None
         with_end true true e = entry.lifecycle_id
         with_end false false e = refl

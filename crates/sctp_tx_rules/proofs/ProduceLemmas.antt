@@ -5,8 +5,7 @@ use Rattle.std.specs.List.{list_all}
 use Rattle.std.specs.Map.{lookup}
 use Rattle.std.specs.Ordering.{nat_cmp}
 use Rattle.std.specs.BTreeMap.{is_at}
-use Rattle.std.proofs.lemmas.Bool.{cases_eq, eq-eqb, ne_eqb, and_parts}
-use Rattle.std.proofs.lemmas.Bool.Decides.{nat_tests}
+use Rattle.std.proofs.lemmas.Bool.{cases_eq, eq-eqb, ne_eqb, and_parts, eqb-true}
 use Rattle.std.proofs.Math.Nat.{mod-eq_of_lt}
 use Rattle.sctp_serial.specs.Unwrapped.{origin}
 use Rattle.sctp_state.specs.Events.{Told}
@@ -80,10 +79,7 @@ begun_first p (a ∷ rest) m h f b =
 
 pub this_is : (k : ℕ) (begun : Option ℕ) → is_this k begun ≡ true → begun ≡ Some k
 this_is k None h = absurd (cc)
-this_is k (Some id) h = ap Some (sym (at k id h))
-  where
-    at : (k id : ℕ) → (k == id) ≡ true → k ≡ id
-    at k id h = grind (arith, nat_tests)
+this_is k (Some id) h = ap Some (sym (eqb-true k id h))
 
 pub next_begun : (q : Queue) (k id : ℕ) → next_stream q ≡ Some id → q.begun ≡ Some k → k ≡ id
 next_begun q k id next e = one_value (next_stream q) k id (ap (λ (b : Option ℕ). cond (is_some b) b (peek q.scheduler)) e) next

@@ -1,8 +1,7 @@
 -- A SACK that is valid.
 use Rattle.std.proofs.Common.{◌≡◌, ℕ, zero, suc, ◌+◌, ◌-◌, ◌<◌, ◌≤◌, Bool, true, false, not, cond, Option, Some, None, List, [], ◌∷◌, ◌++◌, length, take, drop, replicate, refl, sym, ap, ◌∙◌, subst, arith, append_assoc, append-nil}
 use Rattle.std.specs.Prelude.{nat_le, nat_lt, slice_get, option_map, unwrap_or, ◌&&◌, ◌||◌}
-use Rattle.std.proofs.lemmas.Bool.{and_parts}
-use Rattle.std.proofs.lemmas.Bool.Decides.{nat_tests}
+use Rattle.std.proofs.lemmas.Bool.{and_parts, leb-true, ltb-true}
 use Rattle.sctp_packet.specs.Chunk.{FragmentTree}
 use Rattle.sctp_packet.specs.declared.sack.GapAckBlock.{GapAckBlock}
 use Rattle.sctp_serial.specs.Unwrapped.{origin}
@@ -95,12 +94,6 @@ module _ (P : Type 0) (message : ℕ → Message) (lifecycle : ℕ → Option �
 
 -- ---- the whole
 
-is_le : (a b : ℕ) → nat_le a b ≡ true → a ≤ b
-is_le a b e = grind (arith, nat_tests)
-
-is_lt : (a b : ℕ) → nat_lt a b ≡ true → a < b
-is_lt a b e = grind (arith, nat_tests)
-
 module _ {P : Type 0} (message : ℕ → Message) (lifecycle : ℕ → Option ℕ) (mixed : Bool) (x : Transfer) (q : Queue) (s : Items) (cumulative c : ℕ) (blocks : List GapAckBlock) (fast : Bool) (told : Told P)
     (k : Kept message mixed x) (sh : Shows message lifecycle mixed x q s) (valid : is_valid cumulative blocks s ≡ true) (upto : cumulative + 1 ≡ origin + c) (sent : IsAmong c x.sacks) where
   abbrev n : ℕ
@@ -113,10 +106,10 @@ module _ {P : Type 0} (message : ℕ → Message) (lifecycle : ℕ → Option �
   parts = and_parts (nat_le s.acked cumulative) (nat_lt (cumulative + highest_end blocks) (next_number s) && nat_lt cumulative bound) valid
 
   ahead : s.acked ≤ cumulative
-  ahead = is_le s.acked cumulative parts.0
+  ahead = leb-true s.acked cumulative parts.0
 
   within : cumulative + highest_end blocks < s.acked + 1 + length s.kept
-  within = is_lt (cumulative + highest_end blocks) (next_number s) (and_parts (nat_lt (cumulative + highest_end blocks) (next_number s)) (nat_lt cumulative bound) parts.1).0
+  within = ltb-true (cumulative + highest_end blocks) (next_number s) (and_parts (nat_lt (cumulative + highest_end blocks) (next_number s)) (nat_lt cumulative bound) parts.1).0
 
   enough : n ≤ length s.kept
   enough = omega (arith, ahead, within)

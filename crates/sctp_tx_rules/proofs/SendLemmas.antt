@@ -1,8 +1,7 @@
 -- What a packet takes, and what its chunks carry.
 use Rattle.std.proofs.Common.{◌≡◌, ℕ, zero, suc, ◌+◌, ◌-◌, ◌<◌, ◌≤◌, Bool, true, false, cond, Option, Some, None, List, [], ◌∷◌, ◌++◌, length, length-append, append-nil, refl, sym, ap, ◌∙◌, subst, arith}
 use Rattle.std.specs.Prelude.{slice_get, nat_lt, nat_le, ◌&&◌, min}
-use Rattle.std.proofs.lemmas.Bool.{and_parts, false_from_ne_true}
-use Rattle.std.proofs.lemmas.Bool.Decides.{nat_tests}
+use Rattle.std.proofs.lemmas.Bool.{and_parts, false_from_ne_true, false≢true, ltb-true}
 use Rattle.sctp_serial.specs.Unwrapped.{origin, words, wire}
 use Rattle.sctp_packet.specs.Chunk.{FragmentTree}
 use Rattle.sctp_state.specs.Events.{Told}
@@ -190,16 +189,13 @@ module _ {P : Type 0} (message : ℕ → Message) (lifecycle : ℕ → Option �
       let b : Carries message first o (written d (next_number d.items), p.fragment) = record {
         at = acknowledged + length s.kept;
         below = (let c = kept_count message lifecycle o acknowledged (s.kept ++ i ∷ []) a.kept in let l = length-append s.kept (i ∷ []) in omega (arith, c, l));
-        real = false_from_ne_true ((fragment o (acknowledged + length s.kept)).placeholder) (λ h. no (st.gone ∙ st.placeholder h));
+        real = false_from_ne_true ((fragment o (acknowledged + length s.kept)).placeholder) (λ h. false≢true (st.gone ∙ st.placeholder h));
         tsn =
             ap (λ z. wire words z (next_number d.items)) f
             ∙ (ap (λ (z : Items). wire words first (next_number z)) e ∙ ap (wire words first) (let q = a.point in let n : s.acked + 1 + length s.kept ≡ origin + (acknowledged + length s.kept) = omega (arith, q) in n));
         tree = st.carried;
       } in
       (b, omega arith)
-    where
-      no : false ≡ true → ⊥
-      no e = cc
 
   made_carries : (f : Filling P) (size : ℕ) → 0 < size → Filled f → Filled (asked now (produce now size f.queue f.told) f).filling
   unfolding led_on
@@ -249,10 +245,7 @@ module _ {P : Type 0} (message : ℕ → Message) (lifecycle : ℕ → Option �
           })
 
   is_some_size : (b : Bool) (n : ℕ) → (b && nat_lt 0 n) ≡ true → 0 < n
-  is_some_size b n e = lt n (and_parts b (nat_lt 0 n) e).1
-    where
-      lt : (n : ℕ) → nat_lt 0 n ≡ true → 0 < n
-      lt n e = grind (arith, nat_tests)
+  is_some_size b n e = ltb-true 0 n (and_parts b (nat_lt 0 n) e).1
 
   turn_fills : (f : Filling P) → Filled f → Filled (turned now f).filling
   turn_fills f a = go (may_send_new f.sender && nat_lt 0 (offered f.left f.sender)) refl

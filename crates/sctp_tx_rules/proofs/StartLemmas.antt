@@ -3,8 +3,7 @@ use Rattle.std.proofs.Common.{◌≡◌, ◌≢◌, ℕ, Bool, true, false, cond
 use Rattle.std.specs.Prelude.{is_some, ◌==◌, nat_lt}
 use Rattle.std.specs.List.{list_all}
 use Rattle.std.specs.Map.{keys_of}
-use Rattle.std.proofs.lemmas.Bool.{cases_eq, eq-eqb, and_parts}
-use Rattle.std.proofs.lemmas.Bool.Decides.{nat_tests}
+use Rattle.std.proofs.lemmas.Bool.{cases_eq, eq-eqb, and_parts, eqb-true}
 use Rattle.sctp_state.specs.Options.{Options}
 use Rattle.sctp_send_queue.specs.declared.send_queue.message.MessageNumbers.{MessageNumbers}
 use Rattle.sctp_send_queue.specs.Queue as queue
@@ -101,12 +100,9 @@ module _ (message : ℕ → Message) (lifecycle : ℕ → Option ℕ) where
     whole_is k m f order =
         let entry = sh.queue.messages.entries k m.number m f in
         let none = unnumbered k m f in
-        let offset : m.offset ≡ 0 = is_zero m.offset (ap (λ b. cond b (nat_lt 0 m.offset) (m.offset == 0)) (sym none) ∙ order) in
+        let offset : m.offset ≡ 0 = eqb-true m.offset 0 (ap (λ b. cond b (nat_lt 0 m.offset) (m.offset == 0)) (sym none) ∙ order) in
         λ i. record m { offset = sym offset i; numbers = sym (is_none m.numbers none) i; fsn = sym (entry.index refl) i }
       where
-        is_zero : (n : ℕ) → (n == 0) ≡ true → n ≡ 0
-        is_zero n e = grind (arith, nat_tests)
-
         is_none : (x : Option MessageNumbers) → is_some x ≡ false → x ≡ None
         is_none None e = refl
         is_none (Some v) e = absurd (cc)

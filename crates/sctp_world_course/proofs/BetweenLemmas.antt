@@ -1,7 +1,7 @@
 -- What is delivered before and behind a block of the log, is delivered within it.
 use Rattle.std.proofs.Common.{◌≡◌, ◌⊎◌, inl, inr, ℕ, zero, suc, ◌<◌, ◌≤◌, ◌==◌, ◌||◌, Bool, true, false, Option, Some, None, List, [], ◌∷◌, ◌++◌, length, map, take, refl, sym, ap, subst, ◌∙◌, arith}
 use Rattle.std.specs.Prelude.{slice_index, option_map, slice_get}
-use Rattle.std.proofs.lemmas.Bool.{cases_lt}
+use Rattle.std.proofs.lemmas.Bool.{cases_lt, eqb-true, or_right}
 use Rattle.std.proofs.lemmas.Option.{slice_get_within}
 use Rattle.sctp_serial.specs.Messages.{Message}
 use Rattle.sctp_rules.specs.State.{has}
@@ -9,8 +9,6 @@ use Rattle.sctp_rules.proofs.ToolsLemmas.{has_at, has_keeps}
 use Rattle.sctp_delivery.specs.Accepted.{Offer}
 use Rattle.sctp_delivery.specs.Delivery.{message_at, Fits, SkippedAreGivenUp, IsReady}
 use Rattle.sctp_course.proofs.JoinLemmas.{not_both}
-use Rattle.sctp_world_course.proofs.NewsLemmas.{same_number}
-use Rattle.sctp_world_course.proofs.TurnsLemmas.{or_second}
 use Rattle.sctp_world_course.proofs.PrefixLemmas.{length_front, index_front, fits_front}
 
 -- so far: what is offered, ready, given up and reported, by the beginning of these places
@@ -40,7 +38,7 @@ found : (p : ℕ) (xs : List ℕ) → has p xs ≡ true → IsAt p xs
 found p [] h = cc
 found p (q ∷ xs) h =
     elim (one_of (p == q) (has p xs) h) [
-      | inl e ↦ record { index = 0; within = omega arith; there = sym (same_number p q e) }
+      | inl e ↦ record { index = 0; within = omega arith; there = sym (eqb-true p q e) }
       | inr e ↦ let f = found p xs e in record { index = suc f.index; within = let l = f.within in omega (arith, l); there = f.there }
     ]
 
@@ -51,7 +49,7 @@ has_front p (suc m) (suc n) [] l h = cc
 has_front p (suc m) (suc n) (x ∷ xs) l h =
     elim (one_of (p == x) (has p (take m xs)) h) [
       | inl e ↦ ap (λ (b : Bool). b || has p (take n xs)) e
-      | inr e ↦ or_second (p == x) (has p (take n xs)) (has_front p m n xs (omega (arith, l)) e)
+      | inr e ↦ or_right (p == x) (has p (take n xs)) (has_front p m n xs (omega (arith, l)) e)
     ]
 
 -- ---- fewer are ready
@@ -118,7 +116,7 @@ placed offers [] ready e q h = cc
 placed offers (p ∷ places) [] e q h = cc
 placed offers (p ∷ places) (m ∷ ready) e q h =
     elim (one_of (q == p) (has q places) h) [
-      | inl same ↦ let l = offered_at offers p m (slice_get offers p) refl (front e) in let s = same_number q p same in omega (arith, l, s)
+      | inl same ↦ let l = offered_at offers p m (slice_get offers p) refl (front e) in let s = eqb-true q p same in omega (arith, l, s)
       | inr later ↦ placed offers places ready (rest e) q later
     ]
   where

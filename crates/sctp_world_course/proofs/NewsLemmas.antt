@@ -1,8 +1,8 @@
 -- What an event adds to the log: of its own end what it told, of the other one nothing.
-use Rattle.std.proofs.Common.{◌≡◌, ℕ, ◌+◌, ◌==◌, ◌&&◌, Bool, true, false, Option, Some, None, List, [], ◌∷◌, ◌++◌, map, drop, refl, sym, ap, ◌∙◌, append-nil, arith}
+use Rattle.std.proofs.Common.{◌≡◌, ℕ, ◌+◌, ◌==◌, Bool, true, false, Option, Some, None, List, [], ◌∷◌, ◌++◌, map, drop, refl, sym, ap, ◌∙◌, append-nil}
 use Rattle.std.specs.List.{flat_map}
 use Rattle.std.proofs.lemmas.Grind.{flat_map-append}
-use Rattle.std.proofs.lemmas.Bool.Decides.{nat_tests}
+use Rattle.std.proofs.lemmas.Bool.{and_parts, eqb-true}
 use Rattle.sctp_serial.specs.Messages.{Message}
 use Rattle.sctp_state.specs.Events.{Event, GivenUp, SendPacket, OnConnected, OnClosed, OnConnectionRestarted, OnAborted, OnError, OnBufferedAmountLow, OnTotalBufferedAmountLow, OnStreamsResetFailed, OnStreamsResetPerformed, OnIncomingStreamReset, OnLifecycleMessageFullySent, OnLifecycleMessageMaybeExpired, OnLifecycleMessageExpired, OnLifecycleMessageDelivered, OnLifecycleEnd}
 use Rattle.sctp_association.specs.Association.{Endpoint}
@@ -104,17 +104,6 @@ quiet_tail y n k events gone ms =
     quiet_both (told_entries y n events) (gone_entries y gone ++ ready_entries y k ms) (quiet_told y n events)
     (quiet_both (gone_entries y gone) (ready_entries y k ms) (quiet_gone y gone) (quiet_ready y (drop k ms)))
 
-pub same_number : (m n : ℕ) → (m == n) ≡ true → m ≡ n
-same_number m n e = grind (arith, nat_tests, e)
-
-pub both_left : (a b : Bool) → (a && b) ≡ true → a ≡ true
-both_left true b e = refl
-both_left false b e = cc
-
-pub both_right : (a b : Bool) → (a && b) ≡ true → b ≡ true
-both_right true b e = e
-both_right false b e = cc
-
 abbrev pub of_numbers : (i j k l : ℕ) → Association
 of_numbers i j k l = record { my_tag = i; my_initial_tsn = j; peer_tag = k; peer_initial_tsn = l }
 
@@ -126,13 +115,13 @@ one_association None None e = refl
 one_association None (Some b) e = cc
 one_association (Some a) None e = cc
 one_association (Some a) (Some b) e =
-    let e1 = both_right (a.my_tag == b.my_tag) _ e in
-    let e2 = both_right (a.my_initial_tsn == b.my_initial_tsn) _ e1 in
+    let e1 = (and_parts (a.my_tag == b.my_tag) _ e).1 in
+    let e2 = (and_parts (a.my_initial_tsn == b.my_initial_tsn) _ e1).1 in
     ap Some (made_same a.my_tag a.my_initial_tsn a.peer_tag a.peer_initial_tsn b.my_tag b.my_initial_tsn b.peer_tag b.peer_initial_tsn
-    (same_number a.my_tag b.my_tag (both_left (a.my_tag == b.my_tag) _ e))
-    (same_number a.my_initial_tsn b.my_initial_tsn (both_left (a.my_initial_tsn == b.my_initial_tsn) _ e1))
-    (same_number a.peer_tag b.peer_tag (both_left (a.peer_tag == b.peer_tag) _ e2))
-    (same_number a.peer_initial_tsn b.peer_initial_tsn (both_right (a.peer_tag == b.peer_tag) _ e2)))
+    (eqb-true a.my_tag b.my_tag (and_parts (a.my_tag == b.my_tag) _ e).0)
+    (eqb-true a.my_initial_tsn b.my_initial_tsn (and_parts (a.my_initial_tsn == b.my_initial_tsn) _ e1).0)
+    (eqb-true a.peer_tag b.peer_tag (and_parts (a.peer_tag == b.peer_tag) _ e2).0)
+    (eqb-true a.peer_initial_tsn b.peer_initial_tsn (and_parts (a.peer_tag == b.peer_tag) _ e2).1))
 
 newer_own : (x : End) (a h : Option Association) → newer (same_end x x) a h ≡ a
 newer_own A a h = refl

@@ -2,6 +2,7 @@
 use Rattle.std.proofs.Common.{◌≡◌, ◌⊎◌, inl, inr, ℕ, ◌==◌, not, Bool, true, false, List, [], ◌∷◌, ◌++◌, length, take, refl, sym, ap, subst, ◌∙◌, arith}
 use Rattle.std.proofs.lemmas.Grind.{flat_map-append}
 use Rattle.std.proofs.lemmas.Bool.Decides.{nat_tests}
+use Rattle.std.proofs.lemmas.Bool.{and_parts}
 use Rattle.sctp_serial.specs.Messages.{Message}
 use Rattle.sctp_send_queue.specs.Queue.{is_empty}
 use Rattle.sctp_outstanding.specs.Item.{Item}
@@ -23,7 +24,6 @@ use Rattle.sctp_world.specs.Judge.{End, A, B, Entry, ready_by, ready, given_up_b
 use Rattle.sctp_world.specs.World.{Side, World, other, is_at_rest}
 use Rattle.sctp_world_course.specs.Courses.{is_a}
 use Rattle.sctp_world_course.specs.Delivered.{offers_by, offers, gone, reported_by, reported, ready_places}
-use Rattle.sctp_world_course.proofs.NewsLemmas.{both_left, both_right}
 use Rattle.sctp_world_course.proofs.WorldLemmas.{Both, gone_more, numbers_of}
 use Rattle.sctp_world_course.proofs.BetweenLemmas.{IsDelivered, same_delivered, ready_between, told_between}
 use Rattle.sctp_world_course.proofs.BlockLemmas.{IsBlock, AreBlocks, IsReached, at_each, whole, none_said, all_first, ready_split, ready_before}
@@ -113,8 +113,8 @@ rests f side end e h =
     let there : socket.is_at_rest (state_of end) (queue_of end) ≡ true =
     sym (ap (λ (z : Endpoint (List ℕ)). socket.is_at_rest z.standing.state z.standing.context.queue) e) ∙ h in
     record {
-      none_waits = both_left (is_empty (queue_of end)) (not (keeps_items (state_of end))) there;
-      none_kept = none_kept (state_of end) (both_right (is_empty (queue_of end)) (not (keeps_items (state_of end))) there);
+      none_waits = (and_parts (is_empty (queue_of end)) (not (keeps_items (state_of end))) there).0;
+      none_kept = none_kept (state_of end) (and_parts (is_empty (queue_of end)) (not (keeps_items (state_of end))) there).1;
     }
 
 module _ (x : End) (all : List (Bool × Turn)) (c : Pair) (from : courses.Delivers (is_a x) all c) where

@@ -5,6 +5,7 @@ use Rattle.std.specs.List.{list_any}
 use Rattle.std.proofs.lemmas.List.{map-append}
 use Rattle.std.proofs.lemmas.List.Elements.{All-append}
 use Rattle.std.proofs.lemmas.List.Folds.{list_any-append}
+use Rattle.std.proofs.lemmas.Bool.{or_left}
 use Rattle.sctp_state.specs.Events.{Event, GivenUp}
 use Rattle.sctp_association.specs.Association.{Endpoint}
 use Rattle.sctp_association.specs.Socket.{Association}
@@ -84,10 +85,6 @@ pub any_more : (x : End) (ps qs : List (List ℕ)) (log : List Entry) → list_a
 any_more x ps qs [] h = h
 any_more x ps qs (e ∷ log) h =
     either (asks x ps e) (list_any (asks x ps) log) (asks x (ps ++ qs) e) (list_any (asks x (ps ++ qs)) log) (asks_more x ps qs e) (any_more x ps qs log) h
-
-or_left : (a b : Bool) → a ≡ true → (a || b) ≡ true
-or_left true b e = refl
-or_left false b e = cc
 
 pub asked_longer : (x : End) (ps qs : List (List ℕ)) (log more : List Entry) → list_any (asks x ps) log ≡ true → list_any (asks x (ps ++ qs)) (log ++ more) ≡ true
 asked_longer x ps qs log more h =

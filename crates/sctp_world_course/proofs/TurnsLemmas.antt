@@ -3,10 +3,10 @@ use Rattle.std.proofs.Common.{◌≡◌, inl, inr, ℕ, zero, suc, ◌≤◌, �
 use Rattle.std.specs.Prelude.{All}
 use Rattle.std.specs.Int.{w32, from_be_bytes}
 use Rattle.std.specs.List.{list_any}
-use Rattle.std.proofs.lemmas.Bool.Decides.{nat_tests}
 use Rattle.std.proofs.lemmas.Nat.{from_be_bytes-to_be_bytes_4}
 use Rattle.std.proofs.lemmas.List.Elements.{All-head, All-tail}
 use Rattle.std.proofs.lemmas.List.Folds.{list_any-append}
+use Rattle.std.proofs.lemmas.Bool.{eqb-true, or_left, or_right}
 use Rattle.sctp_wire.specs.Fields.{be16, be32}
 use Rattle.sctp_packet.specs.Chunk.{ChunkTree}
 use Rattle.sctp_packet.specs.Packet.{HeaderTree, PacketTree, FitsHeader, IsPacket, Accepts, lets_through, checksum_field, header_bytes, unsummed_bytes, packet_bytes}
@@ -71,9 +71,6 @@ tag_at : (h : HeaderTree) (word : ℕ) (cs : List ChunkTree) → FitsHeader h �
 unfolding packet_bytes header_bytes be16 be32
 tag_at h word cs fits = from_be_bytes-to_be_bytes_4 h.verification_tag fits.verification_tag
 
-zero_tag : (m : ℕ) → (m == 0) ≡ true → m ≡ 0
-zero_tag m e = grind (arith, nat_tests, e)
-
 -- ---- one checksum function
 
 summed : (h : HeaderTree) (word : ℕ) (cs : List ChunkTree) → with_zero_field (take 8 (packet_bytes h word cs)) (drop 12 (packet_bytes h word cs)) ≡ unsummed_bytes h (chunks_bytes cs)
@@ -113,16 +110,8 @@ or_of : (a b c : Bool) → (a ≡ true → c ≡ true) → (b ≡ true → c ≡
 or_of true b c f g e = f refl
 or_of false b c f g e = g e
 
-or_first : (a b : Bool) → a ≡ true → (a || b) ≡ true
-or_first true b e = refl
-or_first false b e = cc
-
-pub or_second : (a b : Bool) → b ≡ true → (a || b) ≡ true
-or_second true b e = refl
-or_second false b e = e
-
 any_longer : (x : End) (ps : List (List ℕ)) (log more : List Entry) → list_any (asks x ps) log ≡ true → list_any (asks x ps) (log ++ more) ≡ true
-any_longer x ps log more e = list_any-append (asks x ps) log more ∙ or_first (list_any (asks x ps) log) (list_any (asks x ps) more) e
+any_longer x ps log more e = list_any-append (asks x ps) log more ∙ or_left (list_any (asks x ps) log) (list_any (asks x ps) more) e
 
 module _ (word_of : List ℕ → ℕ) (x : End) (log : List Entry) (first : Entry) (others : List (List ℕ)) (side : Side) (end beside : course.Side)
     (is_first : IsFirst first) (g : Good word_of x log others side end) (new : Side) (longer : List Entry) where
@@ -203,14 +192,14 @@ module _ (word_of : List ℕ → ℕ) (x : End) (log : List Entry) (first : Entr
     asks_first : (p.header.verification_tag == 0) ≡ true → asks x others first ≡ true
     asks_first e =
         ap (asks x others) is_given
-        ∙ same_self x (is_some_init (slice_get others n)) (ap is_some_init given_there ∙ an_init (zero_tag p.header.verification_tag e))
+        ∙ same_self x (is_some_init (slice_get others n)) (ap is_some_init given_there ∙ an_init (eqb-true p.header.verification_tag 0 e))
 
     was_now : (more : List Entry) → (end.is_asked || (p.header.verification_tag == 0)) ≡ true → list_any (asks x others) (log ++ first ∷ more) ≡ true
     was_now more e =
         or_of end.is_asked (p.header.verification_tag == 0) (list_any (asks x others) (log ++ first ∷ more))
         (was_before (first ∷ more))
         (λ z. list_any-append (asks x others) log (first ∷ more)
-        ∙ or_second (list_any (asks x others) log) (list_any (asks x others) (first ∷ more)) (or_first (asks x others first) (list_any (asks x others) more) (asks_first z)))
+        ∙ or_right (list_any (asks x others) log) (list_any (asks x others) (first ∷ more)) (or_left (asks x others first) (list_any (asks x others) more) (asks_first z)))
         e
 
     abbrev call : Call
