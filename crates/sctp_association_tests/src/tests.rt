@@ -1,10 +1,17 @@
 //! Packets that are put together, and control blocks with default options.
 
+mod blocks;
+mod calls;
 mod conversations;
 mod handover;
 mod link;
+mod memory;
+mod opening;
 
-use sctp_association::{Context, Identity, OutgoingPacket, Phase, State, TransmissionControlBlock};
+ghost use Rattle.std.specs.Prelude.{◌≡◌};
+ghost use Rattle.sctp_association.specs.Views.{tcb_of};
+
+use sctp_association::{Identity, OutgoingPacket, TransmissionControlBlock};
 use sctp_packet::{Chunk, CookieAckChunk, CookieEchoChunk, Data};
 use sctp_serial::Tsn;
 use sctp_state::{Capabilities, Options};
@@ -93,7 +100,9 @@ fn what_does_not_fit_is_left_out(rt: HostRuntime) -> Result<(), AllocError> {
     Ok(())
 }
 
-fn block(alloc: Global, capabilities: Capabilities) -> TransmissionControlBlock {
+fn block(alloc: Global, capabilities: Capabilities) -> TransmissionControlBlock
+    ensures mode { (tcb_of result).reassembly.streams.is_interleaved ≡ capabilities.message_interleaving }
+{
     let identity = Identity {
         my_verification_tag: 123,
         my_initial_tsn: Tsn(10),
@@ -152,19 +161,4 @@ fn is_interleaved(alloc: Global, message_interleaving: bool) -> bool {
 fn fragments_are_data_or_i_data(rt: HostRuntime) {
     assert!(rt; is_interleaved(rt.alloc(), true));
     assert!(rt; !is_interleaved(rt.alloc(), false));
-}
-
-#[test]
-fn a_state_has_a_control_block(rt: HostRuntime) {
-    let open = State::Open(
-        Phase::Established,
-        block(rt.alloc(), Capabilities::default()),
-    );
-    assert!(rt; open.tcb().is_some());
-    assert!(rt; State::Closed.tcb().is_none());
-}
-
-#[test]
-fn a_context_is_made(rt: HostRuntime) {
-    let _context = Context::new(rt.alloc(), Options::default(), Seven);
 }

@@ -52,7 +52,7 @@ lacks_stays QueuedFast e = refl
 lacks_stays Acked e = refl
 lacks_stays Gone e = cc
 
--- ---- an item that changes is given up where it was before
+-- ---- what is known of an item stays known while it changes
 
 module _ (Known : ℕ → Option ℕ → ℕ → Type 0) where
   abbrev pub Stays : Item → Type 0

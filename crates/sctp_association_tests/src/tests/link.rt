@@ -3,7 +3,7 @@
 ghost use Rattle.sctp_state.specs.Options.{IsValid, options_of};
 
 use rand_pcg::Pcg32;
-use sctp_association::{DcSctpSocket, Socket};
+use sctp_association::{Association, DcSctpSocket, Socket};
 use sctp_serial::{LifecycleId, Message, PpId, SocketTime, StreamId};
 use sctp_state::{CallError, ErrorKind, GivenUp, GivenUpCause, Options, SendOptions, SocketEvent};
 use sctp_wire::Checksum;
@@ -70,13 +70,23 @@ pub fn once() -> SendOptions {
 }
 
 /// What a test asks of a socket beside the calls of the trait.
-trait Watched: DcSctpSocket + Drop {
+pub trait Watched: DcSctpSocket + Drop {
     /// A new one with the same options.
     fn renewed(&self, alloc: Global) -> Result<Self, CallError>;
 
     fn next_gone(&mut self) -> Option<GivenUp>;
 
     fn rests(&self) -> bool;
+
+    fn own_tag(&self) -> u32;
+
+    fn moment(&self) -> SocketTime;
+
+    fn joined(&self) -> Option<Association>;
+
+    fn would_refuse(&self, bytes: &[u8]) -> Result<bool, CallError>;
+
+    fn first_ready(&self) -> Option<&Message>;
 }
 
 impl Watched for Socket<Pcg32, Seven> {
@@ -95,6 +105,38 @@ impl Watched for Socket<Pcg32, Seven> {
     fn rests(&self) -> bool {
         self.is_at_rest()
     }
+
+    fn own_tag(&self) -> u32 {
+        self.verification_tag()
+    }
+
+    fn moment(&self) -> SocketTime {
+        self.clock()
+    }
+
+    fn joined(&self) -> Option<Association> {
+        self.association()
+    }
+
+    fn would_refuse(&self, bytes: &[u8]) -> Result<bool, CallError> {
+        self.refuses(bytes)
+    }
+
+    fn first_ready(&self) -> Option<&Message> {
+        self.ready_message(0)
+    }
+}
+
+/// A new one, which draws the words that begin so.
+pub fn made(
+    alloc: Global,
+    name: &str,
+    options: &Options,
+    words: u64,
+) -> Result<Socket<Pcg32, Seven>, CallError>
+    requires { IsValid (options_of options.now) }
+{
+    Socket::new(alloc, name, options, Pcg32::new(words, words), Seven)
 }
 
 #[derive(Drop)]
@@ -119,16 +161,9 @@ fn made_side(
 ) -> Result<Side<Socket<Pcg32, Seven>>, CallError>
     requires { IsValid (options_of options.now) }
 {
-    let socket = Socket::new(
-        alloc,
-        name_of(end),
-        options,
-        Pcg32::new(words, words),
-        Seven,
-    )?;
     Ok(Side {
         end,
-        socket,
+        socket: made(alloc, name_of(end), options, words)?,
         packets: Vec::new(alloc),
     })
 }
@@ -267,7 +302,7 @@ fn take_told<S: Watched>(
     Ok(())
 }
 
-fn message(alloc: Global, bytes: &[u8]) -> Result<Message, AllocError> {
+pub fn message(alloc: Global, bytes: &[u8]) -> Result<Message, AllocError> {
     let payload = Vec::from_slice(alloc, bytes)?;
     Ok(Message::new(StreamId(1), PpId(53), payload))
 }
