@@ -5,8 +5,8 @@ use Rattle.std.proofs.lemmas.List.Elements.{All-nil, All-cons, All-append}
 use Rattle.sctp_course.proofs.CourseLemmas.{ends_joined}
 use Rattle.sctp_delivery.specs.Delivery.{MessagesAreDelivered}
 use Rattle.sctp_world.specs.World.{World, Action, Happens, Runs}
-use Rattle.sctp_world_course.specs.Courses.{ActionFits}
-use Rattle.sctp_world_course.specs.Composed.{IsLed, WorldsCompose}
+use Rattle.sctp_world_course.specs.Courses.{ActionFits, IsLed}
+use Rattle.sctp_world_course.specs.Composed.{WorldsCompose}
 use Rattle.sctp_world_course.proofs.JoinedLemmas.{are_joined}
 use Rattle.sctp_world_course.proofs.DeliveredLemmas.{worlds_deliver, handed_is_a_prefix}
 use Rattle.sctp_world_course.proofs.ProperLemmas.{worlds_proper}
@@ -48,8 +48,8 @@ led_by_one w v action l fit h = led_on w v (action ∷ []) l (one ActionFits act
 
 pub compose : MessagesAreDelivered → WorldsCompose
 compose law w l u = record {
-  joined = are_joined ends_joined l.a l.b l.words_a l.words_b l.word_of_a l.word_of_b l.actions w l.valid_a l.valid_b l.fits_a l.fits_b l.fit l.runs u.bytes u.follows u.stands;
-  handed = handed_is_a_prefix l.a l.b l.words_a l.words_b l.word_of_a l.word_of_b l.actions w l.valid_a l.valid_b l.fits_a l.fits_b l.fit l.runs u.bytes u.follows u.stands;
+  joined = are_joined ends_joined w l u;
+  handed = handed_is_a_prefix w l u;
   proper = worlds_proper l.a l.b l.words_a l.words_b l.word_of_a l.word_of_b l.actions w l.fits_a l.fits_b l.fit l.runs u.bytes;
-  delivers = worlds_deliver law l.a l.b l.words_a l.words_b l.word_of_a l.word_of_b l.actions w l.valid_a l.valid_b l.fits_a l.fits_b l.fit l.runs u.bytes u.follows u.stands;
+  delivers = worlds_deliver law w l u;
 }

@@ -426,12 +426,12 @@ module _ (a b : Options) (words_a words_b : Stream) (word_of_a word_of_b : List 
       w.log early late reached blocks is
 
 pub worlds_deliver : courses.MessagesAreDelivered → WorldsDeliver
-worlds_deliver law a b words_a words_b word_of_a word_of_b actions w valid_a valid_b fits_a fits_b fit runs small rules none k =
-    delivers a b words_a words_b word_of_a word_of_b actions w valid_a valid_b fits_a fits_b fit runs small rules none law k
+worlds_deliver law w l u k =
+    delivers l.a l.b l.words_a l.words_b l.word_of_a l.word_of_b l.actions w l.valid_a l.valid_b l.fits_a l.fits_b l.fit l.runs u.bytes u.follows u.stands law k
 
 pub handed_is_a_prefix : HandedOutIsAPrefix
-handed_is_a_prefix a b words_a words_b word_of_a word_of_b actions w valid_a valid_b fits_a fits_b fit runs small rules none x early late is =
-    prefix a b words_a words_b word_of_a word_of_b actions w valid_a valid_b fits_a fits_b fit runs small rules none x early late is
+handed_is_a_prefix w l u x early late is =
+    prefix l.a l.b l.words_a l.words_b l.word_of_a l.word_of_b l.actions w l.valid_a l.valid_b l.fits_a l.fits_b l.fit l.runs u.bytes u.follows u.stands x early late is
 
 -- ---- offers and accepted messages
 

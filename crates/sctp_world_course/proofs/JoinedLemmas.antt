@@ -10,7 +10,8 @@ use Rattle.sctp_association_laws.specs.Sound.{OptionsFit}
 use Rattle.sctp_course.specs.Course as course
 use Rattle.sctp_course.specs.Course.{Pair, AreGiven, AreCrossed, EndsAreJoined, run, start}
 use Rattle.sctp_world.specs.Judge.{End, A, B, Entry, crossed, held}
-use Rattle.sctp_world.specs.World.{Side, fresh_world}
+use Rattle.sctp_world.specs.World.{Side}
+use Rattle.sctp_world_course.specs.Courses.{origin}
 use Rattle.sctp_world_course.specs.Joined.{ended_by, times_ended, WorldsAreJoined}
 use Rattle.sctp_world_course.proofs.EventLemmas.{ended_told}
 use Rattle.sctp_world_course.proofs.NewsLemmas.{ended_by_told, made_same}
@@ -45,22 +46,22 @@ module _ (word_of : List ℕ → ℕ) (x : End) (log : List Entry) (others : Lis
   held_open i e = opened end.end.standing.state i (ap association_in (sym state_of) ∙ (sym g.held ∙ e))
 
 pub are_joined : EndsAreJoined → WorldsAreJoined
-are_joined law a b words_a words_b word_of_a word_of_b actions w valid_a valid_b fits_a fits_b fit runs small rules none =
-    let r : Ran word_of_a word_of_b actions (fresh_world a b words_a words_b word_of_a word_of_b) w (start a b words_a words_b) =
-    ran word_of_a word_of_b actions (fresh_world a b words_a words_b word_of_a word_of_b) w (start a b words_a words_b) fit runs small
-    (fresh_both a b words_a words_b word_of_a word_of_b fits_a fits_b) in
-    let c : Pair = run r.turns (start a b words_a words_b) in
-    let good_a : Good word_of_a A w.log w.b.packets w.a c.a = r.both.a in
-    let good_b : Good word_of_b B w.log w.a.packets w.b c.b = r.both.b in
-    let joined : course.AreJoined a b c =
-    law a b words_a words_b r.turns (given_of a valid_a fits_a) (given_of b valid_b fits_b) (r.follows rules)
-    (record { a = none_ended word_of_a A w.log w.b.packets w.a c.a good_a (none A); b = none_ended word_of_b B w.log w.a.packets w.b c.b good_b (none B) }) in
+are_joined law w l u =
+    let r : Ran l.word_of_a l.word_of_b l.actions (origin l) w (start l.a l.b l.words_a l.words_b) =
+    ran l.word_of_a l.word_of_b l.actions (origin l) w (start l.a l.b l.words_a l.words_b) l.fit l.runs u.bytes
+    (fresh_both l.a l.b l.words_a l.words_b l.word_of_a l.word_of_b l.fits_a l.fits_b) in
+    let c : Pair = run r.turns (start l.a l.b l.words_a l.words_b) in
+    let good_a : Good l.word_of_a A w.log w.b.packets w.a c.a = r.both.a in
+    let good_b : Good l.word_of_b B w.log w.a.packets w.b c.b = r.both.b in
+    let joined : course.AreJoined l.a l.b c =
+    law l.a l.b l.words_a l.words_b r.turns (given_of l.a l.valid_a l.fits_a) (given_of l.b l.valid_b l.fits_b) (r.follows u.follows)
+    (record { a = none_ended l.word_of_a A w.log w.b.packets w.a c.a good_a (u.stands A); b = none_ended l.word_of_b B w.log w.a.packets w.b c.b good_b (u.stands B) }) in
     record {
-      a_negotiated = λ phase t e. joined.a_negotiated phase t (sym (state_of word_of_a A w.log w.b.packets w.a c.a good_a) ∙ e);
-      b_negotiated = λ phase t e. joined.b_negotiated phase t (sym (state_of word_of_b B w.log w.a.packets w.b c.b good_b) ∙ e);
+      a_negotiated = λ phase t e. joined.a_negotiated phase t (sym (state_of l.word_of_a A w.log w.b.packets w.a c.a good_a) ∙ e);
+      b_negotiated = λ phase t e. joined.b_negotiated phase t (sym (state_of l.word_of_b B w.log w.a.packets w.b c.b good_b) ∙ e);
       are_crossed = λ i j e f.
-          let own = held_open word_of_a A w.log w.b.packets w.a c.a good_a i e in
-          let other = held_open word_of_b B w.log w.a.packets w.b c.b good_b j f in
+          let own = held_open l.word_of_a A w.log w.b.packets w.a c.a good_a i e in
+          let other = held_open l.word_of_b B w.log w.a.packets w.b c.b good_b j f in
           other.3 ∙ (crossed_of own.1.identity other.1.identity (joined.crossed own.0 other.0 own.1 other.1 own.2 other.2) ∙ ap crossed (sym own.3));
       counts = joined.counts;
     }

@@ -3,7 +3,7 @@ use Rattle.std.specs.Prelude.{◌≡◌, ℕ, ◌⊎◌, Bool, true, false, Some
 use Rattle.std.specs.List.{flat_map}
 use Rattle.rand_core.specs.Stream.{Stream}
 use Rattle.sctp_packet.specs.Packet.{PacketTree, IsPacket, lets_through}
-use Rattle.sctp_state.specs.Options.{Options}
+use Rattle.sctp_state.specs.Options.{Options, IsValid}
 use Rattle.sctp_state.specs.Events.{silent}
 use Rattle.sctp_association.specs.Laws as table
 use Rattle.sctp_association.specs.Socket.{policy_of}
@@ -29,6 +29,26 @@ ActionFits (TellTime x now) = Unit {0}
 pub record IsInBytes (w : World) : Type 0 where
   pub a : All AreBytes w.a.packets
   pub b : All AreBytes w.b.packets
+
+-- A new world, with any options that a socket can be made with, any words and checksum functions, was led to it by actions that fit.
+pub record IsLed (w : World) : Type 0 where
+  pub a : Options
+  pub b : Options
+  pub words_a : Stream
+  pub words_b : Stream
+  pub word_of_a : List ℕ → ℕ
+  pub word_of_b : List ℕ → ℕ
+  pub valid_a : IsValid a
+  pub valid_b : IsValid b
+  pub fits_a : OptionsFit a
+  pub fits_b : OptionsFit b
+  pub actions : List Action
+  pub fit : All ActionFits actions
+  pub runs : Runs actions (fresh_world a b words_a words_b word_of_a word_of_b) w
+
+-- that new world
+abbrev pub origin : {w : World} → IsLed w → World
+origin l = fresh_world l.a l.b l.words_a l.words_b l.word_of_a l.word_of_b
 
 -- ---- the turns of a run, one an action
 

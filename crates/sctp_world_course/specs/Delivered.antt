@@ -1,22 +1,19 @@
 -- Messages that become ready at an end of a world are those that the other end accepted, and what became of the others: premises
 -- and claim are read off the log, the actions and the values that the sockets hold between them.
-use Rattle.std.specs.Prelude.{◌≡◌, ℕ, ◌-◌, ◌^◌, ◌<◌, Bool, true, false, Some, None, List, [], ◌∷◌, ◌++◌, length, map, take, replicate, slice_get, nat_le, ⊤, All}
+use Rattle.std.specs.Prelude.{◌≡◌, ℕ, ◌-◌, ◌^◌, ◌<◌, Bool, true, false, Some, None, List, [], ◌∷◌, ◌++◌, length, map, take, replicate, slice_get, nat_le, ⊤}
 use Rattle.std.specs.List.{flat_map, list_any}
-use Rattle.rand_core.specs.Stream.{Stream}
 use Rattle.sctp_serial.specs.Messages.{Message}
-use Rattle.sctp_state.specs.Options.{Options, IsValid}
 use Rattle.sctp_state.specs.Events.{GivenUp}
 use Rattle.sctp_rules.specs.State.{has}
 use Rattle.sctp_tx_rules.specs.Led.{delivered_by}
-use Rattle.sctp_association_laws.specs.Sound.{OptionsFit}
 use Rattle.sctp_rx.specs.Delivery.{Extends}
 use Rattle.sctp_delivery.specs.Accepted.{Offer}
 use Rattle.sctp_delivery.specs.Windows.{numbered, IsWithin, Stamp, Stamps, no_stamps, IsYoung}
 use Rattle.sctp_delivery.specs.Delivery.{Fits, SkippedAreGivenUp, IsReady, AllAreDone}
 use Rattle.sctp_world.specs.Judge.{End, A, B, same_end, all_unless, Call, Send, SendMany, Reset, SetMaxMessageSize, Answer, Sent, SentMany, unrefused, Entry, Called, Happened, accepted, ready, handed_out, given_up}
-use Rattle.sctp_world.specs.World.{Side, World, Action, CallOf, Give, GiveForeign, TellTime, Runs, fresh_world, other, is_at_rest}
-use Rattle.sctp_world_course.specs.Courses.{ActionFits, IsInBytes}
-use Rattle.sctp_world_course.specs.Joined.{FollowsTheRules, times_ended}
+use Rattle.sctp_world.specs.World.{Side, World, Action, CallOf, Give, GiveForeign, TellTime, Runs, other, is_at_rest}
+use Rattle.sctp_world_course.specs.Courses.{IsLed, origin}
+use Rattle.sctp_world_course.specs.Joined.{IsUndisturbed}
 
 -- ---- what was accepted, with the options of its sending
 
@@ -127,24 +124,15 @@ pub record IsInBounds (actions : List Action) (w v : World) (runs : Runs actions
   pub few : (x : End) → length (offers x v.log) < 2 ^ 32
   pub limits : KeepsLimits actions
 
--- In each run that follows the rules, in which no end told that an association is over.
+-- Of each world that a new one was led to, undisturbed and within the bounds.
 abbrev pub WorldsDeliver : Type 0
 WorldsDeliver =
-    (a b : Options) (words_a words_b : Stream) (word_of_a word_of_b : List ℕ → ℕ) (actions : List Action) (w : World)
-    → IsValid a → IsValid b → OptionsFit a → OptionsFit b → All ActionFits actions
-    → (runs : Runs actions (fresh_world a b words_a words_b word_of_a word_of_b) w) → IsInBytes w
-    → FollowsTheRules w → ((x : End) → times_ended x w.log ≡ 0)
-    → IsInBounds actions (fresh_world a b words_a words_b word_of_a word_of_b) w runs
-    → (x : End) → Delivers x actions (fresh_world a b words_a words_b word_of_a word_of_b) w runs
+    (w : World) (l : IsLed w) → IsUndisturbed w → IsInBounds l.actions (origin l) w l.runs → (x : End) → Delivers x l.actions (origin l) w l.runs
 
 -- what was handed out, in order, is a prefix of what became ready, at each point of the log
 abbrev pub HandedOutIsAPrefix : Type 0
 HandedOutIsAPrefix =
-    (a b : Options) (words_a words_b : Stream) (word_of_a word_of_b : List ℕ → ℕ) (actions : List Action) (w : World)
-    → IsValid a → IsValid b → OptionsFit a → OptionsFit b → All ActionFits actions
-    → Runs actions (fresh_world a b words_a words_b word_of_a word_of_b) w → IsInBytes w
-    → FollowsTheRules w → ((x : End) → times_ended x w.log ≡ 0) → (x : End)
-    → (early late : List Entry) → w.log ≡ early ++ late → Extends (handed_out x early) (ready x early)
+    (w : World) → IsLed w → IsUndisturbed w → (x : End) (early late : List Entry) → w.log ≡ early ++ late → Extends (handed_out x early) (ready x early)
 
 -- the messages of the offers are those accepted
 abbrev pub OffersAreAccepted : Type 0

@@ -1,18 +1,16 @@
 -- Two ends of a world are joined: premises and claim are read off the log and the world.
-use Rattle.std.specs.Prelude.{◌≡◌, ◌⊎◌, ℕ, ◌==◌, ◌&&◌, ◌≤◌, Bool, false, Option, Some, None, List, [], ◌∷◌, ◌++◌, length, take, drop, slice_get, ⊤, All}
+use Rattle.std.specs.Prelude.{◌≡◌, ◌⊎◌, ℕ, ◌==◌, ◌&&◌, ◌≤◌, Bool, false, Option, Some, None, List, [], ◌∷◌, ◌++◌, length, take, drop, slice_get, ⊤}
 use Rattle.std.specs.Int.{w32, from_be_bytes}
 use Rattle.std.specs.List.{flat_map, list_any}
-use Rattle.rand_core.specs.Stream.{Stream}
-use Rattle.sctp_state.specs.Options.{Options, IsValid}
+use Rattle.sctp_state.specs.Options.{Options}
 use Rattle.sctp_state.specs.Capabilities.{agreed, exchanged}
 use Rattle.sctp_state.specs.Events.{OnClosed, OnAborted}
 use Rattle.sctp_association.specs.Association.{Tcb, Phase, Open}
 use Rattle.sctp_association.specs.Socket.{Association}
-use Rattle.sctp_association_laws.specs.Sound.{OptionsFit}
 use Rattle.sctp_world.specs.Judge.{End, A, B, same_end, none_unless, crossed, held, times_connected, Connect, Shutdown, Entry, Called, Given, Happened}
-use Rattle.sctp_world.specs.World.{World, Action, Runs, fresh_world, side_of, other}
+use Rattle.sctp_world.specs.World.{World, Runs, side_of, other}
 use Rattle.sctp_world.specs.FirstRun.{opening, IsFresh}
-use Rattle.sctp_world_course.specs.Courses.{ActionFits, IsInBytes}
+use Rattle.sctp_world_course.specs.Courses.{IsInBytes, IsLed}
 
 -- ---- what was given
 
@@ -54,6 +52,12 @@ ended_by x entry = []
 abbrev pub times_ended : End → List Entry → ℕ
 times_ended x log = length (flat_map (ended_by x) log)
 
+-- Its packets are bytes, the rules were followed, and no end told that an association is over.
+pub record IsUndisturbed (w : World) : Type 0 where
+  pub bytes : IsInBytes w
+  pub follows : FollowsTheRules w
+  pub stands : (x : End) → times_ended x w.log ≡ 0
+
 -- ---- the law
 
 -- What each end's association can do is what was negotiated of the two option sets; and the associations that the log says that
@@ -64,13 +68,9 @@ pub record AreJoined (a b : Options) (w : World) : Type 0 where
   pub are_crossed : (i j : Association) → held A w.log ≡ Some i → held B w.log ≡ Some j → j ≡ crossed i
   pub counts : agreed b a ≡ exchanged (agreed a b)
 
--- At the end of each run that follows the rules, in which no end told that an association is over.
+-- Of each world that a new one was led to, undisturbed.
 abbrev pub WorldsAreJoined : Type 0
-WorldsAreJoined =
-    (a b : Options) (words_a words_b : Stream) (word_of_a word_of_b : List ℕ → ℕ) (actions : List Action) (w : World)
-    → IsValid a → IsValid b → OptionsFit a → OptionsFit b → All ActionFits actions
-    → Runs actions (fresh_world a b words_a words_b word_of_a word_of_b) w → IsInBytes w
-    → FollowsTheRules w → ((x : End) → times_ended x w.log ≡ 0) → AreJoined a b w
+WorldsAreJoined = (w : World) (l : IsLed w) → IsUndisturbed w → AreJoined l.a l.b w
 
 -- The rules can be kept: the opening of the first run keeps them, and leaves no association over.
 abbrev pub OpeningFollows : Type 0

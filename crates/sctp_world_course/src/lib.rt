@@ -4,10 +4,10 @@
 ghost use Rattle.std.specs.Prelude.{All, OnOk, map};
 ghost use Rattle.sctp_world.specs.World.{Happens, Runs};
 ghost use Rattle.sctp_world.specs.WorldView.{action_of, world_of};
-ghost use Rattle.sctp_world_course.specs.Composed.{Composes, IsLed, IsUndisturbed};
-ghost use Rattle.sctp_world_course.specs.Courses.{ActionFits, WorldsHaveCourses};
+ghost use Rattle.sctp_world_course.specs.Composed.{Composes};
+ghost use Rattle.sctp_world_course.specs.Courses.{ActionFits, IsLed, WorldsHaveCourses};
 ghost use Rattle.sctp_world_course.specs.Delivered.{HandedOutIsAPrefix, OffersAreAccepted, WorldsDeliver};
-ghost use Rattle.sctp_world_course.specs.Joined.{OpeningFollows, WorldsAreJoined};
+ghost use Rattle.sctp_world_course.specs.Joined.{IsUndisturbed, OpeningFollows, WorldsAreJoined};
 ghost use Rattle.sctp_world_course.specs.Proper.{AcceptancesAreOffers, WorldsAreProper};
 
 use rand_core::Rng;
