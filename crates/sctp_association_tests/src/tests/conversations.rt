@@ -224,6 +224,30 @@ a rests
     Ok(())
 }
 
+/// Both ends ask at once: each answers, and the first answer that comes ends it (RFC 9260 section 9.2).
+#[test]
+fn both_ends_shut_down(rt: HostRuntime) -> Result<(), AllocError> {
+    let moves = [
+        Shutdown(A),
+        Shutdown(B),
+        Give(2, B),
+        Give(2, A),
+        Give(3, A),
+        Give(4, B),
+    ];
+    let rest = "a packet 2 20
+b packet 2 20
+b packet 3 16
+a packet 3 16
+a packet 4 16
+a OnClosed
+b OnClosed
+a rests
+";
+    assert!(rt; tells(rt.alloc(), &moves, rest)?);
+    Ok(())
+}
+
 #[test]
 fn idle_ends_ask_for_each_other(rt: HostRuntime) -> Result<(), AllocError> {
     let moves = [
