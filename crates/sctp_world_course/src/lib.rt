@@ -17,14 +17,16 @@ use sctp_world::{Event, World, WorldError};
 /// Each run of a new world is a course of two new ends, by one turn an event, for any options, words and checksum functions, calls
 /// whose arguments fit, and bytes from elsewhere. The world's sockets are the course's ends with each packet written, its packets
 /// are those that they told, in order, and the log has all that they told, packets by their numbers. A packet that is given
-/// is heard as the chunks that were put in, where its reader lets the checksum through, and else as no packet.
+/// is heard as the chunks that were put in, where its reader lets the checksum through, and else as no packet. Each packet that was
+/// emitted is to be bytes, numbers up to 255.
 pub fn worlds_have_courses()
     ensures courses { WorldsHaveCourses }
 {}
 
 /// Until an end tells that an association is over, what each end of a world can do was negotiated of the two option sets, and
 /// the associations that the log says that both hold are crossed. Before its own OnConnected an end calls neither shutdown,
-/// nor connect once an INIT was given to it (RFC 9260 sections 5.1, 5.2). The opening of the first run keeps these rules.
+/// nor connect once an INIT was given to it (RFC 9260 sections 5.1, 5.2). The opening of the first run keeps these rules. Each packet
+/// that was emitted is to be bytes.
 pub fn worlds_are_joined()
     ensures joined { WorldsAreJoined }
     ensures can_be_kept { OpeningFollows }
@@ -52,7 +54,8 @@ pub fn worlds_deliver()
 /// end of an association too: the message was accepted there, by its place, and its cause holds. Either the message has a lifetime,
 /// and the end's clock isn't before acceptance plus lifetime (RFC 3758 section 4.1); or it was sent again as often as its limit
 /// says, 65,535 times where none was set (RFC 7496 section 3.2). Clocks are those of the log: an event has its end's clock, which
-/// only moments move. An end accepts fewer than 2^32 messages, so that their numbers don't wrap.
+/// only moments move. An end accepts fewer than 2^32 messages, so that their numbers don't wrap. Each packet that was emitted is to be
+/// bytes.
 pub fn records_are_proper()
     ensures proper { WorldsAreProper }
     ensures offers { AcceptancesAreOffers }
