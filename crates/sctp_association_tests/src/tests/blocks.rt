@@ -23,11 +23,18 @@ fn is_changed(alloc: Global) -> bool {
     }
 }
 
+fn lends_nothing(mut state: State) -> bool {
+    state.tcb().is_none() && state.tcb_mut().is_none()
+}
+
+fn lends(alloc: Global) -> bool {
+    opened(alloc).tcb().is_some()
+}
+
 #[test]
 fn a_state_lends_its_control_block(rt: HostRuntime) {
-    assert!(rt; opened(rt.alloc()).tcb().is_some());
-    assert!(rt; State::Closed.tcb().is_none());
-    assert!(rt; State::Closed.tcb_mut().is_none());
+    assert!(rt; lends(rt.alloc()));
+    assert!(rt; lends_nothing(State::Closed));
     assert!(rt; is_changed(rt.alloc()));
 }
 

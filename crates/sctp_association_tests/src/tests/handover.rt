@@ -2,9 +2,7 @@
 
 use crate::tests::link::End::{A, B};
 use crate::tests::link::Move::{Connect, Give, Receive, Replace, Send};
-use crate::tests::link::{Move, Seven, plainly, play, play_with};
-use rand_pcg::Pcg32;
-use sctp_association::{DcSctpSocket, Socket};
+use crate::tests::link::{Move, Watched, made, plainly, play, play_with};
 use sctp_state::api::handover::HandoverSocketState;
 use sctp_state::{
     CallError, HandoverError, HandoverReadiness, Options, RestoreError, SocketHandoverState,
@@ -101,27 +99,45 @@ a rests
     Ok(())
 }
 
-fn refuses(alloc: Global) -> Result<bool, CallError> {
-    let mut socket = Socket::new(alloc, "a", &Options::default(), Pcg32::new(1, 1), Seven)?;
+/// A closed socket takes the record of a closed one, and refuses an invalid one in silence.
+fn refuses_closed<S: Watched>(
+    socket: &mut S,
+    invalid: &SocketHandoverState,
+    alloc: Global,
+) -> bool {
     let closed = SocketHandoverState::empty(alloc);
-    let mut invalid = SocketHandoverState::empty(alloc);
-    invalid.socket_state = HandoverSocketState::Connected;
     let takes_nothing = socket.restore_from_state(&closed) == Ok(());
-    let is_invalid = socket.restore_from_state(&invalid) == Err(RestoreError::InvalidState);
-    let is_silent = socket.poll_event().is_none();
-    socket.connect()?;
-    let is_open = socket.restore_from_state(&invalid) == Err(RestoreError::SocketNotClosed);
+    let is_invalid = socket.restore_from_state(invalid) == Err(RestoreError::InvalidState);
+    takes_nothing && is_invalid && socket.poll_event().is_none()
+}
+
+/// A socket that connects refuses any record, and isn't ready for one of its own.
+fn refuses_open<S: Watched>(socket: &mut S, invalid: &SocketHandoverState) -> bool {
+    let is_open = socket.restore_from_state(invalid) == Err(RestoreError::SocketNotClosed);
     let is_early = match socket.get_handover_state_and_close() {
         Err(HandoverError::NotReady(reason)) => {
             reason == HandoverReadiness::WRONG_CONNECTION_STATE
         }
         _ => false,
     };
-    Ok(takes_nothing && is_invalid && is_silent && is_open && is_early)
+    is_open && is_early
+}
+
+fn refuses<S: Watched>(alloc: Global, socket: &mut S) -> Result<bool, CallError> {
+    let mut invalid = SocketHandoverState::empty(alloc);
+    invalid.socket_state = HandoverSocketState::Connected;
+    let is_right = refuses_closed(socket, &invalid, alloc);
+    socket.connect()?;
+    Ok(refuses_open(socket, &invalid) && is_right)
+}
+
+fn a_new_one_refuses(alloc: Global) -> Result<bool, CallError> {
+    let mut socket = made(alloc, "a", &Options::default(), 1)?;
+    refuses(alloc, &mut socket)
 }
 
 #[test]
 fn records_are_refused(rt: HostRuntime) -> Result<(), CallError> {
-    assert!(rt; refuses(rt.alloc())?);
+    assert!(rt; a_new_one_refuses(rt.alloc())?);
     Ok(())
 }

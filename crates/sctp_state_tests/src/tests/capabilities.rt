@@ -37,6 +37,21 @@ fn announced_bytes(alloc: Global, options: &Options) -> Result<Vec<u8>, AllocErr
     Ok(bytes)
 }
 
+fn has_all_but_partial_reliability(told: &Capabilities) -> bool {
+    !told.partial_reliability
+        && told.message_interleaving
+        && told.reconfig
+        && told.zero_checksum_enabled()
+}
+
+// How many come in, and how many go out.
+fn streams(told: Capabilities) -> [u16; 2] {
+    [
+        told.negotiated_maximum_incoming_streams,
+        told.negotiated_maximum_outgoing_streams,
+    ]
+}
+
 // Two ends with different options, by the first one's INIT and the second one's INIT ACK.
 #[test]
 fn both_ends_negotiate_the_same(rt: HostRuntime) -> Result<(), AllocError> {
@@ -53,21 +68,13 @@ fn both_ends_negotiate_the_same(rt: HostRuntime) -> Result<(), AllocError> {
 
     let init = announced_parameters(alloc, &first, DTLS)?;
     let of_second = Capabilities::from_parameters(20, 10, &init).negotiate(&second);
-    assert!(rt; !of_second.partial_reliability);
-    assert!(rt; of_second.message_interleaving);
-    assert!(rt; of_second.reconfig);
-    assert!(rt; of_second.zero_checksum_enabled());
-    assert_eq!(rt; of_second.negotiated_maximum_incoming_streams, 15);
-    assert_eq!(rt; of_second.negotiated_maximum_outgoing_streams, 5);
+    assert!(rt; has_all_but_partial_reliability(&of_second));
+    assert_eq!(rt; streams(of_second), [15, 5]);
 
     let init_ack = announced_parameters(alloc, &second, of_second.zero_checksum_method)?;
     let of_first = Capabilities::from_parameters(5, 15, &init_ack).negotiate(&first);
-    assert!(rt; !of_first.partial_reliability);
-    assert!(rt; of_first.message_interleaving);
-    assert!(rt; of_first.reconfig);
-    assert!(rt; of_first.zero_checksum_enabled());
-    assert_eq!(rt; of_first.negotiated_maximum_incoming_streams, 5);
-    assert_eq!(rt; of_first.negotiated_maximum_outgoing_streams, 15);
+    assert!(rt; has_all_but_partial_reliability(&of_first));
+    assert_eq!(rt; streams(of_first), [5, 15]);
 
     second.zero_checksum_alternate_error_detection_method = NONE;
     let of_second = Capabilities::from_parameters(20, 10, &init).negotiate(&second);

@@ -15,6 +15,11 @@ fn default_sizes(rt: HostRuntime) {
     assert!(rt; o.max_send_buffer_size == 2_000_000 && o.per_stream_send_queue_limit == 2_000_000);
     assert_eq!(rt; o.total_buffered_amount_low_threshold, 1_800_000);
     assert_eq!(rt; o.default_stream_buffered_amount_low_threshold, 0);
+}
+
+#[test]
+fn default_counts(rt: HostRuntime) {
+    let o = Options::default();
     assert!(rt; o.cwnd_mtus_initial == 10 && o.cwnd_mtus_min == 4);
     assert!(rt; o.avoid_fragmentation_cwnd_mtus == 6 && o.immediate_sack_under_cwnd_mtus == 10);
     assert_eq!(rt; o.max_burst, 4);
@@ -22,7 +27,7 @@ fn default_sizes(rt: HostRuntime) {
 }
 
 #[test]
-fn default_times_and_switches(rt: HostRuntime) {
+fn default_times(rt: HostRuntime) {
     let o = Options::default();
     assert!(rt; o.rtt_max.as_millis() == 60_000 && o.rto_initial.as_millis() == 500);
     assert!(rt; o.rto_max.as_millis() == 60_000 && o.rto_min.as_millis() == 400);
@@ -32,6 +37,11 @@ fn default_times_and_switches(rt: HostRuntime) {
     assert_eq!(rt; o.heartbeat_interval.as_millis(), 30_000);
     assert_eq!(rt; o.delayed_ack_max_timeout.as_millis(), 200);
     assert_eq!(rt; o.min_rtt_variance.as_millis(), 220);
+}
+
+#[test]
+fn default_switches(rt: HostRuntime) {
+    let o = Options::default();
     assert!(rt; o.enable_partial_reliability && !o.enable_message_interleaving);
     assert!(rt; o.heartbeat_interval_include_rtt && !o.disable_checksum_verification);
     assert!(rt; !o.enable_handover_with_outstanding_data);
@@ -54,6 +64,12 @@ fn options_have_bounds(rt: HostRuntime) {
     options.max_message_size = 4_294_967_296;
     assert!(rt; !options.is_valid());
     options.max_message_size = 4_294_967_295;
+    assert!(rt; options.is_valid());
+}
+
+#[test]
+fn timeouts_and_windows_have_bounds(rt: HostRuntime) {
+    let mut options = Options::default();
     options.rto_min = Duration::from_secs(61);
     assert!(rt; !options.is_valid());
     options.rto_min = Duration::from_millis(1);

@@ -26,14 +26,17 @@ fn timer_doubles_and_counts_from_the_old_expiry(rt: HostRuntime) {
 }
 
 #[test]
-fn timer_stops_and_is_capped(rt: HostRuntime) {
+fn timer_stops_after_its_restarts(rt: HostRuntime) {
     let mut timer = second(BackoffAlgorithm::Fixed, Some(1), None);
     assert!(rt; timer.is_running() && timer.expire(at(1000)));
     assert_eq!(rt; timer.next_expiry(), at(2000));
     assert!(rt; timer.expire(at(2000)) && !timer.is_running());
     assert_eq!(rt; timer.next_expiry(), SocketTime::infinite_future());
     assert!(rt; !timer.expire(at(9000)));
+}
 
+#[test]
+fn timer_is_capped(rt: HostRuntime) {
     let mut capped = second(
         BackoffAlgorithm::Exponential,
         None,
@@ -43,7 +46,10 @@ fn timer_stops_and_is_capped(rt: HostRuntime) {
     assert_eq!(rt; capped.next_expiry(), at(3500));
     capped.stop();
     assert!(rt; !capped.is_running());
+}
 
+#[test]
+fn timer_runs_for_a_day_at_most(rt: HostRuntime) {
     let mut long = Timer::new(
         Duration::from_secs(172_800),
         BackoffAlgorithm::Fixed,
@@ -53,7 +59,10 @@ fn timer_stops_and_is_capped(rt: HostRuntime) {
     long.start(at(0));
     assert!(rt; long.expire(at(172_800_000)));
     assert_eq!(rt; long.next_expiry(), at(172_800_000 + 86_400_000));
+}
 
+#[test]
+fn timer_of_no_duration_does_not_run(rt: HostRuntime) {
     let mut none = second(BackoffAlgorithm::Fixed, None, None);
     none.set_duration(Duration::ZERO);
     assert_eq!(rt; none.next_expiry(), at(1000));
