@@ -119,9 +119,8 @@ fn block(alloc: Global, capabilities: Capabilities) -> TransmissionControlBlock
     )
 }
 
-/// Packets to the peer have its tag, and 1,188 bytes with default options; TSNs begin at the first ones.
-fn begins(alloc: Global) -> Result<bool, AllocError> {
-    let tcb = block(alloc, Capabilities::default());
+/// Packets to the peer have its tag, and 1,188 bytes with default options.
+fn addresses(alloc: Global, tcb: &TransmissionControlBlock) -> Result<bool, AllocError> {
     let mut packet = tcb.new_packet(alloc, &Options::default());
     let room = packet.bytes_remaining() == 1176;
     packet.add(cookie_ack())?;
@@ -129,17 +128,20 @@ fn begins(alloc: Global) -> Result<bool, AllocError> {
         Some(bytes) => bytes.as_slice() == COOKIE_ACK,
         None => false,
     };
-    Ok(
-        room && right
-            && tcb.retransmission_queue.next_tsn() == Tsn(10)
-            && tcb.data_tracker.last_cumulative_acked_tsn() == Tsn(19),
-    )
+    Ok(room && right)
+}
+
+/// TSNs begin at the first ones.
+fn begins(alloc: Global) -> bool {
+    let tcb = block(alloc, Capabilities::default());
+    addresses(alloc, &tcb) == Ok(true)
+        && tcb.retransmission_queue.next_tsn() == Tsn(10)
+        && tcb.data_tracker.last_cumulative_acked_tsn() == Tsn(19)
 }
 
 #[test]
-fn a_control_block_begins(rt: HostRuntime) -> Result<(), AllocError> {
-    assert!(rt; begins(rt.alloc())?);
-    Ok(())
+fn a_control_block_begins(rt: HostRuntime) {
+    assert!(rt; begins(rt.alloc()));
 }
 
 /// Fragments go as I-DATA where messages are interleaved.

@@ -1,7 +1,7 @@
 //! Control blocks with default options, and what has them.
 
 use crate::tests::{Seven, block, built};
-use sctp_association::{Context, Phase, State};
+use sctp_association::{Context, OutgoingPacket, Phase, State, TransmissionControlBlock};
 use sctp_serial::{SocketTime, StreamId, Tsn};
 use sctp_state::api::handover::HandoverSocketState;
 use sctp_state::{Capabilities, Options, SocketEvent, SocketHandoverState};
@@ -38,14 +38,27 @@ fn a_state_lends_its_control_block(rt: HostRuntime) {
     assert!(rt; is_changed(rt.alloc()));
 }
 
-#[test]
-fn a_context_tells_its_end(rt: HostRuntime) -> Result<(), AllocError> {
-    let mut context = Context::new(rt.alloc(), Options::default(), Seven);
-    let mut tcb = block(rt.alloc(), Capabilities::default());
-    context.send_buffered_packets(&mut tcb, false)?;
-    let packet = tcb.new_packet(rt.alloc(), &Options::default());
-    context.send_buffered_packets_with(&mut tcb, false, packet)?;
+/// The context sends what waits, and ends.
+fn tells_its_end(
+    alloc: Global,
+    context: &mut Context<Seven>,
+    tcb: &mut TransmissionControlBlock,
+) -> Result<(), AllocError> {
+    context.send_buffered_packets(tcb, false)?;
+    let packet = tcb.new_packet(alloc, &Options::default());
+    context.send_buffered_packets_with(tcb, false, packet)?;
     context.internal_close(SocketEvent::OnClosed())
+}
+
+fn ends(alloc: Global) -> bool {
+    let mut context = Context::new(alloc, Options::default(), Seven);
+    let mut tcb = block(alloc, Capabilities::default());
+    tells_its_end(alloc, &mut context, &mut tcb).is_ok()
+}
+
+#[test]
+fn a_context_tells_its_end(rt: HostRuntime) {
+    assert!(rt; ends(rt.alloc()));
 }
 
 /// The request for stream 1: number 10, after TSN 9.
@@ -54,41 +67,64 @@ const REQUEST: &[u8] = &[
     0, 0, 10, 0, 0, 0, 9, 0, 1, 0, 0,
 ];
 
+/// The packet in which the request begins.
+fn asked(
+    alloc: Global,
+    tcb: &mut TransmissionControlBlock,
+    packet: &mut OutgoingPacket,
+) -> Result<Option<Vec<u8>>, AllocError> {
+    let streams = Vec::from_slice(alloc, &[StreamId(1)])?;
+    tcb.start_ssn_reset_request(SocketTime::zero(), streams, packet)?;
+    built(packet)
+}
+
+/// A later packet with it.
+fn asked_again(
+    tcb: &TransmissionControlBlock,
+    packet: &mut OutgoingPacket,
+) -> Result<Option<Vec<u8>>, AllocError> {
+    tcb.add_prepared_ssn_reset_request(packet)?;
+    built(packet)
+}
+
+fn is_the_request(bytes: Result<Option<Vec<u8>>, AllocError>) -> bool {
+    match bytes {
+        Ok(Some(bytes)) => bytes.as_slice() == REQUEST,
+        _ => false,
+    }
+}
+
 /// A request goes along in the packet where it begins, and in later ones.
-fn is_asked_again(alloc: Global) -> Result<bool, AllocError> {
+fn is_asked_again(alloc: Global) -> bool {
     let mut tcb = block(alloc, Capabilities::default());
     let mut packet = tcb.new_packet(alloc, &Options::default());
-    let mut streams = Vec::new(alloc);
-    streams.push(StreamId(1))?;
-    tcb.start_ssn_reset_request(SocketTime::zero(), streams, &mut packet)?;
-    let first = built(&mut packet)?;
-    tcb.add_prepared_ssn_reset_request(&mut packet)?;
-    let second = built(&mut packet)?;
-    match (first, second) {
-        (Some(first), Some(second)) => Ok(
-            first.as_slice() == REQUEST && second.as_slice() == REQUEST,
-        ),
-        _ => Ok(false),
-    }
+    let begins = is_the_request(asked(alloc, &mut tcb, &mut packet));
+    is_the_request(asked_again(&tcb, &mut packet)) && begins
 }
 
 #[test]
-fn streams_are_asked_for(rt: HostRuntime) -> Result<(), AllocError> {
-    assert!(rt; is_asked_again(rt.alloc())?);
-    Ok(())
+fn streams_are_asked_for(rt: HostRuntime) {
+    assert!(rt; is_asked_again(rt.alloc()));
 }
 
-/// A new block takes up the record of an idle one.
-fn is_taken_up(alloc: Global) -> Result<bool, AllocError> {
-    let tcb = block(alloc, Capabilities::default());
+/// The record of an idle block.
+fn record_of(
+    alloc: Global,
+    tcb: &TransmissionControlBlock,
+) -> Result<SocketHandoverState, AllocError> {
     let mut state = SocketHandoverState::empty(alloc);
     tcb.add_to_handover_state(SocketTime::zero(), &mut state)?;
-    if !tcb.get_handover_readiness(true).is_ready() || !state.is_valid() {
-        return Ok(false);
+    Ok(state)
+}
+
+/// A new block takes up the record.
+fn takes_up(alloc: Global, state: &SocketHandoverState) -> bool {
+    if !state.is_valid() {
+        return false;
     }
     match state.socket_state {
         HandoverSocketState::Connected => {}
-        HandoverSocketState::Closed => return Ok(false),
+        HandoverSocketState::Closed => return false,
     }
     let mut new = block(
         alloc,
@@ -97,15 +133,20 @@ fn is_taken_up(alloc: Global) -> Result<bool, AllocError> {
             ..Capabilities::default()
         },
     );
-    new.restore_from_state(SocketTime::zero(), &state)?;
-    Ok(
-        new.retransmission_queue.next_tsn() == Tsn(10)
-            && new.data_tracker.last_cumulative_acked_tsn() == Tsn(19),
-    )
+    new.restore_from_state(SocketTime::zero(), state).is_ok()
+        && new.retransmission_queue.next_tsn() == Tsn(10)
+        && new.data_tracker.last_cumulative_acked_tsn() == Tsn(19)
+}
+
+fn is_taken_up(alloc: Global) -> bool {
+    let tcb = block(alloc, Capabilities::default());
+    match record_of(alloc, &tcb) {
+        Ok(state) => tcb.get_handover_readiness(true).is_ready() && takes_up(alloc, &state),
+        Err(_) => false,
+    }
 }
 
 #[test]
-fn a_control_block_is_taken_up(rt: HostRuntime) -> Result<(), AllocError> {
-    assert!(rt; is_taken_up(rt.alloc())?);
-    Ok(())
+fn a_control_block_is_taken_up(rt: HostRuntime) {
+    assert!(rt; is_taken_up(rt.alloc()));
 }

@@ -4,7 +4,7 @@ use crate::tests::link::{Watched, made, message, plainly};
 use crate::tests::opening::{Fault, done, hears, opens, packet, right};
 use sctp_association::Association;
 use sctp_serial::{SocketTime, StreamId};
-use sctp_state::{Metrics, Options, SctpImplementation, SendError, SocketState};
+use sctp_state::{CallError, Metrics, Options, SctpImplementation, SendError, SocketState};
 use std::alloc::Global;
 use std::time::Duration;
 
@@ -13,11 +13,11 @@ fn at(milliseconds: u64) -> SocketTime {
 }
 
 /// A new socket keeps what is set of a stream, and of all messages.
-fn is_set<S: Watched>(mut socket: S) -> Result<(), Fault> {
+fn is_set<S: Watched>(socket: &mut S) -> Result<(), Fault> {
     let answer = socket.set_stream_priority(StreamId(1), 5);
-    done(&mut socket, answer)?;
+    done(socket, answer)?;
     let answer = socket.set_buffered_amount_low_threshold(StreamId(1), 4);
-    done(&mut socket, answer)?;
+    done(socket, answer)?;
     socket.set_max_message_size(2);
     right(socket.get_stream_priority(StreamId(1)) == 5)?;
     right(socket.get_stream_priority(StreamId(2)) == 256)?;
@@ -39,16 +39,16 @@ fn sends<S: Watched>(alloc: Global, socket: &mut S) -> Result<(), Fault> {
 }
 
 /// What a socket says of itself before it hears of a peer.
-fn is_alone<S: Watched>(alloc: Global, mut socket: S) -> Result<(), Fault> {
+fn is_alone<S: Watched>(alloc: Global, socket: &mut S) -> Result<(), Fault> {
     right(socket.state() == SocketState::Closed && socket.own_tag() == 0)?;
     right(socket.poll_timeout() == SocketTime::infinite_future() && socket.rests())?;
-    sends(alloc, &mut socket)?;
+    sends(alloc, socket)?;
     right(socket.buffered_amount(StreamId(1)) == 3 && !socket.rests())?;
     let answer = socket.advance_time(at(7));
-    done(&mut socket, answer)?;
+    done(socket, answer)?;
     right(socket.moment() == at(7))?;
     let answer = socket.connect();
-    done(&mut socket, answer)?;
+    done(socket, answer)?;
     right(socket.state() == SocketState::Connecting && socket.own_tag() != 0)?;
     right(socket.poll_timeout() == at(1007) && socket.joined().is_none())?;
     right(socket.get_metrics().is_none() && socket.messages_ready_count() == 0)
@@ -91,51 +91,74 @@ fn counted() -> Metrics {
     }
 }
 
-/// Two sockets are joined, and a message crosses.
-fn are_joined<S: Watched>(alloc: Global, mut a: S, mut b: S) -> Result<(), Fault> {
-    opens(&mut a, &mut b)?;
-    right(a.state() == SocketState::Connected && is_crossed(a.joined(), b.joined()))?;
-    sends(alloc, &mut a)?;
-    a.poll_event();
-    let data = packet(&mut a)?;
-    right(b.would_refuse(&data) == Ok(false) && b.would_refuse(&[0; 11]) == Ok(true))?;
-    hears(&mut b, &data)?;
-    right(b.messages_ready_count() == 1 && b.first_ready().is_some())?;
-    let sack = packet(&mut b)?;
-    hears(&mut a, &sack)?;
-    right(b.get_next_message().is_some() && b.first_ready().is_none() && a.rests())?;
-    right(b.get_metrics() == Some(counted()))?;
-    let sender = Metrics {
+/// What the other one counts, which sent the message.
+fn counted_by_sender() -> Metrics {
+    Metrics {
         tx_messages_count: 1,
         srtt: Duration::from_millis(0),
         rx_messages_count: 0,
         peer_rwnd_bytes: 4_718_592 - 3,
         peer_implementation: SctpImplementation::DcsctpRs,
         ..counted()
-    };
-    right(a.get_metrics() == Some(sender))?;
+    }
+}
+
+/// The next packet of `a` is given to `b`, which has its message ready then, and answers.
+fn crosses<S: Watched>(a: &mut S, b: &mut S) -> Result<(), Fault> {
+    let data = packet(a)?;
+    right(b.would_refuse(&data) == Ok(false) && b.would_refuse(&[0; 11]) == Ok(true))?;
+    hears(b, &data)?;
+    right(b.messages_ready_count() == 1 && b.first_ready().is_some())?;
+    let sack = packet(b)?;
+    hears(a, &sack)
+}
+
+/// Two sockets are joined, and a message crosses.
+fn are_joined<S: Watched>(alloc: Global, a: &mut S, b: &mut S) -> Result<(), Fault> {
+    opens(a, b)?;
+    right(a.state() == SocketState::Connected && is_crossed(a.joined(), b.joined()))?;
+    sends(alloc, a)?;
+    a.poll_event();
+    crosses(a, b)?;
+    right(b.get_next_message().is_some() && b.first_ready().is_none() && a.rests())?;
+    right(b.get_metrics() == Some(counted()))?;
+    right(a.get_metrics() == Some(counted_by_sender()))?;
     let answer = a.shutdown();
-    done(&mut a, answer)?;
+    done(a, answer)?;
     right(a.state() == SocketState::ShuttingDown)
+}
+
+fn one_is_set<S: Watched>(socket: Result<S, CallError>) -> Result<(), Fault> {
+    match socket {
+        Ok(mut socket) => is_set(&mut socket),
+        Err(_) => Err(Fault::Memory),
+    }
+}
+
+fn one_is_alone<S: Watched>(alloc: Global, socket: Result<S, CallError>) -> Result<(), Fault> {
+    match socket {
+        Ok(mut socket) => is_alone(alloc, &mut socket),
+        Err(_) => Err(Fault::Memory),
+    }
+}
+
+fn two_answer<S: Watched>(
+    alloc: Global,
+    a: Result<S, CallError>,
+    b: Result<S, CallError>,
+) -> Result<(), Fault> {
+    match (a, b) {
+        (Ok(mut a), Ok(mut b)) => are_joined(alloc, &mut a, &mut b),
+        _ => Err(Fault::Memory),
+    }
 }
 
 fn calls_answer(alloc: Global) -> Result<(), Fault> {
     let options = Options::default();
-    let Ok(a) = made(alloc, "a", &options, 1) else {
-        return Err(Fault::Memory);
-    };
-    is_set(a)?;
-    let Ok(a) = made(alloc, "a", &options, 1) else {
-        return Err(Fault::Memory);
-    };
-    is_alone(alloc, a)?;
-    let Ok(a) = made(alloc, "a", &options, 1) else {
-        return Err(Fault::Memory);
-    };
-    let Ok(b) = made(alloc, "b", &options, 2) else {
-        return Err(Fault::Memory);
-    };
-    are_joined(alloc, a, b)
+    one_is_set(made(alloc, "a", &options, 1))?;
+    one_is_alone(alloc, made(alloc, "a", &options, 1))?;
+    let a = made(alloc, "a", &options, 1);
+    two_answer(alloc, a, made(alloc, "b", &options, 2))
 }
 
 #[test]

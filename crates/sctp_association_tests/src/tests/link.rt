@@ -494,6 +494,19 @@ fn play_both<S: Watched>(
     Ok(log)
 }
 
+fn play_new<S: Watched>(
+    alloc: Global,
+    a: Result<Side<S>, CallError>,
+    b: Result<Side<S>, CallError>,
+    moves: &[Move<'_>],
+    later: &[Move<'_>],
+) -> Result<String, AllocError> {
+    match (a, b) {
+        (Ok(mut a), Ok(mut b)) => play_both(alloc, &mut a, &mut b, moves, later),
+        _ => Err(AllocError),
+    }
+}
+
 /// What two fresh sockets with these options tell of these moves and then those, and whether the first one is at rest at
 /// last.
 pub fn play_with(
@@ -504,13 +517,9 @@ pub fn play_with(
 ) -> Result<String, AllocError>
     requires { IsValid (options_of options.now) }
 {
-    let Ok(mut a) = made_side(alloc, End::A, options, 1) else {
-        return Err(AllocError);
-    };
-    let Ok(mut b) = made_side(alloc, End::B, options, 2) else {
-        return Err(AllocError);
-    };
-    play_both(alloc, &mut a, &mut b, moves, later)
+    let a = made_side(alloc, End::A, options, 1);
+    let b = made_side(alloc, End::B, options, 2);
+    play_new(alloc, a, b, moves, later)
 }
 
 /// The same with default options.

@@ -3,7 +3,9 @@
 
 use crate::tests::link::{Watched, made};
 use crate::tests::opening::{Fault, lacks, opens, right, tells_closed, tells_connected};
-use sctp_state::{HandoverError, Options, RestoreError, SocketHandoverState, SocketState};
+use sctp_state::{
+    CallError, HandoverError, Options, RestoreError, SocketHandoverState, SocketState,
+};
 use std::alloc::Global;
 
 /// The record of an idle end, which tells that it is closed, and nothing else.
@@ -38,35 +40,48 @@ fn refuses<S: Watched>(
     right(socket.joined() == association && socket.poll_event().is_none())
 }
 
-/// The new socket takes the place of `a`; it refuses an invalid record, and the connected `b` any.
-fn goes_on<S: Watched>(mut a: S, mut b: S, mut new: S) -> Result<(), Fault> {
-    opens(&mut a, &mut b)?;
-    let association = a.joined();
-    let mut state = hands_over(&mut a)?;
+/// An invalid record is refused by a new socket, and any by the connected `b`.
+fn refuse<S: Watched>(
+    b: &mut S,
+    new: &mut S,
+    state: &mut SocketHandoverState,
+) -> Result<(), Fault> {
     let tag = state.my_verification_tag;
     state.my_verification_tag = 0;
-    refuses(&mut new, &state, RestoreError::InvalidState)?;
+    refuses(new, state, RestoreError::InvalidState)?;
     right(new.state() == SocketState::Closed)?;
-    refuses(&mut b, &state, RestoreError::SocketNotClosed)?;
+    refuses(b, state, RestoreError::SocketNotClosed)?;
     state.my_verification_tag = tag;
-    refuses(&mut b, &state, RestoreError::SocketNotClosed)?;
-    takes(&mut new, &state)?;
-    tells_connected(&mut new)?;
+    refuses(b, state, RestoreError::SocketNotClosed)
+}
+
+/// The new socket takes the place of `a`.
+fn goes_on<S: Watched>(a: &mut S, b: &mut S, new: &mut S) -> Result<(), Fault> {
+    opens(a, b)?;
+    let association = a.joined();
+    let mut state = hands_over(a)?;
+    refuse(b, new, &mut state)?;
+    takes(new, &state)?;
+    tells_connected(new)?;
     right(new.poll_event().is_none() && new.joined() == association)
+}
+
+fn three_go_on<S: Watched>(
+    a: Result<S, CallError>,
+    b: Result<S, CallError>,
+    new: Result<S, CallError>,
+) -> Result<(), Fault> {
+    match (a, b, new) {
+        (Ok(mut a), Ok(mut b), Ok(mut new)) => goes_on(&mut a, &mut b, &mut new),
+        _ => Err(Fault::Memory),
+    }
 }
 
 fn is_handed_over(alloc: Global) -> Result<(), Fault> {
     let options = Options::default();
-    let Ok(a) = made(alloc, "a", &options, 1) else {
-        return Err(Fault::Memory);
-    };
-    let Ok(b) = made(alloc, "b", &options, 2) else {
-        return Err(Fault::Memory);
-    };
-    let Ok(new) = made(alloc, "new", &options, 3) else {
-        return Err(Fault::Memory);
-    };
-    goes_on(a, b, new)
+    let a = made(alloc, "a", &options, 1);
+    let b = made(alloc, "b", &options, 2);
+    three_go_on(a, b, made(alloc, "new", &options, 3))
 }
 
 #[test]

@@ -174,15 +174,19 @@ fn crosses_both_ways<R: Rng>(
     )
 }
 
+/// The same where every tenth packet is lost; 100,000 bytes need as many packets at least.
+fn crosses_with_losses<R: Rng>(rt: &HostRuntime, world: &mut World<R, ByteSum>) -> bool {
+    crosses_both_ways(rt, world, true) == Ok(true)
+        && size(world, End::A, 88) > 0
+        && size(world, End::B, 88) > 0
+}
+
 #[test]
 fn every_tenth_packet_is_lost(rt: HostRuntime) {
     let world = fresh(&rt, Words::new(456, 7), Words::new(5, 11));
     assert!(rt; world.is_some());
     if let Some(mut world) = world {
-        assert!(rt; crosses_both_ways(&rt, &mut world, true) == Ok(true));
-        // 100,000 bytes need as many packets at least
-        assert!(rt; size(&world, End::A, 88) > 0);
-        assert!(rt; size(&world, End::B, 88) > 0);
+        assert!(rt; crosses_with_losses(&rt, &mut world));
     }
 }
 
@@ -260,16 +264,28 @@ fn small() -> Options {
     }
 }
 
+/// Whether messages cross, where every tenth packet is lost or none, in packets of so many bytes at most, and the first one has a
+/// chunk of this type.
+fn crosses_in<R: Rng>(
+    rt: &HostRuntime,
+    world: &mut World<R, ByteSum>,
+    loses: bool,
+    mtu: usize,
+    data: u8,
+) -> bool {
+    crosses_both_ways(rt, world, loses) == Ok(true)
+        && are_short(world, End::A, 256)
+        && are_short(world, End::B, mtu)
+        && first_type(world, End::A, 2) == Some(data)
+}
+
 #[test]
 fn small_packets(rt: HostRuntime) {
     let world = with_options(&rt, &small(), &small(), Words::new(1, 7), Words::new(5, 11));
     assert!(rt; world.is_some());
     if let Some(mut world) = world {
-        assert!(rt; crosses_both_ways(&rt, &mut world, false) == Ok(true));
-        assert!(rt; are_short(&world, End::A, 256));
-        assert!(rt; are_short(&world, End::B, 256));
         // I-DATA
-        assert_eq!(rt; first_type(&world, End::A, 2), Some(64));
+        assert!(rt; crosses_in(&rt, &mut world, false, 256, 64));
     }
 }
 
@@ -279,11 +295,8 @@ fn one_end_interleaves(rt: HostRuntime) {
     let world = with_options(&rt, &small(), &other, Words::new(1, 7), Words::new(5, 11));
     assert!(rt; world.is_some());
     if let Some(mut world) = world {
-        assert!(rt; crosses_both_ways(&rt, &mut world, true) == Ok(true));
-        assert!(rt; are_short(&world, End::A, 256));
-        assert!(rt; are_short(&world, End::B, 1188));
         // DATA
-        assert_eq!(rt; first_type(&world, End::A, 2), Some(0));
+        assert!(rt; crosses_in(&rt, &mut world, true, 1188, 0));
     }
 }
 
@@ -311,6 +324,14 @@ fn is_sent_again<R: Rng>(
     Ok(hands_out(world, End::B, 9, &[1])? && hands_out_nothing(world, End::B)?)
 }
 
+/// And whether the INIT ACK is without the parameter and the extension.
+fn is_reliable<R: Rng>(rt: &HostRuntime, world: &mut World<R, ByteSum>) -> bool {
+    is_sent_again(rt, world) == Ok(true)
+        && size(world, End::B, 0) == 92
+        && size(world, End::A, 3) == 32
+        && size(world, End::A, 4) == 0
+}
+
 #[test]
 fn one_end_has_no_partial_reliability(rt: HostRuntime) {
     let words = Words::new(1, 7);
@@ -323,10 +344,6 @@ fn one_end_has_no_partial_reliability(rt: HostRuntime) {
     );
     assert!(rt; world.is_some());
     if let Some(mut world) = world {
-        assert!(rt; is_sent_again(&rt, &mut world) == Ok(true));
-        // the INIT ACK is without the parameter and the extension
-        assert_eq!(rt; size(&world, End::B, 0), 92);
-        assert_eq!(rt; size(&world, End::A, 3), 32);
-        assert_eq!(rt; size(&world, End::A, 4), 0);
+        assert!(rt; is_reliable(&rt, &mut world));
     }
 }
