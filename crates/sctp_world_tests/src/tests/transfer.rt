@@ -264,8 +264,8 @@ fn small() -> Options {
     }
 }
 
-/// Whether messages cross, where every tenth packet is lost or none, in packets of so many bytes at most, and the first one has a
-/// chunk of this type.
+/// Whether messages cross, where every tenth packet is lost or none: in packets of 256 bytes at most of a, and of so many of b;
+/// a's third one begins with a chunk of this type.
 fn crosses_in<R: Rng>(
     rt: &HostRuntime,
     world: &mut World<R, ByteSum>,
