@@ -11,7 +11,7 @@ const OPENED: &str =
     "a packet 0 44\nb packet 0 96\na packet 1 64\nb event OnConnected\nb packet 1 16\na event OnConnected\n";
 
 /// Whether the script, behind an opening, prints this behind what the opening prints.
-pub fn prints(rt: &HostRuntime, script: &str, want: &str) -> Result<bool, AllocError> {
+fn prints(rt: &HostRuntime, script: &str, want: &str) -> Result<bool, AllocError> {
     let mut text = Vec::from_slice(rt.alloc(), OPENING.as_bytes())?;
     text.extend_from_slice(script.as_bytes())?;
     let mut wanted = Vec::from_slice(rt.alloc(), OPENED.as_bytes())?;
@@ -20,7 +20,7 @@ pub fn prints(rt: &HostRuntime, script: &str, want: &str) -> Result<bool, AllocE
 }
 
 /// Whether the script prints this.
-pub fn prints_all(rt: &HostRuntime, script: &[u8], want: &[u8]) -> Result<bool, AllocError> {
+fn prints_all(rt: &HostRuntime, script: &[u8], want: &[u8]) -> Result<bool, AllocError> {
     let mut reader = script;
     let mut out = Vec::new(rt.alloc());
     let end = run_script(rt.alloc(), &mut reader, &mut out);
@@ -181,13 +181,4 @@ fn runs(rt: &HostRuntime, line: &[u8]) -> bool {
     let mut reader = line;
     let mut out = Vec::new(rt.alloc());
     run_script(rt.alloc(), &mut reader, &mut out).is_ok()
-}
-
-// The generator's first words at state 1 and stream 1 give the first TSN c9828f91 and the tag 1592e275.
-#[test]
-fn shows_packets(rt: HostRuntime) {
-    let script = b"connect a\nshow a 0\nshow a 1\nshow b 0\ngive a 1 b\n";
-    let want =
-        b"a packet 0 44\na bytes 0 138813880000000000000c9e0100001e1592e27500500000ffffffffc9828f91c00000048008000682c00000\nno packet\nno packet\nno packet\n";
-    assert!(rt; prints_all(&rt, script, want) == Ok(true));
 }
