@@ -34,21 +34,15 @@ pub enum Move<'a> {
     Connect(End),
     /// This packet of the other end is given to this one.
     Give(usize, End),
-    /// Bytes from elsewhere.
-    Foreign(End, &'a [u8]),
     Send(End, &'a [u8], SendOptions),
     /// Two messages at once.
     SendTwo(End, &'a [u8], &'a [u8]),
     Receive(End),
     /// In milliseconds, at both ends.
     Time(u64),
-    Close(End),
-    Shutdown(End),
     /// The socket is handed over to a new one, which takes its place.
     Replace(End),
-    /// This stream.
-    Reset(End, u16),
-    /// So many, from 0 on.
+    /// So many streams, from 0 on.
     ResetMany(End, u16),
 }
 
@@ -170,12 +164,7 @@ fn made_side(
 
 fn kind_name(kind: ErrorKind) -> &'static str {
     match kind {
-        ErrorKind::TooManyRetries => "TooManyRetries",
-        ErrorKind::NotConnected => "NotConnected",
-        ErrorKind::ParseFailed => "ParseFailed",
-        ErrorKind::PeerReported => "PeerReported",
         ErrorKind::ProtocolViolation => "ProtocolViolation",
-        ErrorKind::WrongSequence => "WrongSequence",
         _ => "Other",
     }
 }
@@ -184,9 +173,7 @@ fn event_name(event: &SocketEvent) -> &'static str {
     match event {
         SocketEvent::OnConnected() => "OnConnected",
         SocketEvent::OnClosed() => "OnClosed",
-        SocketEvent::OnConnectionRestarted() => "OnConnectionRestarted",
         SocketEvent::OnBufferedAmountLow(_) => "OnBufferedAmountLow",
-        SocketEvent::OnStreamsResetFailed(_) => "OnStreamsResetFailed",
         SocketEvent::OnStreamsResetPerformed(_) => "OnStreamsResetPerformed",
         SocketEvent::OnIncomingStreamReset(_) => "OnIncomingStreamReset",
         SocketEvent::OnLifecycleMessageFullySent(_) => "OnLifecycleMessageFullySent",
@@ -208,7 +195,6 @@ fn only(ids: &[StreamId]) -> Option<u64> {
 fn event_number(event: &SocketEvent) -> Option<u64> {
     match event {
         SocketEvent::OnBufferedAmountLow(id) => Some(u64::from(id.0)),
-        SocketEvent::OnStreamsResetFailed(ids) => only(ids),
         SocketEvent::OnStreamsResetPerformed(ids) => only(ids),
         SocketEvent::OnIncomingStreamReset(ids) => only(ids),
         SocketEvent::OnLifecycleMessageFullySent(id) => Some(id.value()),
@@ -229,18 +215,16 @@ fn plain_line(alloc: Global, name: &str, event: &SocketEvent) -> Result<String, 
 fn error_line(
     alloc: Global,
     name: &str,
-    event_name: &str,
     kind: ErrorKind,
     text: &str,
 ) -> Result<String, AllocError> {
     let kind = kind_name(kind);
-    format!(in alloc; "{name} {event_name} {kind}: {text}\n")
+    format!(in alloc; "{name} OnError {kind}: {text}\n")
 }
 
 fn event_line(alloc: Global, name: &str, event: &SocketEvent) -> Result<String, AllocError> {
     match event {
-        SocketEvent::OnAborted(kind, text) => error_line(alloc, name, "OnAborted", *kind, text),
-        SocketEvent::OnError(kind, text) => error_line(alloc, name, "OnError", *kind, text),
+        SocketEvent::OnError(kind, text) => error_line(alloc, name, *kind, text),
         _ => plain_line(alloc, name, event),
     }
 }
@@ -413,15 +397,11 @@ fn act<S: Watched>(
     match turn {
         Move::Connect(_) => Ok(side.socket.connect().is_err()),
         Move::Give(place, _) => Ok(give(side, packets, *place)),
-        Move::Foreign(_, bytes) => Ok(side.socket.handle_input(bytes).is_err()),
         Move::Send(_, bytes, options) => send_one(alloc, side, bytes, options),
         Move::SendTwo(_, first, second) => send_two(alloc, side, first, second),
         Move::Receive(_) => receive(alloc, side, log),
         Move::Time(moment) => Ok(tell_time(side, *moment)),
-        Move::Close(_) => Ok(side.socket.close().is_err()),
-        Move::Shutdown(_) => Ok(side.socket.shutdown().is_err()),
         Move::Replace(_) => replace(alloc, side, log),
-        Move::Reset(_, id) => Ok(side.socket.reset_streams(&[StreamId(*id)]).is_err()),
         Move::ResetMany(_, count) => reset_many(alloc, side, *count),
     }
 }
@@ -443,15 +423,11 @@ fn is_at_a(turn: &Move<'_>) -> bool {
     match turn {
         Move::Connect(end) => *end == End::A,
         Move::Give(_, end) => *end == End::A,
-        Move::Foreign(end, _) => *end == End::A,
         Move::Send(end, _, _) => *end == End::A,
         Move::SendTwo(end, _, _) => *end == End::A,
         Move::Receive(end) => *end == End::A,
         Move::Time(_) => true,
-        Move::Close(end) => *end == End::A,
-        Move::Shutdown(end) => *end == End::A,
         Move::Replace(end) => *end == End::A,
-        Move::Reset(end, _) => *end == End::A,
         Move::ResetMany(end, _) => *end == End::A,
     }
 }
