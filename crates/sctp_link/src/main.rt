@@ -97,6 +97,7 @@ fn pass_time<S: DcSctpSocket>(
     Ok(())
 }
 
+/// Sends three bytes of this number.
 fn send<S: DcSctpSocket>(rt: &HostRuntime, owner: &mut Owner<S>, number: u8) -> anyhow::Result<()> {
     let payload = vec![in rt.alloc(); number; 3]?;
     let message = Message::new(StreamId(1), PpId(53), payload);
@@ -119,6 +120,7 @@ fn turn<S: DcSctpSocket>(
     deliver(rt, b, a)
 }
 
+/// `a` opens an association and sends; once `b` has all messages, `a` shuts it down, which ends at `b` last.
 fn talk<S: DcSctpSocket + Drop>(rt: &HostRuntime, a: S, b: S) -> anyhow::Result<()> {
     let (mut a, mut b) = (owned(rt, a), owned(rt, b));
     a.socket.connect()?;
@@ -127,11 +129,13 @@ fn talk<S: DcSctpSocket + Drop>(rt: &HostRuntime, a: S, b: S) -> anyhow::Result<
     }
     for _ in 0..MANY {
         turn(rt, &mut a, &mut b)?;
-        if b.received == 3 && a.socket.state() == SocketState::Connected {
-            a.socket.shutdown()?;
-        }
-        if b.received == 3 && b.socket.state() == SocketState::Closed {
-            return take(rt, "b", &mut b);
+        if b.received == 3 {
+            if a.socket.state() == SocketState::Connected {
+                a.socket.shutdown()?;
+            }
+            if b.socket.state() == SocketState::Closed {
+                return take(rt, "b", &mut b);
+            }
         }
     }
     Ok(())
