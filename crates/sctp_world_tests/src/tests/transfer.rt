@@ -1,7 +1,7 @@
 //! Many packets cross, some of which are lost, and messages cross between ends with options of their own.
 
 use crate::tests::words::Words;
-use crate::tests::world::{fresh, open, size};
+use crate::tests::world::{Watched, fresh, open, size};
 use rand_core::Rng;
 use sctp_serial::{Message, PpId, SocketTime, StreamId};
 use sctp_state::{Options, SendOptions};
@@ -22,30 +22,26 @@ struct Course {
 
 /// Gives the packets of `from` from this number on to the other end, each once; where `loses`, every tenth not at all.
 /// Answers how many there are.
-fn hand_over<R: Rng>(
-    world: &mut World<R, ByteSum>,
+fn hand_over<W: Watched>(
+    world: &mut W,
     from: End,
     to: End,
     first: usize,
     loses: bool,
 ) -> Result<usize, WorldError> {
     for number in first..MANY {
-        if world.packet(from, number).is_none() {
+        if world.sent(from, number).is_none() {
             return Ok(number);
         }
         if !loses || number % 10 != 9 {
-            world.step(&Event::Give(number, to))?;
+            world.does(&Event::Give(number, to))?;
         }
     }
     Ok(MANY)
 }
 
 /// Hands over what each end sent; where neither sent anything, a second passes.
-fn go_on<R: Rng>(
-    world: &mut World<R, ByteSum>,
-    course: Course,
-    loses: bool,
-) -> Result<Course, WorldError> {
+fn go_on<W: Watched>(world: &mut W, course: Course, loses: bool) -> Result<Course, WorldError> {
     let a = hand_over(world, End::A, End::B, course.a, loses)?;
     let b = hand_over(world, End::B, End::A, course.b, loses)?;
     let mut seconds = course.seconds;
@@ -56,21 +52,21 @@ fn go_on<R: Rng>(
     Ok(Course { a, b, seconds })
 }
 
-fn tell_time<R: Rng>(world: &mut World<R, ByteSum>, seconds: u64) -> Result<(), WorldError> {
+fn tell_time<W: Watched>(world: &mut W, seconds: u64) -> Result<(), WorldError> {
     let now = SocketTime::zero() + Duration::from_secs(seconds);
-    world.step(&Event::Time(End::A, now))?;
-    world.step(&Event::Time(End::B, now))
+    world.does(&Event::Time(End::A, now))?;
+    world.does(&Event::Time(End::B, now))
 }
 
 /// Goes on until both ends are at rest, and says whether they came to it.
-fn come_to_rest<R: Rng>(world: &mut World<R, ByteSum>, loses: bool) -> Result<bool, WorldError> {
+fn come_to_rest<W: Watched>(world: &mut W, loses: bool) -> Result<bool, WorldError> {
     let mut course = Course {
         a: 2,
         b: 2,
         seconds: 0,
     };
     for _ in 0..200 {
-        if world.is_at_rest(End::A) && world.is_at_rest(End::B) {
+        if world.rests(End::A) && world.rests(End::B) {
             return Ok(true);
         }
         course = go_on(world, course, loses)?;
@@ -89,23 +85,19 @@ fn payload(rt: &HostRuntime, number: u8) -> Result<Vec<u8>, AllocError> {
     Ok(bytes)
 }
 
-fn send<R: Rng>(
-    world: &mut World<R, ByteSum>,
+fn send<W: Watched>(
+    world: &mut W,
     end: End,
     number: u8,
     payload: Vec<u8>,
     options: SendOptions,
 ) -> Result<(), WorldError> {
     let message = Message::new(StreamId(1), PpId(u32::from(number)), payload);
-    world.step(&Event::Call(end, Call::Send(message, options)))
+    world.does(&Event::Call(end, Call::Send(message, options)))
 }
 
 /// Sends ten messages.
-fn send_ten<R: Rng>(
-    rt: &HostRuntime,
-    world: &mut World<R, ByteSum>,
-    end: End,
-) -> Result<(), WorldError> {
+fn send_ten<W: Watched>(rt: &HostRuntime, world: &mut W, end: End) -> Result<(), WorldError> {
     for number in 0..10u8 {
         send(
             world,
@@ -119,14 +111,14 @@ fn send_ten<R: Rng>(
 }
 
 /// Whether the end hands out this message next.
-fn hands_out<R: Rng>(
-    world: &mut World<R, ByteSum>,
+fn hands_out<W: Watched>(
+    world: &mut W,
     end: End,
     number: u8,
     payload: &[u8],
 ) -> Result<bool, WorldError> {
-    world.step(&Event::Call(end, Call::Receive))?;
-    Ok(match world.log().last() {
+    world.does(&Event::Call(end, Call::Receive))?;
+    Ok(match world.entries().last() {
         Some(Entry::Call(_, _, _, Answer::Received(Some(message)))) => {
             message.stream_id == StreamId(1)
                 && message.ppid == PpId(u32::from(number))
@@ -136,18 +128,18 @@ fn hands_out<R: Rng>(
     })
 }
 
-fn hands_out_nothing<R: Rng>(world: &mut World<R, ByteSum>, end: End) -> Result<bool, WorldError> {
-    world.step(&Event::Call(end, Call::Receive))?;
+fn hands_out_nothing<W: Watched>(world: &mut W, end: End) -> Result<bool, WorldError> {
+    world.does(&Event::Call(end, Call::Receive))?;
     Ok(matches!(
-        world.log().last(),
+        world.entries().last(),
         Some(Entry::Call(_, _, _, Answer::Received(None)))
     ))
 }
 
 /// Whether the end hands out the ten messages in order, and no other.
-fn hands_out_ten<R: Rng>(
+fn hands_out_ten<W: Watched>(
     rt: &HostRuntime,
-    world: &mut World<R, ByteSum>,
+    world: &mut W,
     end: End,
 ) -> Result<bool, WorldError> {
     for number in 0..10u8 {
@@ -159,9 +151,9 @@ fn hands_out_ten<R: Rng>(
 }
 
 /// Whether ten messages of each end, sent at once, are handed out in order by the other one.
-fn crosses_both_ways<R: Rng>(
+fn crosses_both_ways<W: Watched>(
     rt: &HostRuntime,
-    world: &mut World<R, ByteSum>,
+    world: &mut W,
     loses: bool,
 ) -> Result<bool, WorldError> {
     open(world)?;
@@ -175,33 +167,33 @@ fn crosses_both_ways<R: Rng>(
 }
 
 /// The same where every tenth packet is lost; 100,000 bytes need as many packets at least.
-fn crosses_with_losses<R: Rng>(rt: &HostRuntime, world: &mut World<R, ByteSum>) -> bool {
+fn crosses_with_losses<W: Watched>(rt: &HostRuntime, world: &mut W) -> bool {
     crosses_both_ways(rt, world, true) == Ok(true)
         && size(world, End::A, 88) > 0
         && size(world, End::B, 88) > 0
 }
 
-#[test]
-fn every_tenth_packet_is_lost(rt: HostRuntime) {
-    let world = fresh(&rt, Words::new(456, 7), Words::new(5, 11));
-    assert!(rt; world.is_some());
-    if let Some(mut world) = world {
-        assert!(rt; crosses_with_losses(&rt, &mut world));
+fn crosses_with_losses_anew<W: Watched + Drop>(rt: &HostRuntime, world: Option<W>) -> bool {
+    match world {
+        Some(mut world) => crosses_with_losses(rt, &mut world),
+        None => false,
     }
 }
 
+#[test]
+fn every_tenth_packet_is_lost(rt: HostRuntime) {
+    assert!(rt; crosses_with_losses_anew(&rt, fresh(&rt, Words::new(456, 7), Words::new(5, 11))));
+}
+
 /// Whether four messages of a that come in the opposite order are handed out in the order of their sending.
-fn crosses_backwards<R: Rng>(
-    rt: &HostRuntime,
-    world: &mut World<R, ByteSum>,
-) -> Result<bool, WorldError> {
+fn crosses_backwards<W: Watched>(rt: &HostRuntime, world: &mut W) -> Result<bool, WorldError> {
     open(world)?;
     for number in 0..4u8 {
         let payload = Vec::from_slice(rt.alloc(), &[number])?;
         send(world, End::A, number, payload, SendOptions::default())?;
     }
     for number in [5, 4, 3, 2] {
-        world.step(&Event::Give(number, End::B))?;
+        world.does(&Event::Give(number, End::B))?;
     }
     for number in 0..4u8 {
         if !hands_out(world, End::B, number, &[number])? {
@@ -211,14 +203,18 @@ fn crosses_backwards<R: Rng>(
     hands_out_nothing(world, End::B)
 }
 
+fn crosses_backwards_anew<W: Watched + Drop>(rt: &HostRuntime, world: Option<W>) -> bool {
+    match world {
+        Some(mut world) => crosses_backwards(rt, &mut world) == Ok(true),
+        None => false,
+    }
+}
+
 // The messages have the numbers 4294967294, 4294967295, 0 and 1.
 #[test]
 fn numbers_begin_anew(rt: HostRuntime) {
     let world = fresh(&rt, Words::new(4_294_967_294, 7), Words::new(5, 11));
-    assert!(rt; world.is_some());
-    if let Some(mut world) = world {
-        assert!(rt; crosses_backwards(&rt, &mut world) == Ok(true));
-    }
+    assert!(rt; crosses_backwards_anew(&rt, world));
 }
 
 // ---- options
@@ -237,7 +233,7 @@ fn with_options<R: Rng + Drop>(
 }
 
 /// Whether the end sent packets, and none of them is longer.
-fn are_short<R: Rng>(world: &World<R, ByteSum>, end: End, mtu: usize) -> bool {
+fn are_short<W: Watched>(world: &W, end: End, mtu: usize) -> bool {
     for number in 0..MANY {
         match size(world, end, number) {
             0 => return number > 0,
@@ -252,8 +248,8 @@ fn are_short<R: Rng>(world: &World<R, ByteSum>, end: End, mtu: usize) -> bool {
 }
 
 /// The type of the first chunk of a packet.
-fn first_type<R: Rng>(world: &World<R, ByteSum>, end: End, number: usize) -> Option<u8> {
-    world.packet(end, number)?.get(12).copied()
+fn first_type<W: Watched>(world: &W, end: End, number: usize) -> Option<u8> {
+    world.sent(end, number)?.get(12).copied()
 }
 
 fn small() -> Options {
@@ -266,9 +262,9 @@ fn small() -> Options {
 
 /// Whether messages cross, where every tenth packet is lost or none: in packets of 256 bytes at most of a, and of so many of b;
 /// a's third one begins with a chunk of this type.
-fn crosses_in<R: Rng>(
+fn crosses_in<W: Watched>(
     rt: &HostRuntime,
-    world: &mut World<R, ByteSum>,
+    world: &mut W,
     loses: bool,
     mtu: usize,
     data: u8,
@@ -279,25 +275,32 @@ fn crosses_in<R: Rng>(
         && first_type(world, End::A, 2) == Some(data)
 }
 
+fn crosses_beside<W: Watched + Drop>(
+    rt: &HostRuntime,
+    world: Option<W>,
+    loses: bool,
+    mtu: usize,
+    data: u8,
+) -> bool {
+    match world {
+        Some(mut world) => crosses_in(rt, &mut world, loses, mtu, data),
+        None => false,
+    }
+}
+
 #[test]
 fn small_packets(rt: HostRuntime) {
     let world = with_options(&rt, &small(), &small(), Words::new(1, 7), Words::new(5, 11));
-    assert!(rt; world.is_some());
-    if let Some(mut world) = world {
-        // I-DATA
-        assert!(rt; crosses_in(&rt, &mut world, false, 256, 64));
-    }
+    // I-DATA
+    assert!(rt; crosses_beside(&rt, world, false, 256, 64));
 }
 
 #[test]
 fn one_end_interleaves(rt: HostRuntime) {
     let other = Options::default();
     let world = with_options(&rt, &small(), &other, Words::new(1, 7), Words::new(5, 11));
-    assert!(rt; world.is_some());
-    if let Some(mut world) = world {
-        // DATA
-        assert!(rt; crosses_in(&rt, &mut world, true, 1188, 0));
-    }
+    // DATA
+    assert!(rt; crosses_beside(&rt, world, true, 1188, 0));
 }
 
 fn reliable() -> Options {
@@ -308,10 +311,7 @@ fn reliable() -> Options {
 }
 
 /// Whether a lost message that is to be sent once is sent again, and handed out.
-fn is_sent_again<R: Rng>(
-    rt: &HostRuntime,
-    world: &mut World<R, ByteSum>,
-) -> Result<bool, WorldError> {
+fn is_sent_again<W: Watched>(rt: &HostRuntime, world: &mut W) -> Result<bool, WorldError> {
     open(world)?;
     let payload = Vec::from_slice(rt.alloc(), &[1])?;
     let once = SendOptions {
@@ -320,30 +320,28 @@ fn is_sent_again<R: Rng>(
     };
     send(world, End::A, 9, payload, once)?;
     tell_time(world, 1)?;
-    world.step(&Event::Give(3, End::B))?;
+    world.does(&Event::Give(3, End::B))?;
     Ok(hands_out(world, End::B, 9, &[1])? && hands_out_nothing(world, End::B)?)
 }
 
 /// And whether the INIT ACK is without the parameter and the extension.
-fn is_reliable<R: Rng>(rt: &HostRuntime, world: &mut World<R, ByteSum>) -> bool {
+fn is_reliable<W: Watched>(rt: &HostRuntime, world: &mut W) -> bool {
     is_sent_again(rt, world) == Ok(true)
         && size(world, End::B, 0) == 92
         && size(world, End::A, 3) == 32
         && size(world, End::A, 4) == 0
 }
 
+fn is_reliable_anew<W: Watched + Drop>(rt: &HostRuntime, world: Option<W>) -> bool {
+    match world {
+        Some(mut world) => is_reliable(rt, &mut world),
+        None => false,
+    }
+}
+
 #[test]
 fn one_end_has_no_partial_reliability(rt: HostRuntime) {
-    let words = Words::new(1, 7);
-    let world = with_options(
-        &rt,
-        &Options::default(),
-        &reliable(),
-        words,
-        Words::new(5, 11),
-    );
-    assert!(rt; world.is_some());
-    if let Some(mut world) = world {
-        assert!(rt; is_reliable(&rt, &mut world));
-    }
+    let (options, other) = (Options::default(), reliable());
+    let world = with_options(&rt, &options, &other, Words::new(1, 7), Words::new(5, 11));
+    assert!(rt; is_reliable_anew(&rt, world));
 }
