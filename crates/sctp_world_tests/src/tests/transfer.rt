@@ -275,7 +275,7 @@ fn crosses_in<W: Watched>(
         && first_type(world, End::A, 2) == Some(data)
 }
 
-fn crosses_beside<W: Watched + Drop>(
+fn crosses_in_anew<W: Watched + Drop>(
     rt: &HostRuntime,
     world: Option<W>,
     loses: bool,
@@ -292,7 +292,7 @@ fn crosses_beside<W: Watched + Drop>(
 fn small_packets(rt: HostRuntime) {
     let world = with_options(&rt, &small(), &small(), Words::new(1, 7), Words::new(5, 11));
     // I-DATA
-    assert!(rt; crosses_beside(&rt, world, false, 256, 64));
+    assert!(rt; crosses_in_anew(&rt, world, false, 256, 64));
 }
 
 #[test]
@@ -300,7 +300,7 @@ fn one_end_interleaves(rt: HostRuntime) {
     let other = Options::default();
     let world = with_options(&rt, &small(), &other, Words::new(1, 7), Words::new(5, 11));
     // DATA
-    assert!(rt; crosses_beside(&rt, world, true, 1188, 0));
+    assert!(rt; crosses_in_anew(&rt, world, true, 1188, 0));
 }
 
 fn reliable() -> Options {

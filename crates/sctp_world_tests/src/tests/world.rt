@@ -8,7 +8,7 @@ use sctp_world::*;
 use std::alloc::AllocError;
 use std::test::Fail;
 
-/// What a test asks of a world.
+/// What a test asks of a world. Its helpers know no more of one than its answers.
 pub trait Watched {
     fn does(&mut self, event: &Event) -> Result<(), WorldError>;
 
@@ -98,6 +98,7 @@ fn has_sizes<W: Watched>(world: &W) -> bool {
     true
 }
 
+/// The same where there is a new world; so below.
 fn crosses_anew<W: Watched + Drop>(event: &Event, world: Option<W>) -> bool {
     match world {
         Some(mut world) => crosses(&mut world, event) == Ok(true) && has_sizes(&world),
