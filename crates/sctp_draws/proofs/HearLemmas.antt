@@ -1,0 +1,353 @@
+-- Packets that open no association, chunk by chunk, under other names.
+use Rattle.std.proofs.Common.{◌≡◌, ℕ, ◌==◌, ◌&&◌, not, Bool, true, false, Option, Some, None, List, [], ◌∷◌, length, refl, ap, ◌∙◌}
+use Rattle.std.specs.List.{list_all}
+use Rattle.sctp_wire.specs.Parameter.{ParameterTree}
+use Rattle.sctp_wire.specs.Cause.{no_user_data, protocol_violation}
+use Rattle.sctp_packet.specs.declared.sack.GapAckBlock.{GapAckBlock}
+use Rattle.sctp_packet.specs.Chunk.{ChunkTree, FragmentTree, SackTree, data_chunk, idata_chunk, init_chunk, init_ack_chunk, sack_chunk, heartbeat_request_chunk, heartbeat_ack_chunk, abort_chunk, shutdown_chunk, shutdown_ack_chunk, error_chunk, cookie_echo_chunk, cookie_ack_chunk, shutdown_complete_chunk, re_config_chunk, forward_tsn_chunk, i_forward_tsn_chunk, unknown_chunk}
+use Rattle.sctp_state.specs.Capabilities.{Capabilities}
+use Rattle.sctp_outstanding.specs.Items.{number_of}
+use Rattle.sctp_outstanding.specs.Sack.{is_valid}
+use Rattle.sctp_rx.specs.Tracker.{written}
+use Rattle.sctp_tx.specs.Retransmission.{SackAnswer, Invalid, Valid, sender_if, told_if, answer_if}
+use Rattle.sctp_association.specs.Association.{Tcb, Phase, CookieEchoed, Established, ShutdownPending, ShutdownSent, ShutdownReceived, ShutdownAckSent, State, Closed, CookieWait, Open, Context, Standing, Endpoint, in_context, where_open}
+use Rattle.sctp_association.specs.Heartbeats.{info_in, is_last, answered_if, answered_by, answered, on_heartbeat_ack}
+use Rattle.sctp_association.specs.Packets.{add, packet_to, new_packet}
+use Rattle.sctp_association.specs.Sending.{is_alone, send_lost}
+use Rattle.sctp_association.specs.Closing.{on_shutdown, out_of_the_blue, on_shutdown_ack_open, on_shutdown_ack_in, on_shutdown_ack, on_shutdown_complete, violated, on_abort, on_error, go_on}
+use Rattle.sctp_association.specs.Data.{on_no_data, no_data, on_data_in, on_data_if, on_data, on_forward}
+use Rattle.sctp_association.specs.Acknowledging.{cleaned, sampled, heard, on_sack_in, on_sack}
+use Rattle.sctp_association.specs.Acknowledging as acks
+use Rattle.sctp_association.specs.Opening.{on_cookie_ack, stands, connected}
+use Rattle.sctp_association.specs.Input.{misused, violation, is_reported, echoed, echoed_in, complained, on_unknown_if, on_unknown, on_heartbeat, Heard, on_standing, on_chunk, goes_on, heard_if, hear, hear_rest, hear_all, has_data, repeats, repeats_if, ended, handled}
+use Rattle.sctp_association.specs.Laws.{Packing}
+use Rattle.sctp_draws.specs.NamedChunks.{Names, AreNames, flipped, moved, named_sack, named_chunk, named_chunks}
+use Rattle.sctp_draws.specs.Names.{named_state, named_standing, named_end, plain}
+use Rattle.sctp_draws.specs.Laws.{is_flowing}
+use Rattle.sctp_draws.proofs.WritingLemmas.{Knows, named_emit_chunk, emit_stays}
+use Rattle.sctp_draws.proofs.ReadingLemmas.{named_data, named_forward}
+use Rattle.sctp_draws.proofs.TagLemmas.{data_named}
+use Rattle.sctp_draws.proofs.FillingLemmas.{send_with_stays, send_lost_stays}
+use Rattle.sctp_draws.proofs.SackLemmas.{named_on_sack, go_on_stays}
+use Rattle.sctp_draws.proofs.ClosingLemmas.{OpenIsNamed, where_named, on_shutdown_named, shutdown_ack_named, shutdown_complete_named, violated_named, on_abort_named, on_error_named, on_cookie_ack_named, repeats_named, ended_named}
+
+abbrev heard_as : {P : Type 0} → Bool → Endpoint P → Heard P
+heard_as on e = record { end = e; goes_on = on }
+
+not_true : (b : Bool) → not b ≡ true → b ≡ false
+not_true true h = cc
+not_true false h = refl
+
+both_true : (a b : Bool) → (a && b) ≡ true → (a ≡ true) × (b ≡ true)
+both_true true b h = (refl, h)
+both_true false b h = cc
+
+-- ---- who writes stays
+
+module _ {P : Type 0} where
+  where_from : (row : Phase → Tcb → Context P → Standing P) (st : State) (c : Context P) → ((phase : Phase) (t : Tcb) (d : Context P) → (row phase t d).context.pack ≡ d.pack)
+      → (where_open row (record { state = st; context = c })).context.pack ≡ c.pack
+  where_from row Closed c h = refl
+  where_from row (CookieWait tag first t1) c h = refl
+  where_from row (Open phase t) c h = h phase t c
+
+  where_stays : (row : Phase → Tcb → Context P → Standing P) (s : Standing P) → ((phase : Phase) (t : Tcb) (d : Context P) → (row phase t d).context.pack ≡ d.pack)
+      → (where_open row s).context.pack ≡ s.context.pack
+  where_stays row s h = where_from row s.state s.context h
+
+  no_data_stays : (tsn : ℕ) (st : State) (c : Context P) → (on_no_data tsn st c).pack ≡ c.pack
+  no_data_stays tsn Closed c = refl
+  no_data_stays tsn (CookieWait tag first t1) c = refl
+  no_data_stays tsn (Open phase t) c = emit_stays (add (error_chunk (no_user_data (record { 0 = tsn }) ∷ [])) (new_packet (no_data c).options t)) (no_data c)
+
+  data_in_stays : (st : State) (tsn : ℕ) (immediate : Bool) (f : FragmentTree) (c : Context P) → (on_data_in st tsn immediate f c).context.pack ≡ c.pack
+  data_in_stays Closed tsn immediate f c = refl
+  data_in_stays (CookieWait tag first t1) tsn immediate f c = refl
+  data_in_stays (Open phase t) tsn immediate f c = refl
+
+  data_if_stays : (b : Bool) (tsn : ℕ) (immediate : Bool) (f : FragmentTree) (s : Standing P) → (on_data_if b tsn immediate f s).context.pack ≡ s.context.pack
+  data_if_stays true tsn immediate f s = no_data_stays tsn s.state s.context
+  data_if_stays false tsn immediate f s = data_in_stays s.state tsn immediate f s.context
+
+  data_stays : (tsn : ℕ) (immediate : Bool) (f : FragmentTree) (s : Standing P) → (on_data tsn immediate f s).context.pack ≡ s.context.pack
+  data_stays tsn immediate f s = data_if_stays (length f.payload == 0) tsn immediate f s
+
+  heard_stays : (a : SackAnswer) (phase : Phase) (t : Tcb) (c : Context P) → (heard a phase t c).context.pack ≡ c.pack
+  heard_stays Invalid phase t c = refl
+  heard_stays (Valid rtt progress) phase t c =
+      let v : Tcb = sampled rtt t in
+      let d : Context P = acks.answered progress c in
+      let o = go_on phase v d in
+      let x = send_lost v o.context in
+      send_with_stays (is_alone o.phase) (new_packet x.context.options x.tcb) x.tcb x.context ∙ (send_lost_stays v o.context ∙ go_on_stays phase v d)
+
+  sack_in_stays : (st : State) (k : SackTree) (c : Context P) → (on_sack_in st k c).context.pack ≡ c.pack
+  sack_in_stays Closed k c = refl
+  sack_in_stays (CookieWait tag first t1) k c = refl
+  sack_in_stays (Open phase t) k c =
+      let m : ℕ = number_of t.sender.outstanding k.cumulative_tsn_ack in
+      let bs : List GapAckBlock = cleaned k.gap_ack_blocks in
+      let valid : Bool = is_valid m bs t.sender.outstanding.items in
+      heard_stays (answer_if valid c.now m bs t.sender) phase (record t { sender = sender_if valid c.now m k.a_rwnd bs t.sender c.told }) (record c { told = told_if valid m bs t.sender c.told })
+
+  sack_stays : (k : SackTree) (s : Standing P) → (on_sack k s).context.pack ≡ s.context.pack
+  sack_stays k s = sack_in_stays s.state k s.context
+
+  answered_if_stays : (b : Bool) (c : Context P) → (answered_if b c).pack ≡ c.pack
+  answered_if_stays true c = refl
+  answered_if_stays false c = refl
+
+  answered_by_stays : (b : Bool) (info : List ℕ) (c : Context P) → (answered_by b info c).pack ≡ c.pack
+  answered_by_stays true info c = answered_if_stays (is_last info c) c
+  answered_by_stays false info c = refl
+
+  answered_stays : (o : Option (List ℕ)) (c : Context P) → (answered o c).pack ≡ c.pack
+  answered_stays None c = refl
+  answered_stays (Some info) c = answered_by_stays (length info == 4) info c
+
+  cookie_ack_stays : (phase : Phase) (t : Tcb) (c : Context P) → (on_cookie_ack phase t c).context.pack ≡ c.pack
+  cookie_ack_stays (CookieEchoed t1 cookie) t c = send_with_stays false (new_packet c.options t) t (connected c)
+  cookie_ack_stays Established t c = refl
+  cookie_ack_stays ShutdownPending t c = refl
+  cookie_ack_stays (ShutdownSent t2) t c = refl
+  cookie_ack_stays ShutdownReceived t c = refl
+  cookie_ack_stays (ShutdownAckSent t2) t c = refl
+
+  echoed_stays : (st : State) (typ flags : ℕ) (value : List ℕ) (c : Context P) → (echoed_in st typ flags value c).pack ≡ c.pack
+  echoed_stays Closed typ flags value c = refl
+  echoed_stays (CookieWait tag first t1) typ flags value c = refl
+  echoed_stays (Open phase t) typ flags value c = emit_stays (add (echoed c.options.mtu typ flags value) (new_packet c.options t)) c
+
+  unknown_stays : (b : Bool) (typ flags : ℕ) (value : List ℕ) (s : Standing P) → (on_unknown_if b typ flags value s).context.pack ≡ s.context.pack
+  unknown_stays true typ flags value s = echoed_stays s.state typ flags value (complained typ flags value s.context)
+  unknown_stays false typ flags value s = refl
+
+  shutdown_stays : (phase : Phase) (t : Tcb) (c : Context P) → (on_shutdown phase t c).context.pack ≡ c.pack
+  shutdown_stays (CookieEchoed t1 cookie) t c = refl
+  shutdown_stays Established t c = go_on_stays ShutdownReceived t c
+  shutdown_stays ShutdownPending t c = go_on_stays ShutdownReceived t c
+  shutdown_stays (ShutdownSent t2) t c = emit_stays (add shutdown_ack_chunk (new_packet c.options t)) c
+  shutdown_stays ShutdownReceived t c = refl
+  shutdown_stays (ShutdownAckSent t2) t c = emit_stays (add shutdown_ack_chunk (new_packet c.options t)) c
+
+  blue_stays : (tag : ℕ) (c : Context P) → (out_of_the_blue tag c).pack ≡ c.pack
+  blue_stays tag c = emit_stays (add (shutdown_complete_chunk true) (packet_to tag c.options.mtu)) c
+
+  done_stays : (t : Tcb) (c : Context P) → (on_shutdown_ack_open 0 (ShutdownSent c.heartbeats.interval) t c).context.pack ≡ c.pack
+  done_stays t c = emit_stays (add (shutdown_complete_chunk false) (new_packet c.options t)) c
+
+  shutdown_ack_stays : (tag : ℕ) (st : State) (c : Context P) → (on_shutdown_ack_in tag st c).context.pack ≡ c.pack
+  shutdown_ack_stays tag Closed c = blue_stays tag c
+  shutdown_ack_stays tag (CookieWait mine first t1) c = blue_stays tag c
+  shutdown_ack_stays tag (Open (CookieEchoed t1 cookie) t) c = blue_stays tag c
+  shutdown_ack_stays tag (Open Established t) c = blue_stays tag c
+  shutdown_ack_stays tag (Open ShutdownPending t) c = blue_stays tag c
+  shutdown_ack_stays tag (Open (ShutdownSent t2) t) c = done_stays t c
+  shutdown_ack_stays tag (Open ShutdownReceived t) c = blue_stays tag c
+  shutdown_ack_stays tag (Open (ShutdownAckSent t2) t) c = done_stays t c
+
+  complete_stays : (phase : Phase) (t : Tcb) (c : Context P) → (on_shutdown_complete phase t c).context.pack ≡ c.pack
+  complete_stays (CookieEchoed t1 cookie) t c = refl
+  complete_stays Established t c = refl
+  complete_stays ShutdownPending t c = refl
+  complete_stays (ShutdownSent t2) t c = refl
+  complete_stays ShutdownReceived t c = refl
+  complete_stays (ShutdownAckSent t2) t c = refl
+
+  chunk_stays : (tag : ℕ) (chunk : ChunkTree) (e : Endpoint P) → is_flowing chunk ≡ true → (on_chunk tag chunk e).standing.context.pack ≡ e.standing.context.pack
+  chunk_stays tag (data_chunk tsn immediate f) e h = data_stays tsn immediate f e.standing
+  chunk_stays tag (idata_chunk tsn immediate f) e h = data_stays tsn immediate f e.standing
+  chunk_stays tag (init_chunk i) e h = cc
+  chunk_stays tag (init_ack_chunk i) e h = cc
+  chunk_stays tag (sack_chunk k) e h = sack_stays k e.standing
+  chunk_stays tag (heartbeat_request_chunk parameters) e h = where_stays (on_heartbeat parameters) e.standing (λ phase t c. emit_stays (add (heartbeat_ack_chunk parameters) (new_packet c.options t)) c)
+  chunk_stays tag (heartbeat_ack_chunk parameters) e h = answered_stays (info_in parameters) e.standing.context
+  chunk_stays tag (abort_chunk reflected causes) e h = where_stays (on_abort causes) e.standing (λ phase t c. refl)
+  chunk_stays tag (shutdown_chunk tsn) e h = where_stays on_shutdown e.standing shutdown_stays
+  chunk_stays tag shutdown_ack_chunk e h = shutdown_ack_stays tag e.standing.state e.standing.context
+  chunk_stays tag (error_chunk causes) e h = where_stays (on_error causes) e.standing (λ phase t c. refl)
+  chunk_stays tag (cookie_echo_chunk cookie) e h = cc
+  chunk_stays tag cookie_ack_chunk e h = where_stays on_cookie_ack e.standing cookie_ack_stays
+  chunk_stays tag (shutdown_complete_chunk reflected) e h = where_stays on_shutdown_complete e.standing complete_stays
+  chunk_stays tag (re_config_chunk parameters) e h = cc
+  chunk_stays tag (forward_tsn_chunk tsn skipped) e h = refl
+  chunk_stays tag (i_forward_tsn_chunk tsn skipped) e h = refl
+  chunk_stays tag (unknown_chunk typ flags value) e h = unknown_stays (is_reported typ) typ flags value e.standing
+
+  heard_if_stays : (o : Option (List ℕ)) (tag : ℕ) (chunk : ChunkTree) (e : Endpoint P) → is_flowing chunk ≡ true → (heard_if o tag chunk e).end.standing.context.pack ≡ e.standing.context.pack
+  heard_if_stays (Some reason) tag chunk e h =
+      where_stays (λ phase t c. violated reason t c) e.standing (λ phase t c. emit_stays (add (abort_chunk false (protocol_violation reason ∷ [])) (new_packet c.options t)) c)
+  heard_if_stays None tag chunk e h = chunk_stays tag chunk e h
+
+  rest_stays : (rest : Endpoint P → Endpoint P) (b : Bool) (e : Endpoint P) → ((x : Endpoint P) → (rest x).standing.context.pack ≡ x.standing.context.pack)
+      → (hear_rest rest (heard_as b e)).standing.context.pack ≡ e.standing.context.pack
+  rest_stays rest true e h = h e
+  rest_stays rest false e h = refl
+
+  all_stay : (tag : ℕ) (chunks : List ChunkTree) (e : Endpoint P) → list_all is_flowing chunks ≡ true → (hear_all tag chunks e).standing.context.pack ≡ e.standing.context.pack
+  all_stay tag [] e h = refl
+  all_stay tag (c ∷ cs) e h =
+      let both = both_true (is_flowing c) (list_all is_flowing cs) h in
+      let x : Heard P = hear tag c e in
+      rest_stays (hear_all tag cs) x.goes_on x.end (λ y. all_stay tag cs y both.1) ∙ heard_if_stays (violation e.standing.state c) tag c e both.0
+
+  repeats_stay : (phase : Phase) (t : Tcb) (c : Context P) → (repeats phase t c).context.pack ≡ c.pack
+  repeats_stay (CookieEchoed t1 cookie) t c = refl
+  repeats_stay Established t c = refl
+  repeats_stay ShutdownPending t c = refl
+  repeats_stay (ShutdownSent t2) t c = emit_stays (add (shutdown_chunk (written t.tracker t.tracker.tracker.seen.front)) (new_packet c.options t)) c
+  repeats_stay ShutdownReceived t c = refl
+  repeats_stay (ShutdownAckSent t2) t c = refl
+
+  repeats_if_stays : (b : Bool) (s : Standing P) → (repeats_if b s).context.pack ≡ s.context.pack
+  repeats_if_stays true s = where_stays repeats s repeats_stay
+  repeats_if_stays false s = refl
+
+-- ---- chunks
+
+module _ (m : Names) where
+  misused_named : (k : Capabilities) (chunk : ChunkTree) → misused k (named_chunk m chunk) ≡ misused k chunk
+  misused_named k (data_chunk tsn immediate f) = refl
+  misused_named k (idata_chunk tsn immediate f) = refl
+  misused_named k (init_chunk i) = refl
+  misused_named k (init_ack_chunk i) = refl
+  misused_named k (sack_chunk h) = refl
+  misused_named k (heartbeat_request_chunk parameters) = refl
+  misused_named k (heartbeat_ack_chunk parameters) = refl
+  misused_named k (abort_chunk reflected causes) = refl
+  misused_named k (shutdown_chunk tsn) = refl
+  misused_named k shutdown_ack_chunk = refl
+  misused_named k (error_chunk causes) = refl
+  misused_named k (cookie_echo_chunk cookie) = refl
+  misused_named k cookie_ack_chunk = refl
+  misused_named k (shutdown_complete_chunk reflected) = refl
+  misused_named k (re_config_chunk parameters) = refl
+  misused_named k (forward_tsn_chunk tsn skipped) = refl
+  misused_named k (i_forward_tsn_chunk tsn skipped) = refl
+  misused_named k (unknown_chunk typ flags value) = refl
+
+  goes_on_named : (chunk : ChunkTree) → goes_on (named_chunk m chunk) ≡ goes_on chunk
+  goes_on_named (data_chunk tsn immediate f) = refl
+  goes_on_named (idata_chunk tsn immediate f) = refl
+  goes_on_named (init_chunk i) = refl
+  goes_on_named (init_ack_chunk i) = refl
+  goes_on_named (sack_chunk h) = refl
+  goes_on_named (heartbeat_request_chunk parameters) = refl
+  goes_on_named (heartbeat_ack_chunk parameters) = refl
+  goes_on_named (abort_chunk reflected causes) = refl
+  goes_on_named (shutdown_chunk tsn) = refl
+  goes_on_named shutdown_ack_chunk = refl
+  goes_on_named (error_chunk causes) = refl
+  goes_on_named (cookie_echo_chunk cookie) = refl
+  goes_on_named cookie_ack_chunk = refl
+  goes_on_named (shutdown_complete_chunk reflected) = refl
+  goes_on_named (re_config_chunk parameters) = refl
+  goes_on_named (forward_tsn_chunk tsn skipped) = refl
+  goes_on_named (i_forward_tsn_chunk tsn skipped) = refl
+  goes_on_named (unknown_chunk typ flags value) = refl
+
+violation_named : (n m : Names) (st : State) (chunk : ChunkTree) → violation (named_state n st) (named_chunk m chunk) ≡ violation st chunk
+violation_named n m Closed chunk = refl
+violation_named n m (CookieWait tag first t1) chunk = refl
+violation_named n m (Open phase t) chunk = misused_named m t.capabilities chunk
+
+module _ {P : Type 0} (n : Names) (are : AreNames n) (pack : Packing P) where
+  on_named : (row named : Standing P → Standing P) (e : Endpoint P) → named (named_standing n pack e.standing) ≡ named_standing n pack (row e.standing)
+      → on_standing named (named_end n pack e) ≡ named_end n pack (on_standing row e)
+  on_named row named e h = ap (λ (s : Standing P). stands s e) h
+
+  on_open : (row : Phase → Tcb → Context P → Standing P) (e : Endpoint P) → OpenIsNamed n pack row → Knows n pack e.standing.context
+      → on_standing (where_open row) (named_end n pack e) ≡ named_end n pack (on_standing (where_open row) e)
+  on_open row e h knows = on_named (where_open row) (where_open row) e (where_named n are pack row e.standing h knows)
+
+  heartbeat_named : (parameters : List ParameterTree) → OpenIsNamed n pack (on_heartbeat parameters)
+  heartbeat_named parameters phase t c k =
+      ap (λ (d : Context P). record (named_standing n pack (on_heartbeat parameters phase t c)) { context = d }) (named_emit_chunk n are pack (heartbeat_ack_chunk parameters) t c k)
+
+  answered_if_named : (b : Bool) (c : Context P) → answered_if b (plain pack c) ≡ plain pack (answered_if b c)
+  answered_if_named true c = refl
+  answered_if_named false c = refl
+
+  answered_by_named : (b : Bool) (info : List ℕ) (c : Context P) → answered_by b info (plain pack c) ≡ plain pack (answered_by b info c)
+  answered_by_named true info c = answered_if_named (is_last info c) c
+  answered_by_named false info c = refl
+
+  answered_named : (o : Option (List ℕ)) (c : Context P) → answered o (plain pack c) ≡ plain pack (answered o c)
+  answered_named None c = refl
+  answered_named (Some info) c = answered_by_named (length info == 4) info c
+
+  echoed_named : (st : State) (typ flags : ℕ) (value : List ℕ) (c : Context P) → Knows n pack c → echoed_in (named_state n st) typ flags value (plain pack c) ≡ plain pack (echoed_in st typ flags value c)
+  echoed_named Closed typ flags value c k = refl
+  echoed_named (CookieWait tag first t1) typ flags value c k = refl
+  echoed_named (Open phase t) typ flags value c k = named_emit_chunk n are pack (echoed c.options.mtu typ flags value) t c k
+
+  unknown_named : (b : Bool) (typ flags : ℕ) (value : List ℕ) (s : Standing P) → Knows n pack s.context
+      → on_unknown_if b typ flags value (named_standing n pack s) ≡ named_standing n pack (on_unknown_if b typ flags value s)
+  unknown_named true typ flags value s k =
+      ap (λ (c : Context P). record (named_standing n pack s) { context = c }) (echoed_named s.state typ flags value (complained typ flags value s.context) k)
+  unknown_named false typ flags value s k = refl
+
+  chunk_named : (tag : ℕ) (chunk : ChunkTree) (e : Endpoint P) → is_flowing chunk ≡ true → Knows n pack e.standing.context
+      → on_chunk (n.tag tag) (named_chunk (flipped n) chunk) (named_end n pack e) ≡ named_end n pack (on_chunk tag chunk e)
+  chunk_named tag (data_chunk tsn immediate f) e h knows = on_named (on_data tsn immediate f) (on_data (moved n.peer tsn) immediate f) e (named_data n pack tsn immediate f e.standing (not_true (length f.payload == 0) h))
+  chunk_named tag (idata_chunk tsn immediate f) e h knows = on_named (on_data tsn immediate f) (on_data (moved n.peer tsn) immediate f) e (named_data n pack tsn immediate f e.standing (not_true (length f.payload == 0) h))
+  chunk_named tag (init_chunk i) e h knows = cc
+  chunk_named tag (init_ack_chunk i) e h knows = cc
+  chunk_named tag (sack_chunk k) e h knows = on_named (on_sack k) (on_sack (named_sack (flipped n) k)) e (named_on_sack n are pack k e.standing knows)
+  chunk_named tag (heartbeat_request_chunk parameters) e h knows = on_open (on_heartbeat parameters) e (heartbeat_named parameters) knows
+  chunk_named tag (heartbeat_ack_chunk parameters) e h knows = on_named (in_context (on_heartbeat_ack parameters)) (in_context (on_heartbeat_ack parameters)) e (ap (λ (c : Context P). record (named_standing n pack e.standing) { context = c }) (answered_named (info_in parameters) e.standing.context))
+  chunk_named tag (abort_chunk reflected causes) e h knows = on_open (on_abort causes) e (on_abort_named n are pack causes) knows
+  chunk_named tag (shutdown_chunk tsn) e h knows = on_open on_shutdown e (on_shutdown_named n are pack) knows
+  chunk_named tag shutdown_ack_chunk e h knows = on_named (on_shutdown_ack tag) (on_shutdown_ack (n.tag tag)) e (shutdown_ack_named n are pack tag e.standing knows)
+  chunk_named tag (error_chunk causes) e h knows = on_open (on_error causes) e (on_error_named n are pack causes) knows
+  chunk_named tag (cookie_echo_chunk cookie) e h knows = cc
+  chunk_named tag cookie_ack_chunk e h knows = on_open on_cookie_ack e (on_cookie_ack_named n are pack) knows
+  chunk_named tag (shutdown_complete_chunk reflected) e h knows = on_open on_shutdown_complete e (shutdown_complete_named n are pack) knows
+  chunk_named tag (re_config_chunk parameters) e h knows = cc
+  chunk_named tag (forward_tsn_chunk tsn skipped) e h knows = on_named (on_forward tsn skipped) (on_forward (moved n.peer tsn) skipped) e (named_forward n pack tsn skipped e.standing)
+  chunk_named tag (i_forward_tsn_chunk tsn skipped) e h knows = on_named (on_forward tsn skipped) (on_forward (moved n.peer tsn) skipped) e (named_forward n pack tsn skipped e.standing)
+  chunk_named tag (unknown_chunk typ flags value) e h knows = on_named (on_unknown typ flags value) (on_unknown typ flags value) e (unknown_named (is_reported typ) typ flags value e.standing knows)
+
+  heard_if_named : (o : Option (List ℕ)) (tag : ℕ) (chunk : ChunkTree) (e : Endpoint P) → is_flowing chunk ≡ true → Knows n pack e.standing.context
+      → heard_if o (n.tag tag) (named_chunk (flipped n) chunk) (named_end n pack e) ≡ heard_as (heard_if o tag chunk e).goes_on (named_end n pack (heard_if o tag chunk e).end)
+  heard_if_named (Some reason) tag chunk e h k =
+      ap (λ (x : Endpoint P). heard_as false x) (on_open (λ phase t c. violated reason t c) e (λ phase t c knows. violated_named n are pack reason t c knows) k)
+  heard_if_named None tag chunk e h k =
+      ap (λ (b : Bool). heard_as b (on_chunk (n.tag tag) (named_chunk (flipped n) chunk) (named_end n pack e))) (goes_on_named (flipped n) chunk)
+      ∙ ap (λ (x : Endpoint P). heard_as (goes_on chunk) x) (chunk_named tag chunk e h k)
+
+  hear_named : (tag : ℕ) (chunk : ChunkTree) (e : Endpoint P) → is_flowing chunk ≡ true → Knows n pack e.standing.context
+      → hear (n.tag tag) (named_chunk (flipped n) chunk) (named_end n pack e) ≡ heard_as (hear tag chunk e).goes_on (named_end n pack (hear tag chunk e).end)
+  hear_named tag chunk e h k =
+      ap (λ (o : Option (List ℕ)). heard_if o (n.tag tag) (named_chunk (flipped n) chunk) (named_end n pack e)) (violation_named n (flipped n) e.standing.state chunk)
+      ∙ heard_if_named (violation e.standing.state chunk) tag chunk e h k
+
+  rest_named : (rest named : Endpoint P → Endpoint P) (b : Bool) (e : Endpoint P) → named (named_end n pack e) ≡ named_end n pack (rest e)
+      → hear_rest named (heard_as b (named_end n pack e)) ≡ named_end n pack (hear_rest rest (heard_as b e))
+  rest_named rest named true e h = h
+  rest_named rest named false e h = refl
+
+  all_named : (tag : ℕ) (cs : List ChunkTree) (e : Endpoint P) → list_all is_flowing cs ≡ true → Knows n pack e.standing.context
+      → hear_all (n.tag tag) (named_chunks (flipped n) cs) (named_end n pack e) ≡ named_end n pack (hear_all tag cs e)
+  all_named tag [] e h k = refl
+  all_named tag (c ∷ cs) e h k =
+      let both = both_true (is_flowing c) (list_all is_flowing cs) h in
+      let x : Heard P = hear tag c e in
+      ap (λ (y : Heard P). hear_rest (hear_all (n.tag tag) (named_chunks (flipped n) cs)) y) (hear_named tag c e both.0 k)
+      ∙ rest_named (hear_all tag cs) (hear_all (n.tag tag) (named_chunks (flipped n) cs)) x.goes_on x.end
+      (all_named tag cs x.end both.1 (heard_if_stays (violation e.standing.state c) tag c e both.0 ∙ k))
+
+  repeats_if_named : (b : Bool) (s : Standing P) → Knows n pack s.context → repeats_if b (named_standing n pack s) ≡ named_standing n pack (repeats_if b s)
+  repeats_if_named true s k = where_named n are pack repeats s (repeats_named n are pack) k
+  repeats_if_named false s k = refl
+
+  pub handled_named : (tag : ℕ) (cs : List ChunkTree) (e : Endpoint P) → list_all is_flowing cs ≡ true → Knows n pack e.standing.context
+      → handled (n.tag tag) (named_chunks (flipped n) cs) (named_end n pack e) ≡ named_end n pack (handled tag cs e)
+  handled_named tag cs e h k =
+      let ds : List ChunkTree = named_chunks (flipped n) cs in
+      let first : Endpoint P = on_standing (repeats_if (has_data cs)) e in
+      let at_first : Knows n pack first.standing.context = repeats_if_stays (has_data cs) e.standing ∙ k in
+      ap (λ (b : Bool). on_standing (where_open ended) (hear_all (n.tag tag) ds (on_standing (repeats_if b) (named_end n pack e)))) (data_named (flipped n) cs)
+      ∙ (ap (λ (x : Endpoint P). on_standing (where_open ended) (hear_all (n.tag tag) ds x)) (on_named (repeats_if (has_data cs)) (repeats_if (has_data cs)) e (repeats_if_named (has_data cs) e.standing k))
+      ∙ (ap (λ (x : Endpoint P). on_standing (where_open ended) x) (all_named tag cs first h at_first)
+      ∙ on_open ended (hear_all tag cs first) (ended_named n are pack) (all_stay tag cs first h ∙ at_first)))

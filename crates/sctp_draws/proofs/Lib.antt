@@ -1,0 +1,16 @@
+pub mod MovedLemmas
+pub mod SizeLemmas
+pub mod WritingLemmas
+pub mod ReadingLemmas
+pub mod TagLemmas
+pub mod OpeningLemmas
+pub mod FragmentLemmas
+pub mod FillingLemmas
+pub mod SackLemmas
+pub mod AnswerLemmas
+pub mod RenamedLemmas
+pub mod ClosingLemmas
+pub mod TimeLemmas
+pub mod CallLemmas
+pub mod CookieLemmas
+pub mod HearLemmas

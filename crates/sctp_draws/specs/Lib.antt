@@ -1,0 +1,5 @@
+pub mod NamedChunks
+pub mod Names
+pub mod Laws
+pub mod Renamed
+pub mod NamedCookies
