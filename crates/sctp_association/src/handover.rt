@@ -3,9 +3,12 @@
 
 ghost use Rattle.std.specs.Prelude.{◌≡◌, IfOk, IsTrue, OnOk};
 ghost use Rattle.sctp_state.specs.Capabilities.{capabilities_of};
+ghost use Rattle.sctp_state.specs.Events.{OnClosed};
 ghost use Rattle.sctp_state.specs.Handover.{handover_state_of};
 ghost use Rattle.sctp_state.specs.Validity.{is_valid_state};
+ghost use Rattle.sctp_association.specs.Association.{Closed};
 ghost use Rattle.sctp_association.specs.Handover as table;
+ghost use Rattle.sctp_association.specs.Packets.{say};
 ghost use Rattle.sctp_association.specs.Views.{context_of, phase_of, standing_of, state_of, tcb_of};
 
 use crate::context::Context;
@@ -172,9 +175,23 @@ impl<C: Checksum> Context<C> {
             state.tx.rwnd,
             capabilities,
         );
-        tcb.restore_from_state(self.clock, state)?;
-        Ok(tcb)
+        match tcb.restore_from_state(self.clock, state) {
+            Ok(()) => Ok(tcb),
+            Err(fault) => {
+                drop(tcb);
+                Err(fault)
+            }
+        }
     }
+}
+
+/// The association is gone from here; its heartbeat timers run on.
+fn leave<C: Checksum>(state: &mut State, context: &mut Context<C>) -> Result<(), AllocError>
+    ensures { OnOk result (standing_of C.word_of state.new context.new ≡ record { state = Closed; context = say OnClosed (context_of C.word_of context.old) }) }
+{
+    context.tell(SocketEvent::OnClosed())?;
+    state.enter(State::Closed);
+    Ok(())
 }
 
 /// The record is written, and the association is gone from here; its heartbeat timers run on.
@@ -190,8 +207,7 @@ pub(crate) fn hand_over<C: Checksum>(
         State::CookieWait(_) => Ok(SocketHandoverState::empty(context.alloc)),
         State::Open(_, tcb) => {
             let handed_over = context.handover_state(tcb)?;
-            context.tell(SocketEvent::OnClosed())?;
-            *state = State::Closed;
+            leave(state, context)?;
             Ok(handed_over)
         }
     }
@@ -207,13 +223,16 @@ fn take_up<C: Checksum>(
     requires valid { IsTrue (is_valid_state (handover_state_of handed_over.now)) }
     ensures { OnOk result (standing_of C.word_of state.new context.new ≡ table.take_up (handover_state_of handed_over.now) (context_of C.word_of context.old)) }
 {
-    let mut tcb = context.tcb_from(handed_over)?;
     context
         .send_queue
         .restore_from_state(context.clock, handed_over)?;
     context.tell(SocketEvent::OnConnected())?;
-    context.send_buffered_packets(&mut tcb, false)?;
-    *state = State::Open(Phase::Established, tcb);
+    let mut tcb = context.tcb_from(handed_over)?;
+    if let Err(fault) = context.send_buffered_packets(&mut tcb, false) {
+        drop(tcb);
+        return Err(fault);
+    }
+    state.enter(State::Open(Phase::Established, tcb));
     Ok(())
 }
 

@@ -142,7 +142,7 @@ fn handle_abort<C: Checksum>(
         State::CookieWait(_) => Ok(()),
         State::Open(_, _) => {
             context.tell_abort(causes)?;
-            *state = State::Closed;
+            state.enter(State::Closed);
             Ok(())
         }
     }
@@ -208,7 +208,7 @@ fn handle_misuse<C: Checksum>(
         State::CookieWait(_) => Ok(()),
         State::Open(_, tcb) => {
             context.abort_by_violation(tcb, misuse)?;
-            *state = State::Closed;
+            state.enter(State::Closed);
             Ok(())
         }
     }
@@ -279,6 +279,7 @@ fn hear<R: Rng, C: Checksum>(
         ≡ table.hear tag (chunk_tree chunk) (endpoint_of R.stream C.word_of state.old context.old rng.old)) }
 {
     if let Some(misuse) = state.misuse(&chunk) {
+        drop(chunk);
         handle_misuse(state, context, misuse)?;
         return Ok(false);
     }

@@ -56,11 +56,11 @@ fn wait<C: Checksum>(
 {
     let t1_init = context.t1_init();
     context.send_init(tag, initial_tsn)?;
-    *state = State::CookieWait(CookieWaitState {
+    state.enter(State::CookieWait(CookieWaitState {
         verification_tag: tag,
         initial_tsn,
         t1_init,
-    });
+    }));
     Ok(())
 }
 
@@ -191,7 +191,7 @@ fn end_without_cookie<C: Checksum>(
         ErrorKind::ProtocolViolation,
         "InitAck chunk doesn't contain a cookie",
     )?;
-    *state = State::Closed;
+    state.enter(State::Closed);
     Ok(())
 }
 
@@ -214,6 +214,10 @@ fn echo<C: Checksum>(
     );
     context.peer_implementation = determine_sctp_implementation(cookie);
     context.reset_queue(capabilities.message_interleaving)?;
+    let echoed = CookieEchoedState {
+        t1_cookie: context.t1_cookie(),
+        cookie: Vec::from_slice(context.alloc, cookie)?,
+    };
     let mut tcb = TransmissionControlBlock::new(
         context.alloc,
         &context.options,
@@ -221,12 +225,11 @@ fn echo<C: Checksum>(
         init_ack.a_rwnd,
         capabilities,
     );
-    let echoed = CookieEchoedState {
-        t1_cookie: context.t1_cookie(),
-        cookie: Vec::from_slice(context.alloc, cookie)?,
-    };
-    context.send_cookie_echo(&mut tcb, cookie)?;
-    *state = State::Open(Phase::CookieEchoed(echoed), tcb);
+    if let Err(fault) = context.send_cookie_echo(&mut tcb, cookie) {
+        drop(tcb);
+        return Err(fault);
+    }
+    state.enter(State::Open(Phase::CookieEchoed(echoed), tcb));
     Ok(())
 }
 

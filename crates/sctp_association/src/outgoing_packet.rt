@@ -5,7 +5,7 @@ ghost use Rattle.sctp_wire.specs.Serialize.{IsEncodable};
 ghost use Rattle.sctp_packet.specs.ChunkView.{chunk_tree};
 ghost use Rattle.sctp_packet.specs.Written.{chunk_bytes, chunk_is_whole, chunk_item, chunks_bytes};
 ghost use Rattle.sctp_packet.specs.Builder.{Holds};
-ghost use Rattle.sctp_association.specs.Packets.{add, emptied, fits, has_chunks, packet_to, room};
+ghost use Rattle.sctp_association.specs.Packets.{add, added_if, emptied, fits, has_chunks, packet_to, room};
 ghost use Rattle.sctp_association.specs.PacketView.{IsWritable};
 ghost use Rattle.sctp_association.specs.Wire.{word_at, written};
 
@@ -99,6 +99,16 @@ impl OutgoingPacket {
             self.body_size += size;
         }
         Ok(())
+    }
+
+    /// Adds a chunk where it fits. The answer is whether it did.
+    pub(crate) fn add_if_it_fits(&mut self, chunk: Chunk) -> Result<bool, AllocError>
+        ensures test { IfOk result (λ has_fit. has_fit ≡ fits self.old (chunk_tree chunk)) }
+        ensures added { IfOk result (λ has_fit. self.new ≡ added_if has_fit (chunk_tree chunk) self.old) }
+    {
+        let has_fit = self.fits(&chunk);
+        self.add(chunk)?;
+        Ok(has_fit)
     }
 
     /// The packet's bytes, at most the limit; the packet is empty again, with the same tag and limit. Where there is no

@@ -4,7 +4,7 @@ ghost use Rattle.std.specs.Prelude.{◌≡◌, ◌*◌, true, map, OnOk, IfOk};
 ghost use Rattle.sctp_outstanding.specs.Views.{chunk_of};
 ghost use Rattle.sctp_state.specs.Events.{numbers_of};
 ghost use Rattle.sctp_association.specs.Packets.{add_all};
-ghost use Rattle.sctp_association.specs.Sending.{burst_with, carrying, data_chunks, forward_if, most_streams, request_of, request_started, send_buffered, send_cookie, send_lost, send_with, turned, with_ack, with_data, with_forward, with_request};
+ghost use Rattle.sctp_association.specs.Sending.{burst_with, carrying, data_chunks, filled_as, forward_if, most_streams, request_of, request_started, send_buffered, send_cookie, send_lost, send_with, turned, with_ack, with_data, with_forward, with_request};
 ghost use Rattle.sctp_association.specs.Views.{context_of, filling_of, sent_of, tcb_of};
 
 use crate::context::Context;
@@ -68,11 +68,10 @@ impl<C: Checksum> Context<C> {
         ensures { OnOk result (filling_of C.word_of packet.new tcb.now self.new ≡ forward_if true (filling_of C.word_of packet.old tcb.now self.old)) }
     {
         let chunk = tcb.retransmission_queue.create_forward_tsn()?;
-        if packet.fits(&chunk) {
-            packet.add(chunk)?;
-            self.limit_forward_tsn_until = self.clock
-                + tcb.rto.srtt().min(Duration::from_millis(200));
+        if !packet.add_if_it_fits(chunk)? {
+            return Ok(());
         }
+        self.limit_forward_tsn_until = self.clock + tcb.rto.srtt().min(Duration::from_millis(200));
         Ok(())
     }
 
@@ -150,6 +149,36 @@ impl<C: Checksum> Context<C> {
         self.options.immediate_sack_under_cwnd_mtus * self.options.mtu
     }
 
+    /// What goes into the first packet of a burst beside data.
+    fn add_controls(
+        &mut self,
+        packet: &mut OutgoingPacket,
+        tcb: &mut TransmissionControlBlock,
+    ) -> Result<(), AllocError>
+        ensures { OnOk result (filling_of C.word_of packet.new tcb.new self.new
+            ≡ with_request (with_forward (with_ack (filling_of C.word_of packet.old tcb.old self.old)))) }
+    {
+        self.add_ack(packet, tcb)?;
+        self.add_forward_tsn(packet, tcb)?;
+        self.add_reset_request(packet, tcb)
+    }
+
+    /// What goes into a packet of a burst.
+    fn fill(
+        &mut self,
+        packet: &mut OutgoingPacket,
+        tcb: &mut TransmissionControlBlock,
+        is_first: bool,
+    ) -> Result<(), AllocError>
+        ensures { OnOk result (filling_of C.word_of packet.new tcb.new self.new ≡ filled_as is_first (filling_of C.word_of packet.old tcb.old self.old)) }
+    {
+        if !is_first {
+            return self.add_data(packet, tcb);
+        }
+        self.add_controls(packet, tcb)?;
+        self.add_data(packet, tcb)
+    }
+
     /// One packet of a burst. The answer is whether another one may follow.
     fn send_packet(
         &mut self,
@@ -162,12 +191,7 @@ impl<C: Checksum> Context<C> {
             ≡ (turned is_first is_alone (filling_of C.word_of packet.old tcb.old self.old)).filling) }
         ensures more { IfOk result (λ more. more ≡ (turned is_first is_alone (filling_of C.word_of packet.old tcb.old self.old)).is_more) }
     {
-        if is_first {
-            self.add_ack(packet, tcb)?;
-            self.add_forward_tsn(packet, tcb)?;
-            self.add_reset_request(packet, tcb)?;
-        }
-        self.add_data(packet, tcb)?;
+        self.fill(packet, tcb, is_first)?;
         if packet.is_empty() {
             return Ok(false);
         }
@@ -239,10 +263,9 @@ impl<C: Checksum> Context<C> {
         );
         let cookie = Vec::from_slice(self.alloc, cookie)?;
         let chunk = Chunk::CookieEcho(CookieEchoChunk { cookie });
-        if !packet.fits(&chunk) {
+        if !packet.add_if_it_fits(chunk)? {
             return Ok(());
         }
-        packet.add(chunk)?;
         self.send_buffered_packets_with(tcb, true, packet)
     }
 

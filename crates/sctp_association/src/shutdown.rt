@@ -245,12 +245,12 @@ pub(crate) fn handle_close<C: Checksum>(
         State::Closed => Ok(()),
         State::CookieWait(_) => {
             context.internal_close(SocketEvent::OnClosed())?;
-            *state = State::Closed;
+            state.enter(State::Closed);
             Ok(())
         }
         State::Open(_, tcb) => {
             context.abort_by_user(tcb)?;
-            *state = State::Closed;
+            state.enter(State::Closed);
             Ok(())
         }
     }
@@ -267,7 +267,7 @@ pub(crate) fn handle_shutdown<C: Checksum>(
         State::Closed => Ok(()),
         State::CookieWait(_) => {
             context.internal_close(SocketEvent::OnClosed())?;
-            *state = State::Closed;
+            state.enter(State::Closed);
             Ok(())
         }
         State::Open(phase, tcb) => context.begin_shutdown(phase, tcb),
@@ -301,12 +301,12 @@ pub(crate) fn handle_shutdown_ack<C: Checksum>(
         State::CookieWait(_) => context.answer_out_of_the_blue(tag),
         State::Open(Phase::ShutdownSent(_), tcb) => {
             context.complete_shutdown(tcb)?;
-            *state = State::Closed;
+            state.enter(State::Closed);
             Ok(())
         }
         State::Open(Phase::ShutdownAckSent(_), tcb) => {
             context.complete_shutdown(tcb)?;
-            *state = State::Closed;
+            state.enter(State::Closed);
             Ok(())
         }
         State::Open(_, _) => context.answer_out_of_the_blue(tag),
@@ -325,7 +325,7 @@ pub(crate) fn handle_shutdown_complete<C: Checksum>(
         State::CookieWait(_) => Ok(()),
         State::Open(Phase::ShutdownAckSent(_), _) => {
             context.internal_close(SocketEvent::OnClosed())?;
-            *state = State::Closed;
+            state.enter(State::Closed);
             Ok(())
         }
         State::Open(_, _) => Ok(()),

@@ -60,6 +60,13 @@ impl Phase {
 }
 
 impl State {
+    /// The next state, in place of this one.
+    pub(crate) fn enter(&mut self, next: State)
+        ensures { self.new ≡ next }
+    {
+        drop(std::mem::replace(self, next));
+    }
+
     /// The control block, in the states that have one.
     pub fn tcb(&self) -> Option<&TransmissionControlBlock>
         ensures { option_map (λ t. tcb_of t.now) result ≡ block_in (state_of self.now) }

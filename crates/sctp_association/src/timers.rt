@@ -261,13 +261,13 @@ fn handle_timeouts<C: Checksum>(
         State::Closed => Ok(()),
         State::CookieWait(waiting) => {
             if context.tick_cookie_wait(waiting)? {
-                *state = State::Closed;
+                state.enter(State::Closed);
             }
             Ok(())
         }
         State::Open(phase, tcb) => {
             if context.tick_open(phase, tcb)? {
-                *state = State::Closed;
+                state.enter(State::Closed);
             }
             Ok(())
         }

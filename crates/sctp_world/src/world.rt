@@ -108,10 +108,18 @@ impl<R: Rng + Drop, C: Checksum + Drop> World<R, C> {
             ≡ fresh_world (options_of options_a.now) (options_of options_b.now) (R.stream rng_a) (R.stream rng_b) (C.word_of checksum_a) (C.word_of checksum_b)) }
         ensures works { IfOk result (λ w. w.has_failed ≡ false) }
     {
+        let a = Side::new(alloc, "a", options_a, rng_a, checksum_a)?;
+        let b = match Side::new(alloc, "b", options_b, rng_b, checksum_b) {
+            Ok(b) => b,
+            Err(fault) => {
+                drop(a);
+                return Err(fault);
+            }
+        };
         Ok(World {
             alloc,
-            a: Side::new(alloc, "a", options_a, rng_a, checksum_a)?,
-            b: Side::new(alloc, "b", options_b, rng_b, checksum_b)?,
+            a,
+            b,
             log: Vec::new(alloc),
             has_failed: false,
         })

@@ -17,18 +17,25 @@ fn is_changed(alloc: Global) -> bool {
     if let Some(tcb) = state.tcb_mut() {
         tcb.identity.tie_tag = 6;
     }
-    match state.tcb() {
+    let is_changed = match state.tcb() {
         Some(tcb) => tcb.identity.tie_tag == 6 && tcb.identity.my_verification_tag == 123,
         None => false,
-    }
+    };
+    drop(state);
+    is_changed
 }
 
 fn lends_nothing(mut state: State) -> bool {
-    state.tcb().is_none() && state.tcb_mut().is_none()
+    let lends_nothing = state.tcb().is_none() && state.tcb_mut().is_none();
+    drop(state);
+    lends_nothing
 }
 
 fn lends(alloc: Global) -> bool {
-    opened(alloc).tcb().is_some()
+    let state = opened(alloc);
+    let lends = state.tcb().is_some();
+    drop(state);
+    lends
 }
 
 #[test]
@@ -53,7 +60,10 @@ fn tells_its_end(
 fn ends(alloc: Global) -> bool {
     let mut context = Context::new(alloc, Options::default(), Seven);
     let mut tcb = block(alloc, Capabilities::default());
-    tells_its_end(alloc, &mut context, &mut tcb).is_ok()
+    let ends = tells_its_end(alloc, &mut context, &mut tcb).is_ok();
+    drop(tcb);
+    drop(context);
+    ends
 }
 
 #[test]
@@ -99,7 +109,9 @@ fn is_asked_again(alloc: Global) -> bool {
     let mut tcb = block(alloc, Capabilities::default());
     let mut packet = tcb.new_packet(alloc, &Options::default());
     let begins = is_the_request(asked(alloc, &mut tcb, &mut packet));
-    is_the_request(asked_again(&tcb, &mut packet)) && begins
+    let goes_again = is_the_request(asked_again(&tcb, &mut packet));
+    drop(tcb);
+    goes_again && begins
 }
 
 #[test]
@@ -133,15 +145,20 @@ fn takes_up(alloc: Global, state: &SocketHandoverState) -> bool {
             ..Capabilities::default()
         },
     );
-    new.restore_from_state(SocketTime::zero(), state).is_ok()
+    let goes_on = new.restore_from_state(SocketTime::zero(), state).is_ok()
         && new.retransmission_queue.next_tsn() == Tsn(10)
-        && new.data_tracker.last_cumulative_acked_tsn() == Tsn(19)
+        && new.data_tracker.last_cumulative_acked_tsn() == Tsn(19);
+    drop(new);
+    goes_on
 }
 
 fn is_taken_up(alloc: Global) -> bool {
     let tcb = block(alloc, Capabilities::default());
-    match record_of(alloc, &tcb) {
-        Ok(state) => tcb.get_handover_readiness(true).is_ready() && takes_up(alloc, &state),
+    let record = record_of(alloc, &tcb);
+    let is_ready = tcb.get_handover_readiness(true).is_ready();
+    drop(tcb);
+    match record {
+        Ok(state) => is_ready && takes_up(alloc, &state),
         Err(_) => false,
     }
 }
