@@ -5,10 +5,10 @@ use Rattle.sctp_wire.specs.declared.checksum.Policy.{Policy}
 use Rattle.sctp_packet.specs.declared.packet.PacketParseError.{PacketParseError}
 use Rattle.sctp_packet.specs.Packet.{PacketTree, Accepts, Refuses, IsFault}
 use Rattle.sctp_state.specs.Options.{Options}
-use Rattle.sctp_association.specs.Association.{State, Endpoint}
-use Rattle.sctp_association.specs.Input.{refusal, on_packet, on_no_packet}
-use Rattle.sctp_association.specs.Socket.{Hears, heard, not_read, Judges, taken, refused, unread, policy_of}
-use Rattle.sctp_association.specs.Wire.{word_at}
+use Rattle.sctp_table.specs.Association.{State, Endpoint}
+use Rattle.sctp_table.specs.Input.{refusal, on_packet, on_no_packet}
+use Rattle.sctp_table.specs.Hearing.{Hears, heard, not_read, Judges, taken, refused, unread, policy_of}
+use Rattle.sctp_table.specs.Wire.{word_at}
 
 pub heard_as : (word_of : List ℕ → ℕ) (policy : Policy) (word : ℕ) (bytes : List ℕ) (p : PacketTree) (s t : Endpoint (List ℕ))
     → policy ≡ policy_of s.standing.context.options → word ≡ word_at word_of bytes → Accepts policy word bytes p → t ≡ on_packet p s → Hears word_of bytes s t

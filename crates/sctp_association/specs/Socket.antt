@@ -1,9 +1,6 @@
 -- A socket: an end with its generator, which fails for good where memory is wanting.
-use Rattle.std.specs.Prelude.{◌≡◌, ℕ, ◌&&◌, not, Bool, true, false, Option, Some, None, Result, Ok, Err, List, []}
+use Rattle.std.specs.Prelude.{◌≡◌, ℕ, Bool, true, false, Option, Some, None, Result, Ok, Err, List, []}
 use Rattle.rand_core.specs.Stream.{Stream}
-use Rattle.sctp_wire.specs.declared.checksum.Policy.{Policy}
-use Rattle.sctp_packet.specs.Packet.{PacketTree, Accepts, Refuses, IsFault}
-use Rattle.sctp_packet.specs.declared.packet.PacketParseError.{PacketParseError}
 use Rattle.sctp_state.specs.declared.api.errors.CallError.{CallError}
 use Rattle.sctp_state.specs.declared.api.errors.CallError.TheVariants as calls
 use Rattle.sctp_state.specs.declared.api.errors.ResetStreamsError.{ResetStreamsError}
@@ -17,27 +14,17 @@ use Rattle.sctp_state.specs.declared.api.errors.HandoverError.TheVariants as han
 use Rattle.sctp_state.specs.declared.api.errors.RestoreError.{RestoreError}
 use Rattle.sctp_state.specs.declared.api.errors.RestoreError.TheVariants as restores
 use Rattle.sctp_state.specs.declared.api.handover.SocketHandoverState.{SocketHandoverState}
-use Rattle.sctp_state.specs.Options.{Options}
-use Rattle.sctp_send_queue.specs.Queue.{Queue, is_empty}
-use Rattle.sctp_association.specs.Association.{State, Closed, CookieWait, Open, Endpoint}
-use Rattle.sctp_association.specs.Calls.{keeps_items}
-use Rattle.sctp_association.specs.Input.{refusal, on_packet, on_no_packet}
-use Rattle.sctp_association.specs.declared.transmission_control_block.Association as given_association
-use Rattle.sctp_association.specs.Views.{ContextValue, context_of}
-use Rattle.sctp_association.specs.Wire.{word_at}
+use Rattle.sctp_table.specs.Association.{State, Endpoint}
+use Rattle.sctp_table.specs.Input.{refusal}
+use Rattle.sctp_endpoint.specs.declared.transmission_control_block.Association as given_association
+use Rattle.sctp_endpoint.specs.Views.{ContextValue, context_of}
+use Rattle.sctp_table.specs.Shown.{Association}
 
 pub record SocketValue (R C : Type 0) : Type 0 where
   pub has_failed : Bool
   pub state : State
   pub context : ContextValue C
   pub rng : R
-
--- what both ends of an association hold, crossed: tags and first TSNs
-pub record Association : Type 0 where
-  pub my_tag : ℕ
-  pub my_initial_tsn : ℕ
-  pub peer_tag : ℕ
-  pub peer_initial_tsn : ℕ
 
 abbrev pub association_of : given_association.Association → Association
 association_of a = record {
@@ -141,43 +128,3 @@ readiness_in (Err handovers.Failed) = 0
 abbrev pub restore_refusal_in : Result (Unit {0}) RestoreError → Option RestoreError
 restore_refusal_in (Ok done) = None
 restore_refusal_in (Err e) = Some e
-
--- ---- queries
-
--- nothing queued, no item kept
-abbrev pub is_at_rest : State → Queue → Bool
-is_at_rest s q = is_empty q && not (keeps_items s)
-
-abbrev pub association_in : State → Option Association
-association_in Closed = None
-association_in (CookieWait tag first t1) = None
-association_in (Open phase t) = Some (record {
-  my_tag = t.identity.my_tag;
-  my_initial_tsn = t.identity.my_first;
-  peer_tag = t.identity.peer_tag;
-  peer_initial_tsn = t.identity.peer_first;
-})
-
--- ---- packets
-
--- what is asked of the checksum of a packet that comes
-abbrev pub policy_of : Options → Policy
-policy_of o = record {
-  disable_checksum_verification = o.disable_checksum_verification;
-  zero_checksum_alternate_error_detection_method = record { 0 = o.zero_checksum_method };
-}
-
--- What an end makes of bytes: of a packet what the table says, and else an error.
-pub data Hears (word_of : List ℕ → ℕ) (bytes : List ℕ) (s t : Endpoint (List ℕ)) : Type 0 where
-  heard : (p : PacketTree) → Accepts (policy_of s.standing.context.options) (word_at word_of bytes) bytes p → t ≡ on_packet p s → Hears word_of bytes s t
-  not_read : (fault : PacketParseError) → IsFault fault → Refuses (policy_of s.standing.context.options) (word_at word_of bytes) bytes fault
-      → t ≡ on_no_packet s → Hears word_of bytes s t
-
--- Whether an end would refuse bytes: they are no packet, or not one for its association.
-pub data Judges (word_of : List ℕ → ℕ) (bytes : List ℕ) (o : Options) (s : State) (is_refused : Bool) : Type 0 where
-  taken : (p : PacketTree) → Accepts (policy_of o) (word_at word_of bytes) bytes p → refusal p.header.verification_tag p.chunks s ≡ None
-      → is_refused ≡ false → Judges word_of bytes o s is_refused
-  refused : (p : PacketTree) (text : List ℕ) → Accepts (policy_of o) (word_at word_of bytes) bytes p
-      → refusal p.header.verification_tag p.chunks s ≡ Some text → is_refused ≡ true → Judges word_of bytes o s is_refused
-  unread : (fault : PacketParseError) → IsFault fault → Refuses (policy_of o) (word_at word_of bytes) bytes fault → is_refused ≡ true
-      → Judges word_of bytes o s is_refused

@@ -1,165 +1,77 @@
 //! How an end takes a packet: whether it is for this association, then chunk by chunk, then what is due.
 
-ghost use Rattle.std.specs.Prelude.{◌≡◌, codes, true, map, IfOk, OnOk, string_bytes};
-ghost use Rattle.sctp_wire.specs.CauseViews.{cause_tree};
+ghost use Rattle.std.specs.Prelude.{◌≡◌, codes, true, map, IfOk, OnOk};
 ghost use Rattle.sctp_wire.specs.ParameterViews.{parameter_tree};
 ghost use Rattle.sctp_packet.specs.ChunkView.{chunk_tree};
 ghost use Rattle.sctp_packet.specs.Packet.{IsFault};
 ghost use Rattle.sctp_packet.specs.PacketView.{packet_tree};
-ghost use Rattle.sctp_state.specs.Events.{OnAborted};
-ghost use Rattle.sctp_association.specs.Association.{where_open};
-ghost use Rattle.sctp_association.specs.Closing as closing;
-ghost use Rattle.sctp_association.specs.Input as table;
-ghost use Rattle.sctp_association.specs.Opening.{on_cookie_ack};
-ghost use Rattle.sctp_association.specs.Packets.{complain};
-ghost use Rattle.sctp_association.specs.Socket.{Hears, Judges, policy_of};
-ghost use Rattle.sctp_association.specs.Views.{context_of, endpoint_of, heard_of, misuse_text, opened_of, phase_of, standing_of, state_of, tcb_of};
-ghost use Rattle.sctp_association.specs.Wire.{word_at};
+ghost use Rattle.sctp_table.specs.Association.{where_open};
+ghost use Rattle.sctp_table.specs.Opening.{on_cookie_ack};
+ghost use Rattle.sctp_table.specs.Packets.{complain};
+ghost use Rattle.sctp_table.specs.Hearing.{Hears, Judges, policy_of};
+ghost use Rattle.sctp_endpoint.specs.Views.{context_of, endpoint_of, heard_of, opened_of, phase_of, standing_of, state_of, tcb_of};
+ghost use Rattle.sctp_table.specs.Wire.{word_at};
+ghost use Rattle.sctp_table.specs.Input as table;
 
-use crate::context::Context;
-use crate::cookie_echo::{handle_cookie_ack, handle_cookie_echo};
-use crate::data::{handle_data, handle_forward_tsn};
-use crate::misuse::{Misuse, handle_unknown, is_passed_over};
-use crate::opening::{handle_init, handle_init_ack};
-use crate::outgoing_packet::word_of;
-use crate::sack::handle_sack;
-use crate::shutdown::{handle_shutdown_ack, handle_shutdown_chunk, handle_shutdown_complete};
-use crate::state::{Phase, State};
-use crate::stream_reset::handle_reconfig;
-use crate::transmission_control_block::TransmissionControlBlock;
+use crate::validation::validate_packet;
 use rand_core::Rng;
+use sctp_closing::aborts::{handle_abort, handle_error, handle_misuse};
+use sctp_closing::misuse::{handle_unknown, is_passed_over, violation};
+use sctp_closing::shutdown::{handle_shutdown_ack, handle_shutdown_chunk, handle_shutdown_complete};
+use sctp_endpoint::{Context, Phase, State, TransmissionControlBlock};
+use sctp_endpoint::outgoing_packet::word_of;
+use sctp_handshake::cookie_echo::{handle_cookie_ack, handle_cookie_echo};
+use sctp_handshake::opening::{handle_init, handle_init_ack};
 use sctp_packet::{Chunk, HeartbeatAckChunk, PacketParseError, SctpPacket};
 use sctp_state::{ErrorKind, SocketEvent};
-use sctp_wire::{Checksum, ErrorCause, Parameter, Policy, ProtocolViolationErrorCause};
-use std::alloc::{AllocError, Global};
+use sctp_timers::heartbeats::handle_heartbeat_ack;
+use sctp_transfer::data::{handle_data, handle_forward_tsn};
+use sctp_transfer::sack::handle_sack;
+use sctp_transfer::stream_reset::handle_reconfig;
+use sctp_wire::{Checksum, Parameter, Policy};
+use std::alloc::AllocError;
 
-/// What the causes say, with commas between them.
-fn causes_text(alloc: Global, causes: &[ErrorCause]) -> Result<String, AllocError>
-    ensures { IfOk result (λ text. string_bytes text ≡ closing.causes_text (map cause_tree causes.now)) }
+/// A packet came.
+pub(crate) fn count_packet<C: Checksum>(context: &mut Context<C>)
+    ensures { context_of C.word_of context.new ≡ table.counted (context_of C.word_of context.old) }
 {
-    let Some((first, rest)) = causes.split_first() else {
-        return Ok(String::new(alloc));
-    };
-    let mut text = format!(in alloc; "{first}")?;
-    for cause in rest {
-        let next = format!(in alloc; ",{cause}")?;
-        text.push_str(&next)?;
-    }
-    Ok(text)
+    context.rx_packets_count = context.rx_packets_count.saturating_add(1);
 }
 
-impl<C: Checksum> Context<C> {
-    /// A packet came.
-    pub(crate) fn count_packet(&mut self)
-        ensures { context_of C.word_of self.new ≡ table.counted (context_of C.word_of self.old) }
-    {
-        self.rx_packets_count = self.rx_packets_count.saturating_add(1);
-    }
-
-    /// The association is told as aborted by the peer.
-    fn tell_abort(&mut self, causes: &[ErrorCause]) -> Result<(), AllocError>
-        ensures { OnOk result (context_of C.word_of self.new ≡ closing.over (OnAborted ErrorKind.PeerReported (closing.causes_text (map cause_tree causes.now))) (context_of C.word_of self.old)) }
-    {
-        let text = causes_text(self.alloc, causes)?;
-        self.internal_close(SocketEvent::OnAborted(ErrorKind::PeerReported, text))
-    }
-
-    /// An error that the peer reports.
-    fn tell_error(&mut self, causes: &[ErrorCause]) -> Result<(), AllocError>
-        ensures { OnOk result (context_of C.word_of self.new ≡ complain ErrorKind.PeerReported (closing.causes_text (map cause_tree causes.now)) (context_of C.word_of self.old)) }
-    {
-        let text = causes_text(self.alloc, causes)?;
-        self.tell(SocketEvent::OnError(ErrorKind::PeerReported, text))
-    }
-
-    /// An ABORT goes out, since what was negotiated forbids a chunk.
-    fn abort_by_violation(
-        &mut self,
-        tcb: &TransmissionControlBlock,
-        misuse: Misuse,
-    ) -> Result<(), AllocError>
-        ensures { OnOk result (context_of C.word_of self.new
-            ≡ (closing.violated (misuse_text misuse) (tcb_of tcb.now) (context_of C.word_of self.old)).context) }
-    {
-        let information = String::from_str(self.alloc, misuse.text())?;
-        let cause = ErrorCause::ProtocolViolation(ProtocolViolationErrorCause { information });
-        self.send_abort(tcb, cause)?;
-        self.tell_aborted(ErrorKind::ProtocolViolation, misuse.text())
-    }
-
-    /// At the end of a packet an acknowledgement goes out, where one is due, and what else may be sent.
-    fn handle_packet_end(
-        &mut self,
-        phase: &Phase,
-        tcb: &mut TransmissionControlBlock,
-    ) -> Result<(), AllocError>
-        ensures { OnOk result (opened_of C.word_of phase.now tcb.new self.new ≡ table.ended (phase_of phase.now) (tcb_of tcb.old) (context_of C.word_of self.old)) }
-    {
-        tcb.data_tracker.observe_packet_end(self.clock);
-        if !tcb.data_tracker.should_send_ack(self.clock, false) {
-            return Ok(());
-        }
-        let mut packet = tcb.new_packet(self.alloc, &self.options);
-        let window = tcb.reassembly_queue.remaining_bytes() as u32;
-        let sack = tcb.data_tracker.create_selective_ack(window)?;
-        packet.add(Chunk::Sack(sack))?;
-        self.send_buffered_packets_with(tcb, phase.is_alone(), packet)
-    }
-
-    /// After the own SHUTDOWN: it goes out again, and its timer starts anew (RFC 9260 section 9.2).
-    fn repeat_shutdown(
-        &mut self,
-        phase: &mut Phase,
-        tcb: &TransmissionControlBlock,
-    ) -> Result<(), AllocError>
-        ensures { OnOk result (opened_of C.word_of phase.new tcb.now self.new ≡ table.repeats (phase_of phase.old) (tcb_of tcb.now) (context_of C.word_of self.old)) }
-    {
-        match phase {
-            Phase::ShutdownSent(t2_shutdown) => {
-                t2_shutdown.set_duration(tcb.rto.rto());
-                t2_shutdown.start(self.clock);
-                self.send_shutdown(tcb)
-            }
-            Phase::CookieEchoed(_) => Ok(()),
-            Phase::Established => Ok(()),
-            Phase::ShutdownPending => Ok(()),
-            Phase::ShutdownReceived => Ok(()),
-            Phase::ShutdownAckSent(_) => Ok(()),
-        }
-    }
-}
-
-/// ABORT.
-fn handle_abort<C: Checksum>(
-    state: &mut State,
-    context: &mut Context<C>,
-    causes: &[ErrorCause],
+/// At the end of a packet an acknowledgement goes out, where one is due, and what else may be sent.
+fn handle_packet_end<C: Checksum>(context: &mut Context<C>, phase: &Phase,
+    tcb: &mut TransmissionControlBlock,
 ) -> Result<(), AllocError>
-    ensures { OnOk result (standing_of C.word_of state.new context.new ≡ where_open (closing.on_abort (map cause_tree causes.now)) (standing_of C.word_of state.old context.old)) }
+    ensures { OnOk result (opened_of C.word_of phase.now tcb.new context.new ≡ table.ended (phase_of phase.now) (tcb_of tcb.old) (context_of C.word_of context.old)) }
 {
-    match state {
-        State::Closed => Ok(()),
-        State::CookieWait(_) => Ok(()),
-        State::Open(_, _) => {
-            context.tell_abort(causes)?;
-            state.enter(State::Closed);
-            Ok(())
-        }
+    tcb.data_tracker.observe_packet_end(context.clock);
+    if !tcb.data_tracker.should_send_ack(context.clock, false) {
+        return Ok(());
     }
+    let mut packet = tcb.new_packet(context.alloc, &context.options);
+    let window = tcb.reassembly_queue.remaining_bytes() as u32;
+    let sack = tcb.data_tracker.create_selective_ack(window)?;
+    packet.add(Chunk::Sack(sack))?;
+    context.send_buffered_packets_with(tcb, phase.is_alone(), packet)
 }
 
-/// ERROR.
-fn handle_error<C: Checksum>(
-    state: &State,
-    context: &mut Context<C>,
-    causes: &[ErrorCause],
+/// After the own SHUTDOWN: it goes out again, and its timer starts anew (RFC 9260 section 9.2).
+fn repeat_shutdown<C: Checksum>(context: &mut Context<C>, phase: &mut Phase,
+    tcb: &TransmissionControlBlock,
 ) -> Result<(), AllocError>
-    ensures { OnOk result (standing_of C.word_of state.now context.new ≡ where_open (closing.on_error (map cause_tree causes.now)) (standing_of C.word_of state.now context.old)) }
+    ensures { OnOk result (opened_of C.word_of phase.new tcb.now context.new ≡ table.repeats (phase_of phase.old) (tcb_of tcb.now) (context_of C.word_of context.old)) }
 {
-    match state {
-        State::Closed => Ok(()),
-        State::CookieWait(_) => Ok(()),
-        State::Open(_, _) => context.tell_error(causes),
+    match phase {
+        Phase::ShutdownSent(t2_shutdown) => {
+            t2_shutdown.set_duration(tcb.rto.rto());
+            t2_shutdown.start(context.clock);
+            context.send_shutdown(tcb)
+        }
+        Phase::CookieEchoed(_) => Ok(()),
+        Phase::Established => Ok(()),
+        Phase::ShutdownPending => Ok(()),
+        Phase::ShutdownReceived => Ok(()),
+        Phase::ShutdownAckSent(_) => Ok(()),
     }
 }
 
@@ -192,25 +104,6 @@ fn handle_acked_cookie<C: Checksum>(
         State::Closed => Ok(()),
         State::CookieWait(_) => Ok(()),
         State::Open(phase, tcb) => handle_cookie_ack(phase, tcb, context),
-    }
-}
-
-/// A chunk that what was negotiated forbids ends the association.
-fn handle_misuse<C: Checksum>(
-    state: &mut State,
-    context: &mut Context<C>,
-    misuse: Misuse,
-) -> Result<(), AllocError>
-    ensures { OnOk result (standing_of C.word_of state.new context.new ≡ table.breaks (misuse_text misuse) (standing_of C.word_of state.old context.old)) }
-{
-    match state {
-        State::Closed => Ok(()),
-        State::CookieWait(_) => Ok(()),
-        State::Open(_, tcb) => {
-            context.abort_by_violation(tcb, misuse)?;
-            state.enter(State::Closed);
-            Ok(())
-        }
     }
 }
 
@@ -248,7 +141,7 @@ fn dispatch<R: Rng, C: Checksum>(
             &c.skipped_streams,
         ),
         Chunk::HeartbeatRequest(c) => handle_heartbeat(state, context, c.parameters),
-        Chunk::HeartbeatAck(c) => context.handle_heartbeat_ack(&c.parameters),
+        Chunk::HeartbeatAck(c) => handle_heartbeat_ack(context, &c.parameters),
         Chunk::Shutdown(_) => handle_shutdown_chunk(state, context),
         Chunk::ShutdownAck(_) => handle_shutdown_ack(state, context, tag),
         Chunk::ShutdownComplete(_) => handle_shutdown_complete(state, context),
@@ -278,7 +171,7 @@ fn hear<R: Rng, C: Checksum>(
     ensures { IfOk result (λ goes_on. heard_of R.stream C.word_of state.new context.new rng.new goes_on
         ≡ table.hear tag (chunk_tree chunk) (endpoint_of R.stream C.word_of state.old context.old rng.old)) }
 {
-    if let Some(misuse) = state.misuse(&chunk) {
+    if let Some(misuse) = violation(state, &chunk) {
         drop(chunk);
         handle_misuse(state, context, misuse)?;
         return Ok(false);
@@ -331,7 +224,7 @@ fn repeat_if<C: Checksum>(
     match state {
         State::Closed => Ok(()),
         State::CookieWait(_) => Ok(()),
-        State::Open(phase, tcb) => context.repeat_shutdown(phase, tcb),
+        State::Open(phase, tcb) => repeat_shutdown(context, phase, tcb),
     }
 }
 
@@ -341,7 +234,7 @@ fn end_packet<C: Checksum>(state: &mut State, context: &mut Context<C>) -> Resul
     match state {
         State::Closed => Ok(()),
         State::CookieWait(_) => Ok(()),
-        State::Open(phase, tcb) => context.handle_packet_end(phase, tcb),
+        State::Open(phase, tcb) => handle_packet_end(context, phase, tcb),
     }
 }
 
@@ -371,9 +264,9 @@ pub(crate) fn handle_packet<R: Rng, C: Checksum>(
     ensures { OnOk result (endpoint_of R.stream C.word_of state.new context.new rng.new
         ≡ table.on_packet (packet_tree packet) (endpoint_of R.stream C.word_of state.old context.old rng.old)) }
 {
-    context.count_packet();
+    count_packet(context);
     let tag = packet.common_header.verification_tag;
-    match state.validate_packet(tag, &packet.chunks) {
+    match validate_packet(state, tag, &packet.chunks) {
         None => handle_chunks(state, context, rng, tag, packet.chunks),
         Some(refusal) => {
             let text = refusal.text(context.alloc)?;
@@ -382,37 +275,35 @@ pub(crate) fn handle_packet<R: Rng, C: Checksum>(
     }
 }
 
-impl<C: Checksum> Context<C> {
-    /// What is asked of the checksum of a packet that comes.
-    fn policy(&self) -> Policy
-        ensures { result ≡ policy_of self.now.options }
-    {
-        let options = &self.options;
-        Policy {
-            disable_checksum_verification: options.disable_checksum_verification,
-            zero_checksum_alternate_error_detection_method: options.zero_checksum_alternate_error_detection_method,
-        }
+/// What is asked of the checksum of a packet that comes.
+fn policy<C: Checksum>(context: &Context<C>) -> Policy
+    ensures { result ≡ policy_of context.now.options }
+{
+    let options = &context.options;
+    Policy {
+        disable_checksum_verification: options.disable_checksum_verification,
+        zero_checksum_alternate_error_detection_method: options.zero_checksum_alternate_error_detection_method,
     }
+}
 
-    /// The word of a packet's bytes, with the checksum's field as zeros.
-    fn word_of(&self, bytes: &[u8]) -> u32
-        ensures { result ≡ word_at (C.word_of self.now.checksum) bytes.now }
-    {
-        word_of(&self.checksum, bytes)
-    }
+/// The word of a packet's bytes, with the checksum's field as zeros.
+fn packet_word<C: Checksum>(context: &Context<C>, bytes: &[u8]) -> u32
+    ensures { result ≡ word_at (C.word_of context.now.checksum) bytes.now }
+{
+    word_of(&context.checksum, bytes)
+}
 
-    /// Bytes that are no packet.
-    fn refuse_bytes(&mut self, fault: PacketParseError) -> Result<(), AllocError>
-        ensures fault { OnOk result (IsFault fault) }
-        ensures told { OnOk result (context_of C.word_of self.new
-            ≡ complain ErrorKind.ParseFailed (codes "Failed to parse SCTP packet") (table.counted (context_of C.word_of self.old))) }
-    {
-        if fault == PacketParseError::Memory {
-            return Err(AllocError);
-        }
-        self.count_packet();
-        self.complain(ErrorKind::ParseFailed, "Failed to parse SCTP packet")
+/// Bytes that are no packet.
+fn refuse_bytes<C: Checksum>(context: &mut Context<C>, fault: PacketParseError) -> Result<(), AllocError>
+    ensures fault { OnOk result (IsFault fault) }
+    ensures told { OnOk result (context_of C.word_of context.new
+        ≡ complain ErrorKind.ParseFailed (codes "Failed to parse SCTP packet") (table.counted (context_of C.word_of context.old))) }
+{
+    if fault == PacketParseError::Memory {
+        return Err(AllocError);
     }
+    count_packet(context);
+    context.complain(ErrorKind::ParseFailed, "Failed to parse SCTP packet")
 }
 
 /// The bytes of a packet that came.
@@ -425,10 +316,10 @@ pub(crate) fn handle_input<R: Rng, C: Checksum>(
     ensures { OnOk result (Hears (C.word_of context.old.checksum) bytes.now (endpoint_of R.stream C.word_of state.old context.old rng.old)
         (endpoint_of R.stream C.word_of state.new context.new rng.new)) }
 {
-    let word = context.word_of(bytes);
-    match SctpPacket::from_bytes(context.alloc, bytes, word, &context.policy()) {
+    let word = packet_word(context, bytes);
+    match SctpPacket::from_bytes(context.alloc, bytes, word, &policy(context)) {
         Ok(packet) => handle_packet(state, context, rng, packet),
-        Err(fault) => context.refuse_bytes(fault),
+        Err(fault) => refuse_bytes(context, fault),
     }
 }
 
@@ -440,11 +331,11 @@ pub(crate) fn judge<C: Checksum>(
 ) -> Result<bool, AllocError>
     ensures { IfOk result (λ refused. Judges (C.word_of context.now.checksum) bytes.now context.now.options (state_of state.now) refused) }
 {
-    let word = context.word_of(bytes);
-    match SctpPacket::from_bytes(context.alloc, bytes, word, &context.policy()) {
+    let word = packet_word(context, bytes);
+    match SctpPacket::from_bytes(context.alloc, bytes, word, &policy(context)) {
         Ok(packet) => {
             let tag = packet.common_header.verification_tag;
-            Ok(state.validate_packet(tag, &packet.chunks).is_some())
+            Ok(validate_packet(state, tag, &packet.chunks).is_some())
         }
         Err(fault) => is_fault(fault),
     }

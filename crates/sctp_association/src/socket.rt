@@ -6,36 +6,35 @@ ghost use Rattle.sctp_send_queue.specs.Queue.{amount_of, stream};
 ghost use Rattle.sctp_state.specs.Events.{event_of, first_of, given_up_of, numbers_of};
 ghost use Rattle.sctp_state.specs.Handover.{handover_state_of};
 ghost use Rattle.sctp_state.specs.Options.{IsValid, options_of, send_options_of};
-ghost use Rattle.sctp_association.specs.Association.{fresh, in_context};
-ghost use Rattle.sctp_association.specs.Calls as calls;
-ghost use Rattle.sctp_association.specs.Closing as closing;
-ghost use Rattle.sctp_association.specs.Handover as handover;
-ghost use Rattle.sctp_association.specs.Input.{my_tag, on_standing};
-ghost use Rattle.sctp_association.specs.Metrics.{metrics_in, metrics_of};
-ghost use Rattle.sctp_association.specs.Opening as opening;
-ghost use Rattle.sctp_association.specs.Resets as resets;
-ghost use Rattle.sctp_association.specs.Socket.{Ends, Hears, Judges, Worked, association_in, association_of, batch_ending, ending_of, endpoint, handover_ending, is_at_rest, readiness_in, refusal_in, refusals_in, reset_refusal_in, resetting_ending, restore_ending, restore_refusal_in, sending_ending};
-ghost use Rattle.sctp_association.specs.Time as time;
-ghost use Rattle.sctp_association.specs.Wire.{written};
+ghost use Rattle.sctp_table.specs.Association.{fresh, in_context};
+ghost use Rattle.sctp_table.specs.Input.{my_tag, on_standing};
+ghost use Rattle.sctp_calls.specs.Metrics.{metrics_in, metrics_of};
+ghost use Rattle.sctp_association.specs.Socket.{Ends, Worked, association_of, batch_ending, ending_of, endpoint, handover_ending, readiness_in, refusal_in, refusals_in, reset_refusal_in, resetting_ending, restore_ending, restore_refusal_in, sending_ending};
+ghost use Rattle.sctp_table.specs.Hearing.{Hears, Judges};
+ghost use Rattle.sctp_table.specs.Shown.{association_in, is_at_rest};
+ghost use Rattle.sctp_table.specs.Wire.{written};
+ghost use Rattle.sctp_table.specs.Calls as calls;
+ghost use Rattle.sctp_table.specs.Closing as closing;
+ghost use Rattle.sctp_table.specs.Handover as handover;
+ghost use Rattle.sctp_table.specs.Opening as opening;
+ghost use Rattle.sctp_table.specs.Resets as resets;
+ghost use Rattle.sctp_table.specs.Time as time;
 
 use crate::api::DcSctpSocket;
-use crate::calls::{send, send_many};
-use crate::context::Context;
-use crate::handover::{hand_over, restore};
 use crate::input::{handle_input, judge};
-use crate::opening::connect;
-use crate::shutdown::{handle_close, handle_shutdown};
-use crate::state::State;
-use crate::stream_reset::reset_streams;
-use crate::timers::advance_time;
-use crate::transmission_control_block::Association;
+use crate::validation::my_verification_tag;
 use rand_core::Rng;
+use sctp_calls::calls::{send, send_many, set_buffered_amount_low_threshold, set_max_message_size, set_stream_priority, socket_state};
+use sctp_calls::handover::{get_handover_readiness, hand_over, restore};
+use sctp_calls::metrics::metrics_in;
+use sctp_calls::receiving::{get_next_message, keeps_items, ready_count, ready_message};
+use sctp_closing::shutdown::{handle_close, handle_shutdown};
+use sctp_endpoint::{Association, Context, State};
+use sctp_handshake::opening::connect;
 use sctp_serial::{Message, SocketTime, StreamId};
-use sctp_state::{
-    BatchFault, BatchSendError, CallError, GivenUp, HandoverError, HandoverReadiness, Metrics,
-    Options, ResetStreamsError, RestoreError, SendError, SendOptions, SocketEvent,
-    SocketHandoverState, SocketState,
-};
+use sctp_state::{BatchFault, BatchSendError, CallError, GivenUp, HandoverError, HandoverReadiness, Metrics, Options, ResetStreamsError, RestoreError, SendError, SendOptions, SocketEvent, SocketHandoverState, SocketState};
+use sctp_timers::timers::{advance_time, poll_timeout};
+use sctp_transfer::stream_reset::reset_streams;
 use sctp_wire::Checksum;
 use std::alloc::Global;
 use std::marker::Model;
@@ -52,7 +51,7 @@ pub struct Socket<R: Rng, C: Checksum> {
 
 impl<R: Rng, C: Checksum> Model for Socket<R, C> {
     ghost use Rattle.sctp_association.specs.Socket.{SocketValue};
-    ghost use Rattle.sctp_association.specs.Views.{state_of};
+    ghost use Rattle.sctp_endpoint.specs.Views.{state_of};
 
     ghost Value = { SocketValue R C };
 
@@ -89,7 +88,7 @@ impl<R: Rng, C: Checksum> Socket<R, C> {
     pub fn verification_tag(&self) -> u32
         ensures { result ≡ my_tag self.now.state }
     {
-        self.state.my_verification_tag()
+        my_verification_tag(&self.state)
     }
 
     /// The moment that was told last.
@@ -112,14 +111,14 @@ impl<R: Rng, C: Checksum> Socket<R, C> {
     pub fn ready_message(&self, place: usize) -> Option<&Message>
         ensures { option_map (λ m. message_of m.now) result ≡ slice_get (calls.ready_in self.now.state) place }
     {
-        self.state.ready_message(place)
+        ready_message(&self.state, place)
     }
 
     /// Whether nothing is queued and no item kept.
     pub fn is_at_rest(&self) -> bool
         ensures { result ≡ is_at_rest self.now.state self.now.context.queue }
     {
-        self.context.send_queue.is_empty() && !self.state.keeps_items()
+        self.context.send_queue.is_empty() && !keeps_items(&self.state)
     }
 
     /// What both ends hold of the association, while there is a control block.
@@ -158,7 +157,7 @@ impl<R: Rng, C: Checksum> DcSctpSocket for Socket<R, C> {
         ensures rest { endpoint R.stream C.word_of self.new ≡ on_standing calls.take_message (endpoint R.stream C.word_of self.old) }
         ensures failure { self.new.has_failed ≡ self.old.has_failed }
     {
-        self.state.get_next_message()
+        get_next_message(&mut self.state)
     }
 
     fn handle_input(&mut self, bytes: &[u8]) -> Result<(), CallError>
@@ -192,7 +191,7 @@ impl<R: Rng, C: Checksum> DcSctpSocket for Socket<R, C> {
     fn poll_timeout(&self) -> SocketTime
         ensures { result ≡ time.poll_timeout (endpoint R.stream C.word_of self.now).standing }
     {
-        self.context.poll_timeout(&self.state)
+        poll_timeout(&self.context, &self.state)
     }
 
     fn connect(&mut self) -> Result<(), CallError>
@@ -303,7 +302,7 @@ impl<R: Rng, C: Checksum> DcSctpSocket for Socket<R, C> {
         if self.has_failed {
             return Err(CallError::Failed);
         }
-        if self.context.set_stream_priority(id, priority).is_err() {
+        if set_stream_priority(&mut self.context, id, priority).is_err() {
             self.has_failed = true;
             return Err(CallError::Memory);
         }
@@ -327,9 +326,7 @@ impl<R: Rng, C: Checksum> DcSctpSocket for Socket<R, C> {
         if self.has_failed {
             return Err(CallError::Failed);
         }
-        if self
-            .context
-            .set_buffered_amount_low_threshold(id, bytes)
+        if set_buffered_amount_low_threshold(&mut self.context, id, bytes)
             .is_err()
         {
             self.has_failed = true;
@@ -355,7 +352,7 @@ impl<R: Rng, C: Checksum> DcSctpSocket for Socket<R, C> {
         ensures ok { endpoint R.stream C.word_of self.new ≡ on_standing (in_context (calls.set_max_message_size bytes)) (endpoint R.stream C.word_of self.old) }
         ensures failure { self.new.has_failed ≡ self.old.has_failed }
     {
-        self.context.set_max_message_size(bytes);
+        set_max_message_size(&mut self.context, bytes);
     }
 
     fn options(&self) -> Options
@@ -367,25 +364,25 @@ impl<R: Rng, C: Checksum> DcSctpSocket for Socket<R, C> {
     fn state(&self) -> SocketState
         ensures { result ≡ calls.shown_state self.now.state }
     {
-        self.state.socket_state()
+        socket_state(&self.state)
     }
 
     fn get_metrics(&self) -> Option<Metrics>
         ensures { option_map metrics_of result ≡ metrics_in self.now.state self.now.context }
     {
-        self.context.metrics_in(&self.state)
+        metrics_in(&self.context, &self.state)
     }
 
     fn messages_ready_count(&self) -> usize
         ensures { result ≡ length (calls.ready_in self.now.state) }
     {
-        self.state.ready_count()
+        ready_count(&self.state)
     }
 
     fn get_handover_readiness(&self) -> HandoverReadiness
         ensures { result.0 ≡ handover.readiness (endpoint R.stream C.word_of self.now).standing }
     {
-        self.context.get_handover_readiness(&self.state)
+        get_handover_readiness(&self.context, &self.state)
     }
 
     fn get_handover_state_and_close(&mut self) -> Result<SocketHandoverState, HandoverError>
@@ -398,7 +395,7 @@ impl<R: Rng, C: Checksum> DcSctpSocket for Socket<R, C> {
         if self.has_failed {
             return Err(HandoverError::Failed);
         }
-        let readiness = self.context.get_handover_readiness(&self.state);
+        let readiness = get_handover_readiness(&self.context, &self.state);
         if !readiness.is_ready() {
             return Err(HandoverError::NotReady(readiness));
         }

@@ -11,13 +11,13 @@ use Rattle.sctp_state.specs.declared.api.errors.ResetStreamsError.{ResetStreamsE
 use Rattle.sctp_state.specs.Options.{SendOptions}
 use Rattle.sctp_state.specs.Events.{Event, OnClosed, OnIncomingStreamReset, OnStreamsResetPerformed, OnStreamsResetFailed, numbers_of}
 use Rattle.sctp_send_queue.specs.declared.send_queue.stream.ResetStep.TheVariants.{Performed, Refused}
-use Rattle.sctp_association.specs.Association.{Tcb, Phase, State, Closed, CookieWait, Open, Context, Standing, with_context}
-use Rattle.sctp_association.specs.Packets.{say}
-use Rattle.sctp_association.specs.Requests.{is_final, Outcome, Unsettled, Done, Denied, outcome, is_last, is_next, is_known}
-use Rattle.sctp_association.specs.Sending.{is_alone, send_in}
-use Rattle.sctp_association.specs.Calls.{shown_state, refusal, refusal_of, refusal_events, ended, queued, refused, accepted, offered, offer, sent_if, send, offer_all, send_many, set_low_threshold, set_priority, set_max_message_size, taken_in, take_message}
-use Rattle.sctp_association.specs.Resets.{Handling, handling, performs, is_ahead, resets_if, resets, outgoing_by, incoming_if, on_outcome, is_outgoing, on_parameter, Handled, handle_next, handle_all, send_responses, finished_if, on_reconfig, reset_refusal, prepared, prepare_all, reset_if, reset_streams}
-use Rattle.sctp_association.specs.Handover.{readiness, left_in, left_if, hand_over}
+use Rattle.sctp_table.specs.Association.{Tcb, Phase, State, Closed, CookieWait, Open, Context, Standing, with_context}
+use Rattle.sctp_table.specs.Packets.{say}
+use Rattle.sctp_table.specs.Requests.{is_final, Outcome, Unsettled, Done, Denied, outcome, is_last, is_next, is_known}
+use Rattle.sctp_table.specs.Sending.{is_alone, send_in}
+use Rattle.sctp_table.specs.Calls.{shown_state, refusal, refusal_of, refusal_events, ended, queued, refused, accepted, offered, offer, sent_if, send, offer_all, send_many, set_low_threshold, set_priority, set_max_message_size, taken_in, take_message}
+use Rattle.sctp_table.specs.Resets.{Handling, handling, performs, is_ahead, resets_if, resets, outgoing_by, incoming_if, on_outcome, is_outgoing, on_parameter, Handled, handle_next, handle_all, send_responses, finished_if, on_reconfig, reset_refusal, prepared, prepare_all, reset_if, reset_streams}
+use Rattle.sctp_table.specs.Handover.{readiness, left_in, left_if, hand_over}
 use Rattle.sctp_association_laws.specs.Lifecycles.{named, kept_in, waits}
 use Rattle.sctp_association_laws.proofs.SpendsLemmas.{ends_append, ends_ended, ends_refusal, spends_all, spends_within}
 use Rattle.sctp_association_laws.proofs.QueueSpendsLemmas.{waiting_added, waiting_priority, waiting_each_stepped, spends_prepared, spends_threshold}

@@ -7,9 +7,9 @@ use Rattle.sctp_state.specs.declared.api.errors.SendError.TheVariants.{EmptyPayl
 use Rattle.sctp_state.specs.Options.{SendOptions}
 use Rattle.sctp_state.specs.Events.{Told}
 use Rattle.sctp_send_queue.specs.Settings.{Changed}
-use Rattle.sctp_association.specs.Association.{Context, Standing, with_context, where_open}
-use Rattle.sctp_association.specs.Sending.{send_in}
-use Rattle.sctp_association.specs.Calls.{shown_state, refusal, refusal_of, refusal_events, ended, refused, offered, offer, sent_if, send, offer_all, send_many, set_low_threshold}
+use Rattle.sctp_table.specs.Association.{Context, Standing, with_context, where_open}
+use Rattle.sctp_table.specs.Sending.{send_in}
+use Rattle.sctp_table.specs.Calls.{shown_state, refusal, refusal_of, refusal_events, ended, refused, offered, offer, sent_if, send, offer_all, send_many, set_low_threshold}
 use Rattle.sctp_association_laws.specs.Mapped.{map_event, map_context, map_standing}
 use Rattle.sctp_association_laws.proofs.ToldMapsLemmas.{maps_tell_all, maps_threshold}
 use Rattle.sctp_association_laws.proofs.SendingMapsLemmas.{maps_send_in}

@@ -5,10 +5,10 @@ use Rattle.sctp_state.specs.declared.api.handover.HandoverSocketState.{HandoverS
 use Rattle.sctp_state.specs.declared.api.handover.HandoverSocketState.TheVariants as handed
 use Rattle.sctp_state.specs.Events.{OnConnected, OnClosed}
 use Rattle.sctp_state.specs.Handover.{HandoverState}
-use Rattle.sctp_association.specs.Association.{Tcb, Phase, CookieEchoed, Established, ShutdownPending, ShutdownSent, ShutdownReceived, ShutdownAckSent, State, Closed, CookieWait, Open, Context, Standing}
-use Rattle.sctp_association.specs.Packets.{say}
-use Rattle.sctp_association.specs.Sending.{Sent, open_with, send_buffered}
-use Rattle.sctp_association.specs.Handover.{readiness_open, readiness, left_in, left_if, hand_over, tcb_from, queue_taken, take_up, refusal_in, taken_as, restored_unless, restore}
+use Rattle.sctp_table.specs.Association.{Tcb, Phase, CookieEchoed, Established, ShutdownPending, ShutdownSent, ShutdownReceived, ShutdownAckSent, State, Closed, CookieWait, Open, Context, Standing}
+use Rattle.sctp_table.specs.Packets.{say}
+use Rattle.sctp_table.specs.Sending.{Sent, open_with, send_buffered}
+use Rattle.sctp_table.specs.Handover.{readiness_open, readiness, left_in, left_if, hand_over, tcb_from, queue_taken, take_up, refusal_in, taken_as, restored_unless, restore}
 use Rattle.sctp_association_laws.specs.Mapped.{map_context, map_standing}
 use Rattle.sctp_association_laws.proofs.SendingMapsLemmas.{maps_say, maps_send_buffered}
 use Rattle.sctp_association_laws.proofs.RowMapsLemmas.{maps_in_state}

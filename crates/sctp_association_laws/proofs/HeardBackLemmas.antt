@@ -13,9 +13,9 @@ use Rattle.sctp_packet.proofs.ReadBackLemmas.{chunks_tile}
 use Rattle.sctp_packet.proofs.PacketLemmas.{length_joined}
 use Rattle.sctp_packet.proofs.LawLemmas.{one_packet_lem, never_both_lem}
 use Rattle.sctp_state.specs.Options.{Options}
-use Rattle.sctp_association.specs.Input.{on_packet}
-use Rattle.sctp_association.specs.Wire.{word_in, field_of, word_at}
-use Rattle.sctp_association.specs.Socket.{policy_of, heard, not_read}
+use Rattle.sctp_table.specs.Input.{on_packet}
+use Rattle.sctp_table.specs.Wire.{word_in, field_of, word_at}
+use Rattle.sctp_table.specs.Hearing.{policy_of, heard, not_read}
 use Rattle.sctp_association_laws.specs.Mapped.{Carried, as_written}
 use Rattle.sctp_association_laws.specs.HeardBack.{IsHearable, as_heard, WrittenPacketsAreHeard, WrittenPacketsAreOne}
 

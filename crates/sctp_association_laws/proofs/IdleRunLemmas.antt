@@ -14,9 +14,9 @@ use Rattle.sctp_tx.specs.Retransmission.{Sender}
 use Rattle.sctp_tx.specs.Resent.{may_send_new}
 use Rattle.sctp_tx.specs.Sending as fragments
 use Rattle.sctp_tx.specs.Sending.{filling, fill, offered, filled_with, timed_filling, send}
-use Rattle.sctp_association.specs.Association.{Tcb, Context}
-use Rattle.sctp_association.specs.Packets.{Packet, has_chunks, room}
-use Rattle.sctp_association.specs.Sending.{Filling, filled, with_data, turned_if, go_on, burst}
+use Rattle.sctp_table.specs.Association.{Tcb, Context}
+use Rattle.sctp_table.specs.Packets.{Packet, has_chunks, room}
+use Rattle.sctp_table.specs.Sending.{Filling, filled, with_data, turned_if, go_on, burst}
 
 minus_none : (n : ℕ) → n - 0 ≡ n
 minus_none n = omega arith

@@ -6,14 +6,14 @@ use Rattle.sctp_wire.specs.Parameter.{ParameterTree}
 use Rattle.sctp_packet.specs.ChunkText.{chunk_text}
 use Rattle.sctp_state.specs.declared.api.ErrorKind.TheVariants.{ParseFailed}
 use Rattle.sctp_rx.specs.Tracker.{is_ack_due}
-use Rattle.sctp_association.specs.Association.{Tcb, CookieEchoed, Established, ShutdownPending, ShutdownSent, ShutdownReceived, ShutdownAckSent, State, Closed, CookieWait, Open, Context, Standing, Endpoint, in_context}
-use Rattle.sctp_association.specs.Heartbeats.{info_in, answered_if, is_last, no_info, answered_by, answered, on_heartbeat_ack}
-use Rattle.sctp_association.specs.Packets.{add, new_packet}
-use Rattle.sctp_association.specs.Sending.{asked, acknowledged, selective_ack, is_alone}
-use Rattle.sctp_association.specs.Closing.{violated, on_abort, on_error, on_shutdown, on_shutdown_complete}
-use Rattle.sctp_association.specs.Opening.{on_cookie_ack}
-use Rattle.sctp_association.specs.Resets.{on_reconfig}
-use Rattle.sctp_association.specs.Input.{refusal, is_reported, echoed, echoed_in, complained, on_unknown_if, on_unknown, on_heartbeat, Heard, on_standing, on_chunk, violation, heard_if, hear, hear_rest, hear_all, has_data, repeats, repeats_if, ended_if, at_end, ended, handled, counted, counts, taken_if, on_packet, on_no_packet}
+use Rattle.sctp_table.specs.Association.{Tcb, CookieEchoed, Established, ShutdownPending, ShutdownSent, ShutdownReceived, ShutdownAckSent, State, Closed, CookieWait, Open, Context, Standing, Endpoint, in_context}
+use Rattle.sctp_table.specs.Heartbeats.{info_in, answered_if, is_last, no_info, answered_by, answered, on_heartbeat_ack}
+use Rattle.sctp_table.specs.Packets.{add, new_packet}
+use Rattle.sctp_table.specs.Sending.{asked, acknowledged, selective_ack, is_alone}
+use Rattle.sctp_table.specs.Closing.{violated, on_abort, on_error, on_shutdown, on_shutdown_complete}
+use Rattle.sctp_table.specs.Opening.{on_cookie_ack}
+use Rattle.sctp_table.specs.Resets.{on_reconfig}
+use Rattle.sctp_table.specs.Input.{refusal, is_reported, echoed, echoed_in, complained, on_unknown_if, on_unknown, on_heartbeat, Heard, on_standing, on_chunk, violation, heard_if, hear, hear_rest, hear_all, has_data, repeats, repeats_if, ended_if, at_end, ended, handled, counted, counts, taken_if, on_packet, on_no_packet}
 use Rattle.sctp_association_laws.specs.Lifecycles.{kept_in}
 use Rattle.sctp_association_laws.proofs.LivesLemmas.{Lives, EndLives, keeps, lives_silent, lives_same, lives_then, lives_complained, lives_emit_chunk, lives_send_with}
 use Rattle.sctp_association_laws.proofs.RowLivesLemmas.{OpenLives, Onwards, lives_still, lives_where_open, lives_send_shutdown, lives_violated, lives_abort, lives_error, lives_data, lives_forward, lives_sack, lives_on_shutdown, lives_shutdown_ack, lives_shutdown_complete}

@@ -6,16 +6,16 @@ use Rattle.sctp_packet.specs.ChunkText.{chunk_text}
 use Rattle.sctp_wire.specs.Parameter.{ParameterTree}
 use Rattle.sctp_state.specs.declared.api.ErrorKind.TheVariants.{ParseFailed}
 use Rattle.sctp_rx.specs.Tracker.{is_ack_due}
-use Rattle.sctp_association.specs.Association.{Tcb, Phase, CookieEchoed, Established, ShutdownPending, ShutdownSent, ShutdownReceived, ShutdownAckSent, State, Closed, CookieWait, Open, Context, Standing, Endpoint, in_context, where_open}
-use Rattle.sctp_association.specs.Heartbeats.{info_in, answered_if, is_last, no_info, answered_by, answered, on_heartbeat_ack}
-use Rattle.sctp_association.specs.Packets.{add, new_packet}
-use Rattle.sctp_association.specs.Sending.{Sent, asked, acknowledged, selective_ack, is_alone, open_with}
-use Rattle.sctp_association.specs.Closing.{send_shutdown, violated, on_abort, on_error, on_shutdown, on_shutdown_ack, on_shutdown_complete}
-use Rattle.sctp_association.specs.Data.{on_data, on_forward}
-use Rattle.sctp_association.specs.Acknowledging.{on_sack}
-use Rattle.sctp_association.specs.Opening.{on_cookie_ack}
-use Rattle.sctp_association.specs.Resets.{on_reconfig}
-use Rattle.sctp_association.specs.Input.{refusal, is_reported, echoed, echoed_in, complained, on_unknown_if, on_unknown, on_heartbeat, Heard, on_standing, on_chunk, goes_on, violation, heard_if, hear, hear_rest, hear_all, has_data, repeats, repeats_if, ended_if, at_end, ended, handled, counts, taken_if, on_packet, on_no_packet}
+use Rattle.sctp_table.specs.Association.{Tcb, Phase, CookieEchoed, Established, ShutdownPending, ShutdownSent, ShutdownReceived, ShutdownAckSent, State, Closed, CookieWait, Open, Context, Standing, Endpoint, in_context, where_open}
+use Rattle.sctp_table.specs.Heartbeats.{info_in, answered_if, is_last, no_info, answered_by, answered, on_heartbeat_ack}
+use Rattle.sctp_table.specs.Packets.{add, new_packet}
+use Rattle.sctp_table.specs.Sending.{Sent, asked, acknowledged, selective_ack, is_alone, open_with}
+use Rattle.sctp_table.specs.Closing.{send_shutdown, violated, on_abort, on_error, on_shutdown, on_shutdown_ack, on_shutdown_complete}
+use Rattle.sctp_table.specs.Data.{on_data, on_forward}
+use Rattle.sctp_table.specs.Acknowledging.{on_sack}
+use Rattle.sctp_table.specs.Opening.{on_cookie_ack}
+use Rattle.sctp_table.specs.Resets.{on_reconfig}
+use Rattle.sctp_table.specs.Input.{refusal, is_reported, echoed, echoed_in, complained, on_unknown_if, on_unknown, on_heartbeat, Heard, on_standing, on_chunk, goes_on, violation, heard_if, hear, hear_rest, hear_all, has_data, repeats, repeats_if, ended_if, at_end, ended, handled, counts, taken_if, on_packet, on_no_packet}
 use Rattle.sctp_association_laws.specs.Mapped.{map_context, map_standing, map_end}
 use Rattle.sctp_association_laws.proofs.SendingMapsLemmas.{maps_complain, maps_emit_chunk, maps_send_with}
 use Rattle.sctp_association_laws.proofs.RowMapsLemmas.{OpenMaps, maps_where_open, maps_in_state, maps_send_shutdown, maps_on_shutdown, maps_shutdown_ack, maps_shutdown_complete, maps_violated, maps_on_abort, maps_on_error, maps_data, maps_forward, maps_on_sack}

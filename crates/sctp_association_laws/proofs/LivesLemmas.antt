@@ -12,9 +12,9 @@ use Rattle.sctp_send_queue.specs.Resets.{requested, request_resets}
 use Rattle.sctp_tx.specs.Sending as fragments
 use Rattle.sctp_tx.specs.Sending.{send}
 use Rattle.sctp_tx.specs.ForwardPoints.{forward_chunk}
-use Rattle.sctp_association.specs.Association.{Tcb, Context, Standing, Endpoint}
-use Rattle.sctp_association.specs.Packets.{Packet, room, fits, add, has_chunks, packet_to, new_packet, complain, header_to, emit_if, emit, emit_chunk}
-use Rattle.sctp_association.specs.Sending.{Filling, asked, ack_if, goes_along, with_ack, forward_added_if, forward_if, tested, tested_if, with_forward, most_streams, request_of, request_at_most, request_if, with_request, filled, with_data, filled_as, emitted, Turned, turned_if, turned, go_on, burst, Sent, send_with, send_buffered, cookie_if, send_cookie, fast_most, fast_packet, fast_if, send_lost}
+use Rattle.sctp_table.specs.Association.{Tcb, Context, Standing, Endpoint}
+use Rattle.sctp_table.specs.Packets.{Packet, room, fits, add, has_chunks, packet_to, new_packet, complain, header_to, emit_if, emit, emit_chunk}
+use Rattle.sctp_table.specs.Sending.{Filling, asked, ack_if, goes_along, with_ack, forward_added_if, forward_if, tested, tested_if, with_forward, most_streams, request_of, request_at_most, request_if, with_request, filled, with_data, filled_as, emitted, Turned, turned_if, turned, go_on, burst, Sent, send_with, send_buffered, cookie_if, send_cookie, fast_most, fast_packet, fast_if, send_lost}
 use Rattle.sctp_association_laws.specs.Lifecycles.{told_end, kept_in, waits}
 use Rattle.sctp_association_laws.proofs.SpendsLemmas.{Spends, spends_nothing, spends_one, spends_then, spends_within}
 use Rattle.sctp_association_laws.proofs.QueueSpendsLemmas.{waiting_each_stepped}

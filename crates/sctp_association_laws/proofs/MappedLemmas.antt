@@ -3,14 +3,14 @@ use Rattle.std.proofs.Common.{◌≡◌, ℕ, Bool, List, refl}
 use Rattle.sctp_packet.specs.Chunk.{ChunkTree}
 use Rattle.sctp_packet.specs.Packet.{HeaderTree}
 use Rattle.sctp_state.specs.Options.{Options}
-use Rattle.sctp_association.specs.Wire.{written}
-use Rattle.sctp_association.specs.Association.{Endpoint, in_context, context}
-use Rattle.sctp_association.specs.Closing.{close, shutdown}
-use Rattle.sctp_association.specs.Calls.{send, send_many, set_low_threshold}
-use Rattle.sctp_association.specs.Resets.{reset_streams}
-use Rattle.sctp_association.specs.Time.{advance}
-use Rattle.sctp_association.specs.Handover.{hand_over, restore}
-use Rattle.sctp_association.specs.Laws.{Call, Connect, Close, Shutdown, Send, SendMany, TakeMessage, SetLowThreshold, SetPriority, SetMaxMessageSize, Advance, HandOver, Restore, Packet, NoPacket, called, ResetStreams}
+use Rattle.sctp_table.specs.Wire.{written}
+use Rattle.sctp_table.specs.Association.{Endpoint, in_context, context}
+use Rattle.sctp_table.specs.Closing.{close, shutdown}
+use Rattle.sctp_table.specs.Calls.{send, send_many, set_low_threshold}
+use Rattle.sctp_table.specs.Resets.{reset_streams}
+use Rattle.sctp_table.specs.Time.{advance}
+use Rattle.sctp_table.specs.Handover.{hand_over, restore}
+use Rattle.sctp_table.specs.Laws.{Call, Connect, Close, Shutdown, Send, SendMany, TakeMessage, SetLowThreshold, SetPriority, SetMaxMessageSize, Advance, HandOver, Restore, Packet, NoPacket, called, ResetStreams}
 use Rattle.sctp_association_laws.specs.Mapped.{map_context, map_end, Carried, as_written, BytesAreWrittenChunks}
 use Rattle.sctp_association_laws.proofs.RowMapsLemmas.{maps_in_state, maps_close, maps_shutdown}
 use Rattle.sctp_association_laws.proofs.OpeningMapsLemmas.{maps_connect}

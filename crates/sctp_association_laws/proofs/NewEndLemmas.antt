@@ -9,8 +9,8 @@ use Rattle.sctp_send_queue.specs.Settings.{set_mode}
 use Rattle.sctp_send_queue.specs.Readiness as queued
 use Rattle.sctp_send_queue.proofs.InOrderLemmas.{new_in_order, mode_in_order}
 use Rattle.sctp_send_queue.proofs.RestLemmas.{calls_leave_rests}
-use Rattle.sctp_association.specs.Association.{Identity, tcb}
-use Rattle.sctp_association.specs.Handover.{is_strict, block_readiness}
+use Rattle.sctp_table.specs.Association.{Identity, tcb}
+use Rattle.sctp_table.specs.Handover.{is_strict, block_readiness}
 use Rattle.sctp_association_laws.specs.HandoverRoundTrip.{IsQueue, new_context, NewEndsAreReady}
 use Rattle.sctp_association_laws.proofs.HandoverAgainLemmas.{made_connected}
 use Rattle.sctp_association_laws.proofs.NumberedOnceLemmas.{calls_number_once}

@@ -8,10 +8,10 @@ use Rattle.sctp_state.specs.Capabilities.{announced, negotiated, zero_checksum_e
 use Rattle.sctp_state.specs.Cookie.{Cookie, read_cookie, refusal_text}
 use Rattle.sctp_state.specs.Events.{OnConnected, OnConnectionRestarted, OnAborted}
 use Rattle.sctp_send_queue.specs.Queue.{Queue}
-use Rattle.sctp_association.specs.Association.{Identity, Tcb, tcb, Phase, CookieEchoed, Established, ShutdownPending, ShutdownSent, ShutdownReceived, ShutdownAckSent, State, Closed, CookieWait, Open, Context, Standing, Endpoint}
-use Rattle.sctp_association.specs.Packets.{Packet, add, packet_to, new_packet, rounded, say, emit}
-use Rattle.sctp_association.specs.Sending.{Sent}
-use Rattle.sctp_association.specs.Opening.{tsn_from, tag_from, word, drew_word, long_word, init_of, send_init, connect_in, connect, agreed_by, init_ack_of, answer, answers, answers_new, next_first, answers_again, on_init_open, on_init_in, on_init, cookie_in, maker, without_cookie, queue_anew, echo, names, echoed, on_init_ack_in, on_init_ack, connected, established, on_cookie_ack, Verdict, EstablishNew, RestartDetected, SimultaneousInit, MaintainExisting, Discard, InvalidTag, judged, cookie_ack, queue_if, other_mode, queue_for, tcb_by, anew, establishes, kept, keep, too_late, restarts, restarts_in, restart, complains, on_verdict, on_read_cookie, on_cookie_echo}
+use Rattle.sctp_table.specs.Association.{Identity, Tcb, tcb, Phase, CookieEchoed, Established, ShutdownPending, ShutdownSent, ShutdownReceived, ShutdownAckSent, State, Closed, CookieWait, Open, Context, Standing, Endpoint}
+use Rattle.sctp_table.specs.Packets.{Packet, add, packet_to, new_packet, rounded, say, emit}
+use Rattle.sctp_table.specs.Sending.{Sent}
+use Rattle.sctp_table.specs.Opening.{tsn_from, tag_from, word, drew_word, long_word, init_of, send_init, connect_in, connect, agreed_by, init_ack_of, answer, answers, answers_new, next_first, answers_again, on_init_open, on_init_in, on_init, cookie_in, maker, without_cookie, queue_anew, echo, names, echoed, on_init_ack_in, on_init_ack, connected, established, on_cookie_ack, Verdict, EstablishNew, RestartDetected, SimultaneousInit, MaintainExisting, Discard, InvalidTag, judged, cookie_ack, queue_if, other_mode, queue_for, tcb_by, anew, establishes, kept, keep, too_late, restarts, restarts_in, restart, complains, on_verdict, on_read_cookie, on_cookie_echo}
 use Rattle.sctp_association_laws.specs.Lifecycles.{kept_in}
 use Rattle.sctp_association_laws.proofs.QueueSpendsLemmas.{in_queue, waiting_reset}
 use Rattle.sctp_association_laws.proofs.LivesLemmas.{Goes, Lives, EndLives, keeps, Sends, lives_less, lives_same, lives_then, lives_said, lives_complained, lives_emit, lives_send_with, lives_send_buffered, lives_send_cookie}

@@ -7,12 +7,12 @@ use Rattle.sctp_state.specs.declared.state_cookie.StateCookieError.{StateCookieE
 use Rattle.sctp_state.specs.Capabilities.{announced, negotiated, zero_checksum_enabled}
 use Rattle.sctp_state.specs.Cookie.{Cookie, read_cookie, refusal_text}
 use Rattle.sctp_state.specs.Events.{OnConnected, OnConnectionRestarted, OnAborted}
-use Rattle.sctp_association.specs.Association.{Identity, Tcb, tcb, Phase, CookieEchoed, Established, ShutdownPending, ShutdownSent, ShutdownReceived, ShutdownAckSent, State, Closed, CookieWait, Open, Context, Standing, Endpoint, with_context}
-use Rattle.sctp_association.specs.Heartbeats.{beating}
-use Rattle.sctp_association.specs.Packets.{Packet, add, packet_to, new_packet, rounded, say, complain, emit}
-use Rattle.sctp_association.specs.Sending.{Sent, open_with, send_buffered}
-use Rattle.sctp_association.specs.Closing.{send_shutdown_ack}
-use Rattle.sctp_association.specs.Opening.{tsn_from, tag_from, word, drew_word, long_word, drew_long_word, stands, init_of, send_init, t1_init, waiting, connect_in, connect, agreed_by, init_ack_of, answer, answers, answers_new, next_first, answers_again, on_init_open, on_init_in, on_init, cookie_in, maker, without_cookie, queue_anew, t1_cookie, echo, names, echoed, on_init_ack_in, on_init_ack, connected, established, on_cookie_ack, Verdict, EstablishNew, RestartDetected, SimultaneousInit, MaintainExisting, Discard, InvalidTag, judged, cookie_ack, queue_for, tcb_by, anew, establishes, kept, keep, too_late, restarts, restarts_in, restart, complains, on_verdict, on_read_cookie, on_cookie_echo}
+use Rattle.sctp_table.specs.Association.{Identity, Tcb, tcb, Phase, CookieEchoed, Established, ShutdownPending, ShutdownSent, ShutdownReceived, ShutdownAckSent, State, Closed, CookieWait, Open, Context, Standing, Endpoint, with_context}
+use Rattle.sctp_table.specs.Heartbeats.{beating}
+use Rattle.sctp_table.specs.Packets.{Packet, add, packet_to, new_packet, rounded, say, complain, emit}
+use Rattle.sctp_table.specs.Sending.{Sent, open_with, send_buffered}
+use Rattle.sctp_table.specs.Closing.{send_shutdown_ack}
+use Rattle.sctp_table.specs.Opening.{tsn_from, tag_from, word, drew_word, long_word, drew_long_word, stands, init_of, send_init, t1_init, waiting, connect_in, connect, agreed_by, init_ack_of, answer, answers, answers_new, next_first, answers_again, on_init_open, on_init_in, on_init, cookie_in, maker, without_cookie, queue_anew, t1_cookie, echo, names, echoed, on_init_ack_in, on_init_ack, connected, established, on_cookie_ack, Verdict, EstablishNew, RestartDetected, SimultaneousInit, MaintainExisting, Discard, InvalidTag, judged, cookie_ack, queue_for, tcb_by, anew, establishes, kept, keep, too_late, restarts, restarts_in, restart, complains, on_verdict, on_read_cookie, on_cookie_echo}
 use Rattle.sctp_association_laws.specs.Mapped.{map_context, map_standing, map_end}
 use Rattle.sctp_association_laws.proofs.SendingMapsLemmas.{map_sent, maps_say, maps_complain, maps_emit, maps_send_with, maps_send_buffered, maps_send_cookie}
 use Rattle.sctp_association_laws.proofs.RowMapsLemmas.{standing_in, beating_as, OpenMaps, maps_in_state, maps_closed_by, maps_send_shutdown_ack}

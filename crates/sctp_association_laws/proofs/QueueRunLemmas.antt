@@ -12,7 +12,7 @@ use Rattle.sctp_serial.specs.Time.{later}
 use Rattle.sctp_state.specs.Numbers.{ms}
 use Rattle.sctp_state.specs.Events.{Told, tell_all, OnBufferedAmountLow}
 use Rattle.sctp_association_laws.specs.FirstRun.{fragment, fully_sent}
-use Rattle.sctp_association.specs.Calls.{queued}
+use Rattle.sctp_table.specs.Calls.{queued}
 
 pub not_below_itself : (n : ℕ) → nat_lt n n ≡ false
 not_below_itself n = grind (arith)

@@ -9,11 +9,11 @@ use Rattle.sctp_state.specs.Events.{OnIncomingStreamReset, OnStreamsResetPerform
 use Rattle.sctp_send_queue.specs.Queue.{Queued, Queue, stream}
 use Rattle.sctp_send_queue.specs.Settings.{Changed}
 use Rattle.sctp_send_queue.specs.Resets.{is_partly, told_waiting, prepare_reset, commit_resets, roll_back_resets}
-use Rattle.sctp_association.specs.Association.{Tcb, Phase, Context, Standing, open_as, with_context, where_open}
-use Rattle.sctp_association.specs.Requests.{is_final, Outcome, Unsettled, Done, Denied, outcome, is_last, is_next, is_known}
-use Rattle.sctp_association.specs.Sending.{Sent, is_alone, open_with, send_buffered, send_in}
-use Rattle.sctp_association.specs.Resets.{Handling, handling, performs, is_ahead, resets_if, resets, outgoing_by, incoming_if, on_outcome, on_response, is_outgoing, on_parameter, Handled, handle_next, handle_all, send_responses, finished_if, finished, on_reconfig, reset_refusal, prepare_all, reset_if, reset_streams}
-use Rattle.sctp_association.specs.Resets as rows
+use Rattle.sctp_table.specs.Association.{Tcb, Phase, Context, Standing, open_as, with_context, where_open}
+use Rattle.sctp_table.specs.Requests.{is_final, Outcome, Unsettled, Done, Denied, outcome, is_last, is_next, is_known}
+use Rattle.sctp_table.specs.Sending.{Sent, is_alone, open_with, send_buffered, send_in}
+use Rattle.sctp_table.specs.Resets.{Handling, handling, performs, is_ahead, resets_if, resets, outgoing_by, incoming_if, on_outcome, on_response, is_outgoing, on_parameter, Handled, handle_next, handle_all, send_responses, finished_if, finished, on_reconfig, reset_refusal, prepare_all, reset_if, reset_streams}
+use Rattle.sctp_table.specs.Resets as rows
 use Rattle.sctp_association_laws.specs.Mapped.{map_context, map_told, map_standing}
 use Rattle.sctp_association_laws.proofs.ToldMapsLemmas.{map_changed, maps_cond, maps_expiry, maps_tell_all}
 use Rattle.sctp_association_laws.proofs.SendingMapsLemmas.{maps_say, maps_complain, maps_emit_chunk, maps_send_buffered, maps_send_in}

@@ -10,14 +10,14 @@ use Rattle.sctp_outstanding.specs.Items.{number_of}
 use Rattle.sctp_outstanding.specs.Sack.{is_valid}
 use Rattle.sctp_rx.specs.Tracker as tracker
 use Rattle.sctp_tx.specs.Retransmission.{Sender, SackAnswer, Invalid, Valid, sender_if, told_if, answer_if, is_quiet}
-use Rattle.sctp_association.specs.Association.{Tcb, Phase, CookieEchoed, Established, ShutdownPending, ShutdownSent, ShutdownReceived, ShutdownAckSent, State, Closed, CookieWait, Open, Heartbeats, Context, Standing, where_open}
-use Rattle.sctp_association.specs.Heartbeats.{silenced}
-use Rattle.sctp_association.specs.Packets.{add, packet_to, emit_chunk}
-use Rattle.sctp_association.specs.Sending.{Sent, is_alone, open_with, send_buffered, send_lost}
-use Rattle.sctp_association.specs.Closing.{over, closed, t2_shutdown, send_shutdown, send_shutdown_ack, Onward, onward, pending, received, go_on, shut, open_onward, shutdown_in, shutdown, shut_by_peer, on_shutdown, completed, out_of_the_blue, on_shutdown_ack_open, on_shutdown_ack_in, on_shutdown_ack, on_shutdown_complete, abort, close_in, close, too_many, violated, causes_text, on_abort, on_error}
-use Rattle.sctp_association.specs.Data.{no_data, on_no_data, not_connected, on_data_in, on_data_if, on_data, on_forward}
-use Rattle.sctp_association.specs.Acknowledging.{cleaned, sampled, answered, send_after, heard, on_clean_sack, on_sack_open, no_block, on_sack_in, on_sack}
-use Rattle.sctp_association.specs.Acknowledging as acks
+use Rattle.sctp_table.specs.Association.{Tcb, Phase, CookieEchoed, Established, ShutdownPending, ShutdownSent, ShutdownReceived, ShutdownAckSent, State, Closed, CookieWait, Open, Heartbeats, Context, Standing, where_open}
+use Rattle.sctp_table.specs.Heartbeats.{silenced}
+use Rattle.sctp_table.specs.Packets.{add, packet_to, emit_chunk}
+use Rattle.sctp_table.specs.Sending.{Sent, is_alone, open_with, send_buffered, send_lost}
+use Rattle.sctp_table.specs.Closing.{over, closed, t2_shutdown, send_shutdown, send_shutdown_ack, Onward, onward, pending, received, go_on, shut, open_onward, shutdown_in, shutdown, shut_by_peer, on_shutdown, completed, out_of_the_blue, on_shutdown_ack_open, on_shutdown_ack_in, on_shutdown_ack, on_shutdown_complete, abort, close_in, close, too_many, violated, causes_text, on_abort, on_error}
+use Rattle.sctp_table.specs.Data.{no_data, on_no_data, not_connected, on_data_in, on_data_if, on_data, on_forward}
+use Rattle.sctp_table.specs.Acknowledging.{cleaned, sampled, answered, send_after, heard, on_clean_sack, on_sack_open, no_block, on_sack_in, on_sack}
+use Rattle.sctp_table.specs.Acknowledging as acks
 use Rattle.sctp_association_laws.specs.Mapped.{map_event, map_told, map_context, map_standing}
 use Rattle.sctp_association_laws.proofs.ToldMapsLemmas.{same_sender, maps_sack}
 use Rattle.sctp_association_laws.proofs.SendingMapsLemmas.{map_sent, maps_say, maps_complain, maps_emit, maps_emit_chunk, maps_send_buffered, maps_send_lost}

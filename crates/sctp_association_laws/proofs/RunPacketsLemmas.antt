@@ -20,11 +20,11 @@ use Rattle.sctp_state.specs.Options.{Options, SendOptions, defaults}
 use Rattle.sctp_state.specs.Capabilities.{announced}
 use Rattle.sctp_state.specs.Cookie.{Cookie, cookie_bytes}
 use Rattle.sctp_state.proofs.CookieLemmas.{length-cookie_bytes, cookie_bytes-writable}
-use Rattle.sctp_association.specs.Association.{Endpoint, fresh}
-use Rattle.sctp_association.specs.Opening.{init_of, cookie_for, init_ack_of}
-use Rattle.sctp_association.specs.Wire.{written}
-use Rattle.sctp_association.specs.Socket.{Hears}
-use Rattle.sctp_association.specs.Laws.{Packing}
+use Rattle.sctp_table.specs.Association.{Endpoint, fresh}
+use Rattle.sctp_table.specs.Opening.{init_of, cookie_for, init_ack_of}
+use Rattle.sctp_table.specs.Wire.{written}
+use Rattle.sctp_table.specs.Hearing.{Hears}
+use Rattle.sctp_table.specs.Laws.{Packing}
 use Rattle.sctp_association_laws.specs.Mapped.{Carried, as_written}
 use Rattle.sctp_association_laws.specs.FirstRun.{first_of, tag_of, packet, init_tree, fragment, init_packet, init_ack_packet, cookie_echo_packet, cookie_ack_packet, data_packet, sack_packet, given, quiet, asking, answering, echoing, accepting, sending, IsSmall, LeadsOn}
 use Rattle.sctp_association_laws.specs.HeardBack.{IsHearable}

@@ -8,10 +8,10 @@ use Rattle.sctp_state.specs.declared.api.errors.SendError.{SendError}
 use Rattle.sctp_state.specs.declared.api.errors.SendError.TheVariants.{EmptyPayload, MessageTooLarge, ShuttingDown, ResourceExhaustion as QueueFull, Memory, Failed}
 use Rattle.sctp_state.specs.Options.{SendOptions}
 use Rattle.sctp_state.specs.Events.{Event}
-use Rattle.sctp_association.specs.Association.{State, Closed, CookieWait, Open, Context, Standing, with_context}
-use Rattle.sctp_association.specs.Sending.{is_alone, send_in}
-use Rattle.sctp_association.specs.Calls.{shown_state, refusal, refusal_of, refusal_events, ended, refused, queued, accepted, offered, offer, sent_if, send, offer_all, send_many, set_low_threshold, set_priority, set_max_message_size, taken_in, take_message}
-use Rattle.sctp_association.proofs.TellsLemmas.{is_quiet, quiet_both, tells_all, tells_threshold}
+use Rattle.sctp_table.specs.Association.{State, Closed, CookieWait, Open, Context, Standing, with_context}
+use Rattle.sctp_table.specs.Sending.{is_alone, send_in}
+use Rattle.sctp_table.specs.Calls.{shown_state, refusal, refusal_of, refusal_events, ended, refused, queued, accepted, offered, offer, sent_if, send, offer_all, send_many, set_low_threshold, set_priority, set_max_message_size, taken_in, take_message}
+use Rattle.sctp_table_laws.proofs.TellsLemmas.{is_quiet, quiet_both, tells_all, tells_threshold}
 use Rattle.sctp_association_laws.specs.Sound.{OptionsFit, FitsState, FitsMessage}
 use Rattle.sctp_association_laws.proofs.SoundQueueLemmas.{added_fits, threshold_fits, priority_fits}
 use Rattle.sctp_association_laws.proofs.SoundGoesLemmas.{HoldsSound, Stays, stays_by, stays_silent, stays_same, stays_then}

@@ -8,13 +8,13 @@ use Rattle.sctp_packet.specs.Written.{chunk_item, chunk_is_whole, chunk_bytes}
 use Rattle.sctp_packet.specs.ReadBack.{ChunkReadsBack}
 use Rattle.sctp_state.specs.declared.api.ErrorKind.{ErrorKind}
 use Rattle.sctp_state.specs.Events.{Event, SendPacket, OnError, Told, tell}
-use Rattle.sctp_association.specs.Association.{Tcb, Context}
-use Rattle.sctp_association.specs.Packets.{Packet, room, fits, added_if, add, add_all, has_chunks, new_packet, complain, header_to, emit_if, emit, emit_chunk}
-use Rattle.sctp_association.specs.Laws.{Packing, IsShort}
-use Rattle.sctp_association.proofs.StepsLemmas.{most_bytes}
-use Rattle.sctp_association.proofs.StepsLemmas as steps
-use Rattle.sctp_association.proofs.TellsLemmas.{split_and}
-use Rattle.sctp_association.proofs.GoesLemmas.{IsSmall, small_add, small_new, small_whole}
+use Rattle.sctp_table.specs.Association.{Tcb, Context}
+use Rattle.sctp_table.specs.Packets.{Packet, room, fits, added_if, add, add_all, has_chunks, new_packet, complain, header_to, emit_if, emit, emit_chunk}
+use Rattle.sctp_table.specs.Laws.{Packing, IsShort}
+use Rattle.sctp_table_laws.proofs.StepsLemmas.{most_bytes}
+use Rattle.sctp_table_laws.proofs.StepsLemmas as steps
+use Rattle.sctp_table_laws.proofs.TellsLemmas.{split_and}
+use Rattle.sctp_table_laws.proofs.GoesLemmas.{IsSmall, small_add, small_new, small_whole}
 use Rattle.sctp_association_laws.specs.Sound.{OptionsFit, FitsQueue, FitsTcb, HasSomeCookie}
 use Rattle.sctp_association_laws.specs.ReadBack.{ReadsBack, IsOfSuch, CanBeRead}
 use Rattle.sctp_association_laws.proofs.FairLemmas.{IsFair, fair_reads}

@@ -10,11 +10,11 @@ use Rattle.sctp_packet.proofs.PacketLemmas.{length_joined}
 use Rattle.sctp_packet.proofs.LawLemmas.{one_packet_lem}
 use Rattle.sctp_state.specs.Options.{Options, defaults}
 use Rattle.sctp_state.specs.Events.{Event, SendPacket}
-use Rattle.sctp_association.specs.Association.{Context, Endpoint}
-use Rattle.sctp_association.specs.Input.{on_packet}
-use Rattle.sctp_association.specs.Wire.{field_of, written}
-use Rattle.sctp_association.specs.Socket.{Hears}
-use Rattle.sctp_association.specs.Laws.{Call, called, Packing}
+use Rattle.sctp_table.specs.Association.{Context, Endpoint}
+use Rattle.sctp_table.specs.Input.{on_packet}
+use Rattle.sctp_table.specs.Wire.{field_of, written}
+use Rattle.sctp_table.specs.Hearing.{Hears}
+use Rattle.sctp_table.specs.Laws.{Call, called, Packing}
 use Rattle.sctp_association_laws.specs.Mapped.{Carried, as_written}
 use Rattle.sctp_association_laws.specs.HeardBack.{IsHearable, as_heard}
 use Rattle.sctp_association_laws.specs.Sound.{IsSound, ArgumentFits, HasSomeCookie}

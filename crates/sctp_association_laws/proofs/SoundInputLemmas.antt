@@ -10,15 +10,15 @@ use Rattle.sctp_packet.specs.ChunkText.{chunk_text}
 use Rattle.sctp_state.specs.declared.api.ErrorKind.TheVariants.{ParseFailed}
 use Rattle.sctp_state.specs.Capabilities.{Capabilities}
 use Rattle.sctp_rx.specs.Tracker.{is_ack_due}
-use Rattle.sctp_association.specs.Association.{Tcb, CookieEchoed, Established, ShutdownPending, ShutdownSent, ShutdownReceived, ShutdownAckSent, State, Closed, CookieWait, Open, Context, Standing, Endpoint}
-use Rattle.sctp_association.specs.Heartbeats.{info_in, answered_if, is_last, no_info, answered_by, answered}
-use Rattle.sctp_association.specs.Packets.{Packet, add, new_packet}
-use Rattle.sctp_association.specs.Sending.{asked, acknowledged, selective_ack, is_alone, send_with}
-use Rattle.sctp_association.specs.Closing.{violated, on_abort, on_error, on_shutdown, on_shutdown_complete}
-use Rattle.sctp_association.specs.Opening.{on_cookie_ack}
-use Rattle.sctp_association.specs.Resets.{on_reconfig}
-use Rattle.sctp_association.specs.Input.{refusal, unless, interleaving_text, no_interleaving_text, no_partial_text, forward_misused, misused, is_reported, echoed, echoed_in, complained, on_unknown_if, on_heartbeat, Heard, on_standing, on_chunk, violation, heard_if, hear, hear_rest, hear_all, has_data, repeats, repeats_if, ended_if, at_end, ended, handled, counted, counts, taken_if, on_packet, on_no_packet}
-use Rattle.sctp_association.proofs.StepsLemmas.{most_bytes}
+use Rattle.sctp_table.specs.Association.{Tcb, CookieEchoed, Established, ShutdownPending, ShutdownSent, ShutdownReceived, ShutdownAckSent, State, Closed, CookieWait, Open, Context, Standing, Endpoint}
+use Rattle.sctp_table.specs.Heartbeats.{info_in, answered_if, is_last, no_info, answered_by, answered}
+use Rattle.sctp_table.specs.Packets.{Packet, add, new_packet}
+use Rattle.sctp_table.specs.Sending.{asked, acknowledged, selective_ack, is_alone, send_with}
+use Rattle.sctp_table.specs.Closing.{violated, on_abort, on_error, on_shutdown, on_shutdown_complete}
+use Rattle.sctp_table.specs.Opening.{on_cookie_ack}
+use Rattle.sctp_table.specs.Resets.{on_reconfig}
+use Rattle.sctp_table.specs.Input.{refusal, unless, interleaving_text, no_interleaving_text, no_partial_text, forward_misused, misused, is_reported, echoed, echoed_in, complained, on_unknown_if, on_heartbeat, Heard, on_standing, on_chunk, violation, heard_if, hear, hear_rest, hear_all, has_data, repeats, repeats_if, ended_if, at_end, ended, handled, counted, counts, taken_if, on_packet, on_no_packet}
+use Rattle.sctp_table_laws.proofs.StepsLemmas.{most_bytes}
 use Rattle.sctp_association_laws.specs.Sound.{FitsTcb, FitsState, FitsPacket}
 use Rattle.sctp_association_laws.proofs.FairLemmas.{IsFairParameter}
 use Rattle.sctp_association_laws.proofs.HeardLemmas.{IsHeard, heard_all}

@@ -12,12 +12,12 @@ use Rattle.sctp_state.specs.Capabilities.{Capabilities, announced, negotiated, z
 use Rattle.sctp_state.specs.Cookie.{Cookie, cookie_bytes, read_cookie, refusal_text}
 use Rattle.sctp_state.specs.Events.{OnConnected, OnConnectionRestarted, OnAborted}
 use Rattle.sctp_send_queue.specs.Queue.{Queue}
-use Rattle.sctp_association.specs.Association.{Identity, Tcb, tcb, Phase, CookieEchoed, Established, ShutdownPending, ShutdownSent, ShutdownReceived, ShutdownAckSent, State, Closed, CookieWait, Open, Context, Endpoint}
-use Rattle.sctp_association.specs.Packets.{Packet, add, packet_to, new_packet, rounded, say, emit}
-use Rattle.sctp_association.specs.Sending.{open_with, send_cookie}
-use Rattle.sctp_association.specs.Opening.{tsn_from, tag_from, word, drew_word, long_word, init_of, send_init, connect_in, connect, cookie_for, agreed_by, init_ack_of, answer, answers, next_first, answers_again, on_init_open, on_init_in, on_init, cookie_in, maker, without_cookie, queue_anew, echo, names, echoed, on_init_ack_in, on_init_ack, connected, established, on_cookie_ack, Verdict, EstablishNew, RestartDetected, SimultaneousInit, MaintainExisting, Discard, InvalidTag, judged, cookie_ack, identity_of, queue_if, other_mode, queue_for, tcb_by, anew, establishes, kept, keep, too_late, restarts, restarts_in, restart, complains, on_verdict, on_read_cookie, on_cookie_echo}
-use Rattle.sctp_association.proofs.StepsLemmas.{most_bytes}
-use Rattle.sctp_association.proofs.GoesLemmas.{IsSmall, small_empty, rounded_le}
+use Rattle.sctp_table.specs.Association.{Identity, Tcb, tcb, Phase, CookieEchoed, Established, ShutdownPending, ShutdownSent, ShutdownReceived, ShutdownAckSent, State, Closed, CookieWait, Open, Context, Endpoint}
+use Rattle.sctp_table.specs.Packets.{Packet, add, packet_to, new_packet, rounded, say, emit}
+use Rattle.sctp_table.specs.Sending.{open_with, send_cookie}
+use Rattle.sctp_table.specs.Opening.{tsn_from, tag_from, word, drew_word, long_word, init_of, send_init, connect_in, connect, cookie_for, agreed_by, init_ack_of, answer, answers, next_first, answers_again, on_init_open, on_init_in, on_init, cookie_in, maker, without_cookie, queue_anew, echo, names, echoed, on_init_ack_in, on_init_ack, connected, established, on_cookie_ack, Verdict, EstablishNew, RestartDetected, SimultaneousInit, MaintainExisting, Discard, InvalidTag, judged, cookie_ack, identity_of, queue_if, other_mode, queue_for, tcb_by, anew, establishes, kept, keep, too_late, restarts, restarts_in, restart, complains, on_verdict, on_read_cookie, on_cookie_echo}
+use Rattle.sctp_table_laws.proofs.StepsLemmas.{most_bytes}
+use Rattle.sctp_table_laws.proofs.GoesLemmas.{IsSmall, small_empty, rounded_le}
 use Rattle.sctp_association_laws.specs.Sound.{OptionsFit, FitsQueue, FitsIdentity, FitsTcb, FitsPhase, FitsState, HasBytes}
 use Rattle.sctp_association_laws.proofs.HeardLemmas.{IsByte, FitsCookie, FitsRead, read_fits}
 use Rattle.sctp_association_laws.proofs.OwnLemmas.{IsOwn, own_announced, own_with_cookie, own_fair, own_cookies, same_method_fits}

@@ -18,13 +18,13 @@ use Rattle.sctp_tx.specs.Resent.{mixes, resent_fast}
 use Rattle.sctp_tx.specs.ForwardPoints.{chunk_if, forward_chunk}
 use Rattle.sctp_tx.specs.Sending as fragments
 use Rattle.sctp_tx.specs.Sending.{send}
-use Rattle.sctp_association.specs.Association.{Tcb, Context}
-use Rattle.sctp_association.specs.Requests.{Request, Requests, ids, request_chunk, started}
-use Rattle.sctp_association.specs.Packets.{Packet, room, fits, add, has_chunks, packet_to, new_packet, emit}
-use Rattle.sctp_association.specs.Sending.{Filling, selective_ack, asked, ack_if, goes_along, with_ack, forward_added_if, forward_if, tested, tested_if, with_forward, most_streams, add_request, last_assigned, begun, request_of, request_at_most, request_if, with_request, data_chunk_of, data_chunks, is_small, filled, with_data, filled_as, emitted, Turned, turned_if, turned, go_on, burst, Sent, send_with, send_buffered, cookie_if, send_cookie, fast_most, fast_packet, fast_if, send_lost}
-use Rattle.sctp_association.proofs.StepsLemmas.{most_bytes}
-use Rattle.sctp_association.proofs.TellsLemmas.{tells_expired, tells_sent}
-use Rattle.sctp_association.proofs.GoesLemmas.{IsSmall, small_empty}
+use Rattle.sctp_table.specs.Association.{Tcb, Context}
+use Rattle.sctp_table.specs.Requests.{Request, Requests, ids, request_chunk, started}
+use Rattle.sctp_table.specs.Packets.{Packet, room, fits, add, has_chunks, packet_to, new_packet, emit}
+use Rattle.sctp_table.specs.Sending.{Filling, selective_ack, asked, ack_if, goes_along, with_ack, forward_added_if, forward_if, tested, tested_if, with_forward, most_streams, add_request, last_assigned, begun, request_of, request_at_most, request_if, with_request, data_chunk_of, data_chunks, is_small, filled, with_data, filled_as, emitted, Turned, turned_if, turned, go_on, burst, Sent, send_with, send_buffered, cookie_if, send_cookie, fast_most, fast_packet, fast_if, send_lost}
+use Rattle.sctp_table_laws.proofs.StepsLemmas.{most_bytes}
+use Rattle.sctp_table_laws.proofs.TellsLemmas.{tells_expired, tells_sent}
+use Rattle.sctp_table_laws.proofs.GoesLemmas.{IsSmall, small_empty}
 use Rattle.sctp_association_laws.specs.Sound.{FitsTracker, FitsRequest, FitsRequests, FitsTcb}
 use Rattle.sctp_association_laws.proofs.FairLemmas.{IsFairParameter}
 use Rattle.sctp_association_laws.proofs.SoundTrackerLemmas.{ack_fits, reported_fits, sack_fits, window_small}

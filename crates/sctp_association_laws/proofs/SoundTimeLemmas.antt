@@ -7,15 +7,15 @@ use Rattle.sctp_state.specs.Errors.{is_exhausted}
 use Rattle.sctp_state.specs.Rtt.{rto}
 use Rattle.sctp_state.specs.Timers.{Timer, is_due, is_running, expire}
 use Rattle.sctp_state.specs.Events.{OnAborted}
-use Rattle.sctp_association.specs.Association.{Tcb, Phase, CookieEchoed, Established, ShutdownPending, ShutdownSent, ShutdownReceived, ShutdownAckSent, State, Closed, CookieWait, Open, Context, Standing}
-use Rattle.sctp_association.specs.Packets.{Packet, new_packet}
-use Rattle.sctp_association.specs.Requests.{Request, Requests, lasting, expired, awake, woken, is_unanswered}
-use Rattle.sctp_association.specs.Sending.{Sent, add_request, send_cookie}
-use Rattle.sctp_association.specs.Closing.{send_shutdown, send_shutdown_ack}
-use Rattle.sctp_association.specs.Heartbeats.{info_of, heartbeat, counted_on, beat_if, unanswered_if}
-use Rattle.sctp_association.specs.Time.{Ticking, tick_ack, t3_if, tick_t3, tick_interval, tick_timeout, request_again, errs_if, unanswered, requests_if, ticking, ticked, Left, standing_if, standing_left, ended_if, ended_or_sent, goes_on, settled_if, settled, t2_expired, t2_if, tick_t2, waits_if, echoed_again, t1_expired, t1_if, tick_cookie, Waited, waiting_if, init_expired, init_if, tick_init, tick_open, tick_in, advance_if, advance}
-use Rattle.sctp_association.proofs.StepsLemmas.{most_bytes}
-use Rattle.sctp_association.proofs.TellsLemmas.{tells_nack_all}
+use Rattle.sctp_table.specs.Association.{Tcb, Phase, CookieEchoed, Established, ShutdownPending, ShutdownSent, ShutdownReceived, ShutdownAckSent, State, Closed, CookieWait, Open, Context, Standing}
+use Rattle.sctp_table.specs.Packets.{Packet, new_packet}
+use Rattle.sctp_table.specs.Requests.{Request, Requests, lasting, expired, awake, woken, is_unanswered}
+use Rattle.sctp_table.specs.Sending.{Sent, add_request, send_cookie}
+use Rattle.sctp_table.specs.Closing.{send_shutdown, send_shutdown_ack}
+use Rattle.sctp_table.specs.Heartbeats.{info_of, heartbeat, counted_on, beat_if, unanswered_if}
+use Rattle.sctp_table.specs.Time.{Ticking, tick_ack, t3_if, tick_t3, tick_interval, tick_timeout, request_again, errs_if, unanswered, requests_if, ticking, ticked, Left, standing_if, standing_left, ended_if, ended_or_sent, goes_on, settled_if, settled, t2_expired, t2_if, tick_t2, waits_if, echoed_again, t1_expired, t1_if, tick_cookie, Waited, waiting_if, init_expired, init_if, tick_init, tick_open, tick_in, advance_if, advance}
+use Rattle.sctp_table_laws.proofs.StepsLemmas.{most_bytes}
+use Rattle.sctp_table_laws.proofs.TellsLemmas.{tells_nack_all}
 use Rattle.sctp_association_laws.specs.Sound.{FitsRequest, FitsRequests, FitsTcb, FitsPhase, FitsState}
 use Rattle.sctp_association_laws.proofs.FairLemmas.{IsFairParameter}
 use Rattle.sctp_association_laws.proofs.SoundTrackerLemmas.{timeout_fits}

@@ -8,7 +8,7 @@ use Rattle.sctp_outstanding.specs.Item.{Item, is_abandoned}
 use Rattle.sctp_outstanding.specs.Sack.{ending, report, reports}
 use Rattle.sctp_send_queue.specs.Queue.{Queued}
 use Rattle.sctp_send_queue.specs.Produced.{when, fully_sent, production}
-use Rattle.sctp_association.specs.Calls.{refusal_events, ended}
+use Rattle.sctp_table.specs.Calls.{refusal_events, ended}
 use Rattle.sctp_association_laws.specs.Lifecycles.{told_end, ends, named, waiting, where_end, kept_ends}
 
 -- From one moment to another events are told, and each end among them is taken from what is alive.

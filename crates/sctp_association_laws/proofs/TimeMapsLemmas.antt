@@ -6,14 +6,14 @@ use Rattle.sctp_state.specs.Rtt.{rto}
 use Rattle.sctp_state.specs.Timers.{Timer, is_due, is_running, expire}
 use Rattle.sctp_state.specs.Events.{OnAborted}
 use Rattle.sctp_outstanding.specs.Losses.{Step}
-use Rattle.sctp_association.specs.Association.{Tcb, Phase, CookieEchoed, Established, ShutdownPending, ShutdownSent, ShutdownReceived, ShutdownAckSent, State, Closed, CookieWait, Open, Context, Standing}
-use Rattle.sctp_association.specs.Packets.{new_packet}
-use Rattle.sctp_association.specs.Requests.{lasting, expired, woken, is_unanswered}
-use Rattle.sctp_association.specs.Sending.{Sent, add_request, send_cookie}
-use Rattle.sctp_association.specs.Closing.{send_shutdown, send_shutdown_ack, too_many}
-use Rattle.sctp_association.specs.Opening.{send_init}
-use Rattle.sctp_association.specs.Heartbeats.{counted_on, heartbeat, beat_if, unanswered_if}
-use Rattle.sctp_association.specs.Time.{Ticking, tick_ack, timed_out, t3_if, tick_t3, tick_interval, tick_timeout, request_again, errs_if, requests_again, unanswered, requests_if, tick_requests, ticking, ticked, Left, left, standing_if, standing_left, ended_if, ended, ended_or_sent, goes_on, settled_if, settled, t2_expired, t2_if, tick_t2, waits_if, echoed_again, t1_expired, t1_if, tick_cookie, Waited, waited, waiting_if, standing_waited, init_expired, init_if, tick_init, tick_open, tick_in, advance_if, advance}
+use Rattle.sctp_table.specs.Association.{Tcb, Phase, CookieEchoed, Established, ShutdownPending, ShutdownSent, ShutdownReceived, ShutdownAckSent, State, Closed, CookieWait, Open, Context, Standing}
+use Rattle.sctp_table.specs.Packets.{new_packet}
+use Rattle.sctp_table.specs.Requests.{lasting, expired, woken, is_unanswered}
+use Rattle.sctp_table.specs.Sending.{Sent, add_request, send_cookie}
+use Rattle.sctp_table.specs.Closing.{send_shutdown, send_shutdown_ack, too_many}
+use Rattle.sctp_table.specs.Opening.{send_init}
+use Rattle.sctp_table.specs.Heartbeats.{counted_on, heartbeat, beat_if, unanswered_if}
+use Rattle.sctp_table.specs.Time.{Ticking, tick_ack, timed_out, t3_if, tick_t3, tick_interval, tick_timeout, request_again, errs_if, requests_again, unanswered, requests_if, tick_requests, ticking, ticked, Left, left, standing_if, standing_left, ended_if, ended, ended_or_sent, goes_on, settled_if, settled, t2_expired, t2_if, tick_t2, waits_if, echoed_again, t1_expired, t1_if, tick_cookie, Waited, waited, waiting_if, standing_waited, init_expired, init_if, tick_init, tick_open, tick_in, advance_if, advance}
 use Rattle.sctp_association_laws.specs.Mapped.{map_context, map_standing}
 use Rattle.sctp_association_laws.proofs.ToldMapsLemmas.{maps_nack_all}
 use Rattle.sctp_association_laws.proofs.SendingMapsLemmas.{maps_emit, maps_emit_chunk, maps_send_buffered, maps_send_cookie}

@@ -8,14 +8,15 @@ use Rattle.sctp_state.specs.Options.{SendOptions, defaults}
 use Rattle.sctp_state.specs.Capabilities.{announced}
 use Rattle.sctp_state.specs.Cookie.{cookie_bytes}
 use Rattle.sctp_state.specs.Events.{Event, SendPacket, OnConnected, OnBufferedAmountLow, OnLifecycleMessageFullySent, OnLifecycleMessageDelivered, OnLifecycleEnd, silent}
-use Rattle.sctp_association.specs.Association.{Endpoint, fresh}
-use Rattle.sctp_association.specs.Packets.{header_to}
-use Rattle.sctp_association.specs.Opening.{tsn_from, tag_from, init_of, cookie_for, init_ack_of, connect}
-use Rattle.sctp_association.specs.Calls.{refusal_of, send, ready_in}
-use Rattle.sctp_association.specs.Input.{on_packet, on_standing}
-use Rattle.sctp_association.specs.Socket.{Association, association_in, is_at_rest, Hears}
-use Rattle.sctp_association.specs.Wire.{written}
-use Rattle.sctp_association.specs.Laws.{Packing}
+use Rattle.sctp_table.specs.Association.{Endpoint, fresh}
+use Rattle.sctp_table.specs.Packets.{header_to}
+use Rattle.sctp_table.specs.Opening.{tsn_from, tag_from, init_of, cookie_for, init_ack_of, connect}
+use Rattle.sctp_table.specs.Calls.{refusal_of, send, ready_in}
+use Rattle.sctp_table.specs.Input.{on_packet, on_standing}
+use Rattle.sctp_table.specs.Shown.{Association, association_in, is_at_rest}
+use Rattle.sctp_table.specs.Hearing.{Hears}
+use Rattle.sctp_table.specs.Wire.{written}
+use Rattle.sctp_table.specs.Laws.{Packing}
 use Rattle.sctp_association_laws.specs.Mapped.{Carried, as_written}
 
 -- ---- what an end draws as it opens an association

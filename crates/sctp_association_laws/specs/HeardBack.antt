@@ -5,10 +5,10 @@ use Rattle.sctp_packet.specs.Grammar.{carried}
 use Rattle.sctp_packet.specs.Packet.{PacketTree, FitsHeader}
 use Rattle.sctp_packet.specs.ReadBack.{ChunkReadsBack}
 use Rattle.sctp_state.specs.Options.{Options}
-use Rattle.sctp_association.specs.Association.{Endpoint}
-use Rattle.sctp_association.specs.Input.{on_packet}
-use Rattle.sctp_association.specs.Wire.{field_of}
-use Rattle.sctp_association.specs.Socket.{Hears}
+use Rattle.sctp_table.specs.Association.{Endpoint}
+use Rattle.sctp_table.specs.Input.{on_packet}
+use Rattle.sctp_table.specs.Wire.{field_of}
+use Rattle.sctp_table.specs.Hearing.{Hears}
 use Rattle.sctp_association_laws.specs.Mapped.{Carried, as_written}
 
 -- Each chunk can be read back, numbers and length fit their fields, and a packet without a checksum is let through: its

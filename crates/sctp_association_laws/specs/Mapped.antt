@@ -3,9 +3,9 @@ use Rattle.std.specs.Prelude.{◌≡◌, ℕ, Bool, List, map}
 use Rattle.sctp_packet.specs.Chunk.{ChunkTree}
 use Rattle.sctp_packet.specs.Packet.{HeaderTree}
 use Rattle.sctp_state.specs.Events.{Event, SendPacket, OnConnected, OnClosed, OnConnectionRestarted, OnAborted, OnError, OnBufferedAmountLow, OnTotalBufferedAmountLow, OnStreamsResetFailed, OnStreamsResetPerformed, OnIncomingStreamReset, OnLifecycleMessageFullySent, OnLifecycleMessageMaybeExpired, OnLifecycleMessageExpired, OnLifecycleMessageDelivered, OnLifecycleEnd, Told}
-use Rattle.sctp_association.specs.Association.{Context, Standing, Endpoint}
-use Rattle.sctp_association.specs.Laws.{Call, called}
-use Rattle.sctp_association.specs.Wire.{written}
+use Rattle.sctp_table.specs.Association.{Context, Standing, Endpoint}
+use Rattle.sctp_table.specs.Laws.{Call, called}
+use Rattle.sctp_table.specs.Wire.{written}
 
 -- ---- packets are mapped
 

@@ -8,11 +8,11 @@ use Rattle.sctp_packet.specs.Packet.{PacketTree, FitsHeader, Accepts}
 use Rattle.sctp_packet.specs.ReadBack.{ChunkReadsBack}
 use Rattle.sctp_state.specs.Options.{Options}
 use Rattle.sctp_state.specs.Events.{Event, SendPacket}
-use Rattle.sctp_association.specs.Association.{Context, Endpoint, fresh}
-use Rattle.sctp_association.specs.Input.{refusal, on_packet}
-use Rattle.sctp_association.specs.Wire.{written}
-use Rattle.sctp_association.specs.Socket.{Hears}
-use Rattle.sctp_association.specs.Laws.{Call, Packet, called, Packing}
+use Rattle.sctp_table.specs.Association.{Context, Endpoint, fresh}
+use Rattle.sctp_table.specs.Input.{refusal, on_packet}
+use Rattle.sctp_table.specs.Wire.{written}
+use Rattle.sctp_table.specs.Hearing.{Hears}
+use Rattle.sctp_table.specs.Laws.{Call, Packet, called, Packing}
 use Rattle.sctp_association_laws.specs.Mapped.{Carried, as_written}
 use Rattle.sctp_association_laws.specs.HeardBack.{as_heard}
 use Rattle.sctp_association_laws.specs.Sound.{OptionsFit, IsSound, ArgumentFits, HasSomeCookie}

@@ -9,7 +9,7 @@ mod memory;
 mod opening;
 
 ghost use Rattle.std.specs.Prelude.{◌≡◌};
-ghost use Rattle.sctp_association.specs.Views.{tcb_of};
+ghost use Rattle.sctp_endpoint.specs.Views.{tcb_of};
 
 use sctp_association::{Identity, OutgoingPacket, TransmissionControlBlock};
 use sctp_packet::{Chunk, CookieAckChunk, CookieEchoChunk, Data};

@@ -7,15 +7,15 @@ use Rattle.sctp_packet.specs.ChunkText.{chunk_text}
 use Rattle.sctp_packet.specs.Packet.{PacketTree}
 use Rattle.sctp_state.specs.declared.api.ErrorKind.TheVariants.{ParseFailed}
 use Rattle.sctp_rx.specs.Tracker.{is_ack_due}
-use Rattle.sctp_association.specs.Association.{Tcb, Phase, CookieEchoed, Established, ShutdownPending, ShutdownSent, ShutdownReceived, ShutdownAckSent, State, Closed, CookieWait, Open, Context, Standing, Endpoint, in_context}
-use Rattle.sctp_association.specs.Heartbeats.{info_in, answered_if, is_last, no_info, answered_by, answered, on_heartbeat_ack}
-use Rattle.sctp_association.specs.Packets.{Packet, add, new_packet}
-use Rattle.sctp_association.specs.Sending.{asked, acknowledged, selective_ack, is_alone}
-use Rattle.sctp_association.specs.Closing.{violated, on_abort, on_error, on_shutdown, on_shutdown_complete}
-use Rattle.sctp_association.specs.Opening.{on_cookie_ack}
-use Rattle.sctp_association.specs.Resets.{on_reconfig}
-use Rattle.sctp_association.specs.Input.{refusal, is_reported, echoed, echoed_in, complained, on_unknown_if, on_heartbeat, Heard, on_standing, on_chunk, violation, heard_if, hear, hear_rest, hear_all, has_data, repeats, repeats_if, ended_if, at_end, ended, handled, counts as counts_row, taken_if, on_packet, on_no_packet}
-use Rattle.sctp_association.specs.Laws.{Call, Connect, Close, Shutdown, Send, SendMany, ResetStreams, TakeMessage, SetLowThreshold, SetPriority, SetMaxMessageSize, Advance, HandOver, Restore, Packet as Given, NoPacket, called}
+use Rattle.sctp_table.specs.Association.{Tcb, Phase, CookieEchoed, Established, ShutdownPending, ShutdownSent, ShutdownReceived, ShutdownAckSent, State, Closed, CookieWait, Open, Context, Standing, Endpoint, in_context}
+use Rattle.sctp_table.specs.Heartbeats.{info_in, answered_if, is_last, no_info, answered_by, answered, on_heartbeat_ack}
+use Rattle.sctp_table.specs.Packets.{Packet, add, new_packet}
+use Rattle.sctp_table.specs.Sending.{asked, acknowledged, selective_ack, is_alone}
+use Rattle.sctp_table.specs.Closing.{violated, on_abort, on_error, on_shutdown, on_shutdown_complete}
+use Rattle.sctp_table.specs.Opening.{on_cookie_ack}
+use Rattle.sctp_table.specs.Resets.{on_reconfig}
+use Rattle.sctp_table.specs.Input.{refusal, is_reported, echoed, echoed_in, complained, on_unknown_if, on_heartbeat, Heard, on_standing, on_chunk, violation, heard_if, hear, hear_rest, hear_all, has_data, repeats, repeats_if, ended_if, at_end, ended, handled, counts as counts_row, taken_if, on_packet, on_no_packet}
+use Rattle.sctp_table.specs.Laws.{Call, Connect, Close, Shutdown, Send, SendMany, ResetStreams, TakeMessage, SetLowThreshold, SetPriority, SetMaxMessageSize, Advance, HandOver, Restore, Packet as Given, NoPacket, called}
 use Rattle.sctp_course.specs.Acts.{Making, at, idle, calm, IsHeard, counts, asks, adds_ack, beats, counts_errors, shuts_on, ends_packet, Keeps}
 use Rattle.sctp_course.proofs.PacketActsLemmas.{does_begin, does_chunk, does_complain, does_send_with}
 use Rattle.sctp_course.proofs.RowActsLemmas.{placed, OpenActs, does_where_open, does_send_shutdown, does_close, does_shutdown, does_shut_by_peer, does_shutdown_ack, does_shutdown_complete, does_violated, does_abort, does_error, does_data_chunk, does_idata_chunk, does_forward_chunk, does_iforward_chunk, does_sack}

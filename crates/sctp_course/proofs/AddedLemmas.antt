@@ -2,7 +2,7 @@
 use Rattle.std.proofs.Common.{◌≡◌, ℕ, zero, suc, Bool, true, false, Option, Some, None, List, [], ◌∷◌, ◌++◌, slice_get, All, ap, subst}
 use Rattle.std.proofs.lemmas.List.Elements.{All-head, All-push, All-tail}
 use Rattle.sctp_packet.specs.Chunk.{ChunkTree}
-use Rattle.sctp_association.specs.Packets.{Packet, fits, added_if, add, add_all}
+use Rattle.sctp_table.specs.Packets.{Packet, fits, added_if, add, add_all}
 
 -- ---- chunks that are put into a packet, a fact of its tag and the chunk
 

@@ -10,10 +10,10 @@ use Rattle.sctp_state.specs.Cookie.{Cookie, read_cookie}
 use Rattle.sctp_state.specs.Events.{Event, OnConnected, OnConnectionRestarted}
 use Rattle.sctp_state.specs.Options.{Options}
 use Rattle.sctp_state.specs.declared.api.ErrorKind.TheVariants.{ParseFailed, WrongSequence}
-use Rattle.sctp_association.specs.Association.{Tcb, Phase, CookieEchoed, Established, ShutdownPending, ShutdownSent, ShutdownReceived, ShutdownAckSent, State, Closed, CookieWait, Open, Context, Endpoint}
-use Rattle.sctp_association.specs.Packets.{Packet, new_packet, fits, added_if, add, say, emit}
-use Rattle.sctp_association.specs.Opening.{long_word, connected, cookie_ack, tcb_by, establishes, Verdict, EstablishNew, RestartDetected, SimultaneousInit, MaintainExisting, Discard, InvalidTag, new_if, judged, compared, by_tags, kept, too_late, restarts_in, on_verdict}
-use Rattle.sctp_association.specs.Laws.{NoPacket}
+use Rattle.sctp_table.specs.Association.{Tcb, Phase, CookieEchoed, Established, ShutdownPending, ShutdownSent, ShutdownReceived, ShutdownAckSent, State, Closed, CookieWait, Open, Context, Endpoint}
+use Rattle.sctp_table.specs.Packets.{Packet, new_packet, fits, added_if, add, say, emit}
+use Rattle.sctp_table.specs.Opening.{long_word, connected, cookie_ack, tcb_by, establishes, Verdict, EstablishNew, RestartDetected, SimultaneousInit, MaintainExisting, Discard, InvalidTag, new_if, judged, compared, by_tags, kept, too_late, restarts_in, on_verdict}
+use Rattle.sctp_table.specs.Laws.{NoPacket}
 use Rattle.sctp_association_laws.specs.Mapped.{Carried}
 use Rattle.sctp_course.specs.Acts.{at, nothing, idle, calm, is_opened, is_plain, adds_plain, Keeps}
 use Rattle.sctp_course.specs.Course.{AreGiven}

@@ -10,10 +10,10 @@ use Rattle.sctp_packet.specs.Packet.{PacketTree}
 use Rattle.sctp_state.specs.declared.api.ErrorKind.TheVariants.{ParseFailed}
 use Rattle.sctp_state.specs.Options.{Options}
 use Rattle.sctp_state.specs.Events.{Event}
-use Rattle.sctp_association.specs.Association.{State, Closed, CookieWait, Open, Context, Endpoint}
-use Rattle.sctp_association.specs.Opening.{connect, complains}
-use Rattle.sctp_association.specs.Input.{refusal, counts, taken_if, handled, on_standing, repeats_if, has_data}
-use Rattle.sctp_association.specs.Laws.{Call, Connect, Restore, Packet, called}
+use Rattle.sctp_table.specs.Association.{State, Closed, CookieWait, Open, Context, Endpoint}
+use Rattle.sctp_table.specs.Opening.{connect, complains}
+use Rattle.sctp_table.specs.Input.{refusal, counts, taken_if, handled, on_standing, repeats_if, has_data}
+use Rattle.sctp_table.specs.Laws.{Call, Connect, Restore, Packet, called}
 use Rattle.sctp_association_laws.specs.Mapped.{Carried}
 use Rattle.sctp_course.specs.Acts.{calm, nothing}
 use Rattle.sctp_course.specs.Course.{Side, Pair, as_carried, new_side, packets_in, emitted, has_connected, Turn, Calls, Gives, Refuses, took, as_heard, given, foreign_if, turned, goes, AreGiven, start, state_of}

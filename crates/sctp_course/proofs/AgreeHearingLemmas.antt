@@ -11,12 +11,12 @@ use Rattle.sctp_state.specs.Cookie.{Cookie, read_cookie, refusal_text}
 use Rattle.sctp_state.specs.Events.{Event, OnAborted}
 use Rattle.sctp_state.specs.Options.{Options}
 use Rattle.sctp_state.specs.Timers.{Timer}
-use Rattle.sctp_association.specs.Association.{Tcb, tcb, Phase, CookieEchoed, Established, ShutdownPending, ShutdownSent, ShutdownReceived, ShutdownAckSent, State, Closed, CookieWait, Open, Context, Endpoint}
-use Rattle.sctp_association.specs.Packets.{Packet, packet_to, rounded, add, emit}
-use Rattle.sctp_association.specs.Sending.{send_cookie}
-use Rattle.sctp_association.specs.Opening.{word, drew_word, long_word, tag_from, tsn_from, next_first, answer, names, agreed_by, cookie_in, t1_cookie, connected, echoed as echoed_by, on_read_cookie}
-use Rattle.sctp_association.specs.Input.{hear}
-use Rattle.sctp_association.specs.Laws.{Call, Packet as Given, NoPacket}
+use Rattle.sctp_table.specs.Association.{Tcb, tcb, Phase, CookieEchoed, Established, ShutdownPending, ShutdownSent, ShutdownReceived, ShutdownAckSent, State, Closed, CookieWait, Open, Context, Endpoint}
+use Rattle.sctp_table.specs.Packets.{Packet, packet_to, rounded, add, emit}
+use Rattle.sctp_table.specs.Sending.{send_cookie}
+use Rattle.sctp_table.specs.Opening.{word, drew_word, long_word, tag_from, tsn_from, next_first, answer, names, agreed_by, cookie_in, t1_cookie, connected, echoed as echoed_by, on_read_cookie}
+use Rattle.sctp_table.specs.Input.{hear}
+use Rattle.sctp_table.specs.Laws.{Call, Packet as Given, NoPacket}
 use Rattle.sctp_association_laws.specs.Mapped.{Carried}
 use Rattle.sctp_course.specs.Acts.{Making, idle, calm, nothing, echoing, IsHeard, Keeps}
 use Rattle.sctp_course.specs.Course.{AreGiven}

@@ -8,9 +8,9 @@ use Rattle.sctp_packet.specs.Chunk.{ChunkTree, InitTree, init_chunk, init_ack_ch
 use Rattle.sctp_packet.specs.Grammar.{carried}
 use Rattle.sctp_state.specs.Capabilities.{told_by}
 use Rattle.sctp_state.specs.Cookie.{Cookie, CapabilitiesFit, read_cookie}
-use Rattle.sctp_association.specs.Association.{Tcb, Phase, CookieEchoed, Established, ShutdownPending, ShutdownSent, ShutdownReceived, ShutdownAckSent, State, Closed, CookieWait, Open}
-use Rattle.sctp_association.specs.Sending.{is_alone}
-use Rattle.sctp_association.specs.Opening.{cookie_in}
+use Rattle.sctp_table.specs.Association.{Tcb, Phase, CookieEchoed, Established, ShutdownPending, ShutdownSent, ShutdownReceived, ShutdownAckSent, State, Closed, CookieWait, Open}
+use Rattle.sctp_table.specs.Sending.{is_alone}
+use Rattle.sctp_table.specs.Opening.{cookie_in}
 use Rattle.sctp_association_laws.specs.Mapped.{Carried}
 use Rattle.sctp_course.specs.Acts.{is_plain}
 use Rattle.sctp_course.specs.Agreement.{Draw, Association, crossed, Has, association_of, AreDistinct}

@@ -10,10 +10,10 @@ use Rattle.sctp_state.proofs.CookieLemmas.{both_tags, read_cookie-bytes}
 use Rattle.sctp_state.specs.Events.{OnConnected}
 use Rattle.sctp_state.specs.Options.{Options}
 use Rattle.sctp_state.specs.Timers.{Timer}
-use Rattle.sctp_association.specs.Association.{Tcb, CookieEchoed, State, Closed, CookieWait, Open, Context, Endpoint}
-use Rattle.sctp_association.specs.Packets.{Packet, add}
-use Rattle.sctp_association.specs.Opening.{tsn_from, tag_from, word, drew_word, t1_init, connect, cookie_for, agreed_by, init_ack_of, answer, next_first, cookie_in}
-use Rattle.sctp_association.specs.Laws.{NoPacket, Packet as Given}
+use Rattle.sctp_table.specs.Association.{Tcb, CookieEchoed, State, Closed, CookieWait, Open, Context, Endpoint}
+use Rattle.sctp_table.specs.Packets.{Packet, add}
+use Rattle.sctp_table.specs.Opening.{tsn_from, tag_from, word, drew_word, t1_init, connect, cookie_for, agreed_by, init_ack_of, answer, next_first, cookie_in}
+use Rattle.sctp_table.specs.Laws.{NoPacket, Packet as Given}
 use Rattle.sctp_association_laws.specs.Mapped.{Carried}
 use Rattle.sctp_course.specs.Acts.{Making, at, nothing, idle, calm, echoing, Keeps}
 use Rattle.sctp_course.specs.Course.{has_connected, AreGiven}

@@ -9,13 +9,13 @@ use Rattle.sctp_state.specs.Handover.{HandoverState}
 use Rattle.sctp_state.specs.Options.{Options}
 use Rattle.sctp_state.specs.Events.{Event, SendPacket, OnError, OnClosed}
 use Rattle.sctp_state.proofs.CapabilitiesLemmas.{told_with-options}
-use Rattle.sctp_association.specs.Association.{Tcb, Phase, CookieEchoed, Established, ShutdownPending, CookieWait, Open, Context}
-use Rattle.sctp_association.specs.Packets.{Packet, packet_to, add}
-use Rattle.sctp_association.specs.Requests.{Outcome, Unsettled, Done, Denied, outcome, request_chunk}
-use Rattle.sctp_association.specs.Resets.{on_outcome}
-use Rattle.sctp_association.specs.Sending.{is_small, selective_ack, fast_most}
-use Rattle.sctp_association.specs.Opening.{init_of}
-use Rattle.sctp_association.specs.Laws.{Call, Connect, Restore, ending}
+use Rattle.sctp_table.specs.Association.{Tcb, Phase, CookieEchoed, Established, ShutdownPending, CookieWait, Open, Context}
+use Rattle.sctp_table.specs.Packets.{Packet, packet_to, add}
+use Rattle.sctp_table.specs.Requests.{Outcome, Unsettled, Done, Denied, outcome, request_chunk}
+use Rattle.sctp_table.specs.Resets.{on_outcome}
+use Rattle.sctp_table.specs.Sending.{is_small, selective_ack, fast_most}
+use Rattle.sctp_table.specs.Opening.{init_of}
+use Rattle.sctp_table.specs.Laws.{Call, Connect, Restore, ending}
 use Rattle.sctp_tx.specs.Retransmission.{Sender}
 use Rattle.sctp_tx.specs.Resent.{resent_fast}
 use Rattle.sctp_tx.specs.ForwardPoints.{chunk_if, forward_chunk}

@@ -14,10 +14,10 @@ use Rattle.sctp_send_queue.specs.Settings.{set_mode}
 use Rattle.sctp_send_queue.specs.Restarted.{reset}
 use Rattle.sctp_send_queue.proofs.InOrderLemmas.{mode_in_order, reset_unsent, reset_in_order}
 use Rattle.sctp_send_queue.proofs.RestLemmas.{calls_leave_rests}
-use Rattle.sctp_association.specs.Association.{Tcb, Phase, State, Closed, CookieWait, Open, Context}
-use Rattle.sctp_association.specs.Handover.{method_if}
-use Rattle.sctp_association.specs.Opening.{queue_anew, queue_if, other_mode, queue_for}
-use Rattle.sctp_association.specs.Laws.{Call}
+use Rattle.sctp_table.specs.Association.{Tcb, Phase, State, Closed, CookieWait, Open, Context}
+use Rattle.sctp_table.specs.Handover.{method_if}
+use Rattle.sctp_table.specs.Opening.{queue_anew, queue_if, other_mode, queue_for}
+use Rattle.sctp_table.specs.Laws.{Call}
 use Rattle.sctp_association_laws.specs.HandoverRoundTrip.{IsConnected, IsNumberedOnce, CallsNumberOnce}
 use Rattle.sctp_association_laws.proofs.HeardLemmas.{IsByte, word_in_fits}
 use Rattle.sctp_course.specs.Acts.{IsHeard, IsEchoed}

@@ -14,10 +14,10 @@ use Rattle.sctp_state.specs.Options.{SendOptions}
 use Rattle.sctp_send_queue.specs.Queue.{Queued, Queue}
 use Rattle.sctp_send_queue.proofs.InOrderLemmas.{new_in_order}
 use Rattle.sctp_send_queue.proofs.RestLemmas.{calls_leave_rests}
-use Rattle.sctp_association.specs.Association.{Context, Standing, with_context, Endpoint, fresh}
-use Rattle.sctp_association.specs.Calls.{shown_state, refusal, refusal_of, queued, offered, offer, offer_all, sent_if}
-use Rattle.sctp_association.specs.Handover.{refusal_in, taken_as, restored_unless}
-use Rattle.sctp_association.specs.Laws.{Call, Connect, Close, Shutdown, Send, SendMany, ResetStreams, TakeMessage, SetLowThreshold, SetPriority, SetMaxMessageSize, Advance, HandOver, Restore, Packet, NoPacket, called}
+use Rattle.sctp_table.specs.Association.{Context, Standing, with_context, Endpoint, fresh}
+use Rattle.sctp_table.specs.Calls.{shown_state, refusal, refusal_of, queued, offered, offer, offer_all, sent_if}
+use Rattle.sctp_table.specs.Handover.{refusal_in, taken_as, restored_unless}
+use Rattle.sctp_table.specs.Laws.{Call, Connect, Close, Shutdown, Send, SendMany, ResetStreams, TakeMessage, SetLowThreshold, SetPriority, SetMaxMessageSize, Advance, HandOver, Restore, Packet, NoPacket, called}
 use Rattle.sctp_association_laws.specs.HandoverRoundTrip.{IsNumberedOnce, standing, HandoverGoesOn, MadeConnected, CallsNumberOnce}
 use Rattle.sctp_association_laws.specs.Lifecycles.{is_restore}
 use Rattle.sctp_course.specs.Acts.{IsOffered, alone, among}

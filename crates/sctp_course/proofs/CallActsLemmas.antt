@@ -17,14 +17,14 @@ use Rattle.sctp_state.specs.Handover.{HandoverState}
 use Rattle.sctp_state.specs.Options.{SendOptions}
 use Rattle.sctp_state.specs.Rtt.{rto}
 use Rattle.sctp_state.specs.Validity.{is_valid_state}
-use Rattle.sctp_association.specs.Association.{Tcb, Phase, Established, State, Closed, CookieWait, Open, Context, Standing, with_context}
-use Rattle.sctp_association.specs.Packets.{Packet, add, new_packet, say}
-use Rattle.sctp_association.specs.Requests.{is_final, is_last, is_next, is_known}
-use Rattle.sctp_association.specs.Sending.{is_alone, send_in}
-use Rattle.sctp_association.specs.Calls.{shown_state, refusal, refusal_of, offered, offer, sent_if, send, offer_all, send_many, set_low_threshold, set_priority, set_max_message_size, taken_in, take_message}
-use Rattle.sctp_association.specs.Resets.{Handling, handling, respond, is_ahead, resets_if, resets, outgoing_by, on_outgoing, incoming_if, is_outgoing, on_parameter, Handled, handle_next, handle_all, send_responses, finished_if, on_reconfig, unless_supported, reset_refusal, prepared, prepare_all, reset_if, reset_streams}
-use Rattle.sctp_association.specs.Handover.{readiness, left_in, left_if, hand_over, tcb_from, queue_taken, take_up, invalid_unless, refusal_in, taken_as, restored_unless, restore}
-use Rattle.sctp_association.specs.Laws.{Call, SendMany, ResetStreams, TakeMessage, SetLowThreshold, SetPriority, SetMaxMessageSize, HandOver, Restore, Send}
+use Rattle.sctp_table.specs.Association.{Tcb, Phase, Established, State, Closed, CookieWait, Open, Context, Standing, with_context}
+use Rattle.sctp_table.specs.Packets.{Packet, add, new_packet, say}
+use Rattle.sctp_table.specs.Requests.{is_final, is_last, is_next, is_known}
+use Rattle.sctp_table.specs.Sending.{is_alone, send_in}
+use Rattle.sctp_table.specs.Calls.{shown_state, refusal, refusal_of, offered, offer, sent_if, send, offer_all, send_many, set_low_threshold, set_priority, set_max_message_size, taken_in, take_message}
+use Rattle.sctp_table.specs.Resets.{Handling, handling, respond, is_ahead, resets_if, resets, outgoing_by, on_outgoing, incoming_if, is_outgoing, on_parameter, Handled, handle_next, handle_all, send_responses, finished_if, on_reconfig, unless_supported, reset_refusal, prepared, prepare_all, reset_if, reset_streams}
+use Rattle.sctp_table.specs.Handover.{readiness, left_in, left_if, hand_over, tcb_from, queue_taken, take_up, invalid_unless, refusal_in, taken_as, restored_unless, restore}
+use Rattle.sctp_table.specs.Laws.{Call, SendMany, ResetStreams, TakeMessage, SetLowThreshold, SetPriority, SetMaxMessageSize, HandOver, Restore, Send}
 use Rattle.sctp_course.specs.Acts.{Making, at, idle, IsHeard, IsOffered, alone, among, IsReset, IsAsked, is_response, accepts, refuses, takes_message, sets_low_threshold, sets_priority, sets_max_message_size, prepares, defers, performs, processes, takes_response, adds_responses, leaves, takes_up, Keeps}
 use Rattle.sctp_course.proofs.PacketActsLemmas.{does_out, does_begin, does_complain, does_send_buffered}
 use Rattle.sctp_course.proofs.RowActsLemmas.{placed, OpenActs, does_where_open}

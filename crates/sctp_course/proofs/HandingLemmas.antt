@@ -10,12 +10,12 @@ use Rattle.sctp_packet.specs.Packet.{PacketTree}
 use Rattle.sctp_state.specs.Options.{Options}
 use Rattle.sctp_rx.specs.Delivery.{Extends}
 use Rattle.sctp_rx.proofs.ExtendsLemmas.{extends_by}
-use Rattle.sctp_association.specs.Association.{State, Closed, CookieWait, Open, Endpoint}
-use Rattle.sctp_association.specs.Socket.{Association, association_in}
-use Rattle.sctp_association.specs.Calls.{ready_in, taken_in}
-use Rattle.sctp_association.specs.Opening.{complains}
-use Rattle.sctp_association.specs.Input.{refusal, counts, taken_if}
-use Rattle.sctp_association.specs.Laws.{Call, TakeMessage, Packet, called, endings}
+use Rattle.sctp_table.specs.Association.{State, Closed, CookieWait, Open, Endpoint}
+use Rattle.sctp_table.specs.Shown.{Association, association_in}
+use Rattle.sctp_table.specs.Calls.{ready_in, taken_in}
+use Rattle.sctp_table.specs.Opening.{complains}
+use Rattle.sctp_table.specs.Input.{refusal, counts, taken_if}
+use Rattle.sctp_table.specs.Laws.{Call, TakeMessage, Packet, called, endings}
 use Rattle.sctp_association_laws.specs.Mapped.{Carried}
 use Rattle.sctp_course.specs.Course.{Side, Pair, emitted, Turn, Calls, Gives, Refuses, as_heard, given, foreign_if, turned, goes, run, MayCall, MayTurn, side_of, FollowsTheRules, HasNotEnded, AreGiven, start, state_of}
 use Rattle.sctp_course.specs.Handing.{ready_at, handed_by, handed_at, new_behind, handed, readied, AreHandedInOrder}

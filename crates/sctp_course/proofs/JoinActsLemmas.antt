@@ -6,10 +6,10 @@ use Rattle.std.proofs.lemmas.Bool.{and_parts}
 use Rattle.sctp_packet.specs.Chunk.{ChunkTree, FragmentTree, init_chunk, init_ack_chunk, cookie_echo_chunk, cookie_ack_chunk}
 use Rattle.sctp_state.specs.Options.{Options}
 use Rattle.sctp_state.specs.Events.{Event, SendPacket, OnConnected}
-use Rattle.sctp_association.specs.Association.{Tcb, State}
-use Rattle.sctp_association.specs.Packets.{header_to}
-use Rattle.sctp_association.specs.Sending.{data_chunk_of, data_chunks}
-use Rattle.sctp_association.specs.Laws.{Packing}
+use Rattle.sctp_table.specs.Association.{Tcb, State}
+use Rattle.sctp_table.specs.Packets.{header_to}
+use Rattle.sctp_table.specs.Sending.{data_chunk_of, data_chunks}
+use Rattle.sctp_table.specs.Laws.{Packing}
 use Rattle.sctp_association_laws.specs.Mapped.{Carried}
 use Rattle.sctp_course.specs.Acts.{Making, is_plain}
 use Rattle.sctp_course.specs.Course.{as_carried, packets_in, has_connected}

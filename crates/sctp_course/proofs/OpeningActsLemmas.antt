@@ -11,11 +11,11 @@ use Rattle.sctp_state.specs.Timers.{Timer}
 use Rattle.sctp_state.specs.Capabilities.{zero_checksum_enabled}
 use Rattle.sctp_state.specs.Cookie.{Cookie, read_cookie, refusal_text}
 use Rattle.sctp_state.specs.Events.{OnConnectionRestarted, OnAborted}
-use Rattle.sctp_association.specs.Association.{Tcb, tcb, Phase, CookieEchoed, Established, ShutdownPending, ShutdownSent, ShutdownReceived, ShutdownAckSent, State, Closed, CookieWait, Open, Context, Endpoint}
-use Rattle.sctp_association.specs.Packets.{Packet, fits, added_if, add, packet_to, new_packet, rounded, say, emit}
-use Rattle.sctp_association.specs.Sending.{is_alone}
-use Rattle.sctp_association.specs.Opening.{long_word, send_init, t1_init, connect_in, connect, agreed_by, answers, answers_new, answers_again, on_init_open, on_init_in, on_init, cookie_in, without_cookie, t1_cookie, names, echoed, on_init_ack_in, on_init_ack, connected, on_cookie_ack, Verdict, EstablishNew, RestartDetected, SimultaneousInit, MaintainExisting, Discard, InvalidTag, by_tags, new_if, compared, judged, cookie_ack, tcb_by, establishes as establishes_by, kept, too_late, restarts as restarts_by, restarts_in, on_verdict, on_read_cookie, on_cookie_echo}
-use Rattle.sctp_association.specs.Laws.{Call, Connect}
+use Rattle.sctp_table.specs.Association.{Tcb, tcb, Phase, CookieEchoed, Established, ShutdownPending, ShutdownSent, ShutdownReceived, ShutdownAckSent, State, Closed, CookieWait, Open, Context, Endpoint}
+use Rattle.sctp_table.specs.Packets.{Packet, fits, added_if, add, packet_to, new_packet, rounded, say, emit}
+use Rattle.sctp_table.specs.Sending.{is_alone}
+use Rattle.sctp_table.specs.Opening.{long_word, send_init, t1_init, connect_in, connect, agreed_by, answers, answers_new, answers_again, on_init_open, on_init_in, on_init, cookie_in, without_cookie, t1_cookie, names, echoed, on_init_ack_in, on_init_ack, connected, on_cookie_ack, Verdict, EstablishNew, RestartDetected, SimultaneousInit, MaintainExisting, Discard, InvalidTag, by_tags, new_if, compared, judged, cookie_ack, tcb_by, establishes as establishes_by, kept, too_late, restarts as restarts_by, restarts_in, on_verdict, on_read_cookie, on_cookie_echo}
+use Rattle.sctp_table.specs.Laws.{Call, Connect}
 use Rattle.sctp_course.specs.Acts.{Making, at, nothing, idle, calm, drawn_first, drawn_tag, drew_two, drew_one, echoing, opened_by, IsHeard, IsEchoed, is_plain, adds_plain, connects, adds_init, answers_new as answers_new_act, answers_waiting, answers_echoed, answers_again as answers_again_act, echoes, establishes, opens, restarts, opens_again, maintains, adds_cookie_ack, Keeps}
 use Rattle.sctp_course.proofs.PacketActsLemmas.{does_out, does_begin, does_plain, does_complain, does_send_with, does_send_buffered, does_send_cookie}
 use Rattle.sctp_course.proofs.RowActsLemmas.{placed, OpenActs, does_closed, does_send_shutdown_ack}

@@ -10,11 +10,11 @@ use Rattle.sctp_outstanding.specs.Forward.{is_forward_due}
 use Rattle.sctp_rx.specs.Tracker.{is_ack_due}
 use Rattle.sctp_tx.specs.ForwardPoints.{forward_chunk}
 use Rattle.sctp_send_queue.specs.Resets.{requested, request_resets}
-use Rattle.sctp_association.specs.Association.{Tcb, Phase, CookieEchoed, State, Open, Context}
-use Rattle.sctp_association.specs.Requests.{Request}
-use Rattle.sctp_association.specs.Packets.{Packet, emptied, fits, add, has_chunks, packet_to, new_packet, complain, emit_if, emit, emit_chunk}
-use Rattle.sctp_association.specs.Sending.{Filling, asked, ack_if, goes_along, with_ack, forward_later, forward_added_if, forward_if, tested, tested_if, with_forward, most_streams, add_request, request_started, request_of, request_if, with_request, with_data, filled_as, Turned, turned_if, turned, go_on, burst, send_with, send_buffered, cookie_if, send_cookie, fast_packet, fast_if, send_lost}
-use Rattle.sctp_association.specs.Laws.{Call}
+use Rattle.sctp_table.specs.Association.{Tcb, Phase, CookieEchoed, State, Open, Context}
+use Rattle.sctp_table.specs.Requests.{Request}
+use Rattle.sctp_table.specs.Packets.{Packet, emptied, fits, add, has_chunks, packet_to, new_packet, complain, emit_if, emit, emit_chunk}
+use Rattle.sctp_table.specs.Sending.{Filling, asked, ack_if, goes_along, with_ack, forward_later, forward_added_if, forward_if, tested, tested_if, with_forward, most_streams, add_request, request_started, request_of, request_if, with_request, with_data, filled_as, Turned, turned_if, turned, go_on, burst, send_with, send_buffered, cookie_if, send_cookie, fast_packet, fast_if, send_lost}
+use Rattle.sctp_table.specs.Laws.{Call}
 use Rattle.sctp_course.specs.Acts.{Making, at, nothing, idle, is_plain, begins, adds_plain, emits, complains, adds_cookie, asks, adds_ack, expires, adds_forward, forwards_later, asks_no_reset, asks_reset, adds_request, sends, sends_fast, Keeps}
 
 -- ---- packets

@@ -10,14 +10,14 @@ use Rattle.sctp_state.specs.Rtt.{observe_rto}
 use Rattle.sctp_outstanding.specs.Sack.{is_valid}
 use Rattle.sctp_rx.specs.Tracker as tracker
 use Rattle.sctp_tx.specs.Retransmission.{is_quiet, SackAnswer, Invalid, Valid, sender_if, told_if, answer_if}
-use Rattle.sctp_association.specs.Association.{Tcb, Phase, CookieEchoed, Established, ShutdownPending, ShutdownSent, ShutdownReceived, ShutdownAckSent, State, Closed, CookieWait, Open, Context, Standing, where_open}
-use Rattle.sctp_association.specs.Packets.{packet_to, emit_chunk}
-use Rattle.sctp_association.specs.Sending.{Sent, is_alone, send_lost}
-use Rattle.sctp_association.specs.Closing.{t2_shutdown, closed, send_shutdown, send_shutdown_ack, Onward, pending, received, go_on, shut, shutdown_in, shutdown, shut_by_peer, on_shutdown, completed, out_of_the_blue, on_shutdown_ack_open, on_shutdown_ack_in, on_shutdown_ack, on_shutdown_complete, abort, close_in, close, too_many, violated, causes_text, on_abort, on_error}
-use Rattle.sctp_association.specs.Data.{no_data, on_no_data, not_connected, takes, taken, taken_if, on_data_in, on_data_if, on_data, forwarded, forwarded_if, forwarded_in, on_forward}
-use Rattle.sctp_association.specs.Acknowledging.{cleaned, sampled, answered, send_after, heard, no_block, on_sack_in, on_sack}
-use Rattle.sctp_association.specs.Input.{misused, violation}
-use Rattle.sctp_association.specs.Laws.{Call, Shutdown, ending, is_closed}
+use Rattle.sctp_table.specs.Association.{Tcb, Phase, CookieEchoed, Established, ShutdownPending, ShutdownSent, ShutdownReceived, ShutdownAckSent, State, Closed, CookieWait, Open, Context, Standing, where_open}
+use Rattle.sctp_table.specs.Packets.{packet_to, emit_chunk}
+use Rattle.sctp_table.specs.Sending.{Sent, is_alone, send_lost}
+use Rattle.sctp_table.specs.Closing.{t2_shutdown, closed, send_shutdown, send_shutdown_ack, Onward, pending, received, go_on, shut, shutdown_in, shutdown, shut_by_peer, on_shutdown, completed, out_of_the_blue, on_shutdown_ack_open, on_shutdown_ack_in, on_shutdown_ack, on_shutdown_complete, abort, close_in, close, too_many, violated, causes_text, on_abort, on_error}
+use Rattle.sctp_table.specs.Data.{no_data, on_no_data, not_connected, takes, taken, taken_if, on_data_in, on_data_if, on_data, forwarded, forwarded_if, forwarded_in, on_forward}
+use Rattle.sctp_table.specs.Acknowledging.{cleaned, sampled, answered, send_after, heard, no_block, on_sack_in, on_sack}
+use Rattle.sctp_table.specs.Input.{misused, violation}
+use Rattle.sctp_table.specs.Laws.{Call, Shutdown, ending, is_closed}
 use Rattle.sctp_course.specs.Acts.{Making, idle, in_open, IsHeard, point_of, closes, shuts, shuts_on, takes_data, takes_idata, takes_forward, takes_iforward, takes_sack, samples, counts_errors, Keeps}
 use Rattle.sctp_course.proofs.PacketActsLemmas.{does_plain, does_chunk, does_complain, does_send_buffered, does_send_lost}
 

@@ -21,7 +21,7 @@ use Rattle.sctp_outstanding.specs.Sack.{hear, heard_first, staying, reported_bel
 use Rattle.sctp_outstanding.specs.Resending.{Resent, size_in, allowed, again_of, fast_turn, queued_turn, turn_of, taken, step_at, resent_below, resend}
 use Rattle.sctp_tx.specs.Retransmission.{Sender}
 use Rattle.sctp_tx.specs.Resent.{timed_if, timed}
-use Rattle.sctp_association.specs.Association.{Tcb}
+use Rattle.sctp_table.specs.Association.{Tcb}
 
 -- ---- items
 

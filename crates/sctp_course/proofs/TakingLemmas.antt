@@ -4,9 +4,9 @@ use Rattle.sctp_packet.specs.declared.forward_tsn.SkippedStream.{SkippedStream}
 use Rattle.sctp_packet.specs.Chunk.{FragmentTree}
 use Rattle.sctp_rx.specs.Tracker.{number_of, is_valid, has_seen, moves_on}
 use Rattle.sctp_rx.specs.ReassemblyQueue.{Reassembly, add, forward}
-use Rattle.sctp_association.specs.Association.{Tcb, Phase, Open, Context, Standing, Endpoint}
-use Rattle.sctp_association.specs.Data.{is_full, added_unless, taken, taken_if, on_data_if, on_data, skipped_if, forwarded, forwarded_if, forwarded_in}
-use Rattle.sctp_association.specs.Input.{misused, heard_if, hear}
+use Rattle.sctp_table.specs.Association.{Tcb, Phase, Open, Context, Standing, Endpoint}
+use Rattle.sctp_table.specs.Data.{is_full, added_unless, taken, taken_if, on_data_if, on_data, skipped_if, forwarded, forwarded_if, forwarded_in}
+use Rattle.sctp_table.specs.Input.{misused, heard_if, hear}
 use Rattle.sctp_course.specs.Taking.{opened, fragment_chunk, point_chunk, IsTaken, IsPassed, RefusedDataChangesNothing, NewDataIsAdded, InvalidPointsChangeNothing, PointsReachReassembly}
 
 -- ---- by tests

@@ -6,14 +6,14 @@ use Rattle.sctp_state.specs.Errors.{is_exhausted}
 use Rattle.sctp_state.specs.Rtt.{rto}
 use Rattle.sctp_state.specs.Timers.{Timer, is_due, is_running, expire}
 use Rattle.sctp_state.specs.Events.{OnAborted}
-use Rattle.sctp_association.specs.Association.{Tcb, Phase, CookieEchoed, Established, ShutdownPending, ShutdownSent, ShutdownReceived, ShutdownAckSent, State, Closed, CookieWait, Open, Context, Standing}
-use Rattle.sctp_association.specs.Packets.{Packet, new_packet}
-use Rattle.sctp_association.specs.Requests.{lasting, expired, woken, is_unanswered}
-use Rattle.sctp_association.specs.Sending.{Sent, add_request, send_cookie}
-use Rattle.sctp_association.specs.Closing.{send_shutdown, send_shutdown_ack}
-use Rattle.sctp_association.specs.Heartbeats.{counted_on, heartbeat, beat_if, unanswered_if}
-use Rattle.sctp_association.specs.Time.{Ticking, tick_ack, t3_if, tick_t3, tick_interval, tick_timeout, request_again, errs_if, unanswered, requests_if, ticking, ticked, Left, standing_left, ended_if, ended, ended_or_sent, goes_on, settled_if, settled, t2_expired, t2_if, tick_t2, waits_if, t1_expired, t1_if, standing_waited, init_expired, init_if, tick_open, tick_in, advance_if, advance}
-use Rattle.sctp_association.specs.Laws.{Call, Advance}
+use Rattle.sctp_table.specs.Association.{Tcb, Phase, CookieEchoed, Established, ShutdownPending, ShutdownSent, ShutdownReceived, ShutdownAckSent, State, Closed, CookieWait, Open, Context, Standing}
+use Rattle.sctp_table.specs.Packets.{Packet, new_packet}
+use Rattle.sctp_table.specs.Requests.{lasting, expired, woken, is_unanswered}
+use Rattle.sctp_table.specs.Sending.{Sent, add_request, send_cookie}
+use Rattle.sctp_table.specs.Closing.{send_shutdown, send_shutdown_ack}
+use Rattle.sctp_table.specs.Heartbeats.{counted_on, heartbeat, beat_if, unanswered_if}
+use Rattle.sctp_table.specs.Time.{Ticking, tick_ack, t3_if, tick_t3, tick_interval, tick_timeout, request_again, errs_if, unanswered, requests_if, ticking, ticked, Left, standing_left, ended_if, ended, ended_or_sent, goes_on, settled_if, settled, t2_expired, t2_if, tick_t2, waits_if, t1_expired, t1_if, standing_waited, init_expired, init_if, tick_open, tick_in, advance_if, advance}
+use Rattle.sctp_table.specs.Laws.{Call, Advance}
 use Rattle.sctp_course.specs.Acts.{Making, idle, advances, delay_ends, times_out, beats, times_init, times_cookie, times_request, wakes_request, counts_errors, Keeps}
 use Rattle.sctp_course.proofs.PacketActsLemmas.{does_out, does_begin, does_chunk, does_add_request, does_send_buffered, does_send_cookie}
 use Rattle.sctp_course.proofs.RowActsLemmas.{placed, OpenActs, does_closed, does_shut_on, does_too_many, does_send_shutdown, does_send_shutdown_ack}

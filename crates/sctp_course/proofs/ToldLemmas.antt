@@ -24,7 +24,7 @@ use Rattle.sctp_tx.specs.Sending.{Filling, Turned, appended, turned_if, turned, 
 use Rattle.sctp_send_queue.specs.Resets.{is_partly, told_waiting, prepare_reset}
 use Rattle.sctp_state.specs.declared.api.errors.SendError.{SendError}
 use Rattle.sctp_state.specs.declared.api.errors.SendError.TheVariants.{EmptyPayload, MessageTooLarge, ShuttingDown, ResourceExhaustion as QueueFull, Memory, Failed}
-use Rattle.sctp_association.specs.Calls.{refusal_events, ended}
+use Rattle.sctp_table.specs.Calls.{refusal_events, ended}
 
 -- ---- events that say nothing of how the association stands, and are no packets
 

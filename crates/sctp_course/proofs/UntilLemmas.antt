@@ -1,12 +1,12 @@
 -- What each act tells, and the frame up to the first end of an association.
 use Rattle.std.proofs.Common.{◌≡◌, ◌+◌, true, List, [], ◌∷◌, ◌++◌, refl, sym, ap, ◌∙◌, append_assoc, append-nil, arith}
 use Rattle.sctp_state.specs.Events.{Event, OnConnected, OnConnectionRestarted, OnClosed, OnIncomingStreamReset, OnStreamsResetPerformed, OnStreamsResetFailed, OnError, numbers_of}
-use Rattle.sctp_association.specs.Association.{Context, Endpoint}
-use Rattle.sctp_association.specs.Acknowledging.{cleaned}
-use Rattle.sctp_association.specs.Requests.{Outcome, Unsettled, Done, Denied, outcome}
-use Rattle.sctp_association.specs.Packets.{room}
-use Rattle.sctp_association.specs.Resets.{on_outcome}
-use Rattle.sctp_association.specs.Laws.{Call, called, ending, endings}
+use Rattle.sctp_table.specs.Association.{Context, Endpoint}
+use Rattle.sctp_table.specs.Acknowledging.{cleaned}
+use Rattle.sctp_table.specs.Requests.{Outcome, Unsettled, Done, Denied, outcome}
+use Rattle.sctp_table.specs.Packets.{room}
+use Rattle.sctp_table.specs.Resets.{on_outcome}
+use Rattle.sctp_table.specs.Laws.{Call, called, ending, endings}
 use Rattle.sctp_course.specs.Acts.{Making, calm, PacketAct, begins, adds_plain, emits, complains, counts, before_packets, after_packets, OpeningAct, connects, adds_init, answers_new, answers_waiting, answers_echoed, answers_again, echoes, adds_cookie, establishes, opens, restarts, opens_again, maintains, adds_cookie_ack, before_opening, after_opening, ClosingAct, closes, shuts, shuts_on, before_closing, after_closing, DataAct, takes_data, takes_idata, takes_forward, takes_iforward, before_data, after_data, SackAct, takes_sack, samples, counts_errors, point_of, before_sack, after_sack, SendingAct, asks, adds_ack, expires, adds_forward, forwards_later, asks_no_reset, asks_reset, adds_request, sends, sends_fast, before_sending, after_sending, TimeAct, advances, delay_ends, times_out, beats, times_init, times_cookie, times_request, wakes_request, before_time, after_time, CallAct, accepts, refuses, takes_message, sets_low_threshold, sets_priority, sets_max_message_size, before_call, after_call, ResetAct, prepares, defers, performs, processes, takes_response, adds_responses, before_reset, after_reset, HandoverAct, leaves, takes_up, before_handover, after_handover, InputAct, ends_packet, before_input, after_input, Keeps, HasNoEnd, KeepsUntilEnd}
 use Rattle.sctp_course.proofs.ToldLemmas.{TellsLightly, tells_same, tells_all, tells_nack_all, tells_expired, tells_sack, tells_threshold, tells_sent, tells_prepared, tells_refused}
 use Rattle.sctp_course.proofs.ActsLemmas.{keeps_call}

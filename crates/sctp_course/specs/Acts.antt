@@ -34,21 +34,21 @@ use Rattle.sctp_tx.specs.Resent.{resent_fast, send_fast}
 use Rattle.sctp_tx.specs.ForwardPoints.{expired, forward_chunk}
 use Rattle.sctp_tx.specs.Sending as fragments
 use Rattle.sctp_tx.specs.Sending.{send}
-use Rattle.sctp_association.specs.Association.{Tcb, tcb, Phase, CookieEchoed, Established, ShutdownPending, State, Closed, CookieWait, Open, Heartbeats, Context, Endpoint}
-use Rattle.sctp_association.specs.Packets.{Packet, emptied, room, add, add_all, has_chunks, packet_to, say, complain, emit_if}
-use Rattle.sctp_association.specs.Requests.{Request, request_chunk, in_progress, performed, nothing_to_do, is_known, woken, processed, outcome, answered}
-use Rattle.sctp_association.specs.Sending.{selective_ack, asked, acknowledged, request_started, data_chunks, is_small, is_alone, fast_most}
-use Rattle.sctp_association.specs.Heartbeats.{beating_if}
-use Rattle.sctp_association.specs.Closing.{over}
-use Rattle.sctp_association.specs.Opening.{tsn_from, tag_from, word, drew_word, long_word, drew_long_word, init_of, t1_init, init_ack_of, next_first, agreed_by, cookie_in, maker, queue_anew, t1_cookie, names, connected, RestartDetected, SimultaneousInit, MaintainExisting, compared, queue_for, tcb_by}
-use Rattle.sctp_association.specs.Data.{takes, taken, forwarded}
-use Rattle.sctp_association.specs.Acknowledging.{cleaned, timed_by}
-use Rattle.sctp_association.specs.Calls.{shown_state, refusal, refused, accepted, set_low_threshold, set_priority, set_max_message_size}
-use Rattle.sctp_association.specs.Calls as calls
-use Rattle.sctp_association.specs.Resets.{is_ahead, on_outcome, prepared}
-use Rattle.sctp_association.specs.Handover.{tcb_from, queue_taken}
-use Rattle.sctp_association.specs.Input.{misused, at_end, counted}
-use Rattle.sctp_association.specs.Laws.{Call, Connect, Shutdown, Send, SendMany, ResetStreams, TakeMessage, SetLowThreshold, SetPriority, SetMaxMessageSize, Advance, HandOver, Restore, Packet as Given, ending, endings, is_closed}
+use Rattle.sctp_table.specs.Association.{Tcb, tcb, Phase, CookieEchoed, Established, ShutdownPending, State, Closed, CookieWait, Open, Heartbeats, Context, Endpoint}
+use Rattle.sctp_table.specs.Packets.{Packet, emptied, room, add, add_all, has_chunks, packet_to, say, complain, emit_if}
+use Rattle.sctp_table.specs.Requests.{Request, request_chunk, in_progress, performed, nothing_to_do, is_known, woken, processed, outcome, answered}
+use Rattle.sctp_table.specs.Sending.{selective_ack, asked, acknowledged, request_started, data_chunks, is_small, is_alone, fast_most}
+use Rattle.sctp_table.specs.Heartbeats.{beating_if}
+use Rattle.sctp_table.specs.Closing.{over}
+use Rattle.sctp_table.specs.Opening.{tsn_from, tag_from, word, drew_word, long_word, drew_long_word, init_of, t1_init, init_ack_of, next_first, agreed_by, cookie_in, maker, queue_anew, t1_cookie, names, connected, RestartDetected, SimultaneousInit, MaintainExisting, compared, queue_for, tcb_by}
+use Rattle.sctp_table.specs.Data.{takes, taken, forwarded}
+use Rattle.sctp_table.specs.Acknowledging.{cleaned, timed_by}
+use Rattle.sctp_table.specs.Calls.{shown_state, refusal, refused, accepted, set_low_threshold, set_priority, set_max_message_size}
+use Rattle.sctp_table.specs.Calls as calls
+use Rattle.sctp_table.specs.Resets.{is_ahead, on_outcome, prepared}
+use Rattle.sctp_table.specs.Handover.{tcb_from, queue_taken}
+use Rattle.sctp_table.specs.Input.{misused, at_end, counted}
+use Rattle.sctp_table.specs.Laws.{Call, Connect, Shutdown, Send, SendMany, ResetStreams, TakeMessage, SetLowThreshold, SetPriority, SetMaxMessageSize, Advance, HandOver, Restore, Packet as Given, ending, endings, is_closed}
 
 -- ---- an end at work: with the packet that it puts together
 

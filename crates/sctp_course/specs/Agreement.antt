@@ -5,10 +5,10 @@ use Rattle.sctp_packet.specs.Chunk.{ChunkTree, init_chunk}
 use Rattle.sctp_packet.specs.Packet.{PacketTree}
 use Rattle.sctp_state.specs.Options.{Options}
 use Rattle.sctp_state.specs.Events.{Event}
-use Rattle.sctp_association.specs.Association.{Tcb, Phase, CookieEchoed, Established, ShutdownPending, ShutdownSent, ShutdownReceived, ShutdownAckSent, State, Closed, CookieWait, Open, Endpoint}
-use Rattle.sctp_association.specs.Opening.{tsn_from, tag_from, word, drew_word, next_first}
-use Rattle.sctp_association.specs.Input.{Heard, refusal, counts, on_standing, repeats_if, has_data, hear}
-use Rattle.sctp_association.specs.Laws.{Call, Connect, Restore, Packet}
+use Rattle.sctp_table.specs.Association.{Tcb, Phase, CookieEchoed, Established, ShutdownPending, ShutdownSent, ShutdownReceived, ShutdownAckSent, State, Closed, CookieWait, Open, Endpoint}
+use Rattle.sctp_table.specs.Opening.{tsn_from, tag_from, word, drew_word, next_first}
+use Rattle.sctp_table.specs.Input.{Heard, refusal, counts, on_standing, repeats_if, has_data, hear}
+use Rattle.sctp_table.specs.Laws.{Call, Connect, Restore, Packet}
 use Rattle.sctp_association_laws.specs.Mapped.{Carried}
 use Rattle.sctp_course.specs.Course.{Side, Pair, has_connected, emitted, as_heard, Turn, Calls, Gives, Refuses, turned, goes, AreGiven, start, state_of}
 

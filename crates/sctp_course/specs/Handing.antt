@@ -4,9 +4,9 @@ use Rattle.rand_core.specs.Stream.{Stream}
 use Rattle.sctp_serial.specs.Messages.{Message}
 use Rattle.sctp_state.specs.Options.{Options, plainly}
 use Rattle.sctp_rx.specs.Delivery.{Extends}
-use Rattle.sctp_association.specs.Socket.{Association, association_in}
-use Rattle.sctp_association.specs.Calls.{ready_in}
-use Rattle.sctp_association.specs.Laws.{Send, TakeMessage}
+use Rattle.sctp_table.specs.Shown.{Association, association_in}
+use Rattle.sctp_table.specs.Calls.{ready_in}
+use Rattle.sctp_table.specs.Laws.{Send, TakeMessage}
 use Rattle.sctp_course.specs.Course.{Side, Pair, Turn, Calls, Gives, goes, run, side_of, FollowsTheRules, HasNotEnded, AreGiven, start, state_of}
 use Rattle.sctp_course.specs.Opens.{at_first, one_connects}
 

@@ -2,8 +2,8 @@
 -- and both do at once.
 use Rattle.std.specs.Prelude.{◌≡◌, Bool, true, false, List, [], ◌∷◌}
 use Rattle.sctp_state.specs.Options.{defaults}
-use Rattle.sctp_association.specs.Laws.{Connect}
-use Rattle.sctp_association.specs.Pair.{words_from}
+use Rattle.sctp_table.specs.Laws.{Connect}
+use Rattle.sctp_table.specs.Pair.{words_from}
 use Rattle.sctp_course.specs.Course.{Pair, has_connected, Turn, Calls, Gives, run, FollowsTheRules, HasNotEnded, AreGiven, start}
 
 abbrev pub at_first : Pair

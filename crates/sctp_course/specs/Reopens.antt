@@ -1,6 +1,6 @@
 -- Two courses of which the law of agreement speaks and that of joined ends doesn't, computed: a restart, and an old cookie.
 use Rattle.std.specs.Prelude.{◌≡◌, Bool, true, false, List, [], ◌∷◌, ◌++◌, length}
-use Rattle.sctp_association.specs.Laws.{Connect, Close}
+use Rattle.sctp_table.specs.Laws.{Connect, Close}
 use Rattle.sctp_course.specs.Course.{has_connected, Turn, Calls, Gives, run, state_of}
 use Rattle.sctp_course.specs.Opens.{at_first, one_connects}
 use Rattle.sctp_course.specs.Agreement.{held_in, new_book, written, NoneTwice, AreAllowed, told_since}

@@ -5,9 +5,9 @@ use Rattle.sctp_packet.specs.declared.forward_tsn.SkippedStream.{SkippedStream}
 use Rattle.sctp_packet.specs.Chunk.{ChunkTree, FragmentTree, data_chunk, idata_chunk, forward_tsn_chunk, i_forward_tsn_chunk}
 use Rattle.sctp_rx.specs.Tracker.{number_of, is_valid, has_seen, moves_on}
 use Rattle.sctp_rx.specs.ReassemblyQueue.{add, forward}
-use Rattle.sctp_association.specs.Association.{Tcb, Phase, Open, Endpoint}
-use Rattle.sctp_association.specs.Data.{is_full, observed, passed}
-use Rattle.sctp_association.specs.Input.{misused, hear}
+use Rattle.sctp_table.specs.Association.{Tcb, Phase, Open, Endpoint}
+use Rattle.sctp_table.specs.Data.{is_full, observed, passed}
+use Rattle.sctp_table.specs.Input.{misused, hear}
 
 -- an end in this phase, with this control block
 abbrev pub opened : {P : Type 0} → Phase → Tcb → Endpoint P → Endpoint P

@@ -15,7 +15,7 @@ use Rattle.sctp_rx_rules.specs.Near.{ReadsNear}
 use Rattle.sctp_rx_rules.proofs.RowLemmas.{sender_goes}
 use Rattle.sctp_rx_rules.proofs.NearRowLemmas.{sender_keeps}
 use Rattle.sctp_rx_rules.proofs.NearKeptLemmas.{sender_keeps_mids}
-use Rattle.sctp_association.specs.Association.{State, Closed, CookieWait, Open}
+use Rattle.sctp_table.specs.Association.{State, Closed, CookieWait, Open}
 use Rattle.sctp_delivery.proofs.ClaimLemmas.{is_receiving, GoesOn, IsWaiting, SendsIn, IsFresh, ReceivesIn}
 use Rattle.sctp_delivery.proofs.ReceiverToolLemmas.{SameSender, sender_stays}
 use Rattle.sctp_delivery.proofs.TurnLemmas.{is_outgoing, Stay}

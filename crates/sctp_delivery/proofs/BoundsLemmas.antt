@@ -16,8 +16,8 @@ use Rattle.sctp_state.specs.Cookie.{cookie_bytes, capability_bytes, cookie_from,
 use Rattle.sctp_send_queue.specs.Queue.{Queue, stream}
 use Rattle.sctp_outstanding.specs.Item.{Item}
 use Rattle.sctp_outstanding.specs.Items.{next_number}
-use Rattle.sctp_association.specs.Association.{Tcb, State, Closed, CookieWait, Open}
-use Rattle.sctp_association.specs.Time.{ticked}
+use Rattle.sctp_table.specs.Association.{Tcb, State, Closed, CookieWait, Open}
+use Rattle.sctp_table.specs.Time.{ticked}
 use Rattle.sctp_course.specs.Course.{Pair, Turn, Calls, Gives, Refuses, goes, state_of}
 use Rattle.sctp_course.specs.Opens.{at_first}
 use Rattle.sctp_course.specs.Handing.{two_come}

@@ -27,8 +27,8 @@ use Rattle.sctp_tx_rules.specs.Rows.{Carries}
 use Rattle.sctp_rules.specs.Points.{AreApart}
 use Rattle.sctp_rx_rules.specs.Receives.{Receives}
 use Rattle.sctp_rx_rules.specs.Near.{ReadsNear, AreFew}
-use Rattle.sctp_association.specs.Association.{Tcb, State, Closed, CookieWait, Open}
-use Rattle.sctp_association.specs.Laws.{Call}
+use Rattle.sctp_table.specs.Association.{Tcb, State, Closed, CookieWait, Open}
+use Rattle.sctp_table.specs.Laws.{Call}
 use Rattle.sctp_association_laws.specs.Mapped.{Carried}
 use Rattle.sctp_course.specs.Acts.{Making, IsHeard, is_response}
 use Rattle.sctp_course.specs.Course.{packets_in, AreGiven}

@@ -10,8 +10,8 @@ use Rattle.sctp_state.specs.Events.{silent}
 use Rattle.sctp_rules.specs.State.{Message, Transfer, IsAmong, count}
 use Rattle.sctp_rules.specs.Rules.{Event}
 use Rattle.sctp_rules.specs.Kept.{Kept}
-use Rattle.sctp_association.specs.Association.{State, Closed, CookieWait, Open}
-use Rattle.sctp_association.specs.Socket.{Association, association_in}
+use Rattle.sctp_table.specs.Association.{State, Closed, CookieWait, Open}
+use Rattle.sctp_table.specs.Shown.{Association, association_in}
 use Rattle.sctp_association_laws.specs.Mapped.{Carried}
 use Rattle.sctp_course.specs.Course.{Side, emitted, state_of}
 use Rattle.sctp_delivery.specs.Windows.{Stamp, queue_of}

@@ -12,7 +12,7 @@ use Rattle.sctp_rx_rules.specs.View.{ready_of}
 use Rattle.sctp_outstanding.specs.Items.{no_items}
 use Rattle.sctp_tx_rules.specs.Led.{id_of, ids_at}
 use Rattle.sctp_tx_rules.proofs.RestLemmas.{rest_outgoing}
-use Rattle.sctp_association.specs.Association.{State, Closed, CookieWait, Open}
+use Rattle.sctp_table.specs.Association.{State, Closed, CookieWait, Open}
 use Rattle.sctp_course.specs.Course.{Side, state_of}
 use Rattle.sctp_delivery.specs.Accepted.{Offer}
 use Rattle.sctp_delivery.specs.GivenUp.{kept_in, IsAtRest}

@@ -13,8 +13,8 @@ use Rattle.sctp_rules.specs.Claims.{ready_message, Claims}
 use Rattle.sctp_rules.specs.Claims as rules
 use Rattle.sctp_rules.specs.Kept.{Kept}
 use Rattle.sctp_rules.proofs.ClaimsLemmas.{claimed}
-use Rattle.sctp_association.specs.Association.{State, Closed, CookieWait, Open}
-use Rattle.sctp_association.specs.Calls.{ready_in}
+use Rattle.sctp_table.specs.Association.{State, Closed, CookieWait, Open}
+use Rattle.sctp_table.specs.Calls.{ready_in}
 use Rattle.sctp_delivery.specs.Accepted.{Offer}
 use Rattle.sctp_delivery.specs.Delivery.{message_at, Fits}
 use Rattle.sctp_delivery.proofs.ClaimLemmas.{ReceivesIn, IsFresh}

@@ -9,7 +9,7 @@ use Rattle.sctp_rx_rules.proofs.RowLemmas.{first_receives}
 use Rattle.sctp_rx_rules.proofs.NearRowLemmas.{new_is_near}
 use Rattle.sctp_rx_rules.proofs.NearKeptLemmas.{new_mids}
 use Rattle.sctp_tx_rules.proofs.StartLemmas.{new_shows}
-use Rattle.sctp_association.specs.Laws.{NoPacket}
+use Rattle.sctp_table.specs.Laws.{NoPacket}
 use Rattle.sctp_course.specs.Course.{side_of, Pair, new_side}
 use Rattle.sctp_course.specs.Course as course
 use Rattle.sctp_course.proofs.HandingLemmas.{first_halves, nothing_ready}

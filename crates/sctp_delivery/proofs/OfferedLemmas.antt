@@ -7,10 +7,10 @@ use Rattle.sctp_state.specs.Options.{SendOptions}
 use Rattle.sctp_state.specs.Events.{Told}
 use Rattle.sctp_rules.specs.State.{Message, Transfer, count}
 use Rattle.sctp_tx_rules.specs.Led.{recorded, delivered}
-use Rattle.sctp_association.specs.Association.{Context, Standing, Endpoint, with_context}
-use Rattle.sctp_association.specs.Sending.{send_in}
-use Rattle.sctp_association.specs.Calls.{shown_state, refusal_of, offer, offer_all}
-use Rattle.sctp_association.specs.Laws.{Call, Send, SendMany, NoPacket, called}
+use Rattle.sctp_table.specs.Association.{Context, Standing, Endpoint, with_context}
+use Rattle.sctp_table.specs.Sending.{send_in}
+use Rattle.sctp_table.specs.Calls.{shown_state, refusal_of, offer, offer_all}
+use Rattle.sctp_table.specs.Laws.{Call, Send, SendMany, NoPacket, called}
 use Rattle.sctp_association_laws.specs.Mapped.{Carried}
 use Rattle.sctp_course.specs.Acts.{Making, idle, calm, IsHeard, alone, HasNoEnd, KeepsUntilEnd}
 use Rattle.sctp_course.specs.Course.{Side, packets_in, state_of}

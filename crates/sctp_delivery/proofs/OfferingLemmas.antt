@@ -17,9 +17,9 @@ use Rattle.sctp_rules.proofs.KeepsLemmas.{keeps}
 use Rattle.sctp_tx_rules.specs.Led.{recorded, delivered}
 use Rattle.sctp_tx_rules.specs.Rows.{offered}
 use Rattle.sctp_tx_rules.proofs.AcceptLemmas.{accept_row}
-use Rattle.sctp_association.specs.Association.{State, Closed, CookieWait, Open, Context}
-use Rattle.sctp_association.specs.Calls.{shown_state, refusal_by, refusal, queued, offer, offer_all}
-use Rattle.sctp_association.specs.Calls as calls
+use Rattle.sctp_table.specs.Association.{State, Closed, CookieWait, Open, Context}
+use Rattle.sctp_table.specs.Calls.{shown_state, refusal_by, refusal, queued, offer, offer_all}
+use Rattle.sctp_table.specs.Calls as calls
 use Rattle.sctp_association_laws.specs.Mapped.{Carried}
 use Rattle.sctp_course.specs.Course.{packets_in}
 use Rattle.sctp_course.proofs.ToldLemmas.{tells_refused, quiet_refused}

@@ -9,11 +9,11 @@ use Rattle.sctp_packet.specs.Packet.{PacketTree}
 use Rattle.sctp_state.specs.declared.api.errors.SendError.{SendError}
 use Rattle.sctp_state.specs.Events.{GivenUp}
 use Rattle.sctp_state.specs.Options.{Options, SendOptions}
-use Rattle.sctp_association.specs.Association.{Standing, Endpoint, where_open, with_context}
-use Rattle.sctp_association.specs.Sending.{is_alone, send_in}
-use Rattle.sctp_association.specs.Calls.{shown_state, refusal_of, offer, offer_all, sent_if}
-use Rattle.sctp_association.specs.Input.{refusal}
-use Rattle.sctp_association.specs.Laws.{Call, Connect, Close, Shutdown, Send, SendMany, ResetStreams, TakeMessage, SetLowThreshold, SetPriority, SetMaxMessageSize, Advance, HandOver, Restore, Packet, NoPacket, called}
+use Rattle.sctp_table.specs.Association.{Standing, Endpoint, where_open, with_context}
+use Rattle.sctp_table.specs.Sending.{is_alone, send_in}
+use Rattle.sctp_table.specs.Calls.{shown_state, refusal_of, offer, offer_all, sent_if}
+use Rattle.sctp_table.specs.Input.{refusal}
+use Rattle.sctp_table.specs.Laws.{Call, Connect, Close, Shutdown, Send, SendMany, ResetStreams, TakeMessage, SetLowThreshold, SetPriority, SetMaxMessageSize, Advance, HandOver, Restore, Packet, NoPacket, called}
 use Rattle.sctp_association_laws.specs.Mapped.{Carried}
 use Rattle.sctp_course.specs.Acts.{idle, calm, IsOffered, alone, among}
 use Rattle.sctp_course.specs.Course.{Side, Pair, emitted, Turn, Calls, Gives, Refuses, as_heard, took, given, foreign_if, turned, goes, side_of, start, state_of}

@@ -15,8 +15,8 @@ use Rattle.sctp_rules.specs.Points.{AreApart}
 use Rattle.sctp_rules.specs.Windows.{Windows}
 use Rattle.sctp_rx_rules.specs.Read.{Carries}
 use Rattle.sctp_rx_rules.specs.Near.{IsWritten, AreEntries, AreFew}
-use Rattle.sctp_association.specs.Association.{Tcb, Phase, State, Closed, CookieWait, Open}
-use Rattle.sctp_association.specs.Laws.{Call}
+use Rattle.sctp_table.specs.Association.{Tcb, Phase, State, Closed, CookieWait, Open}
+use Rattle.sctp_table.specs.Laws.{Call}
 use Rattle.sctp_association_laws.specs.Mapped.{Carried}
 use Rattle.sctp_course.specs.Acts.{Making, in_open, IsHeard, is_response}
 use Rattle.sctp_course.proofs.JoinActsLemmas.{Setting, InvAt}

@@ -9,8 +9,8 @@ use Rattle.sctp_send_queue.specs.Queue.{Queue}
 use Rattle.sctp_outstanding.specs.Items.{Outstanding, number_of}
 use Rattle.sctp_rules.specs.State.{Message, Receiver, Transfer, IsAmong, count}
 use Rattle.sctp_rules.specs.Kept.{Kept}
-use Rattle.sctp_association.specs.Association.{Tcb, Phase, State, Closed, CookieWait, Open}
-use Rattle.sctp_association.specs.Laws.{Call}
+use Rattle.sctp_table.specs.Association.{Tcb, Phase, State, Closed, CookieWait, Open}
+use Rattle.sctp_table.specs.Laws.{Call}
 use Rattle.sctp_association_laws.specs.Mapped.{Carried}
 use Rattle.sctp_course.specs.Acts.{Making, in_open, IsHeard, point_of}
 use Rattle.sctp_course.proofs.JoinActsLemmas.{Setting, InvAt}

@@ -19,8 +19,8 @@ use Rattle.sctp_rx_rules.specs.Receives.{Receives}
 use Rattle.sctp_rx_rules.specs.Near.{IsWritten, AreEntries, AreFew, ReadsNear, GoesNear}
 use Rattle.sctp_rx_rules.proofs.NearComesLemmas.{held_near, late_near, point_near}
 use Rattle.sctp_rx_rules.proofs.RowLemmas.{old_point, again}
-use Rattle.sctp_association.specs.Association.{Tcb}
-use Rattle.sctp_association.specs.Data.{added_unless, skipped_if, taken, forwarded}
+use Rattle.sctp_table.specs.Association.{Tcb}
+use Rattle.sctp_table.specs.Data.{added_unless, skipped_if, taken, forwarded}
 use Rattle.sctp_delivery.proofs.ClaimLemmas.{is_receiving, GoesOn, IsReceiving}
 use Rattle.sctp_delivery.proofs.ReadingDataLemmas.{DataHeard, PointHeard}
 use Rattle.sctp_delivery.proofs.ReceiverToolLemmas.{ready_is_receiving, receiving_goes}

@@ -17,8 +17,8 @@ use Rattle.sctp_rx_rules.specs.Receives.{Receives}
 use Rattle.sctp_rx_rules.proofs.RowLemmas.{sack_allowed, sender_goes}
 use Rattle.sctp_rx_rules.proofs.NearRowLemmas.{sender_keeps}
 use Rattle.sctp_rx_rules.proofs.NearKeptLemmas.{sender_keeps_mids}
-use Rattle.sctp_association.specs.Association.{Tcb}
-use Rattle.sctp_association.specs.Sending.{selective_ack}
+use Rattle.sctp_table.specs.Association.{Tcb}
+use Rattle.sctp_table.specs.Sending.{selective_ack}
 use Rattle.sctp_delivery.proofs.ClaimLemmas.{is_receiving, GoesOn, IsReceiving, SaysIn}
 
 -- the first fragment above the front

@@ -11,10 +11,10 @@ use Rattle.sctp_tx.specs.Retransmission.{Sender}
 use Rattle.sctp_rx.specs.Seen.{Seen, contains}
 use Rattle.sctp_rx.specs.Tracker.{Tracker, IsTracker}
 use Rattle.sctp_rules.specs.State.{Message, Transfer, count}
-use Rattle.sctp_association.specs.Association.{Tcb, Phase}
-use Rattle.sctp_association.specs.Packets.{Packet, add_all, header_to, emit_if}
-use Rattle.sctp_association.specs.Requests.{Requests}
-use Rattle.sctp_association.specs.Laws.{Packing}
+use Rattle.sctp_table.specs.Association.{Tcb, Phase}
+use Rattle.sctp_table.specs.Packets.{Packet, add_all, header_to, emit_if}
+use Rattle.sctp_table.specs.Requests.{Requests}
+use Rattle.sctp_table.specs.Laws.{Packing}
 use Rattle.sctp_association_laws.specs.Mapped.{Carried}
 use Rattle.sctp_course.specs.Acts.{Making, is_plain, with_chunk, with_packet, in_open}
 use Rattle.sctp_course.specs.Course.{as_carried, packets_in}

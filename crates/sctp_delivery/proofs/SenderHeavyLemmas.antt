@@ -28,11 +28,11 @@ use Rattle.sctp_tx_rules.specs.Rows.{AllCarry, left}
 use Rattle.sctp_tx_rules.proofs.PointLemmas.{point_row}
 use Rattle.sctp_tx_rules.proofs.SendLemmas.{fast_row, send_row}
 use Rattle.sctp_tx_rules.proofs.WholeLemmas.{timeout_row, expiry_row, heard_row, shown_again}
-use Rattle.sctp_association.specs.Association.{Tcb, Phase, Context}
-use Rattle.sctp_association.specs.Packets.{Packet, room, add, add_all}
-use Rattle.sctp_association.specs.Sending.{data_chunk_of, data_chunks, is_small, fast_most}
-use Rattle.sctp_association.specs.Acknowledging.{cleaned}
-use Rattle.sctp_association.specs.Laws.{Call}
+use Rattle.sctp_table.specs.Association.{Tcb, Phase, Context}
+use Rattle.sctp_table.specs.Packets.{Packet, room, add, add_all}
+use Rattle.sctp_table.specs.Sending.{data_chunk_of, data_chunks, is_small, fast_most}
+use Rattle.sctp_table.specs.Acknowledging.{cleaned}
+use Rattle.sctp_table.specs.Laws.{Call}
 use Rattle.sctp_association_laws.specs.Mapped.{Carried}
 use Rattle.sctp_course.specs.Acts.{Making, in_open, with_context, IsHeard, timeout_of, point_of, takes_sack, before_sack, after_sack, expires, adds_forward, sends, sends_fast, before_sending, after_sending, times_out, before_time, after_time}
 use Rattle.sctp_course.specs.Course.{packets_in}

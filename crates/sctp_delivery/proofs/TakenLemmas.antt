@@ -9,8 +9,8 @@ use Rattle.sctp_rules.specs.State.{Message, Transfer}
 use Rattle.sctp_rx_rules.specs.View.{view_with, IsSeenAs}
 use Rattle.sctp_rx_rules.specs.Receives.{Receives}
 use Rattle.sctp_rx_rules.specs.Near.{ReadsNear}
-use Rattle.sctp_association.specs.Association.{State, Closed, CookieWait, Open}
-use Rattle.sctp_association.specs.Calls.{ready_in, taken_in}
+use Rattle.sctp_table.specs.Association.{State, Closed, CookieWait, Open}
+use Rattle.sctp_table.specs.Calls.{ready_in, taken_in}
 use Rattle.sctp_delivery.proofs.ClaimLemmas.{SendsIn, IsFresh, ReceivesIn}
 
 -- ---- the sender's part

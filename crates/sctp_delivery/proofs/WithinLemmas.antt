@@ -7,7 +7,7 @@ use Rattle.sctp_packet.specs.Chunk.{FragmentTree}
 use Rattle.sctp_send_queue.specs.Queue.{Queue, stream}
 use Rattle.sctp_outstanding.specs.Item.{Item}
 use Rattle.sctp_outstanding.specs.Items.{Items, next_number}
-use Rattle.sctp_association.specs.Association.{Tcb, State, Closed, CookieWait, Open}
+use Rattle.sctp_table.specs.Association.{Tcb, State, Closed, CookieWait, Open}
 use Rattle.sctp_rules.specs.State.{Message, Transfer, fragment, place_of, count, ordered_of, stream_of}
 use Rattle.sctp_rules.specs.Kept.{Kept}
 use Rattle.sctp_rules.specs.Windows.{Windows}

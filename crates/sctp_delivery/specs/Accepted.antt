@@ -4,9 +4,9 @@ use Rattle.sctp_serial.specs.Messages.{Message}
 use Rattle.sctp_state.specs.declared.api.SocketState.{SocketState}
 use Rattle.sctp_state.specs.declared.api.errors.SendError.{SendError}
 use Rattle.sctp_state.specs.Options.{SendOptions}
-use Rattle.sctp_association.specs.Association.{Context}
-use Rattle.sctp_association.specs.Calls.{shown_state, refusal, offer}
-use Rattle.sctp_association.specs.Laws.{Call, Send, SendMany}
+use Rattle.sctp_table.specs.Association.{Context}
+use Rattle.sctp_table.specs.Calls.{shown_state, refusal, offer}
+use Rattle.sctp_table.specs.Laws.{Call, Send, SendMany}
 use Rattle.sctp_association_laws.specs.Mapped.{Carried}
 use Rattle.sctp_course.specs.Course.{Side, Pair, Turn, Calls, goes, state_of}
 

@@ -10,9 +10,9 @@ use Rattle.sctp_state.specs.Options.{Options, plainly}
 use Rattle.sctp_state.specs.Events.{GivenUp}
 use Rattle.sctp_state.specs.declared.api.GivenUpCause.{GivenUpCause}
 use Rattle.sctp_state.specs.declared.api.GivenUpCause.TheVariants.{Lifetime, Retransmissions}
-use Rattle.sctp_association.specs.Association.{Endpoint}
-use Rattle.sctp_association.specs.Input.{refusal}
-use Rattle.sctp_association.specs.Laws.{Send, Advance, Restore, Packet, called}
+use Rattle.sctp_table.specs.Association.{Endpoint}
+use Rattle.sctp_table.specs.Input.{refusal}
+use Rattle.sctp_table.specs.Laws.{Send, Advance, Restore, Packet, called}
 use Rattle.sctp_association_laws.specs.Mapped.{Carried}
 use Rattle.sctp_course.specs.Course.{Side, Pair, emitted, Turn, Calls, Gives, Refuses, as_heard, goes, run, side_of, FollowsTheRules, HasNotEnded, start, state_of}
 use Rattle.sctp_course.specs.Opens.{at_first, one_connects}

@@ -2,7 +2,7 @@
 use Rattle.std.specs.Prelude.{◌≡◌, ◌*◌, ◌^◌, Bool, true, false, Some, List, [], ◌∷◌, ◌++◌, map}
 use Rattle.sctp_state.specs.Options.{plainly}
 use Rattle.sctp_tx_rules.specs.Led.{delivered}
-use Rattle.sctp_association.specs.Laws.{Send, Advance}
+use Rattle.sctp_table.specs.Laws.{Send, Advance}
 use Rattle.sctp_course.specs.Course.{Turn, Calls, Gives, run, FollowsTheRules, HasNotEnded}
 use Rattle.sctp_course.specs.Opens.{at_first, one_connects}
 use Rattle.sctp_course.specs.Handing.{text, readied}

@@ -6,8 +6,8 @@ use Rattle.sctp_serial.specs.Unwrapped.{origin}
 use Rattle.sctp_send_queue.specs.Queue.{Queue, stream}
 use Rattle.sctp_outstanding.specs.Item.{Item}
 use Rattle.sctp_outstanding.specs.Items.{next_number}
-use Rattle.sctp_association.specs.Association.{Tcb, State, Closed, CookieWait, Open}
-use Rattle.sctp_association.specs.Laws.{ResetStreams, SetMaxMessageSize}
+use Rattle.sctp_table.specs.Association.{Tcb, State, Closed, CookieWait, Open}
+use Rattle.sctp_table.specs.Laws.{ResetStreams, SetMaxMessageSize}
 use Rattle.sctp_course.specs.Course.{Side, Pair, emitted, Turn, Calls, Gives, Refuses, goes, state_of}
 
 -- ---- what an end keeps

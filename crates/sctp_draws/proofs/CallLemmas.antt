@@ -4,10 +4,10 @@ use Rattle.sctp_serial.specs.Messages.{Message}
 use Rattle.sctp_state.specs.declared.api.SocketState.{SocketState}
 use Rattle.sctp_state.specs.declared.api.errors.SendError.{SendError}
 use Rattle.sctp_state.specs.Options.{SendOptions}
-use Rattle.sctp_association.specs.Association.{Phase, CookieEchoed, Established, ShutdownPending, ShutdownSent, ShutdownReceived, ShutdownAckSent, State, Closed, CookieWait, Open, Context, Standing, with_context, where_open}
-use Rattle.sctp_association.specs.Sending.{Sent, is_alone, open_with, send_buffered, send_in}
-use Rattle.sctp_association.specs.Calls.{shown_phase, shown_state, refusal, offered, offer, sent_if, send, offer_all, send_many, taken_in, take_message}
-use Rattle.sctp_association.specs.Laws.{Packing}
+use Rattle.sctp_table.specs.Association.{Phase, CookieEchoed, Established, ShutdownPending, ShutdownSent, ShutdownReceived, ShutdownAckSent, State, Closed, CookieWait, Open, Context, Standing, with_context, where_open}
+use Rattle.sctp_table.specs.Sending.{Sent, is_alone, open_with, send_buffered, send_in}
+use Rattle.sctp_table.specs.Calls.{shown_phase, shown_state, refusal, offered, offer, sent_if, send, offer_all, send_many, taken_in, take_message}
+use Rattle.sctp_table.specs.Laws.{Packing}
 use Rattle.sctp_draws.specs.NamedChunks.{Names, AreNames}
 use Rattle.sctp_draws.specs.Names.{named_phase, named_tcb, named_state, named_standing, plain}
 use Rattle.sctp_draws.proofs.WritingLemmas.{Knows}

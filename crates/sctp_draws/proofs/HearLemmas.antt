@@ -10,17 +10,17 @@ use Rattle.sctp_outstanding.specs.Items.{number_of}
 use Rattle.sctp_outstanding.specs.Sack.{is_valid}
 use Rattle.sctp_rx.specs.Tracker.{written}
 use Rattle.sctp_tx.specs.Retransmission.{SackAnswer, Invalid, Valid, sender_if, told_if, answer_if}
-use Rattle.sctp_association.specs.Association.{Tcb, Phase, CookieEchoed, Established, ShutdownPending, ShutdownSent, ShutdownReceived, ShutdownAckSent, State, Closed, CookieWait, Open, Context, Standing, Endpoint, in_context, where_open}
-use Rattle.sctp_association.specs.Heartbeats.{info_in, is_last, answered_if, answered_by, answered, on_heartbeat_ack}
-use Rattle.sctp_association.specs.Packets.{add, packet_to, new_packet}
-use Rattle.sctp_association.specs.Sending.{is_alone, send_lost}
-use Rattle.sctp_association.specs.Closing.{on_shutdown, out_of_the_blue, on_shutdown_ack_open, on_shutdown_ack_in, on_shutdown_ack, on_shutdown_complete, violated, on_abort, on_error, go_on}
-use Rattle.sctp_association.specs.Data.{on_no_data, no_data, on_data_in, on_data_if, on_data, on_forward}
-use Rattle.sctp_association.specs.Acknowledging.{cleaned, sampled, heard, on_sack_in, on_sack}
-use Rattle.sctp_association.specs.Acknowledging as acks
-use Rattle.sctp_association.specs.Opening.{on_cookie_ack, stands, connected}
-use Rattle.sctp_association.specs.Input.{misused, violation, is_reported, echoed, echoed_in, complained, on_unknown_if, on_unknown, on_heartbeat, Heard, on_standing, on_chunk, goes_on, heard_if, hear, hear_rest, hear_all, has_data, repeats, repeats_if, ended, handled}
-use Rattle.sctp_association.specs.Laws.{Packing}
+use Rattle.sctp_table.specs.Association.{Tcb, Phase, CookieEchoed, Established, ShutdownPending, ShutdownSent, ShutdownReceived, ShutdownAckSent, State, Closed, CookieWait, Open, Context, Standing, Endpoint, in_context, where_open}
+use Rattle.sctp_table.specs.Heartbeats.{info_in, is_last, answered_if, answered_by, answered, on_heartbeat_ack}
+use Rattle.sctp_table.specs.Packets.{add, packet_to, new_packet}
+use Rattle.sctp_table.specs.Sending.{is_alone, send_lost}
+use Rattle.sctp_table.specs.Closing.{on_shutdown, out_of_the_blue, on_shutdown_ack_open, on_shutdown_ack_in, on_shutdown_ack, on_shutdown_complete, violated, on_abort, on_error, go_on}
+use Rattle.sctp_table.specs.Data.{on_no_data, no_data, on_data_in, on_data_if, on_data, on_forward}
+use Rattle.sctp_table.specs.Acknowledging.{cleaned, sampled, heard, on_sack_in, on_sack}
+use Rattle.sctp_table.specs.Acknowledging as acks
+use Rattle.sctp_table.specs.Opening.{on_cookie_ack, stands, connected}
+use Rattle.sctp_table.specs.Input.{misused, violation, is_reported, echoed, echoed_in, complained, on_unknown_if, on_unknown, on_heartbeat, Heard, on_standing, on_chunk, goes_on, heard_if, hear, hear_rest, hear_all, has_data, repeats, repeats_if, ended, handled}
+use Rattle.sctp_table.specs.Laws.{Packing}
 use Rattle.sctp_draws.specs.NamedChunks.{Names, AreNames, flipped, moved, named_sack, named_chunk, named_chunks}
 use Rattle.sctp_draws.specs.Names.{named_state, named_standing, named_end, plain}
 use Rattle.sctp_draws.specs.Laws.{is_flowing}

@@ -5,9 +5,9 @@ use Rattle.sctp_packet.specs.Chunk.{ChunkTree}
 use Rattle.sctp_packet.specs.Written.{chunk_value, chunk_is_whole, chunk_bytes, chunks_bytes}
 use Rattle.sctp_state.specs.Numbers.{more}
 use Rattle.sctp_state.specs.Events.{SendPacket}
-use Rattle.sctp_association.specs.Association.{Tcb, Context}
-use Rattle.sctp_association.specs.Packets.{Packet, fits, added_if, add, add_all, is_some_chunk, has_chunks, new_packet, say, header_to, emit_if, emit, emit_chunk}
-use Rattle.sctp_association.specs.Laws.{Packing}
+use Rattle.sctp_table.specs.Association.{Tcb, Context}
+use Rattle.sctp_table.specs.Packets.{Packet, fits, added_if, add, add_all, is_some_chunk, has_chunks, new_packet, say, header_to, emit_if, emit, emit_chunk}
+use Rattle.sctp_table.specs.Laws.{Packing}
 use Rattle.sctp_draws.specs.NamedChunks.{Names, AreNames, named_chunk, named_chunks}
 use Rattle.sctp_draws.specs.Names.{named_packet, named_tcb, under, plain}
 use Rattle.sctp_draws.proofs.SizeLemmas.{same_value, size_named, sizes_named, whole_named}

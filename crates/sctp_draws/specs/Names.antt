@@ -7,10 +7,10 @@ use Rattle.sctp_rx.specs.Tracker.{DataTracker}
 use Rattle.sctp_rx.specs.ReassemblyQueue.{Reassembly}
 use Rattle.sctp_outstanding.specs.Items.{Outstanding}
 use Rattle.sctp_tx.specs.Retransmission.{Sender}
-use Rattle.sctp_association.specs.Association.{Identity, Tcb, Phase, CookieEchoed, Established, ShutdownPending, ShutdownSent, ShutdownReceived, ShutdownAckSent, State, Closed, CookieWait, Open, Context, Standing, Endpoint}
-use Rattle.sctp_association.specs.Requests.{Request, Requests}
-use Rattle.sctp_association.specs.Packets.{Packet}
-use Rattle.sctp_association.specs.Laws.{Packing}
+use Rattle.sctp_table.specs.Association.{Identity, Tcb, Phase, CookieEchoed, Established, ShutdownPending, ShutdownSent, ShutdownReceived, ShutdownAckSent, State, Closed, CookieWait, Open, Context, Standing, Endpoint}
+use Rattle.sctp_table.specs.Requests.{Request, Requests}
+use Rattle.sctp_table.specs.Packets.{Packet}
+use Rattle.sctp_table.specs.Laws.{Packing}
 use Rattle.sctp_draws.specs.NamedChunks.{Names, moved, named_chunks, named_header}
 
 -- a packet that is put together

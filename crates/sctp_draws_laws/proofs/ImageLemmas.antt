@@ -1,7 +1,7 @@
 -- A row under other names, and the map of its packets, joined.
 use Rattle.std.proofs.Common.{◌≡◌, ap, ◌∙◌}
-use Rattle.sctp_association.specs.Association.{Context, Standing, Endpoint}
-use Rattle.sctp_association.specs.Laws.{Packing}
+use Rattle.sctp_table.specs.Association.{Context, Standing, Endpoint}
+use Rattle.sctp_table.specs.Laws.{Packing}
 use Rattle.sctp_association_laws.specs.Mapped.{Carried, map_context, map_standing}
 use Rattle.sctp_association_laws.proofs.OpeningMapsLemmas.{maps_connect}
 use Rattle.sctp_association_laws.proofs.RowMapsLemmas.{maps_on_sack}

@@ -6,9 +6,9 @@ use Rattle.sctp_serial.specs.Messages.{Message}
 use Rattle.sctp_state.specs.declared.api.errors.SendError.{SendError}
 use Rattle.sctp_state.specs.Options.{SendOptions, defaults}
 use Rattle.sctp_state.specs.Events.{Event, SendPacket, OnBufferedAmountLow}
-use Rattle.sctp_association.specs.Association.{Endpoint}
-use Rattle.sctp_association.specs.Calls.{send, refusal_of}
-use Rattle.sctp_association.specs.Input.{on_standing}
+use Rattle.sctp_table.specs.Association.{Endpoint}
+use Rattle.sctp_table.specs.Calls.{send, refusal_of}
+use Rattle.sctp_table.specs.Input.{on_standing}
 use Rattle.sctp_association_laws.specs.FirstRun.{init_packet, init_ack_packet, cookie_echo_packet, cookie_ack_packet, data_packet, sack_packet, quiet, accepting, sending, taking, resting, fully_sent, association, IsSmall, LeadsOn}
 use Rattle.sctp_association_laws.proofs.OpeningRunLemmas.{telling, opened_a, opened_b, opens, accepts}
 use Rattle.sctp_association_laws.proofs.SendRunLemmas.{sent_end, sends, accepts_message}

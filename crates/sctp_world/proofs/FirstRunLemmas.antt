@@ -5,10 +5,11 @@ use Rattle.rand_core.specs.Stream.{Stream}
 use Rattle.sctp_serial.specs.Messages.{Message}
 use Rattle.sctp_state.specs.Options.{SendOptions, defaults, plainly}
 use Rattle.sctp_state.specs.Events.{OnConnected}
-use Rattle.sctp_association.specs.Association.{Endpoint, fresh}
-use Rattle.sctp_association.specs.Laws.{Packing}
-use Rattle.sctp_association.specs.Socket.{Association, Hears}
-use Rattle.sctp_association.specs.Wire.{written}
+use Rattle.sctp_table.specs.Association.{Endpoint, fresh}
+use Rattle.sctp_table.specs.Laws.{Packing}
+use Rattle.sctp_table.specs.Shown.{Association}
+use Rattle.sctp_table.specs.Hearing.{Hears}
+use Rattle.sctp_table.specs.Wire.{written}
 use Rattle.sctp_association_laws.specs.Mapped.{Carried, as_written}
 use Rattle.sctp_association_laws.specs.FirstRun as run
 use Rattle.sctp_association_laws.specs.FirstRun.{init_packet, init_ack_packet, cookie_echo_packet, cookie_ack_packet, quiet, asking, answering, echoing, accepting, opening, association, IsSmall, Leads, LeadsOn}

@@ -6,8 +6,8 @@ use Rattle.sctp_state.specs.declared.api.handover.SocketHandoverState.{SocketHan
 use Rattle.sctp_state.specs.declared.api.errors.HandoverError.{HandoverError}
 use Rattle.sctp_state.specs.declared.api.errors.HandoverError.TheVariants as handovers
 use Rattle.sctp_state.specs.Handover.{HandoverState}
-use Rattle.sctp_association.specs.Association.{Endpoint}
-use Rattle.sctp_association.specs.Handover.{handed_over}
+use Rattle.sctp_table.specs.Association.{Endpoint}
+use Rattle.sctp_table.specs.Handover.{handed_over}
 use Rattle.sctp_association.specs.Socket.{Worked, handover_ending, readiness_in}
 use Rattle.sctp_world.specs.Judge.{Answer, HandedOver, NotReady}
 use Rattle.sctp_world.specs.World.{handed_by}

@@ -5,11 +5,11 @@ use Rattle.std.proofs.lemmas.List.Elements.{All-nil, All-cons, All-head, All-tai
 use Rattle.rand_core.specs.Stream.{Stream}
 use Rattle.sctp_state.specs.Options.{Options, IsValid}
 use Rattle.sctp_state.specs.Events.{Event, SendPacket, OnConnected, OnClosed, OnConnectionRestarted, OnAborted, OnError, OnBufferedAmountLow, OnTotalBufferedAmountLow, OnStreamsResetFailed, OnStreamsResetPerformed, OnIncomingStreamReset, OnLifecycleMessageFullySent, OnLifecycleMessageMaybeExpired, OnLifecycleMessageExpired, OnLifecycleMessageDelivered, OnLifecycleEnd}
-use Rattle.sctp_association.specs.Association.{Context, Endpoint}
-use Rattle.sctp_association.specs.Laws.{HasAtMost, SendsAtMost, StaysWithin, called}
-use Rattle.sctp_association.specs.Laws as table
-use Rattle.sctp_association.specs.Socket.{Hears, heard, not_read}
-use Rattle.sctp_association.proofs.LawsLemmas.{stays_within, sends_at_most}
+use Rattle.sctp_table.specs.Association.{Context, Endpoint}
+use Rattle.sctp_table.specs.Laws.{HasAtMost, SendsAtMost, StaysWithin, called}
+use Rattle.sctp_table.specs.Laws as table
+use Rattle.sctp_table.specs.Hearing.{Hears, heard, not_read}
+use Rattle.sctp_table_laws.proofs.LawsLemmas.{stays_within, sends_at_most}
 use Rattle.sctp_world.specs.Judge.{End, Entry, A, B}
 use Rattle.sctp_world.specs.World.{Side, World, Action, CallOf, Give, GiveForeign, TellTime, Told, Takes, ComesTo, told, skipped, Comes, Gives, Happens, Runs, IsShort, IsShortSide, AreShort, fresh_side, fresh_world, packets_in, settled, side_of, other, step_of, calls, tells_time}
 

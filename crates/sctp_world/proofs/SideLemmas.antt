@@ -1,9 +1,11 @@
 -- What an end makes of bytes, and what the log has of it.
 use Rattle.std.proofs.Common.{◌≡◌, ℕ, Bool, true, false, Option, None, Some, List, [], ◌∷◌, ◌++◌, length, refl, sym, ap, subst, ◌∙◌}
 use Rattle.rand_core.specs.Stream.{Stream}
-use Rattle.sctp_association.specs.Association.{Endpoint}
-use Rattle.sctp_association.specs.Calls.{ready_in}
-use Rattle.sctp_association.specs.Socket.{SocketValue, Association, Hears, Judges, association_in, endpoint}
+use Rattle.sctp_table.specs.Association.{Endpoint}
+use Rattle.sctp_table.specs.Calls.{ready_in}
+use Rattle.sctp_association.specs.Socket.{SocketValue, endpoint}
+use Rattle.sctp_table.specs.Shown.{Association, association_in}
+use Rattle.sctp_table.specs.Hearing.{Hears, Judges}
 use Rattle.sctp_world.specs.Judge.{End, A, B, Entry, Foreign}
 use Rattle.sctp_world.specs.World.{Told, ComesTo, Comes, IsJudged, settled, news, clock}
 use Rattle.sctp_world.specs.World as comes

@@ -3,7 +3,7 @@ use Rattle.std.specs.Prelude.{◌≡◌, ℕ, Some, List, [], ◌∷◌}
 use Rattle.rand_core.specs.Stream.{Stream}
 use Rattle.sctp_serial.specs.Messages.{Message}
 use Rattle.sctp_state.specs.Options.{SendOptions, defaults}
-use Rattle.sctp_association.specs.Socket.{Association}
+use Rattle.sctp_table.specs.Shown.{Association}
 use Rattle.sctp_world.specs.Judge.{A, B, crossed, times_connected, held, accepted, ready, Connect, Send}
 use Rattle.sctp_world.specs.World.{Action, CallOf, Give, World, fresh_world}
 

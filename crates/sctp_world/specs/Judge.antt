@@ -7,7 +7,7 @@ use Rattle.sctp_state.specs.declared.api.errors.ResetStreamsError.{ResetStreamsE
 use Rattle.sctp_state.specs.Handover.{HandoverState}
 use Rattle.sctp_state.specs.Options.{SendOptions}
 use Rattle.sctp_state.specs.Events.{Event, OnConnected, GivenUp}
-use Rattle.sctp_association.specs.Socket.{Association}
+use Rattle.sctp_table.specs.Shown.{Association}
 
 pub data End : Type 0 where
   A : End

@@ -4,15 +4,16 @@ use Rattle.rand_core.specs.Stream.{Stream}
 use Rattle.sctp_serial.specs.Messages.{Message}
 use Rattle.sctp_state.specs.Options.{Options}
 use Rattle.sctp_state.specs.Events.{Event, SendPacket, first_of, GivenUp, silent}
-use Rattle.sctp_association.specs.Association.{Endpoint, fresh}
-use Rattle.sctp_association.specs.Calls.{shown_state, refusal_of, refusals, ready_in}
-use Rattle.sctp_association.specs.Handover.{readiness, handed_over}
-use Rattle.sctp_association.specs.Resets.{reset_refusal}
-use Rattle.sctp_association.specs.Laws as table
-use Rattle.sctp_association.specs.Laws.{called}
-use Rattle.sctp_association.specs.Socket.{Association, Hears, Judges, association_in}
-use Rattle.sctp_association.specs.Socket as socket
-use Rattle.sctp_association.specs.Wire.{written}
+use Rattle.sctp_table.specs.Association.{Endpoint, fresh}
+use Rattle.sctp_table.specs.Calls.{shown_state, refusal_of, refusals, ready_in}
+use Rattle.sctp_table.specs.Handover.{readiness, handed_over}
+use Rattle.sctp_table.specs.Resets.{reset_refusal}
+use Rattle.sctp_table.specs.Laws as table
+use Rattle.sctp_table.specs.Laws.{called}
+use Rattle.sctp_table.specs.Shown.{Association, association_in}
+use Rattle.sctp_table.specs.Hearing.{Hears, Judges}
+use Rattle.sctp_table.specs.Shown as socket
+use Rattle.sctp_table.specs.Wire.{written}
 use Rattle.sctp_world.specs.Judge.{End, A, B, same_association, Call, Connect, Shutdown, Close, Send, SendMany, Receive, Reset, SetPriority, SetMaxMessageSize, SetLowThreshold, HandOver, Answer, Done, Sent, SentMany, Received, AskedReset, HandedOver, NotReady, Entry, Called, Given, Foreign, Timed, Associated, Emitted, Happened, GaveUp, BecameReady}
 
 -- an end, with the packets that it ever sent

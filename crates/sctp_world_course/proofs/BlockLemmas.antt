@@ -6,10 +6,10 @@ use Rattle.std.proofs.lemmas.Grind.{flat_map-append}
 use Rattle.sctp_serial.specs.Messages.{Message}
 use Rattle.sctp_rx.specs.Delivery.{Extends}
 use Rattle.sctp_rx.proofs.ExtendsLemmas.{extends_by}
-use Rattle.sctp_association.specs.Association.{State, Closed, CookieWait, Open}
-use Rattle.sctp_association.specs.Calls.{ready_in, taken_in}
-use Rattle.sctp_association.specs.Laws.{TakeMessage}
-use Rattle.sctp_association.specs.Socket.{Association, association_in}
+use Rattle.sctp_table.specs.Association.{State, Closed, CookieWait, Open}
+use Rattle.sctp_table.specs.Calls.{ready_in, taken_in}
+use Rattle.sctp_table.specs.Laws.{TakeMessage}
+use Rattle.sctp_table.specs.Shown.{Association, association_in}
 use Rattle.sctp_course.specs.Course.{Side, Pair, Turn, Calls, Gives, Refuses, turned, goes, run, side_of, state_of}
 use Rattle.sctp_course.specs.Handing.{ready_at, new_behind, handed_by, handed_at, handed, readied}
 use Rattle.sctp_delivery.specs.Accepted.{Offer, accepted_at, accepted}

@@ -7,9 +7,9 @@ use Rattle.std.proofs.lemmas.List.Elements.{All-head, All-tail}
 use Rattle.rand_core.specs.Stream.{Stream}
 use Rattle.sctp_serial.specs.Messages.{Message}
 use Rattle.sctp_state.specs.Options.{Options, SendOptions, IsValid}
-use Rattle.sctp_association.specs.Association.{State, Endpoint}
-use Rattle.sctp_association.specs.Laws as table
-use Rattle.sctp_association.specs.Socket.{Association, association_in}
+use Rattle.sctp_table.specs.Association.{State, Endpoint}
+use Rattle.sctp_table.specs.Laws as table
+use Rattle.sctp_table.specs.Shown.{Association, association_in}
 use Rattle.sctp_association_laws.specs.Mapped.{Carried, map_end, as_written}
 use Rattle.sctp_association_laws.specs.Sound.{OptionsFit}
 use Rattle.sctp_rx.specs.Delivery as orders

@@ -2,9 +2,9 @@
 use Rattle.std.proofs.Common.{◌≡◌, ℕ, Option, Some, None, List, length, refl, sym, ap, ◌∙◌}
 use Rattle.std.specs.List.{flat_map}
 use Rattle.sctp_state.specs.Options.{Options, IsValid}
-use Rattle.sctp_association.specs.Association.{Identity, Tcb, Phase, State, Closed, CookieWait, Open, Endpoint}
-use Rattle.sctp_association.specs.Laws.{endings}
-use Rattle.sctp_association.specs.Socket.{Association, association_in}
+use Rattle.sctp_table.specs.Association.{Identity, Tcb, Phase, State, Closed, CookieWait, Open, Endpoint}
+use Rattle.sctp_table.specs.Laws.{endings}
+use Rattle.sctp_table.specs.Shown.{Association, association_in}
 use Rattle.sctp_association_laws.specs.Mapped.{as_written}
 use Rattle.sctp_association_laws.specs.Sound.{OptionsFit}
 use Rattle.sctp_course.specs.Course as course

@@ -8,10 +8,10 @@ use Rattle.sctp_state.specs.declared.api.SocketState.{SocketState}
 use Rattle.sctp_state.specs.declared.api.errors.SendError.{SendError}
 use Rattle.sctp_state.specs.Options.{Options, SendOptions}
 use Rattle.sctp_state.specs.Events.{Event, GivenUp, SendPacket, OnConnected, OnClosed, OnConnectionRestarted, OnAborted, OnError, OnBufferedAmountLow, OnTotalBufferedAmountLow, OnStreamsResetFailed, OnStreamsResetPerformed, OnIncomingStreamReset, OnLifecycleMessageFullySent, OnLifecycleMessageMaybeExpired, OnLifecycleMessageExpired, OnLifecycleMessageDelivered, OnLifecycleEnd, first_of}
-use Rattle.sctp_association.specs.Association.{Context, Endpoint}
+use Rattle.sctp_table.specs.Association.{Context, Endpoint}
 use Rattle.sctp_send_queue.specs.Queue.{Queue, added}
-use Rattle.sctp_association.specs.Calls.{refusal, refusals, with_refusal, queued, offered, offer}
-use Rattle.sctp_association.specs.Socket.{Association}
+use Rattle.sctp_table.specs.Calls.{refusal, refusals, with_refusal, queued, offered, offer}
+use Rattle.sctp_table.specs.Shown.{Association}
 use Rattle.sctp_association_laws.specs.Mapped.{Carried}
 use Rattle.sctp_delivery.specs.Accepted.{Offer, unless_refused, accepted_of}
 use Rattle.sctp_tx_rules.specs.Led.{delivered_by}

@@ -5,8 +5,8 @@ use Rattle.std.proofs.lemmas.Grind.{flat_map-append}
 use Rattle.std.proofs.lemmas.Bool.{and_parts, eqb-true}
 use Rattle.sctp_serial.specs.Messages.{Message}
 use Rattle.sctp_state.specs.Events.{Event, GivenUp, SendPacket, OnConnected, OnClosed, OnConnectionRestarted, OnAborted, OnError, OnBufferedAmountLow, OnTotalBufferedAmountLow, OnStreamsResetFailed, OnStreamsResetPerformed, OnIncomingStreamReset, OnLifecycleMessageFullySent, OnLifecycleMessageMaybeExpired, OnLifecycleMessageExpired, OnLifecycleMessageDelivered, OnLifecycleEnd}
-use Rattle.sctp_association.specs.Association.{Endpoint}
-use Rattle.sctp_association.specs.Socket.{Association}
+use Rattle.sctp_table.specs.Association.{Endpoint}
+use Rattle.sctp_table.specs.Shown.{Association}
 use Rattle.sctp_world.specs.Judge.{End, A, B, same_end, same_association, none_unless, Entry, Called, Given, Foreign, Timed, Associated, Emitted, Happened, GaveUp, BecameReady, newer, held_after, held_from, connected_by}
 use Rattle.sctp_world.specs.World.{association, ready_at, associated_if, association_entries, ready_before, ready_entries, gone_entries, told_entries, news}
 use Rattle.sctp_world_course.specs.Courses.{told_by, told_in}

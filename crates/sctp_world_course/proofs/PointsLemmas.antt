@@ -6,9 +6,9 @@ use Rattle.std.proofs.lemmas.Bool.{and_parts}
 use Rattle.sctp_serial.specs.Messages.{Message}
 use Rattle.sctp_send_queue.specs.Queue.{is_empty}
 use Rattle.sctp_outstanding.specs.Item.{Item}
-use Rattle.sctp_association.specs.Association.{State, Closed, CookieWait, Open, Endpoint}
-use Rattle.sctp_association.specs.Calls.{keeps_items}
-use Rattle.sctp_association.specs.Socket as socket
+use Rattle.sctp_table.specs.Association.{State, Closed, CookieWait, Open, Endpoint}
+use Rattle.sctp_table.specs.Calls.{keeps_items}
+use Rattle.sctp_table.specs.Shown as socket
 use Rattle.sctp_association_laws.specs.Mapped.{Carried, map_end, as_written}
 use Rattle.sctp_tx_rules.specs.Led.{delivered}
 use Rattle.sctp_course.specs.Course as course

@@ -5,7 +5,7 @@ use Rattle.std.specs.List.{flat_map, list_any}
 use Rattle.std.proofs.lemmas.List.Elements.{All-nil, All-head, All-tail}
 use Rattle.rand_core.specs.Stream.{Stream}
 use Rattle.sctp_state.specs.Options.{Options}
-use Rattle.sctp_association.specs.Association.{Endpoint}
+use Rattle.sctp_table.specs.Association.{Endpoint}
 use Rattle.sctp_association_laws.specs.Mapped.{as_written}
 use Rattle.sctp_association_laws.specs.Sound.{OptionsFit}
 use Rattle.sctp_association_laws.specs.ReadBack.{as_carried}

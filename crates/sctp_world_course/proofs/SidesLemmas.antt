@@ -7,8 +7,8 @@ use Rattle.std.proofs.lemmas.List.Elements.{All-append}
 use Rattle.std.proofs.lemmas.List.Folds.{list_any-append}
 use Rattle.std.proofs.lemmas.Bool.{or_left}
 use Rattle.sctp_state.specs.Events.{Event, GivenUp}
-use Rattle.sctp_association.specs.Association.{Endpoint}
-use Rattle.sctp_association.specs.Socket.{Association}
+use Rattle.sctp_table.specs.Association.{Endpoint}
+use Rattle.sctp_table.specs.Shown.{Association}
 use Rattle.sctp_association_laws.specs.Mapped.{Carried, map_end, as_written}
 use Rattle.sctp_association_laws.specs.Sound.{IsSound}
 use Rattle.sctp_association_laws.specs.ReadBack.{as_carried}

@@ -5,11 +5,11 @@ use Rattle.std.proofs.lemmas.Bool.Decides.{nat_tests}
 use Rattle.sctp_serial.specs.Messages.{Message}
 use Rattle.sctp_state.specs.Events.{GivenUp}
 use Rattle.sctp_tx_rules.specs.Led.{delivered}
-use Rattle.sctp_association.specs.Association.{State, Closed, CookieWait, Open, Endpoint}
-use Rattle.sctp_association.specs.Calls.{shown_state, refusal, ready_in}
-use Rattle.sctp_association.specs.Handover.{readiness}
-use Rattle.sctp_association.specs.Socket.{Association, association_in}
-use Rattle.sctp_association.specs.Laws as table
+use Rattle.sctp_table.specs.Association.{State, Closed, CookieWait, Open, Endpoint}
+use Rattle.sctp_table.specs.Calls.{shown_state, refusal, ready_in}
+use Rattle.sctp_table.specs.Handover.{readiness}
+use Rattle.sctp_table.specs.Shown.{Association, association_in}
+use Rattle.sctp_table.specs.Laws as table
 use Rattle.sctp_association_laws.specs.Mapped.{Carried, map_end}
 use Rattle.sctp_course.specs.Course as course
 use Rattle.sctp_course.specs.Course.{Turn, Calls, Gives, Refuses}

@@ -16,12 +16,12 @@ use Rattle.sctp_packet.specs.Written.{chunks_bytes}
 use Rattle.sctp_packet.proofs.LawLemmas.{one_packet_lem, never_both_lem}
 use Rattle.sctp_state.specs.Options.{Options}
 use Rattle.sctp_state.specs.Events.{Event, GivenUp, Told, silent}
-use Rattle.sctp_association.specs.Association.{Context, Endpoint}
-use Rattle.sctp_association.specs.Input.{refusal}
-use Rattle.sctp_association.specs.Laws.{Call, Packet, NoPacket, called, Packing}
-use Rattle.sctp_association.specs.Socket.{Hears, heard, not_read, Judges, taken, refused, unread, policy_of}
-use Rattle.sctp_association.specs.Wire.{field_of, word_in, word_at, written}
-use Rattle.sctp_association.proofs.LawsLemmas.{stays_within}
+use Rattle.sctp_table.specs.Association.{Context, Endpoint}
+use Rattle.sctp_table.specs.Input.{refusal}
+use Rattle.sctp_table.specs.Laws.{Call, Packet, NoPacket, called, Packing}
+use Rattle.sctp_table.specs.Hearing.{Hears, heard, not_read, Judges, taken, refused, unread, policy_of}
+use Rattle.sctp_table.specs.Wire.{field_of, word_in, word_at, written}
+use Rattle.sctp_table_laws.proofs.LawsLemmas.{stays_within}
 use Rattle.sctp_association_laws.specs.Mapped.{Carried, map_end, as_written}
 use Rattle.sctp_association_laws.specs.HeardBack.{IsHearable}
 use Rattle.sctp_association_laws.specs.Sound.{IsSound, ArgumentFits}

@@ -7,9 +7,9 @@ use Rattle.std.proofs.lemmas.List.Elements.{All-nil, All-cons, All-head, All-tai
 use Rattle.std.proofs.lemmas.Option.{slice_get-map}
 use Rattle.sctp_state.specs.Events.{GivenUp}
 use Rattle.sctp_packet.specs.Packet.{PacketTree}
-use Rattle.sctp_association.specs.Input.{refusal}
-use Rattle.sctp_association.specs.Laws as table
-use Rattle.sctp_association.specs.Socket.{Hears}
+use Rattle.sctp_table.specs.Input.{refusal}
+use Rattle.sctp_table.specs.Laws as table
+use Rattle.sctp_table.specs.Hearing.{Hears}
 use Rattle.sctp_association_laws.specs.Mapped.{Carried, as_written}
 use Rattle.sctp_association_laws.specs.ReadBack.{AreBytes}
 use Rattle.sctp_course.specs.Course as course

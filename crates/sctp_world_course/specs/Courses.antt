@@ -5,9 +5,9 @@ use Rattle.rand_core.specs.Stream.{Stream}
 use Rattle.sctp_packet.specs.Packet.{PacketTree, IsPacket, lets_through}
 use Rattle.sctp_state.specs.Options.{Options, IsValid}
 use Rattle.sctp_state.specs.Events.{silent}
-use Rattle.sctp_association.specs.Laws as table
-use Rattle.sctp_association.specs.Socket.{policy_of}
-use Rattle.sctp_association.specs.Wire.{field_of, word_at}
+use Rattle.sctp_table.specs.Laws as table
+use Rattle.sctp_table.specs.Hearing.{policy_of}
+use Rattle.sctp_table.specs.Wire.{field_of, word_at}
 use Rattle.sctp_association_laws.specs.Mapped.{Carried, map_event, map_end, as_written}
 use Rattle.sctp_association_laws.specs.Sound.{OptionsFit, ArgumentFits}
 use Rattle.sctp_association_laws.specs.ReadBack.{AreBytes}

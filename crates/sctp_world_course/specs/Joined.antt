@@ -5,8 +5,8 @@ use Rattle.std.specs.List.{flat_map, list_any}
 use Rattle.sctp_state.specs.Options.{Options}
 use Rattle.sctp_state.specs.Capabilities.{agreed, exchanged}
 use Rattle.sctp_state.specs.Events.{OnClosed, OnAborted}
-use Rattle.sctp_association.specs.Association.{Tcb, Phase, Open}
-use Rattle.sctp_association.specs.Socket.{Association}
+use Rattle.sctp_table.specs.Association.{Tcb, Phase, Open}
+use Rattle.sctp_table.specs.Shown.{Association}
 use Rattle.sctp_world.specs.Judge.{End, A, B, same_end, none_unless, crossed, held, times_connected, Connect, Shutdown, Entry, Called, Given, Happened}
 use Rattle.sctp_world.specs.World.{World, Runs, side_of, other}
 use Rattle.sctp_world.specs.FirstRun.{opening, IsFresh}

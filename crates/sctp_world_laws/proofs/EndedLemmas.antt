@@ -4,9 +4,10 @@ use Rattle.rand_core.specs.Stream.{Stream}
 use Rattle.sctp_serial.specs.Messages.{Message}
 use Rattle.sctp_state.specs.Options.{Options}
 use Rattle.sctp_state.specs.Events.{Event, SendPacket, OnConnected, OnClosed, OnConnectionRestarted, OnAborted, OnError, OnBufferedAmountLow, OnTotalBufferedAmountLow, OnStreamsResetFailed, OnStreamsResetPerformed, OnIncomingStreamReset, OnLifecycleMessageFullySent, OnLifecycleMessageMaybeExpired, OnLifecycleMessageExpired, OnLifecycleMessageDelivered, OnLifecycleEnd, GivenUp}
-use Rattle.sctp_association.specs.Association.{Endpoint}
-use Rattle.sctp_association.specs.Laws as table
-use Rattle.sctp_association.specs.Socket.{Association, Hears, heard, not_read}
+use Rattle.sctp_table.specs.Association.{Endpoint}
+use Rattle.sctp_table.specs.Laws as table
+use Rattle.sctp_table.specs.Shown.{Association}
+use Rattle.sctp_table.specs.Hearing.{Hears, heard, not_read}
 use Rattle.sctp_association_laws.specs.Lifecycles.{told_end, ends, alive, handed, is_restore, EndsWithin}
 use Rattle.sctp_association_laws.proofs.LifecycleLemmas.{ends_within}
 use Rattle.sctp_world.specs.Judge.{End, A, B, Call, Connect, Shutdown, Close, Send, SendMany, Receive, Reset, SetPriority, SetMaxMessageSize, SetLowThreshold, HandOver, Entry, Associated, GaveUp, BecameReady, same_end, same_association}

@@ -8,13 +8,13 @@ use Rattle.sctp_packet.specs.Packet.{PacketTree, IsPacket, Accepts}
 use Rattle.sctp_packet.proofs.LawLemmas.{one_packet_lem, never_both_lem}
 use Rattle.sctp_state.specs.Options.{Options, defaults}
 use Rattle.sctp_state.specs.Events.{Event, SendPacket, OnConnected, OnClosed, OnConnectionRestarted, OnAborted, OnError, OnBufferedAmountLow, OnTotalBufferedAmountLow, OnStreamsResetFailed, OnStreamsResetPerformed, OnIncomingStreamReset, OnLifecycleMessageFullySent, OnLifecycleMessageMaybeExpired, OnLifecycleMessageExpired, OnLifecycleMessageDelivered, OnLifecycleEnd}
-use Rattle.sctp_association.specs.Association.{Context, Endpoint}
-use Rattle.sctp_association.specs.Input.{refusal, on_packet}
-use Rattle.sctp_association.specs.Laws.{Packing, called}
-use Rattle.sctp_association.specs.Laws as table
-use Rattle.sctp_association.specs.Socket.{Hears, heard, not_read, Judges, taken, refused, unread, policy_of}
-use Rattle.sctp_association.specs.Wire.{written, word_at}
-use Rattle.sctp_association.proofs.LawsLemmas.{stays_within}
+use Rattle.sctp_table.specs.Association.{Context, Endpoint}
+use Rattle.sctp_table.specs.Input.{refusal, on_packet}
+use Rattle.sctp_table.specs.Laws.{Packing, called}
+use Rattle.sctp_table.specs.Laws as table
+use Rattle.sctp_table.specs.Hearing.{Hears, heard, not_read, Judges, taken, refused, unread, policy_of}
+use Rattle.sctp_table.specs.Wire.{written, word_at}
+use Rattle.sctp_table_laws.proofs.LawsLemmas.{stays_within}
 use Rattle.sctp_association_laws.specs.Mapped.{Carried, as_written}
 use Rattle.sctp_association_laws.specs.HeardBack.{IsHearable, as_heard}
 use Rattle.sctp_association_laws.specs.Sound.{OptionsFit, IsSound, ArgumentFits}

@@ -1,6 +1,6 @@
-use Rattle.sctp_association.specs.Opening.{on_cookie_ack}
-use Rattle.sctp_association.specs.Closing.{on_shutdown, on_shutdown_complete, on_abort}
-use Rattle.sctp_association.specs.Input.{ended}
+use Rattle.sctp_table.specs.Opening.{on_cookie_ack}
+use Rattle.sctp_table.specs.Closing.{on_shutdown, on_shutdown_complete, on_abort}
+use Rattle.sctp_table.specs.Input.{ended}
 use Rattle.sctp_draws.proofs.ClosingLemmas.{where_named, close_named, shutdown_named, on_shutdown_named, shutdown_complete_named, on_abort_named, on_cookie_ack_named, ended_named}
 use Rattle.sctp_draws.proofs.endings_are_named.Goals as goal
 

@@ -4,8 +4,9 @@ ghost use Rattle.std.specs.Prelude.{◌≡◌, ℕ, Some, None, true, false, Lis
 ghost use Rattle.sctp_serial.specs.Messages.{message_of};
 ghost use Rattle.sctp_state.specs.Events.{event_of, given_up_of};
 ghost use Rattle.sctp_state.specs.Options.{IsValid, options_of};
-ghost use Rattle.sctp_association.specs.Calls.{ready_in};
-ghost use Rattle.sctp_association.specs.Socket.{association_in, association_of, endpoint};
+ghost use Rattle.sctp_table.specs.Calls.{ready_in};
+ghost use Rattle.sctp_table.specs.Shown.{association_in};
+ghost use Rattle.sctp_association.specs.Socket.{association_of, endpoint};
 ghost use Rattle.sctp_world.specs.Judge.{Given, Foreign, GaveUp, same_association};
 ghost use Rattle.sctp_world.specs.World as table;
 ghost use Rattle.sctp_world.specs.World.{fresh_side, associated_if, Told, settled, news, packets_in, told_entries, gone_entries, ready_entries, after_call, after_time, clock, call_entry};

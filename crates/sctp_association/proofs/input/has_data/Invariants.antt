@@ -1,6 +1,6 @@
 use Rattle.std.proofs.Common.{◌≡◌, map, drop}
 use Rattle.sctp_packet.specs.ChunkView.{chunk_tree}
-use Rattle.sctp_association.specs.Input.{has_data}
+use Rattle.sctp_table.specs.Input.{has_data}
 use Rattle.sctp_association.proofs.input.has_data.Given as goal
 
 abbrev pub invariant-loop-chunk : goal.invariant-loop-chunk

@@ -1,7 +1,7 @@
 use Rattle.std.proofs.Common.{◌≡◌, map}
 use Rattle.sctp_packet.specs.ChunkView.{chunk_tree}
-use Rattle.sctp_association.specs.Input.{hear_all}
-use Rattle.sctp_association.specs.Views.{endpoint_of}
+use Rattle.sctp_table.specs.Input.{hear_all}
+use Rattle.sctp_endpoint.specs.Views.{endpoint_of}
 use Rattle.sctp_association.proofs.input.hear_all.Given as goal
 
 abbrev pub invariant-loop-chunk : goal.invariant-loop-chunk

@@ -1,6 +1,7 @@
 use Rattle.std.proofs.Common.{subst, sym, ◌∙◌}
-use Rattle.sctp_association.specs.Socket.{SocketValue, Hears, endpoint}
-use Rattle.sctp_association.specs.Views.{endpoint_of}
+use Rattle.sctp_association.specs.Socket.{SocketValue, endpoint}
+use Rattle.sctp_table.specs.Hearing.{Hears}
+use Rattle.sctp_endpoint.specs.Views.{endpoint_of}
 use Rattle.sctp_association.proofs.HearLemmas.{where_ok}
 use Rattle.sctp_association.proofs.socket.SocketDcSctpSocket.handle_input.Goals as goal
 

@@ -1,5 +1,5 @@
 use Rattle.std.proofs.Common.{arith}
-use Rattle.sctp_association.specs.Calls.{ready_in}
+use Rattle.sctp_table.specs.Calls.{ready_in}
 use Rattle.sctp_world.specs.WorldView.{end_tree}
 use Rattle.sctp_world.proofs.ToldLemmas.{message_logged}
 use Rattle.sctp_world.proofs.world.side.log_ready.Goals as goal

@@ -1,5 +1,5 @@
 use Rattle.std.proofs.Common.{◌≡◌, ◌++◌, length, map}
-use Rattle.sctp_association.specs.Calls.{ready_in}
+use Rattle.sctp_table.specs.Calls.{ready_in}
 use Rattle.sctp_world.specs.World.{ready_entries}
 use Rattle.sctp_world.specs.WorldView.{end_tree, entry_tree}
 use Rattle.sctp_world.proofs.world.side.log_ready.Given as goal

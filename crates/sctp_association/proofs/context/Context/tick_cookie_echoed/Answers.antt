@@ -1,8 +1,0 @@
-use Rattle.std.proofs.Common.{rules}
-use Rattle.sctp_association.proofs.context.Context.tick_cookie_echoed.Goals as goal
-
-pub returns-clause-left : goal.returns-clause-left
-returns-clause-left g c = search rules
-
-pub returns-clause-timer : goal.returns-clause-timer
-returns-clause-timer g c = search rules

@@ -1,5 +1,0 @@
-use Rattle.std.proofs.Common.{rules}
-use Rattle.sctp_association.proofs.context.Context.tick_cookie_wait.Goals as goal
-
-pub returns-clause-waited : goal.returns-clause-waited
-returns-clause-waited g c = search rules

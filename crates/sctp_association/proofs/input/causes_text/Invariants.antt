@@ -1,8 +1,0 @@
-use Rattle.std.proofs.Common.{◌≡◌, ◌++◌, map, drop, string_bytes}
-use Rattle.sctp_wire.specs.CauseViews.{cause_tree}
-use Rattle.sctp_association.specs.Closing.{causes_text, behind_commas}
-use Rattle.sctp_association.proofs.input.causes_text.Given as goal
-
-abbrev pub invariant-loop-cause : goal.invariant-loop-cause
-invariant-loop-cause l =
-    string_bytes l.text ++ behind_commas (map cause_tree (drop l.cause-index l.rest)) ≡ causes_text (map cause_tree l.causes)

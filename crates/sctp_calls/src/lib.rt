@@ -1,0 +1,7 @@
+//! The calls that send, set and ask something, ready messages, what is counted, and the handover.
+#![tactic(auto)]
+
+pub mod calls;
+pub mod handover;
+pub mod metrics;
+pub mod receiving;

@@ -1,0 +1,114 @@
+//! ABORT and ERROR, and the ABORT that a chunk is answered with that was not negotiated (RFC 9260 section 9.1).
+
+ghost use Rattle.std.specs.Prelude.{◌≡◌, map, IfOk, OnOk, string_bytes};
+ghost use Rattle.sctp_wire.specs.CauseViews.{cause_tree};
+ghost use Rattle.sctp_state.specs.Events.{OnAborted};
+ghost use Rattle.sctp_table.specs.Association.{where_open};
+ghost use Rattle.sctp_table.specs.Packets.{complain};
+ghost use Rattle.sctp_endpoint.specs.Views.{context_of, standing_of, tcb_of};
+ghost use Rattle.sctp_closing.specs.MisuseView.{misuse_text};
+ghost use Rattle.sctp_table.specs.Closing as closing;
+ghost use Rattle.sctp_table.specs.Input as table;
+
+use crate::misuse::Misuse;
+use sctp_endpoint::{Context, State, TransmissionControlBlock};
+use sctp_state::{ErrorKind, SocketEvent};
+use sctp_wire::{Checksum, ErrorCause, ProtocolViolationErrorCause};
+use std::alloc::{AllocError, Global};
+
+/// What the causes say, with commas between them.
+fn causes_text(alloc: Global, causes: &[ErrorCause]) -> Result<String, AllocError>
+    ensures { IfOk result (λ text. string_bytes text ≡ closing.causes_text (map cause_tree causes.now)) }
+{
+    let Some((first, rest)) = causes.split_first() else {
+        return Ok(String::new(alloc));
+    };
+    let mut text = format!(in alloc; "{first}")?;
+    for cause in rest {
+        let next = format!(in alloc; ",{cause}")?;
+        text.push_str(&next)?;
+    }
+    Ok(text)
+}
+
+/// The association is told as aborted by the peer.
+fn tell_abort<C: Checksum>(context: &mut Context<C>, causes: &[ErrorCause]) -> Result<(), AllocError>
+    ensures { OnOk result (context_of C.word_of context.new ≡ closing.over (OnAborted ErrorKind.PeerReported (closing.causes_text (map cause_tree causes.now))) (context_of C.word_of context.old)) }
+{
+    let text = causes_text(context.alloc, causes)?;
+    context.internal_close(SocketEvent::OnAborted(ErrorKind::PeerReported, text))
+}
+
+/// An error that the peer reports.
+fn tell_error<C: Checksum>(context: &mut Context<C>, causes: &[ErrorCause]) -> Result<(), AllocError>
+    ensures { OnOk result (context_of C.word_of context.new ≡ complain ErrorKind.PeerReported (closing.causes_text (map cause_tree causes.now)) (context_of C.word_of context.old)) }
+{
+    let text = causes_text(context.alloc, causes)?;
+    context.tell(SocketEvent::OnError(ErrorKind::PeerReported, text))
+}
+
+/// An ABORT goes out, since what was negotiated forbids a chunk.
+fn abort_by_violation<C: Checksum>(context: &mut Context<C>, tcb: &TransmissionControlBlock,
+    misuse: Misuse,
+) -> Result<(), AllocError>
+    ensures { OnOk result (context_of C.word_of context.new
+        ≡ (closing.violated (misuse_text misuse) (tcb_of tcb.now) (context_of C.word_of context.old)).context) }
+{
+    let information = String::from_str(context.alloc, misuse.text())?;
+    let cause = ErrorCause::ProtocolViolation(ProtocolViolationErrorCause { information });
+    context.send_abort(tcb, cause)?;
+    context.tell_aborted(ErrorKind::ProtocolViolation, misuse.text())
+}
+
+/// ABORT.
+pub fn handle_abort<C: Checksum>(
+    state: &mut State,
+    context: &mut Context<C>,
+    causes: &[ErrorCause],
+) -> Result<(), AllocError>
+    ensures { OnOk result (standing_of C.word_of state.new context.new ≡ where_open (closing.on_abort (map cause_tree causes.now)) (standing_of C.word_of state.old context.old)) }
+{
+    match state {
+        State::Closed => Ok(()),
+        State::CookieWait(_) => Ok(()),
+        State::Open(_, _) => {
+            tell_abort(context, causes)?;
+            state.enter(State::Closed);
+            Ok(())
+        }
+    }
+}
+
+/// ERROR.
+pub fn handle_error<C: Checksum>(
+    state: &State,
+    context: &mut Context<C>,
+    causes: &[ErrorCause],
+) -> Result<(), AllocError>
+    ensures { OnOk result (standing_of C.word_of state.now context.new ≡ where_open (closing.on_error (map cause_tree causes.now)) (standing_of C.word_of state.now context.old)) }
+{
+    match state {
+        State::Closed => Ok(()),
+        State::CookieWait(_) => Ok(()),
+        State::Open(_, _) => tell_error(context, causes),
+    }
+}
+
+/// A chunk that what was negotiated forbids ends the association.
+pub fn handle_misuse<C: Checksum>(
+    state: &mut State,
+    context: &mut Context<C>,
+    misuse: Misuse,
+) -> Result<(), AllocError>
+    ensures { OnOk result (standing_of C.word_of state.new context.new ≡ table.breaks (misuse_text misuse) (standing_of C.word_of state.old context.old)) }
+{
+    match state {
+        State::Closed => Ok(()),
+        State::CookieWait(_) => Ok(()),
+        State::Open(_, tcb) => {
+            abort_by_violation(context, tcb, misuse)?;
+            state.enter(State::Closed);
+            Ok(())
+        }
+    }
+}

@@ -1,0 +1,186 @@
+//! How an association ends (RFC 9260 sections 9.1, 9.2).
+
+ghost use Rattle.std.specs.Prelude.{◌≡◌, false, OnOk};
+ghost use Rattle.sctp_table.specs.Association.{where_open};
+ghost use Rattle.sctp_state.specs.Events.{OnClosed};
+ghost use Rattle.sctp_endpoint.specs.Views.{context_of, onward_of, phase_of, standing_of, tcb_of};
+ghost use Rattle.sctp_table.specs.Closing as table;
+
+use sctp_endpoint::{Context, OutgoingPacket, Phase, State, TransmissionControlBlock};
+use sctp_packet::{Chunk, ShutdownCompleteChunk};
+use sctp_state::SocketEvent;
+use sctp_wire::Checksum;
+use std::alloc::AllocError;
+
+/// The user asks for a shutdown: it goes on once nothing is unacknowledged.
+fn begin_shutdown<C: Checksum>(context: &mut Context<C>, phase: &mut Phase,
+    tcb: &TransmissionControlBlock,
+) -> Result<(), AllocError>
+    ensures { OnOk result (onward_of C.word_of phase.new context.new ≡ table.shut (phase_of phase.old) (tcb_of tcb.now) (context_of C.word_of context.old)) }
+{
+    match phase {
+        Phase::CookieEchoed(_) => {
+            *phase = Phase::ShutdownPending;
+            context.maybe_go_on(phase, tcb)
+        }
+        Phase::Established => {
+            *phase = Phase::ShutdownPending;
+            context.maybe_go_on(phase, tcb)
+        }
+        Phase::ShutdownPending => Ok(()),
+        Phase::ShutdownSent(_) => Ok(()),
+        Phase::ShutdownReceived => Ok(()),
+        Phase::ShutdownAckSent(_) => Ok(()),
+    }
+}
+
+/// SHUTDOWN: the peer sends no more, and waits for what is unacknowledged.
+fn take_shutdown<C: Checksum>(context: &mut Context<C>, phase: &mut Phase,
+    tcb: &TransmissionControlBlock,
+) -> Result<(), AllocError>
+    ensures { OnOk result (onward_of C.word_of phase.new context.new ≡ table.shut_by_peer (phase_of phase.old) (tcb_of tcb.now) (context_of C.word_of context.old)) }
+{
+    match phase {
+        Phase::Established => {
+            *phase = Phase::ShutdownReceived;
+            context.maybe_go_on(phase, tcb)
+        }
+        Phase::ShutdownPending => {
+            *phase = Phase::ShutdownReceived;
+            context.maybe_go_on(phase, tcb)
+        }
+        Phase::ShutdownSent(_) => {
+            *phase = Phase::ShutdownAckSent(context.t2_shutdown(tcb));
+            context.send_shutdown_ack(tcb)
+        }
+        Phase::ShutdownAckSent(t2_shutdown) => {
+            t2_shutdown.set_duration(tcb.rto.rto());
+            t2_shutdown.start(context.clock);
+            context.send_shutdown_ack(tcb)
+        }
+        Phase::CookieEchoed(_) => Ok(()),
+        Phase::ShutdownReceived => Ok(()),
+    }
+}
+
+/// A SHUTDOWN ACK that no shutdown asked for is answered under its tag (RFC 9260 section 8.5.1).
+fn answer_out_of_the_blue<C: Checksum>(context: &mut Context<C>, tag: u32) -> Result<(), AllocError>
+    ensures { OnOk result (context_of C.word_of context.new ≡ table.out_of_the_blue tag (context_of C.word_of context.old)) }
+{
+    let mut packet = OutgoingPacket::new(context.alloc, tag, context.options.mtu);
+    packet.add(Chunk::ShutdownComplete(ShutdownCompleteChunk {
+        tag_reflected: true,
+    }))?;
+    context.emit(&mut packet)
+}
+
+/// The shutdown is complete: the peer is told, and the user.
+fn complete_shutdown<C: Checksum>(context: &mut Context<C>, tcb: &TransmissionControlBlock) -> Result<(), AllocError>
+    ensures { OnOk result (context_of C.word_of context.new ≡ (table.completed (tcb_of tcb.now) (context_of C.word_of context.old)).context) }
+{
+    context.emit_chunk(
+        tcb,
+        Chunk::ShutdownComplete(ShutdownCompleteChunk {
+            tag_reflected: false,
+        }),
+    )?;
+    context.internal_close(SocketEvent::OnClosed())
+}
+
+/// The association ends, with an ABORT where there is one.
+pub fn handle_close<C: Checksum>(
+    state: &mut State,
+    context: &mut Context<C>,
+) -> Result<(), AllocError>
+    ensures { OnOk result (standing_of C.word_of state.new context.new ≡ table.close (standing_of C.word_of state.old context.old)) }
+{
+    match state {
+        State::Closed => Ok(()),
+        State::CookieWait(_) => {
+            context.internal_close(SocketEvent::OnClosed())?;
+            state.enter(State::Closed);
+            Ok(())
+        }
+        State::Open(_, tcb) => {
+            context.abort_by_user(tcb)?;
+            state.enter(State::Closed);
+            Ok(())
+        }
+    }
+}
+
+/// The association is shut down: what is queued and sent is delivered first (RFC 9260 section 9.2).
+pub fn handle_shutdown<C: Checksum>(
+    state: &mut State,
+    context: &mut Context<C>,
+) -> Result<(), AllocError>
+    ensures { OnOk result (standing_of C.word_of state.new context.new ≡ table.shutdown (standing_of C.word_of state.old context.old)) }
+{
+    match state {
+        State::Closed => Ok(()),
+        State::CookieWait(_) => {
+            context.internal_close(SocketEvent::OnClosed())?;
+            state.enter(State::Closed);
+            Ok(())
+        }
+        State::Open(phase, tcb) => begin_shutdown(context, phase, tcb),
+    }
+}
+
+/// SHUTDOWN.
+pub fn handle_shutdown_chunk<C: Checksum>(
+    state: &mut State,
+    context: &mut Context<C>,
+) -> Result<(), AllocError>
+    ensures { OnOk result (standing_of C.word_of state.new context.new ≡ where_open table.on_shutdown (standing_of C.word_of state.old context.old)) }
+{
+    match state {
+        State::Closed => Ok(()),
+        State::CookieWait(_) => Ok(()),
+        State::Open(phase, tcb) => take_shutdown(context, phase, tcb),
+    }
+}
+
+/// SHUTDOWN ACK, in a packet under this tag.
+pub fn handle_shutdown_ack<C: Checksum>(
+    state: &mut State,
+    context: &mut Context<C>,
+    tag: u32,
+) -> Result<(), AllocError>
+    ensures { OnOk result (standing_of C.word_of state.new context.new ≡ table.on_shutdown_ack tag (standing_of C.word_of state.old context.old)) }
+{
+    match state {
+        State::Closed => answer_out_of_the_blue(context, tag),
+        State::CookieWait(_) => answer_out_of_the_blue(context, tag),
+        State::Open(Phase::ShutdownSent(_), tcb) => {
+            complete_shutdown(context, tcb)?;
+            state.enter(State::Closed);
+            Ok(())
+        }
+        State::Open(Phase::ShutdownAckSent(_), tcb) => {
+            complete_shutdown(context, tcb)?;
+            state.enter(State::Closed);
+            Ok(())
+        }
+        State::Open(_, _) => answer_out_of_the_blue(context, tag),
+    }
+}
+
+/// SHUTDOWN COMPLETE.
+pub fn handle_shutdown_complete<C: Checksum>(
+    state: &mut State,
+    context: &mut Context<C>,
+) -> Result<(), AllocError>
+    ensures { OnOk result (standing_of C.word_of state.new context.new ≡ where_open table.on_shutdown_complete (standing_of C.word_of state.old context.old)) }
+{
+    match state {
+        State::Closed => Ok(()),
+        State::CookieWait(_) => Ok(()),
+        State::Open(Phase::ShutdownAckSent(_), _) => {
+            context.internal_close(SocketEvent::OnClosed())?;
+            state.enter(State::Closed);
+            Ok(())
+        }
+        State::Open(_, _) => Ok(()),
+    }
+}

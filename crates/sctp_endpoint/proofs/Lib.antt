@@ -1,0 +1,3 @@
+pub mod BurstLemmas
+pub mod OutgoingLemmas
+pub mod RequestLemmas

@@ -1,0 +1,24 @@
+use Rattle.std.proofs.Common.{◌==◌, true, sym, ap, ◌∙◌, arith, ℕ}
+use Rattle.sctp_table.specs.Sending.{burst}
+use Rattle.sctp_endpoint.specs.Views.{filling_of}
+use Rattle.sctp_endpoint.proofs.BurstLemmas.{burst_on, burst_off, not_first}
+use Rattle.sctp_endpoint.proofs.context.Context.send_burst.Goals as goal
+
+pub loop-index-preserved : goal.loop-index-preserved
+loop-index-preserved g c =
+    let here = c.loop-index in
+    let said = c.in_ok-send_packet.ensures in
+    record {
+      end = here.invariant.end;
+      most = omega (arith, c.loop-index-test.true);
+      rest = rw (not_first here.index) (sym (burst_on c.max_burst-index-end.result here.index (here.index == 0) c.args.is_alone c.in_ok-send_packet.field-0
+          (filling_of g.C.Checksum.word_of here.packet here.tcb here.self) _ c.loop-index-test.true said.filling said.more c.if-not-branch.false) ∙ here.invariant.rest);
+    }
+
+pub returns-then-not-branch : goal.returns-then-not-branch
+returns-then-not-branch g c =
+    let here = c.loop-index in
+    let said = c.in_ok-send_packet.ensures in
+    burst_off c.max_burst-index-end.result here.index (here.index == 0) c.args.is_alone c.in_ok-send_packet.field-0
+    (filling_of g.C.Checksum.word_of here.packet here.tcb here.self) _ c.loop-index-test.true said.filling said.more c.if-not-branch.true
+    ∙ (here.invariant.rest ∙ ap (λ (n : ℕ). burst n true c.args.is_alone (filling_of g.C.Checksum.word_of c.args.packet.now c.args.tcb.now c.args.self.now)) here.invariant.end)

@@ -1,0 +1,4 @@
+pub mod RequestViews
+pub mod PacketView
+pub mod Views
+pub mod Lending

@@ -1,0 +1,189 @@
+//! What an end has in every state: its options, its clock, the messages that wait, and what it tells.
+
+ghost use Rattle.std.specs.Prelude.{◌≡◌, OnOk, Some};
+ghost use Rattle.sctp_packet.specs.ChunkView.{chunk_tree};
+ghost use Rattle.sctp_state.specs.Events.{OnError, OnAborted, event_of};
+ghost use Rattle.sctp_state.specs.Options.{IsValid, options_of};
+ghost use Rattle.sctp_table.specs.Association.{context};
+ghost use Rattle.sctp_table.specs.Packets.{complain, emit, emit_chunk, emptied, say};
+ghost use Rattle.sctp_endpoint.specs.Views.{context_of, tcb_of};
+ghost use Rattle.sctp_table.specs.Wire.{written};
+ghost use Rattle.sctp_table.specs.Closing as closing;
+ghost use Rattle.sctp_table.specs.Heartbeats as heartbeats;
+
+use crate::outgoing_packet::OutgoingPacket;
+use crate::transmission_control_block::TransmissionControlBlock;
+use sctp_packet::Chunk;
+use sctp_serial::SocketTime;
+use sctp_state::{BackoffAlgorithm, ErrorKind, Events, Options, SctpImplementation, SocketEvent, Timer, TxErrorCounter};
+use sctp_tx::SendQueue;
+use sctp_wire::Checksum;
+use std::alloc::{AllocError, Global};
+use std::marker::Model;
+
+/// What an end has in every state.
+#[derive(Drop)]
+pub struct Context<C: Checksum> {
+    pub alloc: Global,
+    pub options: Options,
+    pub clock: SocketTime,
+    pub send_queue: SendQueue,
+    /// No forward point is tested or sent before this moment.
+    pub limit_forward_tsn_until: SocketTime,
+    pub tx_error_counter: TxErrorCounter,
+    /// Until the next heartbeat, where no data is sent.
+    pub heartbeat_interval: Timer,
+    /// For the answer to the last one.
+    pub heartbeat_timeout: Timer,
+    /// The number of the last one.
+    pub heartbeat_counter: u32,
+    pub rx_packets_count: usize,
+    pub tx_packets_count: usize,
+    pub tx_messages_count: usize,
+    pub peer_implementation: SctpImplementation,
+    pub events: Events,
+    pub checksum: C,
+}
+
+impl<C: Checksum> Model for Context<C> {
+    ghost use Rattle.sctp_state.specs.Options.{IsValid, options_of};
+    ghost use Rattle.sctp_endpoint.specs.Views.{ContextValue};
+
+    ghost Value = { ContextValue C };
+
+    ghost view = { λ c. record {
+      options = options_of c.options;
+      clock = c.clock;
+      queue = c.send_queue;
+      forward_from = c.limit_forward_tsn_until;
+      errors = c.tx_error_counter;
+      heartbeats = record { interval = c.heartbeat_interval; timeout = c.heartbeat_timeout; counter = c.heartbeat_counter };
+      counts = record { rx_packets = c.rx_packets_count; tx_packets = c.tx_packets_count; tx_messages = c.tx_messages_count };
+      peer = c.peer_implementation;
+      told = c.events;
+      checksum = c.checksum;
+    } };
+
+    ghost invariant = { λ c. IsValid (options_of c.options) };
+}
+
+impl<C: Checksum> Context<C> {
+    /// A new end, at moment zero.
+    pub fn new(alloc: Global, options: Options, checksum: C) -> Context<C>
+        requires { IsValid (options_of options) }
+        ensures { context_of C.word_of result ≡ context (options_of options) (written (C.word_of checksum)) }
+    {
+        Context {
+            alloc,
+            send_queue: SendQueue::new(alloc, &options),
+            tx_error_counter: TxErrorCounter::new(options.max_retransmissions),
+            heartbeat_interval: Timer::new(
+                options.heartbeat_interval,
+                BackoffAlgorithm::Fixed,
+                None,
+                None,
+            ),
+            heartbeat_timeout: Timer::new(
+                options.rto_initial,
+                BackoffAlgorithm::Exponential,
+                Some(0),
+                None,
+            ),
+            heartbeat_counter: 0,
+            options,
+            clock: SocketTime::zero(),
+            limit_forward_tsn_until: SocketTime::zero(),
+            rx_packets_count: 0,
+            tx_packets_count: 0,
+            tx_messages_count: 0,
+            peer_implementation: SctpImplementation::Unknown,
+            events: Events::new(alloc),
+            checksum,
+        }
+    }
+
+    /// A packet goes out, where something was put into it; then it is empty again.
+    pub fn emit(&mut self, packet: &mut OutgoingPacket) -> Result<(), AllocError>
+        ensures context { OnOk result (context_of C.word_of self.new ≡ emit packet.old (context_of C.word_of self.old)) }
+        ensures packet { OnOk result (packet.new ≡ emptied packet.old) }
+    {
+        if packet.is_empty() {
+            return Ok(());
+        }
+        let bytes = packet.build(
+            self.options.local_port,
+            self.options.remote_port,
+            &self.checksum,
+        )?;
+        self.events.add(SocketEvent::SendPacket(bytes))?;
+        self.tx_packets_count = self.tx_packets_count.saturating_add(1);
+        Ok(())
+    }
+
+    /// A packet of one chunk goes out to the peer.
+    pub fn emit_chunk(
+        &mut self,
+        tcb: &TransmissionControlBlock,
+        chunk: Chunk,
+    ) -> Result<(), AllocError>
+        ensures { OnOk result (context_of C.word_of self.new ≡ emit_chunk (chunk_tree chunk) (tcb_of tcb.now) (context_of C.word_of self.old)) }
+    {
+        let mut packet = tcb.new_packet(self.alloc, &self.options);
+        packet.add(chunk)?;
+        self.emit(&mut packet)
+    }
+
+    /// Tells of an error.
+    pub fn complain(&mut self, kind: ErrorKind, text: &str) -> Result<(), AllocError>
+        ensures { OnOk result (context_of C.word_of self.new ≡ complain kind text.now (context_of C.word_of self.old)) }
+    {
+        let text = String::from_str(self.alloc, text)?;
+        self.events.add(SocketEvent::OnError(kind, text))
+    }
+
+    pub fn tell(&mut self, event: SocketEvent) -> Result<(), AllocError>
+        ensures { OnOk result (context_of C.word_of self.new ≡ say (event_of event) (context_of C.word_of self.old)) }
+    {
+        self.events.add(event)
+    }
+
+    /// The event that says that the association is over; no heartbeats are sent any more.
+    pub fn internal_close(&mut self, event: SocketEvent) -> Result<(), AllocError>
+        ensures { OnOk result (context_of C.word_of self.new ≡ closing.over (event_of event) (context_of C.word_of self.old)) }
+    {
+        self.stop_heartbeats();
+        self.tell(event)
+    }
+
+    /// The association is over, as aborted.
+    pub fn tell_aborted(&mut self, kind: ErrorKind, text: &str) -> Result<(), AllocError>
+        ensures { OnOk result (context_of C.word_of self.new ≡ closing.over (OnAborted kind text.now) (context_of C.word_of self.old)) }
+    {
+        let text = String::from_str(self.alloc, text)?;
+        self.internal_close(SocketEvent::OnAborted(kind, text))
+    }
+
+    /// The same, since the peer doesn't answer.
+    pub fn tell_no_answer(&mut self, text: &str) -> Result<(), AllocError>
+        ensures { OnOk result (context_of C.word_of self.new ≡ closing.over (OnAborted ErrorKind.TooManyRetries text.now) (context_of C.word_of self.old)) }
+    {
+        self.tell_aborted(ErrorKind::TooManyRetries, text)
+    }
+
+    /// The next heartbeat is an interval away.
+    pub fn restart_heartbeat_interval(&mut self)
+        ensures { let c = context_of C.word_of self.old in
+            context_of C.word_of self.new ≡ record c { heartbeats = heartbeats.beating c.now c.heartbeats } }
+    {
+        self.heartbeat_interval.start(self.clock);
+    }
+
+    /// No heartbeat is sent any more, and no answer waited for.
+    pub fn stop_heartbeats(&mut self)
+        ensures { let c = context_of C.word_of self.old in
+            context_of C.word_of self.new ≡ record c { heartbeats = heartbeats.silenced c.heartbeats } }
+    {
+        self.heartbeat_interval.stop();
+        self.heartbeat_timeout.stop();
+    }
+}

@@ -1,0 +1,125 @@
+//! What goes out and is told where an association ends (RFC 9260 sections 9.1, 9.2).
+
+ghost use Rattle.std.specs.Prelude.{◌≡◌, false, [], ◌∷◌, codes, IfOk, OnOk};
+ghost use Rattle.sctp_wire.specs.Cause.{user_initiated_abort};
+ghost use Rattle.sctp_wire.specs.CauseViews.{cause_tree};
+ghost use Rattle.sctp_packet.specs.Chunk.{abort_chunk};
+ghost use Rattle.sctp_table.specs.Packets.{emit_chunk};
+ghost use Rattle.sctp_state.specs.Events.{OnAborted, OnClosed};
+ghost use Rattle.sctp_endpoint.specs.Views.{context_of, onward_of, phase_of, tcb_of};
+ghost use Rattle.sctp_table.specs.Closing as table;
+
+use crate::context::Context;
+use crate::state::Phase;
+use crate::transmission_control_block::TransmissionControlBlock;
+use sctp_packet::{AbortChunk, Chunk, ShutdownAckChunk, ShutdownChunk};
+use sctp_state::{BackoffAlgorithm, ErrorKind, SocketEvent, Timer};
+use sctp_wire::{Checksum, ErrorCause, UserInitiatedAbortErrorCause};
+use std::alloc::AllocError;
+
+impl<C: Checksum> Context<C> {
+    /// An ABORT with one cause goes out.
+    pub fn send_abort(
+        &mut self,
+        tcb: &TransmissionControlBlock,
+        cause: ErrorCause,
+    ) -> Result<(), AllocError>
+        ensures { OnOk result (context_of C.word_of self.new ≡ emit_chunk (abort_chunk false (cause_tree cause ∷ [])) (tcb_of tcb.now) (context_of C.word_of self.old)) }
+    {
+        let mut error_causes = Vec::new(self.alloc);
+        error_causes.push(cause)?;
+        self.emit_chunk(
+            tcb,
+            Chunk::Abort(AbortChunk {
+                tag_reflected: false,
+                error_causes,
+            }),
+        )
+    }
+
+    /// What the user gave as the cause of an ABORT.
+    fn user_abort(&self, reason: &str) -> Result<ErrorCause, AllocError>
+        ensures { IfOk result (λ cause. cause_tree cause ≡ user_initiated_abort reason.now) }
+    {
+        let reason = String::from_str(self.alloc, reason)?;
+        Ok(ErrorCause::UserInitiatedAbort(UserInitiatedAbortErrorCause { reason }))
+    }
+
+    pub fn abort_by_user(&mut self, tcb: &TransmissionControlBlock) -> Result<(), AllocError>
+        ensures { OnOk result (context_of C.word_of self.new
+            ≡ table.over OnClosed (emit_chunk (abort_chunk false (user_initiated_abort (codes "Close called") ∷ [])) (tcb_of tcb.now) (context_of C.word_of self.old))) }
+    {
+        let cause = self.user_abort("Close called")?;
+        self.send_abort(tcb, cause)?;
+        self.internal_close(SocketEvent::OnClosed())
+    }
+
+    pub fn abort_by_retransmissions(
+        &mut self,
+        tcb: &TransmissionControlBlock,
+    ) -> Result<(), AllocError>
+        ensures { OnOk result (context_of C.word_of self.new
+            ≡ table.over (OnAborted ErrorKind.TooManyRetries (codes "Too many retransmissions"))
+            (emit_chunk (abort_chunk false (user_initiated_abort (codes "Too many retransmissions") ∷ [])) (tcb_of tcb.now) (context_of C.word_of self.old))) }
+    {
+        let cause = self.user_abort("Too many retransmissions")?;
+        self.send_abort(tcb, cause)?;
+        self.tell_no_answer("Too many retransmissions")
+    }
+
+    pub fn t2_shutdown(&self, tcb: &TransmissionControlBlock) -> Timer
+        ensures { result ≡ table.t2_shutdown (tcb_of tcb.now) (context_of C.word_of self.now) }
+    {
+        let mut timer = Timer::new(
+            tcb.rto.rto(),
+            BackoffAlgorithm::Exponential,
+            self.options.max_retransmissions,
+            None,
+        );
+        timer.start(self.clock);
+        timer
+    }
+
+    pub fn send_shutdown(&mut self, tcb: &TransmissionControlBlock) -> Result<(), AllocError>
+        ensures { OnOk result (context_of C.word_of self.new ≡ table.send_shutdown (tcb_of tcb.now) (context_of C.word_of self.old)) }
+    {
+        let cumulative_tsn_ack = tcb.data_tracker.last_cumulative_acked_tsn();
+        self.emit_chunk(tcb, Chunk::Shutdown(ShutdownChunk { cumulative_tsn_ack }))
+    }
+
+    pub fn send_shutdown_ack(
+        &mut self,
+        tcb: &TransmissionControlBlock,
+    ) -> Result<(), AllocError>
+        ensures { OnOk result (context_of C.word_of self.new ≡ table.send_shutdown_ack (tcb_of tcb.now) (context_of C.word_of self.old)) }
+    {
+        self.emit_chunk(tcb, Chunk::ShutdownAck(ShutdownAckChunk {}))
+    }
+
+    /// Where nothing is unacknowledged, a shutdown that waited for that goes on.
+    pub fn maybe_go_on(
+        &mut self,
+        phase: &mut Phase,
+        tcb: &TransmissionControlBlock,
+    ) -> Result<(), AllocError>
+        ensures { OnOk result (onward_of C.word_of phase.new self.new ≡ table.go_on (phase_of phase.old) (tcb_of tcb.now) (context_of C.word_of self.old)) }
+    {
+        if tcb.retransmission_queue.unacked_items() != 0 {
+            return Ok(());
+        }
+        match phase {
+            Phase::ShutdownPending => {
+                *phase = Phase::ShutdownSent(self.t2_shutdown(tcb));
+                self.send_shutdown(tcb)
+            }
+            Phase::ShutdownReceived => {
+                *phase = Phase::ShutdownAckSent(self.t2_shutdown(tcb));
+                self.send_shutdown_ack(tcb)
+            }
+            Phase::CookieEchoed(_) => Ok(()),
+            Phase::Established => Ok(()),
+            Phase::ShutdownSent(_) => Ok(()),
+            Phase::ShutdownAckSent(_) => Ok(()),
+        }
+    }
+}

@@ -1,0 +1,177 @@
+//! Packets that are put together, chunk by chunk, and written when they go out.
+
+ghost use Rattle.std.specs.Prelude.{◌≡◌, ◌≤◌, ◌<◌, ◌+◌, ◌-◌, ◌^◌, [], length, map, max, nat_le, not, true, All, IfOk, IsTrue, OnOk, OnErr};
+ghost use Rattle.sctp_wire.specs.Serialize.{IsEncodable};
+ghost use Rattle.sctp_packet.specs.ChunkView.{chunk_tree};
+ghost use Rattle.sctp_packet.specs.Written.{chunk_bytes, chunk_is_whole, chunk_item, chunks_bytes};
+ghost use Rattle.sctp_packet.specs.Builder.{Holds};
+ghost use Rattle.sctp_table.specs.Packets.{add, added_if, emptied, fits, has_chunks, packet_to, room};
+ghost use Rattle.sctp_endpoint.specs.PacketView.{IsWritable};
+ghost use Rattle.sctp_table.specs.Wire.{word_at, written};
+
+use sctp_packet::{COMMON_HEADER_SIZE, Chunk, SctpPacketBuilder};
+use sctp_wire::{Checksum, SerializableTlv};
+use std::alloc::{AllocError, Global};
+use std::marker::Model;
+
+/// A packet that is put together.
+#[derive(Drop)]
+pub struct OutgoingPacket {
+    alloc: Global,
+    verification_tag: u32,
+    write_checksum: bool,
+    /// The most bytes of the packet.
+    limit: usize,
+    /// The bytes of the chunks, with their padding.
+    body_size: usize,
+    chunks: Vec<Chunk>,
+}
+
+impl Model for OutgoingPacket {
+    ghost use Rattle.sctp_table.specs.Packets.{Packet};
+    ghost use Rattle.sctp_endpoint.specs.PacketView.{IsPacket, packet_of};
+
+    ghost Value = { Packet };
+
+    ghost view = { packet_of };
+
+    ghost invariant = { IsPacket };
+}
+
+impl OutgoingPacket {
+    /// An empty packet of at most `limit` bytes. Its checksum is on.
+    pub fn new(alloc: Global, verification_tag: u32, limit: usize) -> OutgoingPacket
+        requires { limit < 2 ^ 32 }
+        ensures { result ≡ packet_to verification_tag limit }
+    {
+        OutgoingPacket {
+            alloc,
+            verification_tag,
+            write_checksum: true,
+            limit,
+            body_size: 0,
+            chunks: Vec::new(alloc),
+        }
+    }
+
+    /// Whether the packet goes out with its checksum; else the field is zero (RFC 9653).
+    pub fn write_checksum(&mut self, write_checksum: bool)
+        ensures { self.new ≡ record self.old { is_summed = write_checksum } }
+    {
+        self.write_checksum = write_checksum;
+    }
+
+    /// Whether nothing was added.
+    pub fn is_empty(&self) -> bool
+        ensures { result ≡ not (has_chunks self.now) }
+    {
+        self.chunks.is_empty()
+    }
+
+    /// How many bytes of chunks and their padding fit still.
+    pub fn bytes_remaining(&self) -> usize
+        ensures room { result ≡ room self.now }
+        ensures small { result < 2 ^ 32 }
+    {
+        self.limit
+            .saturating_sub(COMMON_HEADER_SIZE)
+            .saturating_sub(self.body_size)
+    }
+
+    /// Whether the chunk can be written and fits.
+    pub fn fits(&self, chunk: &Chunk) -> bool
+        ensures encodable { IsTrue result → IsEncodable (chunk_item (chunk_tree chunk.now)) }
+        ensures whole { IsTrue result → chunk_is_whole (chunk_tree chunk.now) ≡ true }
+        ensures room { IsTrue result → length (chunk_bytes (chunk_tree chunk.now)) ≤ room self.now }
+        ensures test { result ≡ fits self.now (chunk_tree chunk.now) }
+    {
+        chunk.encodable() && is_within(chunk, self.bytes_remaining())
+    }
+
+    /// Adds a chunk, or drops it where it doesn't fit. Where there is no memory the packet is as it was.
+    pub fn add(&mut self, chunk: Chunk) -> Result<(), AllocError>
+        ensures ok { OnOk result (self.new ≡ add (chunk_tree chunk) self.old) }
+        ensures err { OnErr result (self.new ≡ self.old) }
+    {
+        if self.fits(&chunk) {
+            let size = chunk.serialized_size();
+            self.chunks.push(chunk)?;
+            self.body_size += size;
+        }
+        Ok(())
+    }
+
+    /// Adds a chunk where it fits. The answer is whether it did.
+    pub fn add_if_it_fits(&mut self, chunk: Chunk) -> Result<bool, AllocError>
+        ensures test { IfOk result (λ has_fit. has_fit ≡ fits self.old (chunk_tree chunk)) }
+        ensures added { IfOk result (λ has_fit. self.new ≡ added_if has_fit (chunk_tree chunk) self.old) }
+    {
+        let has_fit = self.fits(&chunk);
+        self.add(chunk)?;
+        Ok(has_fit)
+    }
+
+    /// The packet's bytes, at most the limit; the packet is empty again, with the same tag and limit. Where there is no
+    /// memory it is as it was.
+    pub fn build<C: Checksum>(
+        &mut self,
+        source_port: u16,
+        destination_port: u16,
+        checksum: &C,
+    ) -> Result<Vec<u8>, AllocError>
+        requires { has_chunks self.old ≡ true }
+        ensures packet { IfOk result (λ bytes. bytes.items ≡ written (C.word_of checksum.now) (record {
+          source_port = source_port;
+          destination_port = destination_port;
+          verification_tag = self.old.tag;
+        }) self.old.is_summed self.old.chunks) }
+        ensures short { IfOk result (λ bytes. length bytes.items ≤ self.old.limit) }
+        ensures ok { OnOk result (self.new ≡ emptied self.old) }
+        ensures err { OnErr result (self.new ≡ self.old) }
+    {
+        let mut builder = SctpPacketBuilder::new(
+            self.alloc,
+            self.verification_tag,
+            source_port,
+            destination_port,
+            self.limit,
+        );
+        builder.write_checksum(self.write_checksum);
+        add_all(&mut builder, &self.chunks)?;
+        self.chunks = Vec::new(self.alloc);
+        self.body_size = 0;
+        let word = word_of(checksum, builder.unsummed());
+        Ok(builder.build(word))
+    }
+}
+
+/// Whether the chunk's bytes are at most so many.
+fn is_within(chunk: &Chunk, room: usize) -> bool
+    requires { room < 2 ^ 32 }
+    ensures { result ≡ nat_le (length (chunk_bytes (chunk_tree chunk.now))) room }
+{
+    chunk.serialized_size() <= room
+}
+
+/// Adds the chunks to an empty builder.
+fn add_all(builder: &mut SctpPacketBuilder, chunks: &[Chunk]) -> Result<(), AllocError>
+    requires empty { builder.old.body ≡ [] }
+    requires writable { All IsWritable (map chunk_tree chunks.now) }
+    requires short { 12 + length (chunks_bytes (map chunk_tree chunks.now)) ≤ max 12 builder.old.limit }
+    ensures chunks { OnOk result (Holds builder.new (map chunk_tree chunks.now)) }
+    ensures same { OnOk result (record builder.new { body = [] } ≡ builder.old) }
+{
+    for chunk in chunks {
+        builder.add(chunk)?;
+    }
+    Ok(())
+}
+
+/// The word of a packet's bytes, with the checksum's field as zeros.
+pub fn word_of<C: Checksum>(checksum: &C, bytes: &[u8]) -> u32
+    ensures { result ≡ word_at (C.word_of checksum.now) bytes.now }
+{
+    let front = bytes.len().min(8);
+    let behind = bytes.len().min(12);
+    checksum.word(&bytes[..front], &bytes[behind..])
+}

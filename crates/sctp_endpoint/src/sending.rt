@@ -1,0 +1,329 @@
+//! What goes into packets (RFC 9260 section 6.1).
+
+ghost use Rattle.std.specs.Prelude.{◌≡◌, ◌*◌, true, map, OnOk, IfOk, ◌<◌, false};
+ghost use Rattle.sctp_outstanding.specs.Views.{chunk_of};
+ghost use Rattle.sctp_state.specs.Events.{numbers_of};
+ghost use Rattle.sctp_table.specs.Packets.{add_all};
+ghost use Rattle.sctp_table.specs.Sending.{burst_with, carrying, data_chunks, filled_as, forward_if, most_streams, request_of, request_started, send_buffered, send_cookie, send_lost, send_with, turned, with_ack, with_data, with_forward, with_request, send_in};
+ghost use Rattle.sctp_endpoint.specs.Views.{context_of, filling_of, sent_of, tcb_of, standing_of};
+ghost use Rattle.sctp_table.specs.Association.{where_open};
+
+use crate::context::Context;
+use crate::outgoing_packet::OutgoingPacket;
+use crate::state::State;
+use crate::transmission_control_block::TransmissionControlBlock;
+use sctp_packet::{COMMON_HEADER_SIZE, Chunk, CookieEchoChunk, Data};
+use sctp_serial::{StreamId, Tsn};
+use sctp_wire::Checksum;
+use std::alloc::AllocError;
+use std::time::Duration;
+
+impl<C: Checksum> Context<C> {
+    /// An acknowledgement that is due goes along; a delayed one where data may go.
+    fn add_ack(
+        &self,
+        packet: &mut OutgoingPacket,
+        tcb: &mut TransmissionControlBlock,
+    ) -> Result<(), AllocError>
+        ensures { OnOk result (filling_of C.word_of packet.new tcb.new self.now ≡ with_ack (filling_of C.word_of packet.old tcb.old self.now)) }
+    {
+        let also_if_delayed = self.send_queue.has_data_to_send()
+            || tcb.retransmission_queue.can_send_data();
+        if tcb
+            .data_tracker
+            .should_send_ack(self.clock, also_if_delayed)
+        {
+            let window = tcb.reassembly_queue.remaining_bytes() as u32;
+            let sack = tcb.data_tracker.create_selective_ack(window)?;
+            packet.add(Chunk::Sack(sack))?;
+        }
+        Ok(())
+    }
+
+    /// A forward point that is due goes along, where it fits. A test for it first gives up what has expired.
+    fn add_forward_tsn(
+        &mut self,
+        packet: &mut OutgoingPacket,
+        tcb: &mut TransmissionControlBlock,
+    ) -> Result<(), AllocError>
+        ensures { OnOk result (filling_of C.word_of packet.new tcb.new self.new ≡ with_forward (filling_of C.word_of packet.old tcb.old self.old)) }
+    {
+        if self.clock < self.limit_forward_tsn_until {
+            return Ok(());
+        }
+        if tcb
+            .retransmission_queue
+            .should_send_forward_tsn(self.clock, &mut self.events)?
+        {
+            self.push_forward_tsn(packet, tcb)?;
+        }
+        Ok(())
+    }
+
+    /// The forward point goes along, where it fits; not sooner again than after a round trip, of which at most 200 ms count
+    /// (RFC 3758 section 3.5).
+    fn push_forward_tsn(
+        &mut self,
+        packet: &mut OutgoingPacket,
+        tcb: &TransmissionControlBlock,
+    ) -> Result<(), AllocError>
+        ensures { OnOk result (filling_of C.word_of packet.new tcb.now self.new ≡ forward_if true (filling_of C.word_of packet.old tcb.now self.old)) }
+    {
+        let chunk = tcb.retransmission_queue.create_forward_tsn()?;
+        if !packet.add_if_it_fits(chunk)? {
+            return Ok(());
+        }
+        self.limit_forward_tsn_until = self.clock + tcb.rto.srtt().min(Duration::from_millis(200));
+        Ok(())
+    }
+
+    /// A request for these streams begins, and goes along.
+    fn carry_reset_request(
+        &self,
+        packet: &mut OutgoingPacket,
+        tcb: &mut TransmissionControlBlock,
+        streams: Vec<StreamId>,
+    ) -> Result<(), AllocError>
+        ensures { let x = filling_of C.word_of packet.old tcb.old self.now in
+            OnOk result (filling_of C.word_of packet.new tcb.new self.now ≡ carrying (request_started x.context.now (numbers_of streams.items) x.tcb) x) }
+    {
+        tcb.start_ssn_reset_request(self.clock, streams, packet)
+    }
+
+    /// The same, where there are streams to reset.
+    fn start_reset_request(
+        &self,
+        packet: &mut OutgoingPacket,
+        tcb: &mut TransmissionControlBlock,
+        streams: Vec<StreamId>,
+    ) -> Result<(), AllocError>
+        ensures { OnOk result (filling_of C.word_of packet.new tcb.new self.now
+            ≡ request_of (numbers_of streams.items) (filling_of C.word_of packet.old tcb.old self.now)) }
+    {
+        if streams.is_empty() {
+            return Ok(());
+        }
+        self.carry_reset_request(packet, tcb, streams)
+    }
+
+    /// A request to reset the streams that are ready goes along, as many as there is room for, where none waits for its
+    /// answer (RFC 6525 section 5.1.2). The others wait for another request.
+    fn add_reset_request(
+        &mut self,
+        packet: &mut OutgoingPacket,
+        tcb: &mut TransmissionControlBlock,
+    ) -> Result<(), AllocError>
+        ensures { OnOk result (filling_of C.word_of packet.new tcb.new self.new ≡ with_request (filling_of C.word_of packet.old tcb.old self.old)) }
+    {
+        if tcb.reset_requests.has_current() {
+            return Ok(());
+        }
+        let most = most_streams(packet);
+        let streams = self.send_queue.get_streams_ready_to_reset(most)?;
+        self.start_reset_request(packet, tcb, streams)
+    }
+
+    /// As much data goes along as the windows and the packet let go.
+    fn add_data(
+        &mut self,
+        packet: &mut OutgoingPacket,
+        tcb: &mut TransmissionControlBlock,
+    ) -> Result<(), AllocError>
+        ensures { OnOk result (filling_of C.word_of packet.new tcb.new self.new ≡ with_data (filling_of C.word_of packet.old tcb.old self.old)) }
+    {
+        let fragments = tcb.retransmission_queue.get_chunks_to_send(
+            self.clock,
+            packet.bytes_remaining(),
+            &mut self.send_queue,
+            &mut self.events,
+        )?;
+        if !fragments.is_empty() {
+            self.restart_heartbeat_interval();
+        }
+        let is_immediate = tcb.retransmission_queue.cwnd() < self.immediate_sack_cwnd();
+        add_fragments(packet, tcb, is_immediate, fragments)
+    }
+
+    /// Below this window the peer is asked to acknowledge at once (RFC 7053).
+    fn immediate_sack_cwnd(&self) -> usize
+        ensures { result ≡ self.now.options.immediate_sack_under_cwnd_mtus * self.now.options.mtu }
+    {
+        self.options.immediate_sack_under_cwnd_mtus * self.options.mtu
+    }
+
+    /// What goes into the first packet of a burst beside data.
+    fn add_controls(
+        &mut self,
+        packet: &mut OutgoingPacket,
+        tcb: &mut TransmissionControlBlock,
+    ) -> Result<(), AllocError>
+        ensures { OnOk result (filling_of C.word_of packet.new tcb.new self.new
+            ≡ with_request (with_forward (with_ack (filling_of C.word_of packet.old tcb.old self.old)))) }
+    {
+        self.add_ack(packet, tcb)?;
+        self.add_forward_tsn(packet, tcb)?;
+        self.add_reset_request(packet, tcb)
+    }
+
+    /// What goes into a packet of a burst.
+    fn fill(
+        &mut self,
+        packet: &mut OutgoingPacket,
+        tcb: &mut TransmissionControlBlock,
+        is_first: bool,
+    ) -> Result<(), AllocError>
+        ensures { OnOk result (filling_of C.word_of packet.new tcb.new self.new ≡ filled_as is_first (filling_of C.word_of packet.old tcb.old self.old)) }
+    {
+        if !is_first {
+            return self.add_data(packet, tcb);
+        }
+        self.add_controls(packet, tcb)?;
+        self.add_data(packet, tcb)
+    }
+
+    /// One packet of a burst. The answer is whether another one may follow.
+    fn send_packet(
+        &mut self,
+        packet: &mut OutgoingPacket,
+        tcb: &mut TransmissionControlBlock,
+        is_first: bool,
+        is_alone: bool,
+    ) -> Result<bool, AllocError>
+        ensures filling { OnOk result (filling_of C.word_of packet.new tcb.new self.new
+            ≡ (turned is_first is_alone (filling_of C.word_of packet.old tcb.old self.old)).filling) }
+        ensures more { IfOk result (λ more. more ≡ (turned is_first is_alone (filling_of C.word_of packet.old tcb.old self.old)).is_more) }
+    {
+        self.fill(packet, tcb, is_first)?;
+        if packet.is_empty() {
+            return Ok(false);
+        }
+        self.emit(packet)?;
+        Ok(!is_alone)
+    }
+
+    /// The most packets of a burst.
+    fn max_burst(&self) -> u32
+        ensures { result ≡ self.now.options.max_burst }
+    {
+        u32::try_from(self.options.max_burst).unwrap_or(0)
+    }
+
+    /// What may be sent goes out, in at most `max_burst` packets, the first of which may hold chunks already; in one
+    /// packet before the COOKIE ACK (RFC 9260 section 5.1).
+    pub fn send_burst(
+        &mut self,
+        packet: &mut OutgoingPacket,
+        tcb: &mut TransmissionControlBlock,
+        is_alone: bool,
+    ) -> Result<(), AllocError>
+        ensures { OnOk result (filling_of C.word_of packet.new tcb.new self.new ≡ burst_with is_alone packet.old (tcb_of tcb.old) (context_of C.word_of self.old)) }
+    {
+        for index in 0..self.max_burst() {
+            if !self.send_packet(packet, tcb, index == 0, is_alone)? {
+                return Ok(());
+            }
+        }
+        Ok(())
+    }
+
+    /// What may be sent goes out, behind the chunks of this packet.
+    pub fn send_buffered_packets_with(
+        &mut self,
+        tcb: &mut TransmissionControlBlock,
+        is_alone: bool,
+        mut packet: OutgoingPacket,
+    ) -> Result<(), AllocError>
+        ensures { OnOk result (sent_of C.word_of tcb.new self.new ≡ send_with is_alone packet (tcb_of tcb.old) (context_of C.word_of self.old)) }
+    {
+        self.send_burst(&mut packet, tcb, is_alone)
+    }
+
+    /// What may be sent goes out.
+    pub fn send_buffered_packets(
+        &mut self,
+        tcb: &mut TransmissionControlBlock,
+        is_alone: bool,
+    ) -> Result<(), AllocError>
+        ensures { OnOk result (sent_of C.word_of tcb.new self.new ≡ send_buffered is_alone (tcb_of tcb.old) (context_of C.word_of self.old)) }
+    {
+        let packet = tcb.new_packet(self.alloc, &self.options);
+        self.send_buffered_packets_with(tcb, is_alone, packet)
+    }
+
+    /// The cookie goes out, with data where both fit (RFC 9260 section 5.1).
+    pub fn send_cookie_echo(
+        &mut self,
+        tcb: &mut TransmissionControlBlock,
+        cookie: &[u8],
+    ) -> Result<(), AllocError>
+        ensures { OnOk result (sent_of C.word_of tcb.new self.new ≡ send_cookie cookie.now (tcb_of tcb.old) (context_of C.word_of self.old)) }
+    {
+        let mut packet = OutgoingPacket::new(
+            self.alloc,
+            tcb.identity.peer_verification_tag,
+            self.options.mtu,
+        );
+        let cookie = Vec::from_slice(self.alloc, cookie)?;
+        let chunk = Chunk::CookieEcho(CookieEchoChunk { cookie });
+        if !packet.add_if_it_fits(chunk)? {
+            return Ok(());
+        }
+        self.send_buffered_packets_with(tcb, true, packet)
+    }
+
+    /// What a third missing report showed to be lost goes out, whatever the window says (RFC 9260 section 7.2.4).
+    pub fn send_fast_retransmit(
+        &mut self,
+        tcb: &mut TransmissionControlBlock,
+    ) -> Result<(), AllocError>
+        ensures { OnOk result (sent_of C.word_of tcb.new self.new ≡ send_lost (tcb_of tcb.old) (context_of C.word_of self.old)) }
+    {
+        if !tcb.retransmission_queue.has_data_to_be_fast_retransmitted() {
+            return Ok(());
+        }
+        let mut packet = tcb.new_packet(self.alloc, &self.options);
+        let most = (self.options.mtu / 4 * 4).saturating_sub(COMMON_HEADER_SIZE);
+        let fragments = tcb
+            .retransmission_queue
+            .get_chunks_for_fast_retransmit(self.clock, most)?;
+        add_fragments(&mut packet, tcb, false, fragments)?;
+        self.emit(&mut packet)
+    }
+}
+
+/// How many streams a request in this packet has room for.
+fn most_streams(packet: &OutgoingPacket) -> usize
+    ensures { result ≡ most_streams packet.now }
+{
+    let whole = packet.bytes_remaining() / 4 * 4;
+    whole.saturating_sub(20) / 2
+}
+
+/// The chunks of the fragments that fit, one after the other.
+fn add_fragments(
+    packet: &mut OutgoingPacket,
+    tcb: &TransmissionControlBlock,
+    is_immediate: bool,
+    fragments: Vec<(Tsn, Data)>,
+) -> Result<(), AllocError>
+    ensures { OnOk result (packet.new ≡ add_all (data_chunks (tcb_of tcb.now) is_immediate (map chunk_of fragments.items)) packet.old) }
+{
+    for (tsn, data) in fragments {
+        packet.add(tcb.make_data_chunk(tsn, data, is_immediate))?;
+    }
+    Ok(())
+}
+
+/// What waits goes out, as far as it may, where there is a control block.
+pub fn send_waiting<C: Checksum>(
+    state: &mut State,
+    context: &mut Context<C>,
+) -> Result<(), AllocError>
+    ensures { OnOk result (standing_of C.word_of state.new context.new ≡ where_open send_in (standing_of C.word_of state.old context.old)) }
+{
+    match state {
+        State::Closed => Ok(()),
+        State::CookieWait(_) => Ok(()),
+        State::Open(phase, tcb) => context.send_buffered_packets(tcb, phase.is_alone()),
+    }
+}

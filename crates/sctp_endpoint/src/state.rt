@@ -1,0 +1,92 @@
+//! The states of an end (RFC 9260 section 4).
+
+ghost use Rattle.std.specs.Prelude.{◌≡◌};
+ghost use Rattle.std.specs.Borrow.{LendsIf, sem};
+ghost use Rattle.std.specs.Option.{option_map};
+ghost use Rattle.sctp_table.specs.Association.{block_in};
+ghost use Rattle.sctp_endpoint.specs.Lending.{with_block};
+ghost use Rattle.sctp_table.specs.Sending.{is_alone};
+ghost use Rattle.sctp_endpoint.specs.Views.{phase_of, state_of, tcb_of};
+ghost use Rattle.sctp_endpoint.specs.contracts.state.State as states;
+ghost use Rattle.sctp_endpoint.specs.contracts.transmission_control_block.TransmissionControlBlock as blocks;
+
+use crate::transmission_control_block::TransmissionControlBlock;
+use sctp_serial::Tsn;
+use sctp_state::Timer;
+
+/// An INIT was sent.
+#[derive(Drop)]
+pub struct CookieWaitState {
+    pub verification_tag: u32,
+    pub initial_tsn: Tsn,
+    pub t1_init: Timer,
+}
+
+/// The cookie was echoed.
+#[derive(Drop)]
+pub struct CookieEchoedState {
+    pub t1_cookie: Timer,
+    pub cookie: Vec<u8>,
+}
+
+/// The states with a control block.
+#[derive(Drop)]
+pub enum Phase {
+    CookieEchoed(CookieEchoedState),
+    Established,
+    ShutdownPending,
+    /// With T2-shutdown.
+    ShutdownSent(Timer),
+    ShutdownReceived,
+    /// With T2-shutdown.
+    ShutdownAckSent(Timer),
+}
+
+/// What an end is in.
+#[derive(Drop)]
+pub enum State {
+    Closed,
+    CookieWait(CookieWaitState),
+    Open(Phase, TransmissionControlBlock),
+}
+
+impl Phase {
+    /// Whether a burst has one packet: before the COOKIE ACK no other goes out (RFC 9260 section 5.1).
+    pub fn is_alone(&self) -> bool
+        ensures { result ≡ is_alone (phase_of self.now) }
+    {
+        matches!(self, Phase::CookieEchoed(_))
+    }
+}
+
+impl State {
+    /// The next state, in place of this one.
+    pub fn enter(&mut self, next: State)
+        ensures { self.new ≡ next }
+    {
+        drop(std::mem::replace(self, next));
+    }
+
+    /// The control block, in the states that have one.
+    pub fn tcb(&self) -> Option<&TransmissionControlBlock>
+        ensures { option_map (λ t. tcb_of t.now) result ≡ block_in (state_of self.now) }
+    {
+        match self {
+            State::Closed => None,
+            State::CookieWait(_) => None,
+            State::Open(_, tcb) => Some(tcb),
+        }
+    }
+
+    /// The same, to be changed; the state keeps the rest.
+    pub fn tcb_mut(&mut self) -> Option<&mut TransmissionControlBlock>
+        ensures* writes_back { sem 𝓛 (LendsIf states.the_row blocks.the_row self.entry result (with_block self.old) self.old) }
+        ensures value { option_map (λ t. tcb_of t.now) result ≡ block_in (state_of self.old) }
+    {
+        match self {
+            State::Closed => None,
+            State::CookieWait(_) => None,
+            State::Open(_, tcb) => Some(tcb),
+        }
+    }
+}

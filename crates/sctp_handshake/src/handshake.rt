@@ -1,0 +1,165 @@
+//! The packets of the handshake (RFC 9260 section 5.1).
+
+ghost use Rattle.std.specs.Prelude.{◌≡◌, None, map, IfOk, OnOk};
+ghost use Rattle.std.specs.Duration.{as_nanos};
+ghost use Rattle.sctp_state.specs.Timers.{start, timer};
+ghost use Rattle.std.specs.Option.{option_map};
+ghost use Rattle.sctp_wire.specs.ParameterViews.{parameter_tree};
+ghost use Rattle.sctp_packet.specs.Chunk.{init_ack_chunk};
+ghost use Rattle.sctp_packet.specs.ChunkView.{chunk_tree};
+ghost use Rattle.sctp_packet.specs.Views.{init_tree};
+ghost use Rattle.sctp_state.specs.Capabilities.{capabilities_of, negotiated, told_by};
+ghost use Rattle.sctp_state.specs.Cookie.{cookie_of};
+ghost use Rattle.sctp_state.specs.Options.{IsValid, options_of};
+ghost use Rattle.sctp_table.specs.Opening.{agreed_by, answer, cookie_for, cookie_in, init_ack_of, maker, t1_cookie, t1_init};
+ghost use Rattle.sctp_endpoint.specs.Views.{context_of};
+
+use sctp_endpoint::{Context, OutgoingPacket};
+use sctp_packet::{Chunk, InitAckChunk, InitChunk};
+use sctp_serial::Tsn;
+use sctp_state::{BackoffAlgorithm, Capabilities, Options, SctpImplementation, StateCookie, Timer, announced_parameters};
+use sctp_wire::{Checksum, Parameter, StateCookieParameter};
+use std::alloc::{AllocError, Global};
+use std::time::Duration;
+
+/// What both ends do, by the end's options and what an INIT or INIT ACK tells.
+pub fn agreed_by(
+    options: &Options,
+    nbr_outbound_streams: u16,
+    nbr_inbound_streams: u16,
+    parameters: &[Parameter],
+) -> Capabilities
+    ensures { capabilities_of result
+        ≡ negotiated (options_of options.now) (told_by nbr_outbound_streams nbr_inbound_streams (map parameter_tree parameters.now)) }
+{
+    Capabilities::from_parameters(nbr_outbound_streams, nbr_inbound_streams, parameters).negotiate(
+        options,
+    )
+}
+
+/// The same by an INIT.
+fn agreed_with(options: &Options, init: &InitChunk) -> Capabilities
+    ensures { capabilities_of result ≡ agreed_by (options_of options.now) (init_tree init.now) }
+{
+    agreed_by(
+        options,
+        init.nbr_outbound_streams,
+        init.nbr_inbound_streams,
+        &init.parameters,
+    )
+}
+
+/// The cookie that an INIT is answered with.
+fn cookie_for(init: &InitChunk, tag: u32, initial_tsn: Tsn, tie_tag: u64) -> StateCookie
+    ensures { cookie_of result ≡ cookie_for (init_tree init.now) tag initial_tsn.0 tie_tag }
+{
+    StateCookie {
+        peer_tag: init.initiate_tag,
+        my_tag: tag,
+        peer_initial_tsn: init.initial_tsn,
+        my_initial_tsn: initial_tsn,
+        a_rwnd: init.a_rwnd,
+        tie_tag,
+        peer_capabilities: Capabilities::from_parameters(
+            init.nbr_outbound_streams,
+            init.nbr_inbound_streams,
+            &init.parameters,
+        ),
+    }
+}
+
+fn make_init_ack(
+    alloc: Global,
+    options: &Options,
+    init: &InitChunk,
+    tag: u32,
+    initial_tsn: Tsn,
+    tie_tag: u64,
+) -> Result<Chunk, AllocError>
+    requires { IsValid (options_of options.now) }
+    ensures { IfOk result (λ chunk. chunk_tree chunk ≡ init_ack_chunk (init_ack_of (options_of options.now) (init_tree init.now) tag initial_tsn.0 tie_tag)) }
+{
+    let agreed = agreed_with(options, init);
+    let mut parameters = announced_parameters(alloc, options, agreed.zero_checksum_method)?;
+    let cookie = cookie_for(init, tag, initial_tsn, tie_tag).serialize(alloc)?;
+    parameters.push(Parameter::StateCookie(StateCookieParameter { cookie }))?;
+    Ok(Chunk::InitAck(InitAckChunk {
+        initiate_tag: tag,
+        a_rwnd: options.max_receiver_window_buffer_size as u32,
+        nbr_outbound_streams: options.announced_maximum_outgoing_streams,
+        nbr_inbound_streams: options.announced_maximum_incoming_streams,
+        initial_tsn,
+        parameters,
+    }))
+}
+
+/// The first cookie among the parameters.
+pub fn cookie_in(parameters: &[Parameter]) -> Option<&[u8]>
+    ensures { option_map (λ cookie. cookie.now) result ≡ cookie_in (map parameter_tree parameters.now) }
+{
+    for parameter in parameters {
+        if let Parameter::StateCookie(found) = parameter {
+            return Some(&found.cookie);
+        }
+    }
+    None
+}
+
+/// Who made a cookie, by its first eight bytes.
+pub fn determine_sctp_implementation(cookie: &[u8]) -> SctpImplementation
+    ensures { result ≡ maker cookie.now }
+{
+    if cookie.len() <= 8 {
+        SctpImplementation::Unknown
+    } else if cookie.starts_with(b"dcSCTP00") {
+        SctpImplementation::DcsctpCc
+    } else if cookie.starts_with(b"dcSCTPr0") {
+        SctpImplementation::DcsctpRs
+    } else if cookie.starts_with(b"KAME-BSD") {
+        SctpImplementation::UsrSctp
+    } else {
+        SctpImplementation::Unknown
+    }
+}
+
+/// A timer that runs from now on.
+fn started<C: Checksum>(context: &Context<C>, duration: Duration) -> Timer
+    ensures { result ≡ start context.now.clock (timer (as_nanos duration) BackoffAlgorithm.Exponential context.now.options.max_init_retransmits None) }
+{
+    let mut timer = Timer::new(
+        duration,
+        BackoffAlgorithm::Exponential,
+        context.options.max_init_retransmits,
+        None,
+    );
+    timer.start(context.clock);
+    timer
+}
+
+pub fn t1_init<C: Checksum>(context: &Context<C>) -> Timer
+    ensures { result ≡ t1_init (context_of C.word_of context.now) }
+{
+    started(context, context.options.t1_init_timeout)
+}
+
+pub fn t1_cookie<C: Checksum>(context: &Context<C>) -> Timer
+    ensures { result ≡ t1_cookie (context_of C.word_of context.now) }
+{
+    started(context, context.options.t1_cookie_timeout)
+}
+
+/// An INIT is answered; all that has to be kept of it goes along in the cookie.
+pub fn send_init_ack<C: Checksum>(context: &mut Context<C>, init: &InitChunk,
+    tag: u32,
+    initial_tsn: Tsn,
+    tie_tag: u64,
+) -> Result<(), AllocError>
+    ensures { OnOk result (context_of C.word_of context.new ≡ answer (init_tree init.now) tag initial_tsn.0 tie_tag (context_of C.word_of context.old)) }
+{
+    let chunk = make_init_ack(context.alloc, &context.options, init, tag, initial_tsn, tie_tag)?;
+    let agreed = agreed_with(&context.options, init);
+    let mut packet = OutgoingPacket::new(context.alloc, init.initiate_tag, context.options.mtu);
+    packet.write_checksum(!agreed.zero_checksum_enabled());
+    packet.add(chunk)?;
+    context.emit(&mut packet)
+}

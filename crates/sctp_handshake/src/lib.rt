@@ -1,0 +1,7 @@
+//! How an association is opened: INIT, INIT ACK, COOKIE ECHO and COOKIE ACK (RFC 9260 section 5).
+#![tactic(auto)]
+
+pub mod cookie_echo;
+pub mod draws;
+pub mod handshake;
+pub mod opening;

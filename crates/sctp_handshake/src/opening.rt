@@ -1,0 +1,261 @@
+//! How an association is opened (RFC 9260 section 5.1): INIT and INIT ACK.
+
+ghost use Rattle.std.specs.Prelude.{◌≡◌, false, [], ◌∷◌, map, OnOk};
+ghost use Rattle.rand_core.specs.Stream.{next_u32};
+ghost use Rattle.sctp_wire.specs.Cause.{missing_mandatory_parameter};
+ghost use Rattle.sctp_wire.specs.ParameterViews.{parameter_tree};
+ghost use Rattle.sctp_packet.specs.Chunk.{abort_chunk};
+ghost use Rattle.sctp_packet.specs.Views.{init_ack_tree, init_tree};
+ghost use Rattle.sctp_table.specs.Packets.{add, emit, packet_to, rounded};
+ghost use Rattle.sctp_endpoint.specs.Views.{context_of, endpoint_of, identity_of, opened_endpoint_of, phase_of, standing_of, tcb_of};
+ghost use Rattle.sctp_table.specs.Opening as table;
+
+use crate::draws::{tag_from, tsn_from};
+use crate::handshake::{agreed_by, cookie_in, determine_sctp_implementation, send_init_ack, t1_cookie, t1_init};
+use rand_core::Rng;
+use sctp_endpoint::{Context, CookieEchoedState, CookieWaitState, Identity, OutgoingPacket, Phase, State, TransmissionControlBlock};
+use sctp_packet::{AbortChunk, Chunk, InitAckChunk, InitChunk};
+use sctp_serial::Tsn;
+use sctp_state::ErrorKind;
+use sctp_wire::{Checksum, ErrorCause, MissingMandatoryParameterErrorCause};
+use std::alloc::AllocError;
+
+/// The type of the parameter that holds a cookie.
+const STATE_COOKIE: u16 = 7;
+
+/// A closed end draws its first TSN and its tag, and an INIT goes out.
+pub fn connect<R: Rng, C: Checksum>(
+    state: &mut State,
+    context: &mut Context<C>,
+    rng: &mut R,
+) -> Result<(), AllocError>
+    ensures { OnOk result (endpoint_of R.stream C.word_of state.new context.new rng.new ≡ table.connect (endpoint_of R.stream C.word_of state.old context.old rng.old)) }
+{
+    match state {
+        State::Closed => {
+            let initial_tsn = tsn_from(rng.next_u32());
+            let tag = tag_from(rng.next_u32());
+            wait(state, context, tag, initial_tsn)
+        }
+        State::CookieWait(_) => Ok(()),
+        State::Open(_, _) => Ok(()),
+    }
+}
+
+/// An INIT goes out, and its answer is waited for.
+fn wait<C: Checksum>(
+    state: &mut State,
+    context: &mut Context<C>,
+    tag: u32,
+    initial_tsn: Tsn,
+) -> Result<(), AllocError>
+    ensures { OnOk result (standing_of C.word_of state.new context.new ≡ table.waiting tag initial_tsn.0 (context_of C.word_of context.old)) }
+{
+    let t1_init = t1_init(context);
+    context.send_init(tag, initial_tsn)?;
+    state.enter(State::CookieWait(CookieWaitState {
+        verification_tag: tag,
+        initial_tsn,
+        t1_init,
+    }));
+    Ok(())
+}
+
+/// INIT. It is answered by what it tells and by what the end is, and nothing of it is kept.
+pub fn handle_init<R: Rng, C: Checksum>(
+    state: &State,
+    context: &mut Context<C>,
+    rng: &mut R,
+    init: &InitChunk,
+) -> Result<(), AllocError>
+    ensures { OnOk result (endpoint_of R.stream C.word_of state.now context.new rng.new
+        ≡ table.on_init (init_tree init.now) (endpoint_of R.stream C.word_of state.now context.old rng.old)) }
+{
+    match state {
+        State::Closed => {
+            let initial_tsn = tsn_from(rng.next_u32());
+            let tag = tag_from(rng.next_u32());
+            send_init_ack(context, init, tag, initial_tsn, 0)
+        }
+        State::CookieWait(waiting) => {
+            send_init_ack(context, init, waiting.verification_tag, waiting.initial_tsn, 0)
+        }
+        State::Open(phase, tcb) => answer_open(phase, tcb, context, rng, init),
+    }
+}
+
+/// The answer of an end that has a control block (RFC 9260 sections 5.2.1, 5.2.2, 9.2).
+fn answer_open<R: Rng, C: Checksum>(
+    phase: &Phase,
+    tcb: &TransmissionControlBlock,
+    context: &mut Context<C>,
+    rng: &mut R,
+    init: &InitChunk,
+) -> Result<(), AllocError>
+    ensures { OnOk result (opened_endpoint_of R.stream C.word_of phase.now tcb.now context.new rng.new
+        ≡ table.on_init_open (phase_of phase.now) (init_tree init.now) (tcb_of tcb.now) (opened_endpoint_of R.stream C.word_of phase.now tcb.now context.old rng.old)) }
+{
+    match phase {
+        Phase::CookieEchoed(_) => {
+            let identity = tcb.identity;
+            send_init_ack(context, init,
+                identity.my_verification_tag,
+                identity.my_initial_tsn,
+                0,
+            )
+        }
+        Phase::Established => answer_again(tcb, context, rng, init),
+        Phase::ShutdownPending => answer_again(tcb, context, rng, init),
+        Phase::ShutdownSent(_) => answer_again(tcb, context, rng, init),
+        Phase::ShutdownReceived => answer_again(tcb, context, rng, init),
+        Phase::ShutdownAckSent(_) => context.send_shutdown_ack(tcb),
+    }
+}
+
+/// The answer to a peer that may have restarted: under a new tag, with the tie of the association that there is.
+fn answer_again<R: Rng, C: Checksum>(
+    tcb: &TransmissionControlBlock,
+    context: &mut Context<C>,
+    rng: &mut R,
+    init: &InitChunk,
+) -> Result<(), AllocError>
+    ensures context { OnOk result (context_of C.word_of context.new
+        ≡ table.answer (init_tree init.now) (table.tag_from (next_u32 (R.stream rng.old)).0) (table.next_first (tcb_of tcb.now)) tcb.now.identity.tie_tag (context_of C.word_of context.old)) }
+    ensures words { OnOk result (R.stream rng.new ≡ (next_u32 (R.stream rng.old)).1) }
+{
+    let tag = tag_from(rng.next_u32());
+    let initial_tsn = tcb.retransmission_queue.next_tsn() + 1_000_000;
+    send_init_ack(context, init, tag, initial_tsn, tcb.identity.tie_tag)
+}
+
+/// INIT ACK, for which an end waits that has sent an INIT.
+pub fn handle_init_ack<R: Rng, C: Checksum>(
+    state: &mut State,
+    context: &mut Context<C>,
+    rng: &mut R,
+    init_ack: &InitAckChunk,
+) -> Result<(), AllocError>
+    ensures { OnOk result (endpoint_of R.stream C.word_of state.new context.new rng.new
+        ≡ table.on_init_ack (init_ack_tree init_ack.now) (endpoint_of R.stream C.word_of state.old context.old rng.old)) }
+{
+    match state {
+        State::Closed => Ok(()),
+        State::CookieWait(waiting) => {
+            let tag = waiting.verification_tag;
+            let initial_tsn = waiting.initial_tsn;
+            take_init_ack(state, context, rng, (tag, initial_tsn), init_ack)
+        }
+        State::Open(_, _) => Ok(()),
+    }
+}
+
+/// The cookie of an INIT ACK is echoed; without one the association ends.
+fn take_init_ack<R: Rng, C: Checksum>(
+    state: &mut State,
+    context: &mut Context<C>,
+    rng: &mut R,
+    own: (u32, Tsn),
+    init_ack: &InitAckChunk,
+) -> Result<(), AllocError>
+    ensures { OnOk result (endpoint_of R.stream C.word_of state.new context.new rng.new
+        ≡ table.echoed (init_ack_tree init_ack.now) (table.cookie_in (map parameter_tree init_ack.now.parameters.items)) own.0 own.1.0
+        (endpoint_of R.stream C.word_of state.old context.old rng.old)) }
+{
+    let Some(cookie) = cookie_in(&init_ack.parameters) else {
+        return end_without_cookie(state, context, init_ack.initiate_tag);
+    };
+    let identity = Identity {
+        my_verification_tag: own.0,
+        my_initial_tsn: own.1,
+        peer_verification_tag: init_ack.initiate_tag,
+        peer_initial_tsn: init_ack.initial_tsn,
+        tie_tag: rng.next_u64(),
+    };
+    echo(state, context, identity, init_ack, cookie)
+}
+
+/// The association ends with an ABORT, since an INIT ACK came without a cookie (RFC 9260 section 3.3.3).
+fn end_without_cookie<C: Checksum>(
+    state: &mut State,
+    context: &mut Context<C>,
+    peer_tag: u32,
+) -> Result<(), AllocError>
+    ensures { OnOk result (standing_of C.word_of state.new context.new ≡ table.without_cookie peer_tag (context_of C.word_of context.old)) }
+{
+    send_missing_cookie(context, peer_tag)?;
+    context.tell_aborted(
+        ErrorKind::ProtocolViolation,
+        "InitAck chunk doesn't contain a cookie",
+    )?;
+    state.enter(State::Closed);
+    Ok(())
+}
+
+/// The cookie of the peer goes out, with data where both fit.
+fn echo<C: Checksum>(
+    state: &mut State,
+    context: &mut Context<C>,
+    identity: Identity,
+    init_ack: &InitAckChunk,
+    cookie: &[u8],
+) -> Result<(), AllocError>
+    ensures { OnOk result (standing_of C.word_of state.new context.new
+        ≡ table.echo (init_ack_tree init_ack.now) cookie.now (identity_of identity) (context_of C.word_of context.old)) }
+{
+    let capabilities = agreed_by(
+        &context.options,
+        init_ack.nbr_outbound_streams,
+        init_ack.nbr_inbound_streams,
+        &init_ack.parameters,
+    );
+    context.peer_implementation = determine_sctp_implementation(cookie);
+    reset_queue(context, capabilities.message_interleaving)?;
+    let echoed = CookieEchoedState {
+        t1_cookie: t1_cookie(context),
+        cookie: Vec::from_slice(context.alloc, cookie)?,
+    };
+    let mut tcb = TransmissionControlBlock::new(
+        context.alloc,
+        &context.options,
+        identity,
+        init_ack.a_rwnd,
+        capabilities,
+    );
+    if let Err(fault) = context.send_cookie_echo(&mut tcb, cookie) {
+        drop(tcb);
+        return Err(fault);
+    }
+    state.enter(State::Open(Phase::CookieEchoed(echoed), tcb));
+    Ok(())
+}
+
+/// The queue begins anew, for an association with or without interleaving.
+pub fn reset_queue<C: Checksum>(context: &mut Context<C>, is_interleaved: bool) -> Result<(), AllocError>
+    ensures { let c = context_of C.word_of context.old in
+        OnOk result (context_of C.word_of context.new ≡ record c { queue = table.queue_anew is_interleaved c.queue }) }
+{
+    context.send_queue.reset()?;
+    context.send_queue.enable_message_interleaving(is_interleaved);
+    Ok(())
+}
+
+/// An ABORT that the cookie is missing.
+fn send_missing_cookie<C: Checksum>(context: &mut Context<C>, peer_tag: u32) -> Result<(), AllocError>
+    ensures { OnOk result (context_of C.word_of context.new
+        ≡ emit (add (abort_chunk false (missing_mandatory_parameter (7 ∷ []) ∷ [])) (packet_to peer_tag (rounded context.old.options.mtu))) (context_of C.word_of context.old)) }
+{
+    let mut missing_parameter_types = Vec::new(context.alloc);
+    missing_parameter_types.push(STATE_COOKIE)?;
+    let mut error_causes = Vec::new(context.alloc);
+    error_causes.push(ErrorCause::MissingMandatoryParameter(
+        MissingMandatoryParameterErrorCause {
+            missing_parameter_types,
+        },
+    ))?;
+    let mut packet = OutgoingPacket::new(context.alloc, peer_tag, context.options.mtu / 4 * 4);
+    packet.add(Chunk::Abort(AbortChunk {
+        tag_reflected: false,
+        error_causes,
+    }))?;
+    context.emit(&mut packet)
+}

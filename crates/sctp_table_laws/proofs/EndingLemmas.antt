@@ -1,0 +1,107 @@
+-- A call that leaves an end closed has ended its association.
+use Rattle.std.proofs.Common.{◌≡◌, ℕ, ◌+◌, ◌≤◌, Bool, true, false, Option, Some, None, List, [], ◌∷◌, refl, sym, ◌∙◌, arith}
+use Rattle.sctp_packet.specs.Chunk.{ChunkTree}
+use Rattle.sctp_packet.specs.Packet.{PacketTree}
+use Rattle.sctp_rx.specs.Tracker.{is_ack_due}
+use Rattle.sctp_table.specs.Association.{Tcb, Phase, CookieEchoed, Established, ShutdownPending, ShutdownSent, ShutdownReceived, ShutdownAckSent, State, Closed, CookieWait, Open, Context, Standing, Endpoint, where_open}
+use Rattle.sctp_table.specs.Sending.{asked}
+use Rattle.sctp_table.specs.Input.{refusal, Heard, hear, hear_rest, hear_all, has_data, repeats, repeats_if, ended_if, at_end, ended, on_standing, handled, counts, taken_if, on_packet}
+use Rattle.sctp_table.specs.Laws.{Call, Connect, Close, Shutdown, Send, SendMany, TakeMessage, SetLowThreshold, SetPriority, SetMaxMessageSize, Advance, HandOver, Restore, Packet, NoPacket, called, is_closed, ends, ended_after, ended_by, ended_unless, ended_in, ended_in_call, ResetStreams}
+
+not_both : (b : Bool) → b ≡ false → b ≡ true → ⊥
+not_both b e f = cc
+
+one_ends : (s t : State) → is_closed s ≡ false → is_closed t ≡ true → 1 ≤ ends s t
+one_ends Closed t e f = absurd (not_both true e refl)
+one_ends (CookieWait tag first t1) Closed e f = omega arith
+one_ends (CookieWait tag first t1) (CookieWait new_tag new_first new_t1) e f = absurd (not_both false refl f)
+one_ends (CookieWait tag first t1) (Open phase t) e f = absurd (not_both false refl f)
+one_ends (Open phase t) Closed e f = omega arith
+one_ends (Open phase t) (CookieWait tag first t1) e f = absurd (not_both false refl f)
+one_ends (Open phase t) (Open new_phase u) e f = absurd (not_both false refl f)
+
+module _ {P : Type 0} where
+  stays_open_from : (row : Phase → Tcb → Context P → Standing P) (st : State) (c : Context P)
+      → ((phase : Phase) (t : Tcb) (d : Context P) → is_closed (row phase t d).state ≡ false)
+      → is_closed (where_open row (record { state = st; context = c })).state ≡ is_closed st
+  stays_open_from row Closed c h = refl
+  stays_open_from row (CookieWait tag first t1) c h = refl
+  stays_open_from row (Open phase t) c h = h phase t c
+
+  stays_open : (row : Phase → Tcb → Context P → Standing P) (s : Standing P) → ((phase : Phase) (t : Tcb) (d : Context P) → is_closed (row phase t d).state ≡ false)
+      → is_closed (where_open row s).state ≡ is_closed s.state
+  stays_open row s h = stays_open_from row s.state s.context h
+
+  open_repeats : (phase : Phase) (t : Tcb) (c : Context P) → is_closed (repeats phase t c).state ≡ false
+  open_repeats (CookieEchoed t1 cookie) t c = refl
+  open_repeats Established t c = refl
+  open_repeats ShutdownPending t c = refl
+  open_repeats (ShutdownSent t2) t c = refl
+  open_repeats ShutdownReceived t c = refl
+  open_repeats (ShutdownAckSent t2) t c = refl
+
+  same_repeats : (b : Bool) (s : Standing P) → is_closed (repeats_if b s).state ≡ is_closed s.state
+  same_repeats true s = stays_open repeats s open_repeats
+  same_repeats false s = refl
+
+  open_ended_if : (b : Bool) (phase : Phase) (t : Tcb) (c : Context P) → is_closed (ended_if b phase t c).state ≡ false
+  open_ended_if true phase t c = refl
+  open_ended_if false phase t c = refl
+
+  open_ended : (phase : Phase) (t : Tcb) (c : Context P) → is_closed (ended phase t c).state ≡ false
+  open_ended phase t c = open_ended_if (is_ack_due false (at_end c.now t).tracker.tracker.ack) phase (asked false (at_end c.now t)) c
+
+  -- ---- the chunks
+
+  some_rest : (b closed : Bool) (n : ℕ) (rest : Endpoint P → Endpoint P) (count : Endpoint P → ℕ) (s : Endpoint P) → is_closed s.standing.state ≡ closed
+      → (closed ≡ true → 1 ≤ n)
+      → ((t : Endpoint P) → is_closed t.standing.state ≡ false → is_closed (rest t).standing.state ≡ true → 1 ≤ count t)
+      → is_closed (hear_rest rest (record { end = s; goes_on = b })).standing.state ≡ true → 1 ≤ n + ended_after count (record { end = s; goes_on = b })
+  some_rest b true n rest count s e one more f =
+      let k : 1 ≤ n = one refl in
+      omega (arith, k)
+  some_rest true false n rest count s e one more f =
+      let k : 1 ≤ count s = more s e f in
+      omega (arith, k)
+  some_rest false false n rest count s e one more f = absurd (not_both (is_closed s.standing.state) e f)
+
+  some_by : (tag : ℕ) (chunks : List ChunkTree) (s : Endpoint P) → is_closed s.standing.state ≡ false → is_closed (hear_all tag chunks s).standing.state ≡ true
+      → 1 ≤ ended_by tag chunks s
+  some_by tag [] s e f = absurd (not_both (is_closed s.standing.state) e f)
+  some_by tag (chunk ∷ chunks) s e f =
+      let h : Heard P = hear tag chunk s in
+      some_rest h.goes_on (is_closed h.end.standing.state) (ends s.standing.state h.end.standing.state) (hear_all tag chunks) (ended_by tag chunks) h.end refl
+      (one_ends s.standing.state h.end.standing.state e) (some_by tag chunks) f
+
+  some_handled : (tag : ℕ) (chunks : List ChunkTree) (s : Endpoint P) → is_closed s.standing.state ≡ false → is_closed (handled tag chunks s).standing.state ≡ true
+      → 1 ≤ ended_by tag chunks (on_standing (repeats_if (has_data chunks)) s)
+  some_handled tag chunks s e f =
+      let first : Endpoint P = on_standing (repeats_if (has_data chunks)) s in
+      let middle : Endpoint P = hear_all tag chunks first in
+      some_by tag chunks first (same_repeats (has_data chunks) s.standing ∙ e) (sym (stays_open ended middle.standing open_ended) ∙ f)
+
+  some_unless : (o : Option (List ℕ)) (tag : ℕ) (chunks : List ChunkTree) (s : Endpoint P) → is_closed s.standing.state ≡ false
+      → is_closed (taken_if o tag chunks s).standing.state ≡ true → 1 ≤ ended_unless o tag chunks s
+  some_unless None tag chunks s e f = some_handled tag chunks s e f
+  some_unless (Some text) tag chunks s e f = absurd (not_both (is_closed s.standing.state) e f)
+
+  some_packet : (p : PacketTree) (s : Endpoint P) → is_closed s.standing.state ≡ false → is_closed (on_packet p s).standing.state ≡ true → 1 ≤ ended_in p s
+  some_packet p s e f =
+      some_unless (refusal p.header.verification_tag p.chunks s.standing.state) p.header.verification_tag p.chunks (counts s) e f
+
+  pub some_call : (call : Call) (s : Endpoint P) → is_closed s.standing.state ≡ false → is_closed (called call s).standing.state ≡ true → 1 ≤ ended_in_call call s
+  some_call (Packet p) s e f = some_packet p s e f
+  some_call Connect s e f = one_ends s.standing.state (called Connect s).standing.state e f
+  some_call Close s e f = one_ends s.standing.state (called Close s).standing.state e f
+  some_call Shutdown s e f = one_ends s.standing.state (called Shutdown s).standing.state e f
+  some_call (Send m o) s e f = one_ends s.standing.state (called (Send m o) s).standing.state e f
+  some_call (SendMany ms o) s e f = one_ends s.standing.state (called (SendMany ms o) s).standing.state e f
+  some_call (ResetStreams streams) s e f = one_ends s.standing.state (called (ResetStreams streams) s).standing.state e f
+  some_call TakeMessage s e f = one_ends s.standing.state (called TakeMessage s).standing.state e f
+  some_call (SetLowThreshold stream bytes) s e f = one_ends s.standing.state (called (SetLowThreshold stream bytes) s).standing.state e f
+  some_call (SetPriority stream priority) s e f = one_ends s.standing.state (called (SetPriority stream priority) s).standing.state e f
+  some_call (SetMaxMessageSize bytes) s e f = one_ends s.standing.state (called (SetMaxMessageSize bytes) s).standing.state e f
+  some_call (Advance now) s e f = one_ends s.standing.state (called (Advance now) s).standing.state e f
+  some_call HandOver s e f = one_ends s.standing.state (called HandOver s).standing.state e f
+  some_call (Restore h) s e f = one_ends s.standing.state (called (Restore h) s).standing.state e f
+  some_call NoPacket s e f = one_ends s.standing.state (called NoPacket s).standing.state e f

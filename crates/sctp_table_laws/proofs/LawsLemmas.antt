@@ -1,0 +1,90 @@
+-- The two laws.
+use Rattle.std.proofs.Common.{◌≡◌, ℕ, ◌+◌, ◌≤◌, max, List, [], ◌∷◌, length, All, ap, subst, arith}
+use Rattle.std.proofs.lemmas.List.Elements.{All-cons, All-nil, All-head, All-tail}
+use Rattle.sctp_packet.specs.Chunk.{ChunkTree}
+use Rattle.sctp_packet.specs.Written.{chunks_bytes}
+use Rattle.sctp_packet.specs.Packet.{HeaderTree, packet_bytes}
+use Rattle.sctp_packet.proofs.PacketLemmas.{length_joined}
+use Rattle.sctp_state.specs.Events.{Event, SendPacket}
+use Rattle.sctp_table.specs.Association.{Context, Endpoint}
+use Rattle.sctp_table.specs.Wire.{field_of, written}
+use Rattle.sctp_table.specs.Laws.{Call, Connect, Close, Shutdown, Send, SendMany, TakeMessage, SetLowThreshold, SetPriority, SetMaxMessageSize, Advance, HandOver, Restore, Packet, NoPacket, called, Packing, IsWithin, IsShort, StaysWithin, HasAtMost, SendsAtMost, ended_in_call, TellsEndings, ResetStreams}
+use Rattle.sctp_table_laws.proofs.StepsLemmas.{Goes}
+use Rattle.sctp_table_laws.proofs.RowStepsLemmas.{steps_close, steps_shutdown}
+use Rattle.sctp_table_laws.proofs.OpeningStepsLemmas.{steps_connect}
+use Rattle.sctp_table_laws.proofs.TimeStepsLemmas.{steps_advance}
+use Rattle.sctp_table_laws.proofs.CallStepsLemmas.{steps_send, steps_send_many, steps_threshold, steps_priority, steps_max_message_size, steps_take_message}
+use Rattle.sctp_table_laws.proofs.HandoverStepsLemmas.{steps_hand_over, steps_restore}
+use Rattle.sctp_table_laws.proofs.ResetStepsLemmas.{steps_reset_streams}
+use Rattle.sctp_table_laws.proofs.InputStepsLemmas.{goes_packet, steps_no_packet}
+
+module _ {P : Type 0} where
+  goes_call : (call : Call) (s : Endpoint P) → Goes (ended_in_call call s) s.standing.context (called call s).standing.context
+  goes_call Connect s = steps_connect s
+  goes_call Close s = steps_close s.standing
+  goes_call Shutdown s = steps_shutdown s.standing
+  goes_call (Send m o) s = steps_send m o s.standing
+  goes_call (SendMany ms o) s = steps_send_many ms o s.standing
+  goes_call (ResetStreams streams) s = steps_reset_streams streams s.standing
+  goes_call TakeMessage s = steps_take_message s.standing
+  goes_call (SetLowThreshold stream bytes) s = steps_threshold stream bytes s.standing
+  goes_call (SetPriority stream priority) s = steps_priority stream priority s.standing
+  goes_call (SetMaxMessageSize bytes) s = steps_max_message_size bytes s.standing
+  goes_call (Advance now) s = steps_advance now s.standing
+  goes_call HandOver s = steps_hand_over s.standing
+  goes_call (Restore h) s = steps_restore h s.standing
+  goes_call (Packet p) s = goes_packet p s
+  goes_call NoPacket s = steps_no_packet s
+
+  within_of : (n : ℕ) (c d : Context P) → 12 ≤ c.options.mtu → Goes n c d → StaysWithin c d
+  within_of n c d least g =
+      let most : max 12 c.options.mtu ≡ c.options.mtu = omega (arith, least) in
+      record {
+        mtu = g.mtu;
+        pack = g.pack;
+        events = g.tells.events;
+        behind = g.tells.behind;
+        short = subst (λ (m : ℕ). All (IsShort c.pack m) g.tells.events) most g.tells.short;
+      }
+
+  pub stays_within : (call : Call) (s : Endpoint P) → 12 ≤ s.standing.context.options.mtu → StaysWithin s.standing.context (called call s).standing.context
+  stays_within call s least = within_of (ended_in_call call s) s.standing.context (called call s).standing.context least (goes_call call s)
+
+  endings_of : (n : ℕ) (c d : Context P) → Goes n c d → TellsEndings n c d
+  endings_of n c d g = record { events = g.tells.events; behind = g.tells.behind; counted = g.tells.ended }
+
+  pub tells_endings : (call : Call) (s : Endpoint P) → TellsEndings (ended_in_call call s) s.standing.context (called call s).standing.context
+  tells_endings call s = endings_of (ended_in_call call s) s.standing.context (called call s).standing.context (goes_call call s)
+
+-- ---- packets as bytes
+
+length_packet : (h : HeaderTree) (word : ℕ) (chunks : List ChunkTree) → length (packet_bytes h word chunks) ≡ 12 + length (chunks_bytes chunks)
+unfolding packet_bytes
+length_packet h word chunks = length_joined h word (chunks_bytes chunks)
+
+length_within : (word_of : List ℕ → ℕ) (most : ℕ) (bytes : List ℕ) → IsWithin (written word_of) most bytes → length bytes ≤ most
+length_within word_of most bytes w =
+    let field : ℕ = field_of word_of w.header w.is_summed w.chunks in
+    omega (arith, ap length w.made, length_packet w.header field w.chunks, w.short)
+
+event_at_most : (word_of : List ℕ → ℕ) (most : ℕ) (e : Event (List ℕ)) → IsShort (written word_of) most e → HasAtMost most e
+event_at_most word_of most (SendPacket bytes) w = length_within word_of most bytes w
+event_at_most word_of most e w = tt
+
+all_at_most : (word_of : List ℕ → ℕ) (most : ℕ) (es : List (Event (List ℕ))) → All (IsShort (written word_of) most) es → All (HasAtMost most) es
+all_at_most word_of most [] w = All-nil (HasAtMost most)
+all_at_most word_of most (e ∷ es) w =
+    let P : Event (List ℕ) → Type 0 = IsShort (written word_of) most in
+    All-cons (HasAtMost most) e es (event_at_most word_of most e (All-head P e es w)) (all_at_most word_of most es (All-tail P e es w))
+
+sends_of : (word_of : List ℕ → ℕ) (c d : Context (List ℕ)) → c.pack ≡ written word_of → StaysWithin c d → SendsAtMost c.options.mtu c d
+sends_of word_of c d is w = record {
+  events = w.events;
+  behind = w.behind;
+  short = all_at_most word_of c.options.mtu w.events (subst (λ (pack : Packing (List ℕ)). All (IsShort pack c.options.mtu) w.events) is w.short);
+}
+
+pub sends_at_most : (word_of : List ℕ → ℕ) (call : Call) (s : Endpoint (List ℕ)) → s.standing.context.pack ≡ written word_of → 12 ≤ s.standing.context.options.mtu
+    → SendsAtMost s.standing.context.options.mtu s.standing.context (called call s).standing.context
+sends_at_most word_of call s is least =
+    sends_of word_of s.standing.context (called call s).standing.context is (stays_within call s least)

@@ -1,0 +1,17 @@
+pub mod RequestSizeLemmas
+pub mod RowsLemmas
+pub mod StepsLemmas
+pub mod TellsLemmas
+pub mod GoesLemmas
+pub mod SendingStepsLemmas
+pub mod RowStepsLemmas
+pub mod OpeningStepsLemmas
+pub mod TimeStepsLemmas
+pub mod CallStepsLemmas
+pub mod ResetStepsLemmas
+pub mod InputStepsLemmas
+pub mod HandoverStepsLemmas
+pub mod LawsLemmas
+pub mod EndingLemmas
+pub mod ResetLawsLemmas
+pub mod MomentsLemmas

@@ -1,0 +1,314 @@
+//! Time: which timers a state looks at, and what their expiries lead to.
+
+ghost use Rattle.std.specs.Prelude.{◌≡◌, true, IfOk, OnOk};
+ghost use Rattle.sctp_endpoint.specs.Views.{context_of, left_of, phase_of, standing_after, standing_of, state_of, tcb_of, ticking_of, waited_of};
+ghost use Rattle.sctp_state.specs.Timers.{expire};
+ghost use Rattle.sctp_table.specs.Closing.{send_shutdown, send_shutdown_ack};
+ghost use Rattle.sctp_table.specs.Time as table;
+
+use crate::heartbeats::{heartbeat_expiry, tick_heartbeat_interval, tick_heartbeat_timeout};
+use sctp_endpoint::{Context, CookieEchoedState, CookieWaitState, Phase, State, TransmissionControlBlock};
+use sctp_serial::SocketTime;
+use sctp_state::Timer;
+use sctp_wire::Checksum;
+use std::alloc::AllocError;
+
+/// The delay of an acknowledgement. The answer is whether it expired.
+fn tick_ack<C: Checksum>(context: &Context<C>, tcb: &mut TransmissionControlBlock) -> bool
+    ensures { ticking_of C.word_of tcb.new context.now result ≡ table.tick_ack (table.ticking (tcb_of tcb.old) (context_of C.word_of context.now)) }
+{
+    tcb.data_tracker.handle_timeout(context.clock)
+}
+
+/// T3-rtx (RFC 9260 section 6.3.3), after the other one has expired or not. The answer is whether any did.
+fn tick_t3<C: Checksum>(context: &mut Context<C>, tcb: &mut TransmissionControlBlock,
+    has_expired: bool,
+) -> Result<bool, AllocError>
+    ensures { IfOk result (λ any. ticking_of C.word_of tcb.new context.new any ≡ table.tick_t3 (ticking_of C.word_of tcb.old context.old has_expired)) }
+{
+    if tcb
+        .retransmission_queue
+        .handle_timeout(context.clock, &mut context.events)?
+    {
+        context.tx_error_counter.increment();
+        return Ok(true);
+    }
+    Ok(has_expired)
+}
+
+/// The own request to reset streams goes out again, unless there were too many errors.
+fn send_request_again<C: Checksum>(context: &mut Context<C>, tcb: &mut TransmissionControlBlock) -> Result<(), AllocError>
+    ensures { OnOk result (ticking_of C.word_of tcb.new context.new true ≡ table.requests_again (ticking_of C.word_of tcb.old context.old true)) }
+{
+    if context.tx_error_counter.is_exhausted() {
+        return Ok(());
+    }
+    tcb.reset_requests.update_rto(tcb.rto.rto());
+    let mut packet = tcb.new_packet(context.alloc, &context.options);
+    tcb.add_prepared_ssn_reset_request(&mut packet)?;
+    context.emit(&mut packet)
+}
+
+/// The reconfiguration timer (RFC 6525 section 5.1.1), after the other ones have expired or not. The answer is whether
+/// any did.
+fn tick_requests<C: Checksum>(context: &mut Context<C>, tcb: &mut TransmissionControlBlock,
+    has_expired: bool,
+) -> Result<bool, AllocError>
+    ensures { IfOk result (λ any. ticking_of C.word_of tcb.new context.new any ≡ table.tick_requests (ticking_of C.word_of tcb.old context.old has_expired)) }
+{
+    if !tcb.reset_requests.expire(context.clock) {
+        return Ok(has_expired);
+    }
+    if tcb.reset_requests.wake() {
+        context.tx_error_counter.increment();
+    }
+    send_request_again(context, tcb)?;
+    Ok(true)
+}
+
+/// The timers of a control block, and those of heartbeats, one after the other. The answer is whether any expired.
+#[tactic(auto, unfolding(sctp_table::specs::Time::ticked))]
+fn tick_tcb<C: Checksum>(context: &mut Context<C>, tcb: &mut TransmissionControlBlock) -> Result<bool, AllocError>
+    ensures { IfOk result (λ any. ticking_of C.word_of tcb.new context.new any ≡ table.ticked (tcb_of tcb.old) (context_of C.word_of context.old)) }
+{
+    let has_expired = tick_ack(context, tcb);
+    let has_expired = tick_t3(context, tcb, has_expired)?;
+    let is_beat = tick_heartbeat_interval(context, tcb)?;
+    let is_unanswered = tick_heartbeat_timeout(context);
+    tick_requests(context, tcb, is_unanswered || is_beat || has_expired)
+}
+
+/// Too many errors end the association. The answer is whether it ended.
+fn end_if_exhausted<C: Checksum>(context: &mut Context<C>, tcb: &TransmissionControlBlock) -> Result<bool, AllocError>
+    ensures { IfOk result (λ ended. left_of C.word_of tcb.now context.new ended ≡ table.ended (tcb_of tcb.now) (context_of C.word_of context.old)) }
+{
+    if context.tx_error_counter.is_exhausted() {
+        context.abort_by_retransmissions(tcb)?;
+        return Ok(true);
+    }
+    Ok(false)
+}
+
+/// Too many errors end the association; else what may be sent goes out. The answer is whether it ended.
+fn go_on<C: Checksum>(context: &mut Context<C>, tcb: &mut TransmissionControlBlock) -> Result<bool, AllocError>
+    ensures { IfOk result (λ ended. left_of C.word_of tcb.new context.new ended ≡ table.goes_on (tcb_of tcb.old) (context_of C.word_of context.old)) }
+{
+    if context.tx_error_counter.is_exhausted() {
+        context.abort_by_retransmissions(tcb)?;
+        return Ok(true);
+    }
+    context.send_buffered_packets(tcb, false)?;
+    Ok(false)
+}
+
+fn settle<C: Checksum>(context: &mut Context<C>, tcb: &mut TransmissionControlBlock,
+    has_expired: bool,
+) -> Result<bool, AllocError>
+    ensures { IfOk result (λ ended. left_of C.word_of tcb.new context.new ended ≡ table.settled_if has_expired (tcb_of tcb.old) (context_of C.word_of context.old)) }
+{
+    if has_expired {
+        go_on(context, tcb)
+    } else {
+        Ok(false)
+    }
+}
+
+/// The timers of an association that is established or is being shut down, but for T2-shutdown.
+fn tick_established<C: Checksum>(context: &mut Context<C>, tcb: &mut TransmissionControlBlock) -> Result<bool, AllocError>
+    ensures { IfOk result (λ ended. left_of C.word_of tcb.new context.new ended ≡ table.settled (table.ticked (tcb_of tcb.old) (context_of C.word_of context.old))) }
+{
+    let has_expired = tick_tcb(context, tcb)?;
+    settle(context, tcb, has_expired)
+}
+
+/// Before the COOKIE ACK: the COOKIE ECHO goes out again (RFC 9260 section 5.1).
+fn tick_cookie_echoed<C: Checksum>(context: &mut Context<C>, echoed: &mut CookieEchoedState,
+    tcb: &mut TransmissionControlBlock,
+) -> Result<bool, AllocError>
+    ensures timer { OnOk result (echoed.new.t1_cookie ≡ expire context.old.clock echoed.old.t1_cookie) }
+    ensures cookie { OnOk result (echoed.new.cookie.items ≡ echoed.old.cookie.items) }
+    ensures left { IfOk result (λ ended. left_of C.word_of tcb.new context.new ended
+        ≡ table.tick_cookie echoed.old.t1_cookie echoed.old.cookie.items (table.tick_ack (table.ticking (tcb_of tcb.old) (context_of C.word_of context.old)))) }
+{
+    let has_expired = tick_ack(context, tcb);
+    if !echoed.t1_cookie.expire(context.clock) {
+        return end_if_expired(context, tcb, has_expired);
+    }
+    if !echoed.t1_cookie.is_running() {
+        context.tell_no_answer("No COOKIE_ACK received")?;
+        return Ok(true);
+    }
+    context.send_cookie_echo(tcb, &echoed.cookie)?;
+    end_if_exhausted(context, tcb)
+}
+
+fn end_if_expired<C: Checksum>(context: &mut Context<C>, tcb: &TransmissionControlBlock,
+    has_expired: bool,
+) -> Result<bool, AllocError>
+    ensures { IfOk result (λ ended. left_of C.word_of tcb.now context.new ended ≡ table.waits_if has_expired (tcb_of tcb.now) (context_of C.word_of context.old)) }
+{
+    if has_expired {
+        end_if_exhausted(context, tcb)
+    } else {
+        Ok(false)
+    }
+}
+
+/// After the own SHUTDOWN: T2-shutdown sends it again (RFC 9260 section 9.2).
+fn tick_shutdown_sent<C: Checksum>(context: &mut Context<C>, t2_shutdown: &mut Timer,
+    tcb: &mut TransmissionControlBlock,
+) -> Result<bool, AllocError>
+    ensures timer { OnOk result (t2_shutdown.new ≡ expire context.old.clock t2_shutdown.old) }
+    ensures left { IfOk result (λ ended. left_of C.word_of tcb.new context.new ended
+        ≡ table.tick_t2 context.old.clock send_shutdown t2_shutdown.old (table.ticked (tcb_of tcb.old) (context_of C.word_of context.old))) }
+{
+    let now = context.clock;
+    let has_expired = tick_tcb(context, tcb)?;
+    if !t2_shutdown.expire(now) {
+        return settle(context, tcb, has_expired);
+    }
+    if !t2_shutdown.is_running() {
+        context.abort_by_retransmissions(tcb)?;
+        return Ok(true);
+    }
+    context.send_shutdown(tcb)?;
+    go_on(context, tcb)
+}
+
+/// After the own SHUTDOWN ACK: T2-shutdown sends it again.
+fn tick_shutdown_ack_sent<C: Checksum>(context: &mut Context<C>, t2_shutdown: &mut Timer,
+    tcb: &mut TransmissionControlBlock,
+) -> Result<bool, AllocError>
+    ensures timer { OnOk result (t2_shutdown.new ≡ expire context.old.clock t2_shutdown.old) }
+    ensures left { IfOk result (λ ended. left_of C.word_of tcb.new context.new ended
+        ≡ table.tick_t2 context.old.clock send_shutdown_ack t2_shutdown.old (table.ticked (tcb_of tcb.old) (context_of C.word_of context.old))) }
+{
+    let now = context.clock;
+    let has_expired = tick_tcb(context, tcb)?;
+    if !t2_shutdown.expire(now) {
+        return settle(context, tcb, has_expired);
+    }
+    if !t2_shutdown.is_running() {
+        context.abort_by_retransmissions(tcb)?;
+        return Ok(true);
+    }
+    context.send_shutdown_ack(tcb)?;
+    go_on(context, tcb)
+}
+
+fn tick_open<C: Checksum>(context: &mut Context<C>, phase: &mut Phase,
+    tcb: &mut TransmissionControlBlock,
+) -> Result<bool, AllocError>
+    ensures { IfOk result (λ ended. standing_after C.word_of phase.new tcb.new context.new ended
+        ≡ table.tick_open (phase_of phase.old) (tcb_of tcb.old) (context_of C.word_of context.old)) }
+{
+    match phase {
+        Phase::CookieEchoed(echoed) => tick_cookie_echoed(context, echoed, tcb),
+        Phase::Established => tick_established(context, tcb),
+        Phase::ShutdownPending => tick_established(context, tcb),
+        Phase::ShutdownSent(t2_shutdown) => tick_shutdown_sent(context, t2_shutdown, tcb),
+        Phase::ShutdownReceived => tick_established(context, tcb),
+        Phase::ShutdownAckSent(t2_shutdown) => tick_shutdown_ack_sent(context, t2_shutdown, tcb),
+    }
+}
+
+/// Before the INIT ACK: the INIT goes out again.
+fn tick_cookie_wait<C: Checksum>(context: &mut Context<C>, waiting: &mut CookieWaitState) -> Result<bool, AllocError>
+    ensures tag { OnOk result (waiting.new.verification_tag ≡ waiting.old.verification_tag) }
+    ensures first { OnOk result (waiting.new.initial_tsn ≡ waiting.old.initial_tsn) }
+    ensures timer { OnOk result (waiting.new.t1_init ≡ expire context.old.clock waiting.old.t1_init) }
+    ensures waited { IfOk result (λ ended. waited_of C.word_of context.new ended
+        ≡ table.tick_init waiting.old.verification_tag waiting.old.initial_tsn.0 waiting.old.t1_init (context_of C.word_of context.old)) }
+{
+    if !waiting.t1_init.expire(context.clock) {
+        return Ok(false);
+    }
+    if !waiting.t1_init.is_running() {
+        context.tell_no_answer("No INIT_ACK received")?;
+        return Ok(true);
+    }
+    context.send_init(waiting.verification_tag, waiting.initial_tsn)?;
+    Ok(false)
+}
+
+/// What has expired by now.
+fn handle_timeouts<C: Checksum>(
+    state: &mut State,
+    context: &mut Context<C>,
+) -> Result<(), AllocError>
+    ensures { OnOk result (standing_of C.word_of state.new context.new ≡ table.tick_in (state_of state.old) (context_of C.word_of context.old)) }
+{
+    match state {
+        State::Closed => Ok(()),
+        State::CookieWait(waiting) => {
+            if tick_cookie_wait(context, waiting)? {
+                state.enter(State::Closed);
+            }
+            Ok(())
+        }
+        State::Open(phase, tcb) => {
+            if tick_open(context, phase, tcb)? {
+                state.enter(State::Closed);
+            }
+            Ok(())
+        }
+    }
+}
+
+/// Time passes; a moment before the clock's changes nothing.
+pub fn advance_time<C: Checksum>(
+    state: &mut State,
+    context: &mut Context<C>,
+    now: SocketTime,
+) -> Result<(), AllocError>
+    ensures { OnOk result (standing_of C.word_of state.new context.new ≡ table.advance now (standing_of C.word_of state.old context.old)) }
+{
+    if now < context.clock {
+        return Ok(());
+    }
+    context.clock = now;
+    handle_timeouts(state, context)
+}
+
+fn next_timeout(tcb: &TransmissionControlBlock) -> SocketTime
+    ensures { result ≡ table.tcb_expiry (tcb_of tcb.now) }
+{
+    let t3_rtx = tcb.retransmission_queue.next_timeout();
+    let earliest = t3_rtx.min(tcb.data_tracker.next_timeout());
+    tcb.reset_requests.next_timeout().min(earliest)
+}
+
+/// The timers of an association that is established or is being shut down, but for T2-shutdown.
+fn running_expiry<C: Checksum>(context: &Context<C>, tcb: &TransmissionControlBlock) -> SocketTime
+    ensures { result ≡ table.running_expiry (tcb_of tcb.now) context.now.heartbeats }
+{
+    next_timeout(tcb).min(heartbeat_expiry(context))
+}
+
+fn phase_expiry<C: Checksum>(context: &Context<C>, phase: &Phase, tcb: &TransmissionControlBlock) -> SocketTime
+    ensures { result ≡ table.phase_expiry (phase_of phase.now) (tcb_of tcb.now) context.now.heartbeats }
+{
+    match phase {
+        Phase::CookieEchoed(echoed) => echoed.t1_cookie.next_expiry(),
+        Phase::Established => running_expiry(context, tcb),
+        Phase::ShutdownPending => running_expiry(context, tcb),
+        Phase::ShutdownSent(t2_shutdown) => {
+            t2_shutdown.next_expiry().min(running_expiry(context, tcb))
+        }
+        Phase::ShutdownReceived => running_expiry(context, tcb),
+        Phase::ShutdownAckSent(t2_shutdown) => {
+            t2_shutdown.next_expiry().min(running_expiry(context, tcb))
+        }
+    }
+}
+
+/// The moment by which the time is to be told next, not before this one; the greatest one where no timer runs.
+pub fn poll_timeout<C: Checksum>(context: &Context<C>, state: &State) -> SocketTime
+    ensures { result ≡ table.poll_timeout (standing_of C.word_of state.now context.now) }
+{
+    match state {
+        State::Closed => SocketTime::infinite_future(),
+        State::CookieWait(waiting) => waiting.t1_init.next_expiry().max(context.clock),
+        State::Open(phase, tcb) => phase_expiry(context, phase, tcb).max(context.clock),
+    }
+}

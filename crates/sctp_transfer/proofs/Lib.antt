@@ -1,0 +1,2 @@
+pub mod PrepareLemmas
+pub mod CleanedLemmas

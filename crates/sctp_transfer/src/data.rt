@@ -1,0 +1,137 @@
+//! DATA, I-DATA and forward points (RFC 9260 section 6.2, RFC 3758 section 3.6).
+
+ghost use Rattle.std.specs.Prelude.{◌≡◌, [], ◌∷◌, OnOk};
+ghost use Rattle.sctp_wire.specs.Cause.{no_user_data};
+ghost use Rattle.sctp_packet.specs.Chunk.{error_chunk};
+ghost use Rattle.sctp_table.specs.Packets.{emit_chunk};
+ghost use Rattle.sctp_packet.specs.Views.{fragment_tree};
+ghost use Rattle.sctp_rx.specs.Tracker.{is_valid, number_of};
+ghost use Rattle.sctp_table.specs.Data.{forwarded_if, on_data, taken_if, takes};
+ghost use Rattle.sctp_endpoint.specs.Views.{context_of, standing_of, state_of, tcb_of};
+ghost use Rattle.sctp_table.specs.Data as table;
+
+use sctp_endpoint::{Context, State, TransmissionControlBlock};
+use sctp_packet::{Chunk, Data, ErrorChunk, SkippedStream};
+use sctp_serial::{SocketTime, Tsn};
+use sctp_state::ErrorKind;
+use sctp_wire::{Checksum, ErrorCause, NoUserDataErrorCause};
+use std::alloc::AllocError;
+
+/// DATA or I-DATA.
+pub fn handle_data<C: Checksum>(
+    state: &mut State,
+    context: &mut Context<C>,
+    tsn: Tsn,
+    immediate_ack: bool,
+    fragment: Data,
+) -> Result<(), AllocError>
+    ensures { OnOk result (standing_of C.word_of state.new context.new ≡ on_data tsn.0 immediate_ack (fragment_tree fragment) (standing_of C.word_of state.old context.old)) }
+{
+    if fragment.payload.is_empty() {
+        return handle_no_data(state, context, tsn);
+    }
+    match state {
+        State::Closed => complain_of_data(context),
+        State::CookieWait(_) => complain_of_data(context),
+        State::Open(_, tcb) => take_data(tcb, context.clock, tsn, immediate_ack, fragment),
+    }
+}
+
+fn complain_of_data<C: Checksum>(context: &mut Context<C>) -> Result<(), AllocError>
+    ensures { OnOk result (context_of C.word_of context.new ≡ table.not_connected (context_of C.word_of context.old)) }
+{
+    context.complain(
+        ErrorKind::NotConnected,
+        "Received unexpected commands on socket that is not connected",
+    )
+}
+
+/// DATA without a payload (RFC 9260 section 6.2).
+fn handle_no_data<C: Checksum>(
+    state: &State,
+    context: &mut Context<C>,
+    tsn: Tsn,
+) -> Result<(), AllocError>
+    ensures { OnOk result (context_of C.word_of context.new ≡ table.on_no_data tsn.0 (state_of state.now) (context_of C.word_of context.old)) }
+{
+    context.complain(
+        ErrorKind::ProtocolViolation,
+        "Received DATA chunk with no user data",
+    )?;
+    match state {
+        State::Closed => Ok(()),
+        State::CookieWait(_) => Ok(()),
+        State::Open(_, tcb) => send_no_user_data(context, tcb, tsn),
+    }
+}
+
+/// An ERROR that a DATA chunk had no payload (RFC 9260 section 3.3.10.9).
+fn send_no_user_data<C: Checksum>(
+    context: &mut Context<C>,
+    tcb: &TransmissionControlBlock,
+    tsn: Tsn,
+) -> Result<(), AllocError>
+    ensures { OnOk result (context_of C.word_of context.new
+        ≡ emit_chunk (error_chunk (no_user_data (record { 0 = tsn.0 }) ∷ [])) (tcb_of tcb.now) (context_of C.word_of context.old)) }
+{
+    let mut error_causes = Vec::new(context.alloc);
+    error_causes.push(ErrorCause::NoUserData(NoUserDataErrorCause { tsn }))?;
+    context.emit_chunk(tcb, Chunk::Error(ErrorChunk { error_causes }))
+}
+
+/// A fragment is observed, and kept where its TSN is new; unless there is no room, or the TSN lies too far away.
+fn take_data(
+    tcb: &mut TransmissionControlBlock,
+    now: SocketTime,
+    tsn: Tsn,
+    immediate_ack: bool,
+    fragment: Data,
+) -> Result<(), AllocError>
+    ensures { OnOk result (tcb_of tcb.new ≡ taken_if (takes tsn.0 (tcb_of tcb.old)) tsn.0 immediate_ack (fragment_tree fragment) (tcb_of tcb.old)) }
+{
+    if tcb.reassembly_queue.is_full() || tcb.reassembly_queue.is_above_watermark() {
+        return Ok(());
+    }
+    if !tcb.data_tracker.is_tsn_valid(tsn) {
+        return Ok(());
+    }
+    if tcb.data_tracker.observe(now, tsn, immediate_ack)? {
+        tcb.reassembly_queue.add(tsn, fragment)?;
+    }
+    Ok(())
+}
+
+/// FORWARD-TSN or I-FORWARD-TSN. It reaches reassembly where it moves the cumulative TSN.
+pub fn handle_forward_tsn(
+    state: &mut State,
+    now: SocketTime,
+    new_cumulative_tsn: Tsn,
+    skipped: &[SkippedStream],
+) -> Result<(), AllocError>
+    ensures { OnOk result (state_of state.new ≡ table.forwarded_in (state_of state.old) new_cumulative_tsn.0 skipped.now) }
+{
+    match state {
+        State::Closed => Ok(()),
+        State::CookieWait(_) => Ok(()),
+        State::Open(_, tcb) => skip_to(tcb, now, new_cumulative_tsn, skipped),
+    }
+}
+
+fn skip_to(
+    tcb: &mut TransmissionControlBlock,
+    now: SocketTime,
+    new_cumulative_tsn: Tsn,
+    skipped: &[SkippedStream],
+) -> Result<(), AllocError>
+    ensures { let n = number_of (tcb_of tcb.old).tracker new_cumulative_tsn.0 in
+        OnOk result (tcb_of tcb.new ≡ forwarded_if (is_valid (tcb_of tcb.old).tracker.tracker n) new_cumulative_tsn.0 skipped.now (tcb_of tcb.old)) }
+{
+    if !tcb.data_tracker.is_tsn_valid(new_cumulative_tsn) {
+        return Ok(());
+    }
+    if tcb.data_tracker.handle_forward_tsn(now, new_cumulative_tsn) {
+        tcb.reassembly_queue
+            .handle_forward_tsn(new_cumulative_tsn, skipped)?;
+    }
+    Ok(())
+}

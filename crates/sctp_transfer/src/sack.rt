@@ -1,0 +1,95 @@
+//! SACK (RFC 9260 section 6.2.1).
+
+ghost use Rattle.std.specs.Prelude.{◌≡◌, OnOk};
+ghost use Rattle.std.specs.Option.{option_map};
+ghost use Rattle.std.specs.Duration.{as_nanos};
+ghost use Rattle.sctp_packet.specs.Covered.{AreRuns};
+ghost use Rattle.sctp_table.specs.Acknowledging.{cleaned, heard, on_sack, on_sack_open, sampled};
+ghost use Rattle.sctp_tx.specs.Retransmission.{answer_of};
+ghost use Rattle.sctp_endpoint.specs.Views.{context_of, opened_of, phase_of, sack_of, standing_of, tcb_of};
+
+use sctp_endpoint::{Context, Phase, State, TransmissionControlBlock};
+use sctp_packet::{SackChunk, clean_sack};
+use sctp_state::ErrorKind;
+use sctp_tx::HandleSackResult;
+use sctp_wire::Checksum;
+use std::alloc::AllocError;
+use std::time::Duration;
+
+/// The chunk with its blocks as the maximal runs of the offsets that they cover.
+fn cleaned(sack: SackChunk) -> SackChunk
+    ensures runs { AreRuns 0 result.gap_ack_blocks.items }
+    ensures blocks { result.gap_ack_blocks.items ≡ cleaned sack.gap_ack_blocks.items }
+    ensures kept { result ≡ record sack { gap_ack_blocks = result.gap_ack_blocks } }
+{
+    clean_sack(sack)
+}
+
+/// A round trip sets the retransmission timeout, which each part counts by.
+fn observe_rtt(tcb: &mut TransmissionControlBlock, rtt: Option<Duration>)
+    ensures { tcb_of tcb.new ≡ sampled (option_map as_nanos rtt) (tcb_of tcb.old) }
+{
+    let Some(rtt) = rtt else {
+        return;
+    };
+    tcb.rto.observe_rto(rtt);
+    let rto = tcb.rto.rto();
+    tcb.retransmission_queue.update_rto(rto);
+    tcb.data_tracker.update_rto(rto);
+}
+
+/// SACK.
+pub fn handle_sack<C: Checksum>(
+    state: &mut State,
+    context: &mut Context<C>,
+    sack: SackChunk,
+) -> Result<(), AllocError>
+    ensures { OnOk result (standing_of C.word_of state.new context.new ≡ on_sack (sack_of sack) (standing_of C.word_of state.old context.old)) }
+{
+    match state {
+        State::Closed => context.complain(ErrorKind::NotConnected, "No TCB"),
+        State::CookieWait(_) => context.complain(ErrorKind::NotConnected, "No TCB"),
+        State::Open(phase, tcb) => take_sack(phase, tcb, context, sack),
+    }
+}
+
+fn take_sack<C: Checksum>(
+    phase: &mut Phase,
+    tcb: &mut TransmissionControlBlock,
+    context: &mut Context<C>,
+    sack: SackChunk,
+) -> Result<(), AllocError>
+    ensures { OnOk result (opened_of C.word_of phase.new tcb.new context.new
+        ≡ on_sack_open (sack_of sack) (phase_of phase.old) (tcb_of tcb.old) (context_of C.word_of context.old)) }
+{
+    let sack = cleaned(sack);
+    let answer = tcb
+        .retransmission_queue
+        .handle_sack(context.clock, &sack, &mut context.events)?;
+    go_on_by(phase, tcb, context, answer)
+}
+
+fn go_on_by<C: Checksum>(
+    phase: &mut Phase,
+    tcb: &mut TransmissionControlBlock,
+    context: &mut Context<C>,
+    answer: HandleSackResult,
+) -> Result<(), AllocError>
+    ensures { OnOk result (opened_of C.word_of phase.new tcb.new context.new
+        ≡ heard (answer_of answer) (phase_of phase.old) (tcb_of tcb.old) (context_of C.word_of context.old)) }
+{
+    let HandleSackResult::Valid {
+        rtt,
+        reset_error_counter,
+    } = answer
+    else {
+        return Ok(());
+    };
+    observe_rtt(tcb, rtt);
+    if reset_error_counter {
+        context.tx_error_counter.reset();
+    }
+    context.maybe_go_on(phase, tcb)?;
+    context.send_fast_retransmit(tcb)?;
+    context.send_buffered_packets(tcb, phase.is_alone())
+}

@@ -1,0 +1,346 @@
+//! Streams that are reset (RFC 6525): requests and responses, and the call.
+
+ghost use Rattle.std.specs.Prelude.{◌≡◌, ◌++◌, ◌∷◌, [], false, None, map, IfOk, OnOk};
+ghost use Rattle.sctp_wire.specs.Parameter.{reset_response};
+ghost use Rattle.sctp_wire.specs.ParameterViews.{parameter_tree, result_number};
+ghost use Rattle.sctp_state.specs.Events.{numbers_of};
+ghost use Rattle.sctp_table.specs.Association.{where_open};
+ghost use Rattle.sctp_table.specs.Requests.{is_final};
+ghost use Rattle.sctp_endpoint.specs.RequestViews.{outcome_of};
+ghost use Rattle.sctp_endpoint.specs.Views.{context_of, handled_of, handling_of, opened_of, phase_of, sent_of, standing_of, state_of, tcb_of};
+ghost use Rattle.sctp_table.specs.Resets as table;
+
+use sctp_endpoint::{Context, Phase, State, TransmissionControlBlock};
+use sctp_endpoint::reset_requests::ResetOutcome;
+use sctp_endpoint::sending::send_waiting;
+use sctp_packet::{Chunk, ReConfigChunk};
+use sctp_serial::{SerialNumber, StreamId, Tsn};
+use sctp_state::{ErrorKind, ResetStreamsError, SocketEvent};
+use sctp_wire::{Checksum, OutgoingSsnResetRequestParameter, Parameter, ReconfigurationResponseParameter, ReconfigurationResponseResult};
+use std::alloc::AllocError;
+
+/// Whether some TSN up to this one did not come yet.
+fn is_ahead(tcb: &TransmissionControlBlock, tsn: Tsn) -> bool
+    ensures { result ≡ table.is_ahead tsn.0 (tcb_of tcb.now) }
+{
+    tsn.greater_than(tcb.data_tracker.last_cumulative_acked_tsn())
+}
+
+/// A request is answered.
+fn respond(
+    responses: &mut Vec<Parameter>,
+    number: u32,
+    answer: ReconfigurationResponseResult,
+) -> Result<(), AllocError>
+    ensures { OnOk result (map parameter_tree responses.new.items
+        ≡ map parameter_tree responses.old.items ++ reset_response number (result_number answer) None None ∷ []) }
+{
+    responses.push(Parameter::ReconfigurationResponse(ReconfigurationResponseParameter {
+        response_seq_nbr: number,
+        result: answer,
+        sender_next_tsn: None,
+        receiver_next_tsn: None,
+    }))?;
+    Ok(())
+}
+
+/// The reset of these streams is to wait for what was sent before it.
+fn defer_reset<C: Checksum>(context: &Context<C>, tcb: &mut TransmissionControlBlock,
+    request: &OutgoingSsnResetRequestParameter,
+    responses: &mut Vec<Parameter>,
+) -> Result<(), AllocError>
+    ensures { let r = request.now in OnOk result (handling_of C.word_of tcb.new context.now (map parameter_tree responses.new.items)
+        ≡ table.defers r.request_seq_nbr r.sender_last_assigned_tsn.0 r.streams.items (handling_of C.word_of tcb.old context.now (map parameter_tree responses.old.items))) }
+{
+    tcb.reassembly_queue
+        .enter_deferred_reset(request.sender_last_assigned_tsn, &request.streams)?;
+    let answer = ReconfigurationResponseResult::InProgress;
+    tcb.reset_requests.process(request.request_seq_nbr, answer);
+    respond(responses, request.request_seq_nbr, answer)
+}
+
+/// The streams are reset, and the user is told.
+fn perform_reset<C: Checksum>(context: &mut Context<C>, tcb: &mut TransmissionControlBlock,
+    request: OutgoingSsnResetRequestParameter,
+    responses: &mut Vec<Parameter>,
+) -> Result<(), AllocError>
+    ensures { OnOk result (handling_of C.word_of tcb.new context.new (map parameter_tree responses.new.items)
+        ≡ table.performs request.request_seq_nbr request.streams.items (handling_of C.word_of tcb.old context.old (map parameter_tree responses.old.items))) }
+{
+    tcb.reassembly_queue
+        .reset_streams_and_leave_deferred_reset(&request.streams)?;
+    context.tell(SocketEvent::OnIncomingStreamReset(request.streams))?;
+    let answer = ReconfigurationResponseResult::SuccessPerformed;
+    tcb.reset_requests.process(request.request_seq_nbr, answer);
+    respond(responses, request.request_seq_nbr, answer)
+}
+
+fn reset_or_defer<C: Checksum>(context: &mut Context<C>, tcb: &mut TransmissionControlBlock,
+    request: OutgoingSsnResetRequestParameter,
+    responses: &mut Vec<Parameter>,
+) -> Result<(), AllocError>
+    ensures { OnOk result (handling_of C.word_of tcb.new context.new (map parameter_tree responses.new.items)
+        ≡ table.resets request.request_seq_nbr request.sender_last_assigned_tsn.0 request.streams.items (handling_of C.word_of tcb.old context.old (map parameter_tree responses.old.items))) }
+{
+    if is_ahead(tcb, request.sender_last_assigned_tsn) {
+        defer_reset(context, tcb, &request, responses)
+    } else {
+        perform_reset(context, tcb, request, responses)
+    }
+}
+
+/// The peer resets its outgoing streams (RFC 6525 section 5.2.2). The last request again is answered as before, once
+/// it was done.
+fn handle_outgoing_request<C: Checksum>(context: &mut Context<C>, tcb: &mut TransmissionControlBlock,
+    request: OutgoingSsnResetRequestParameter,
+    responses: &mut Vec<Parameter>,
+) -> Result<(), AllocError>
+    ensures { OnOk result (handling_of C.word_of tcb.new context.new (map parameter_tree responses.new.items)
+        ≡ table.on_outgoing request.request_seq_nbr request.sender_last_assigned_tsn.0 request.streams.items (handling_of C.word_of tcb.old context.old (map parameter_tree responses.old.items))) }
+{
+    let number = request.request_seq_nbr;
+    if tcb.reset_requests.is_last(number) {
+        let answer = tcb.reset_requests.result();
+        if is_final(answer) {
+            return respond(responses, number, answer);
+        }
+        return reset_or_defer(context, tcb, request, responses);
+    }
+    if tcb.reset_requests.is_next(number) {
+        return reset_or_defer(context, tcb, request, responses);
+    }
+    let answer = ReconfigurationResponseResult::ErrorBadSequenceNumber;
+    respond(responses, number, answer)
+}
+
+/// The peer asks for a reset of its incoming streams: there is nothing to do (RFC 6525 section 5.2.3).
+fn handle_incoming_request<C: Checksum>(context: &Context<C>, tcb: &mut TransmissionControlBlock,
+    number: u32,
+    responses: &mut Vec<Parameter>,
+) -> Result<(), AllocError>
+    ensures { OnOk result (handling_of C.word_of tcb.new context.now (map parameter_tree responses.new.items)
+        ≡ table.on_incoming number (handling_of C.word_of tcb.old context.now (map parameter_tree responses.old.items))) }
+{
+    if !tcb.reset_requests.is_known(number) {
+        let answer = ReconfigurationResponseResult::ErrorBadSequenceNumber;
+        return respond(responses, number, answer);
+    }
+    let answer = ReconfigurationResponseResult::SuccessNothingToDo;
+    tcb.reset_requests.process(number, answer);
+    respond(responses, number, answer)
+}
+
+/// What an answer says of the streams of the own request, and of no others.
+fn handle_outcome<C: Checksum>(context: &mut Context<C>, outcome: ResetOutcome) -> Result<(), AllocError>
+    ensures { OnOk result (context_of C.word_of context.new ≡ table.on_outcome (outcome_of outcome) (context_of C.word_of context.old)) }
+{
+    match outcome {
+        ResetOutcome::Unsettled => Ok(()),
+        ResetOutcome::Done(streams) => {
+            context.send_queue.commit_reset_streams(&streams)?;
+            context.tell(SocketEvent::OnStreamsResetPerformed(streams))
+        }
+        ResetOutcome::Denied(streams) => {
+            context.send_queue.rollback_reset_streams(&streams)?;
+            context.tell(SocketEvent::OnStreamsResetFailed(streams))
+        }
+    }
+}
+
+/// The peer answers a request (RFC 6525 section 5.2.7).
+fn handle_response<C: Checksum>(context: &mut Context<C>, tcb: &mut TransmissionControlBlock,
+    response: &ReconfigurationResponseParameter,
+) -> Result<(), AllocError>
+    ensures { let r = response.now in OnOk result (sent_of C.word_of tcb.new context.new
+        ≡ table.on_response r.response_seq_nbr (result_number r.result) (tcb_of tcb.old) (context_of C.word_of context.old)) }
+{
+    let outcome = tcb
+        .reset_requests
+        .handle_response(context.clock, tcb.rto.rto(), response);
+    handle_outcome(context, outcome)
+}
+
+/// One parameter.
+fn handle_parameter<C: Checksum>(context: &mut Context<C>, tcb: &mut TransmissionControlBlock,
+    parameter: Parameter,
+    responses: &mut Vec<Parameter>,
+) -> Result<(), AllocError>
+    ensures { OnOk result (handling_of C.word_of tcb.new context.new (map parameter_tree responses.new.items)
+        ≡ table.on_parameter (parameter_tree parameter) (handling_of C.word_of tcb.old context.old (map parameter_tree responses.old.items))) }
+{
+    match parameter {
+        Parameter::OutgoingSsnResetRequest(p) => {
+            handle_outgoing_request(context, tcb, p, responses)
+        }
+        Parameter::IncomingSsnResetRequest(p) => {
+            handle_incoming_request(context, tcb, p.request_seq_nbr, responses)
+        }
+        Parameter::ReconfigurationResponse(p) => { handle_response(context, tcb, &p) }
+        _ => Ok(()),
+    }
+}
+
+/// The parameters in order, up to a second outgoing request. The answer is whether there was none.
+fn handle_parameters<C: Checksum>(context: &mut Context<C>, tcb: &mut TransmissionControlBlock,
+    parameters: Vec<Parameter>,
+    responses: &mut Vec<Parameter>,
+) -> Result<bool, AllocError>
+    ensures { IfOk result (λ is_whole. handled_of C.word_of tcb.new context.new (map parameter_tree responses.new.items) is_whole
+        ≡ table.handle_all (map parameter_tree parameters.items) false (handling_of C.word_of tcb.old context.old (map parameter_tree responses.old.items))) }
+{
+    let mut has_outgoing = false;
+    for parameter in parameters {
+        let is_outgoing = is_outgoing(&parameter);
+        if is_outgoing && has_outgoing {
+            return Ok(false);
+        }
+        has_outgoing = is_outgoing || has_outgoing;
+        handle_parameter(context, tcb, parameter, responses)?;
+    }
+    Ok(true)
+}
+
+/// The responses go out in a packet, where there are some.
+fn send_responses<C: Checksum>(context: &mut Context<C>, tcb: &TransmissionControlBlock,
+    responses: Vec<Parameter>,
+) -> Result<(), AllocError>
+    ensures { OnOk result (context_of C.word_of context.new ≡ table.send_responses (map parameter_tree responses.items) (tcb_of tcb.now) (context_of C.word_of context.old)) }
+{
+    if responses.is_empty() {
+        return Ok(());
+    }
+    let parameters = responses;
+    context.emit_chunk(tcb, Chunk::ReConfig(ReConfigChunk { parameters }))
+}
+
+/// The responses go out, and what may be sent then; after a second outgoing request nothing is sent.
+fn finish_reconfig<C: Checksum>(context: &mut Context<C>, phase: &Phase,
+    tcb: &mut TransmissionControlBlock,
+    responses: Vec<Parameter>,
+    is_whole: bool,
+) -> Result<(), AllocError>
+    ensures { OnOk result (opened_of C.word_of phase.now tcb.new context.new
+        ≡ table.finished_if is_whole (phase_of phase.now) (handling_of C.word_of tcb.old context.old (map parameter_tree responses.items))) }
+{
+    if !is_whole {
+        return context.complain(
+            ErrorKind::ProtocolViolation,
+            "RE-CONFIG chunk must not have multiple Outgoing SSN Reset Request parameters",
+        );
+    }
+    send_responses(context, tcb, responses)?;
+    context.send_buffered_packets(tcb, phase.is_alone())
+}
+
+fn take_parameters<C: Checksum>(context: &mut Context<C>, phase: &Phase,
+    tcb: &mut TransmissionControlBlock,
+    parameters: Vec<Parameter>,
+) -> Result<(), AllocError>
+    ensures { OnOk result (opened_of C.word_of phase.now tcb.new context.new
+        ≡ table.finished (phase_of phase.now) (table.handle_all (map parameter_tree parameters.items) false (handling_of C.word_of tcb.old context.old []))) }
+{
+    let mut responses = Vec::new(context.alloc);
+    let is_whole = handle_parameters(context, tcb, parameters, &mut responses)?;
+    finish_reconfig(context, phase, tcb, responses, is_whole)
+}
+
+/// A RE-CONFIG without parameters.
+fn complain_of_reconfig<C: Checksum>(context: &mut Context<C>, phase: &Phase,
+    tcb: &TransmissionControlBlock,
+) -> Result<(), AllocError>
+    ensures { OnOk result (opened_of C.word_of phase.now tcb.now context.new
+        ≡ table.on_reconfig [] (phase_of phase.now) (tcb_of tcb.now) (context_of C.word_of context.old)) }
+{
+    context.complain(
+        ErrorKind::ProtocolViolation,
+        "RE-CONFIG chunk must have at least one parameter",
+    )
+}
+
+/// RE-CONFIG (RFC 6525 section 5.2): its parameters, the responses, and what may be sent then.
+fn take_reconfig<C: Checksum>(context: &mut Context<C>, phase: &Phase,
+    tcb: &mut TransmissionControlBlock,
+    parameters: Vec<Parameter>,
+) -> Result<(), AllocError>
+    ensures { OnOk result (opened_of C.word_of phase.now tcb.new context.new
+        ≡ table.on_reconfig (map parameter_tree parameters.items) (phase_of phase.now) (tcb_of tcb.old) (context_of C.word_of context.old)) }
+{
+    if parameters.is_empty() {
+        return complain_of_reconfig(context, phase, tcb);
+    }
+    take_parameters(context, phase, tcb, parameters)
+}
+
+/// The reset of a stream is prepared: its messages of which nothing is sent are dropped.
+fn prepare_reset<C: Checksum>(context: &mut Context<C>, id: StreamId) -> Result<(), AllocError>
+    ensures { OnOk result (context_of C.word_of context.new ≡ table.prepared id.0 (context_of C.word_of context.old)) }
+{
+    context.send_queue.prepare_reset_stream(id, &mut context.events)
+}
+
+fn prepare_resets<C: Checksum>(context: &mut Context<C>, streams: &[StreamId]) -> Result<(), AllocError>
+    ensures { OnOk result (context_of C.word_of context.new ≡ table.prepare_all (numbers_of streams.now) (context_of C.word_of context.old)) }
+{
+    for id in streams {
+        prepare_reset(context, *id)?;
+    }
+    Ok(())
+}
+
+fn is_final(answer: ReconfigurationResponseResult) -> bool
+    ensures { result ≡ is_final (result_number answer) }
+{
+    !matches!(answer, ReconfigurationResponseResult::InProgress)
+}
+
+fn is_outgoing(parameter: &Parameter) -> bool
+    ensures { result ≡ table.is_outgoing (parameter_tree parameter.now) }
+{
+    matches!(parameter, Parameter::OutgoingSsnResetRequest(_))
+}
+
+/// RE-CONFIG.
+pub fn handle_reconfig<C: Checksum>(
+    state: &mut State,
+    context: &mut Context<C>,
+    parameters: Vec<Parameter>,
+) -> Result<(), AllocError>
+    ensures { OnOk result (standing_of C.word_of state.new context.new
+        ≡ where_open (table.on_reconfig (map parameter_tree parameters.items)) (standing_of C.word_of state.old context.old)) }
+{
+    match state {
+        State::Closed => Ok(()),
+        State::CookieWait(_) => Ok(()),
+        State::Open(phase, tcb) => take_reconfig(context, phase, tcb, parameters),
+    }
+}
+
+/// Why streams can't be reset.
+fn reset_refusal(state: &State) -> Option<ResetStreamsError>
+    ensures { result ≡ table.reset_refusal (state_of state.now) }
+{
+    match state {
+        State::Closed => Some(ResetStreamsError::NotConnected),
+        State::CookieWait(_) => Some(ResetStreamsError::NotConnected),
+        State::Open(_, tcb) if tcb.capabilities.reconfig => None,
+        State::Open(_, _) => Some(ResetStreamsError::NotSupported),
+    }
+}
+
+/// Streams are to be reset, once their partly sent messages have ended; or the call is refused, then the answer says why.
+pub fn reset_streams<C: Checksum>(
+    state: &mut State,
+    context: &mut Context<C>,
+    streams: &[StreamId],
+) -> Result<Option<ResetStreamsError>, AllocError>
+    ensures answer { IfOk result (λ refusal. refusal ≡ table.reset_refusal (state_of state.old)) }
+    ensures reset { OnOk result (standing_of C.word_of state.new context.new
+        ≡ table.reset_streams (numbers_of streams.now) (standing_of C.word_of state.old context.old)) }
+{
+    let refusal = reset_refusal(state);
+    if refusal.is_none() {
+        prepare_resets(context, streams)?;
+        send_waiting(state, context)?;
+    }
+    Ok(refusal)
+}
