@@ -8,7 +8,7 @@ use Rattle.std.proofs.lemmas.List.Splits.{slice_split_none}
 use Rattle.sctp_world.specs.Commands.{lines_of, IsNoCommand}
 use Rattle.sctp_world.specs.Script.{RunsLine, RunsLines, RunsFront, StopsAt, refusal_text}
 use Rattle.sctp_world.specs.Lines.{IsOneLine, HasRun, HasRunSome, HasStopped}
-use Rattle.sctp_world.specs.World.{World}
+use Rattle.sctp_network_table.specs.World.{World}
 use Rattle.sctp_world.proofs.TurnLemmas.{RunsLines-push}
 
 -- how far the reader was read: `seen` came from it, `line` is left of that, and `turns` turns were made

@@ -2,8 +2,8 @@
 use Rattle.std.proofs.Common.{◌≡◌, ◌≢◌, ℕ, zero, suc, ◌<◌, ◌^◌, Bool, true, false, Option, Some, None, List, [], ◌∷◌, codes, IfNone, refl, sym, ap, subst, ◌∙◌, arith}
 use Rattle.sctp_serial.specs.Messages.{Message}
 use Rattle.sctp_state.specs.Options.{SendOptions}
-use Rattle.sctp_world.specs.Judge.{End, Connect, Shutdown, Close, Send, SendMany, Receive, Reset, SetPriority, SetMaxMessageSize, SetLowThreshold, HandOver}
-use Rattle.sctp_world.specs.World.{CallOf, Give, GiveForeign, TellTime}
+use Rattle.sctp_network_table.specs.Judge.{End, Connect, Shutdown, Close, Send, SendMany, Receive, Reset, SetPriority, SetMaxMessageSize, SetLowThreshold, HandOver}
+use Rattle.sctp_network_table.specs.World.{CallOf, Give, GiveForeign, TellTime}
 use Rattle.sctp_world.specs.Commands.{IsFlag, IsNamed, IsHex, SpellsLimit, SpellsLife, SpellsOptions, SpellsSend, SpellsWords, Asked, probe_of, happens, passes, shown}
 
 module _ (name : List ℕ) (words rest other : List (List ℕ)) where

@@ -9,7 +9,7 @@ use Rattle.std.proofs.lemmas.List.Splits.{slice_split_at}
 use Rattle.sctp_world.specs.Commands.{lines_of, IsNoCommand}
 use Rattle.sctp_world.specs.Script.{RunsLine, RunsLines, refusal_text}
 use Rattle.sctp_world.specs.Lines.{IsOneLine, HasRun, HasStopped}
-use Rattle.sctp_world.specs.World.{World}
+use Rattle.sctp_network_table.specs.World.{World}
 
 -- where the run of a turn's bytes stands: `line` and `rest` are left of the bytes
 pub record IsRunTo (bytes : List ℕ) (before count : ℕ) (line rest : List ℕ) (w v : World) (old new : Option (List ℕ)) (limit : ℕ) : Type 0 where

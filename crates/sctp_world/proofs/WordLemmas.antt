@@ -1,7 +1,7 @@
 -- Words that begin with none of the commands' names.
 use Rattle.std.proofs.Common.{◌≡◌, ◌≢◌, ℕ, List, ◌∷◌, codes, sym, ◌∙◌}
-use Rattle.sctp_world.specs.Judge.{Connect, Shutdown, Close, Send, SendMany, Receive, Reset, SetPriority, SetMaxMessageSize, SetLowThreshold, HandOver}
-use Rattle.sctp_world.specs.World.{CallOf, Give, GiveForeign, TellTime}
+use Rattle.sctp_network_table.specs.Judge.{Connect, Shutdown, Close, Send, SendMany, Receive, Reset, SetPriority, SetMaxMessageSize, SetLowThreshold, HandOver}
+use Rattle.sctp_network_table.specs.World.{CallOf, Give, GiveForeign, TellTime}
 use Rattle.sctp_world.specs.Commands.{SpellsWords, Asked, probe_of, happens, passes, shown}
 
 first : (a b : List ℕ) (more others : List (List ℕ)) → a ∷ more ≡ b ∷ others → a ≡ b

@@ -7,8 +7,8 @@ use Rattle.std.specs.Str.Parse.{digits_value}
 use Rattle.hex.specs.Hex.{decode_of}
 use Rattle.sctp_serial.specs.Messages.{Message}
 use Rattle.sctp_state.specs.Options.{SendOptions}
-use Rattle.sctp_world.specs.Judge.{End, A, B, Connect, Shutdown, Close, Send, SendMany, Receive, Reset, SetPriority, SetMaxMessageSize, SetLowThreshold, HandOver}
-use Rattle.sctp_world.specs.World.{Action, CallOf, Give, GiveForeign, TellTime, other}
+use Rattle.sctp_network_table.specs.Judge.{End, Connect, Shutdown, Close, Send, SendMany, Receive, Reset, SetPriority, SetMaxMessageSize, SetLowThreshold, HandOver, end_name}
+use Rattle.sctp_network_table.specs.World.{Action, CallOf, Give, GiveForeign, TellTime, other}
 
 -- ---- lines and words
 
@@ -21,10 +21,6 @@ abbrev pub words_of : List ℕ → List (List ℕ)
 words_of line = slice_split (λ b. b == 32) line
 
 -- ---- single words
-
-abbrev pub end_name : End → List ℕ
-end_name A = codes "a"
-end_name B = codes "b"
 
 -- decimal digits alone
 pub record IsNumber (word : List ℕ) (n : ℕ) : Type 0 where

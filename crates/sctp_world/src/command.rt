@@ -4,12 +4,12 @@ ghost use Rattle.std.specs.Prelude.{◌≡◌, ◌≢◌, ℕ, ◌<◌, ◌^◌,
 ghost use Rattle.std.specs.Char.{is_ascii_digit};
 ghost use Rattle.std.specs.List.{list_all};
 ghost use Rattle.sctp_state.specs.Options.{SendOptions as Sending, send_options_of};
-ghost use Rattle.sctp_world.specs.Commands.{Asked, Spells, SpellsNone, SpellsWords, IsNumber, IsHex, IsFlag, IsNamed, SpellsId, SpellsLimit, SpellsLife, SpellsOptions, words_of, end_name};
-ghost use Rattle.sctp_world.specs.Judge.{End as tree};
-ghost use Rattle.sctp_world.specs.WorldView.{end_tree};
+ghost use Rattle.sctp_world.specs.Commands.{Asked, Spells, SpellsNone, SpellsWords, IsNumber, IsHex, IsFlag, IsNamed, SpellsId, SpellsLimit, SpellsLife, SpellsOptions, words_of};
+ghost use Rattle.sctp_network_table.specs.Judge.{End as tree, end_name};
+ghost use Rattle.sctp_network.specs.WorldView.{end_tree};
 ghost use Rattle.sctp_world.specs.CommandView.{command_of};
 
-use crate::world::{Call, End, Event};
+use sctp_network::{Call, End, Event};
 use hex::FromHexError;
 use sctp_serial::{LifecycleId, Message, PpId, SocketTime, StreamId};
 use sctp_state::SendOptions;

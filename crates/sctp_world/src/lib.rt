@@ -4,16 +4,10 @@
 //! drive one, a line each; one more, `probe`, reads a packet and answers with its message and the packet that acknowledges it.
 #![tactic(auto)]
 
-mod answer;
-mod checksum;
 mod command;
 mod printing;
-mod probing;
 mod script;
-mod world;
 
-pub use answer::{Probe, ProbeError};
-pub use checksum::ByteSum;
-pub use probing::{one_answer, probe};
 pub use script::{ScriptFault, run_script};
-pub use world::{Answer, Call, End, Entry, Event, World, WorldError};
+pub use sctp_network::{Answer, Call, End, Entry, Event, World, WorldError};
+pub use sctp_probe::{ByteSum, Probe, ProbeError, one_answer, probe};

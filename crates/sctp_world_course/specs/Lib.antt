@@ -1,5 +1,5 @@
-pub mod Courses
-pub mod Joined
-pub mod Delivered
-pub mod Composed
-pub mod Proper
+pub use Rattle.sctp_network_course.specs.Courses
+pub use Rattle.sctp_network_course.specs.Joined
+pub use Rattle.sctp_network_course.specs.Delivered
+pub use Rattle.sctp_network_course.specs.Composed
+pub use Rattle.sctp_network_course.specs.Proper

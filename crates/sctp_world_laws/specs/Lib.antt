@@ -1,2 +1,2 @@
-pub mod Readable
-pub mod Ended
+pub use Rattle.sctp_network_laws.specs.Readable
+pub use Rattle.sctp_network_laws.specs.Ended

@@ -2,9 +2,9 @@ use Rattle.std.proofs.Common.{List, ◌-◌, length, map, drop, sym, ap, ◌∙�
 use Rattle.std.specs.List.{flat_map}
 use Rattle.std.proofs.lemmas.List.{drop-map, length-drop, take_all}
 use Rattle.std.proofs.lemmas.Result.{IfOk-weaker}
-use Rattle.sctp_world.specs.Judge.{Entry}
+use Rattle.sctp_network_table.specs.Judge.{Entry}
 use Rattle.sctp_world.specs.Printed.{entry_text}
-use Rattle.sctp_world.specs.WorldView.{entry_tree, world_of}
+use Rattle.sctp_network.specs.WorldView.{entry_tree, world_of}
 use Rattle.sctp_world.proofs.printing.news_text.Goals as goal
 
 pub returns-in-Some : goal.returns-in-Some

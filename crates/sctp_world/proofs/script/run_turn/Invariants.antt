@@ -1,6 +1,6 @@
 use Rattle.std.proofs.Common.{◌+◌, ◌++◌, length}
 use Rattle.sctp_world.proofs.TurnLemmas.{IsRunTo}
-use Rattle.sctp_world.specs.WorldView.{world_of}
+use Rattle.sctp_network.specs.WorldView.{world_of}
 use Rattle.sctp_world.proofs.script.run_turn.Given as goal
 
 abbrev pub invariant-loop-end : goal.invariant-loop-end

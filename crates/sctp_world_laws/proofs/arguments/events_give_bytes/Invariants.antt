@@ -1,7 +1,7 @@
 use Rattle.std.proofs.Common.{map, take}
 use Rattle.sctp_packet.specs.Grammar.{Each}
-use Rattle.sctp_world.specs.WorldView.{action_of, world_of}
-use Rattle.sctp_world_laws.specs.Readable.{GivesBytes}
+use Rattle.sctp_network.specs.WorldView.{action_of, world_of}
+use Rattle.sctp_network_laws.specs.Readable.{GivesBytes}
 use Rattle.sctp_world_laws.proofs.arguments.events_give_bytes.Given as goal
 
 abbrev pub invariant-loop-event : goal.invariant-loop-event

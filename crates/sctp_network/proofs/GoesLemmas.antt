@@ -1,0 +1,71 @@
+-- In the first run no event names a packet that isn't there. And its claims, for a list of events that is one of its.
+use Rattle.std.proofs.Common.{◌≡◌, ℕ, true, Some, None, List, [], ◌∷◌, ◌++◌, refl, sym, ap, subst, ◌∙◌}
+use Rattle.std.specs.Prelude.{slice_get}
+use Rattle.rand_core.specs.Stream.{Stream}
+use Rattle.sctp_serial.specs.Messages.{Message}
+use Rattle.sctp_state.specs.Options.{SendOptions, defaults}
+use Rattle.sctp_association_laws.specs.FirstRun.{IsSmall}
+use Rattle.sctp_network.specs.declared.world.WorldError.{WorldError}
+use Rattle.sctp_network.specs.declared.world.WorldError.TheVariants as errors
+use Rattle.sctp_network_table.specs.Judge.{A, B, Connect, Send}
+use Rattle.sctp_network_table.specs.World.{Action, CallOf, Give, World, Happens, Runs, Lacks, RunsUpToLack, is_at_rest, fresh_world}
+use Rattle.sctp_network_table.specs.FirstRun.{opening, crossing, acknowledging, IsFresh, IsOpen, HasCrossed}
+use Rattle.sctp_network_table.proofs.FirstRunLemmas.{it_opens, first, second, third, fourth, opened, to_first, to_second, to_third, to_fourth, to_opened}
+use Rattle.sctp_network_table.proofs.CrossingLemmas.{it_crosses, comes_to_rest, packets_sent, packet, sent_world, taken_world, to_sent, to_taken}
+
+-- each event finds its packet, whatever came of those before
+abbrev Goes : List Action → World → Type 0
+Goes [] w = Unit {0}
+Goes (action ∷ actions) w = (Lacks action w → ⊥) × ((u : World) → Happens action w u → Goes actions u)
+
+never_lacks : (before : List Action) (action : Action) (rest : List Action) (w v : World) → Goes (before ++ action ∷ rest) w → Runs before w v → Lacks action v → ⊥
+never_lacks [] action rest w v goes e lacks = goes.0 (subst (Lacks action) e lacks)
+never_lacks (b ∷ before) action rest w v goes runs lacks = never_lacks before action rest runs.0 v (goes.1 runs.0 runs.1) runs.2 lacks
+
+onward : (action : Action) (actions : List Action) (w v : World) → (Lacks action w → ⊥) → ((u : World) → Happens action w u → u ≡ v) → Goes actions v → Goes (action ∷ actions) w
+onward action actions w v there leads goes = (there, λ u happens. subst (Goes actions) (sym (leads u happens)) goes)
+
+lastly : (action : Action) (w : World) → (Lacks action w → ⊥) → Goes (action ∷ []) w
+lastly action w there = (there, λ u happens. tt)
+
+there : (p : List ℕ) → Some p ≡ None → ⊥
+there p e = cc
+
+goes_all : (a b : Stream) (f : List ℕ → ℕ) (m : Message) (o : SendOptions) → IsSmall m → Goes (opening ++ (crossing m o ++ acknowledging)) (fresh_world defaults defaults a b f f)
+goes_all a b f m o small =
+    let sent = sent_world a b f m o None true in
+    let taken = taken_world a b f m o true in
+    let start = fresh_world defaults defaults a b f f in
+    let sending : List Action = CallOf A (Send m o) ∷ Give 2 B ∷ acknowledging in
+    let last : List Action = Give 1 A ∷ sending in
+    let third_on : List Action = Give 1 B ∷ last in
+    let second_on : List Action = Give 0 A ∷ third_on in
+    onward (CallOf A Connect) (Give 0 B ∷ second_on) start (first a b f) (λ l. l) (to_first a b f)
+    (onward (Give 0 B) second_on (first a b f) (second a b f) (there _) (to_second a b f)
+    (onward (Give 0 A) third_on (second a b f) (third a b f) (there _) (to_third a b f)
+    (onward (Give 1 B) last (third a b f) (fourth a b f) (there _) (to_fourth a b f)
+    (onward (Give 1 A) sending (fourth a b f) (opened a b f) (there _) (to_opened a b f)
+    (onward (CallOf A (Send m o)) (Give 2 B ∷ acknowledging) (opened a b f) sent (λ l. l) (λ u e. to_sent a b f m o small u e)
+    (onward (Give 2 B) acknowledging sent taken
+    (λ l. there _ (sym (ap (λ (ps : List (List ℕ)). slice_get ps 0) (packets_sent o.lifecycle_id (packet a b f m o))) ∙ l))
+    (λ u g. to_taken a b f m o small u g)
+    (lastly (Give 2 A) taken (there _))))))))
+
+pub only_memory : (all : List Action) (w v : World) (e : WorldError) → (e ≡ errors.NoSuchPacket → RunsUpToLack all w v)
+    → (m : Message) (o : SendOptions) → IsSmall m → IsFresh w → all ≡ opening ++ (crossing m o ++ acknowledging) → e ≡ errors.Memory
+only_memory all w v errors.Memory lacks m o small fresh is = refl
+only_memory all w v errors.NoSuchPacket lacks m o small fresh is =
+    let l = lacks refl in
+    absurd (never_lacks l.before l.action l.rest w v
+    (subst (λ (actions : List Action). Goes actions w) (sym is ∙ l.split) (subst (Goes (opening ++ (crossing m o ++ acknowledging))) (sym fresh.is) (goes_all fresh.a fresh.b fresh.word_of m o small)))
+    l.runs l.lacks)
+
+pub opens_by : (all : List Action) (w v : World) → Runs all w v → IsFresh w → all ≡ opening → IsOpen v
+opens_by all w v runs fresh is = it_opens w v fresh (subst (λ (actions : List Action). Runs actions w v) is runs)
+
+pub crosses_by : (all : List Action) (w v : World) → Runs all w v → (m : Message) (o : SendOptions) → IsSmall m → IsFresh w → all ≡ opening ++ crossing m o → HasCrossed m v
+crosses_by all w v runs m o small fresh is = it_crosses m o w v small fresh (subst (λ (actions : List Action). Runs actions w v) is runs)
+
+pub rests_by : (all : List Action) (w v : World) → Runs all w v → (m : Message) (o : SendOptions) → IsSmall m → IsFresh w
+    → all ≡ opening ++ (crossing m o ++ acknowledging) → is_at_rest A v ≡ true
+rests_by all w v runs m o small fresh is = comes_to_rest m o w v small fresh (subst (λ (actions : List Action). Runs actions w v) is runs)

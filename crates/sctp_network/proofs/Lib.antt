@@ -1,0 +1,4 @@
+pub mod ToldLemmas
+pub mod SideLemmas
+pub mod HandingLemmas
+pub mod GoesLemmas

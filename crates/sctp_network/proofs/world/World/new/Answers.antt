@@ -1,0 +1,10 @@
+use Rattle.std.proofs.lemmas.Result.{IfOk-weaker}
+use Rattle.sctp_state.specs.Options.{options_of}
+use Rattle.sctp_network_table.proofs.MtuLemmas.{new_short}
+use Rattle.sctp_network.proofs.world.World.new.Goals as goal
+
+pub returns-clause-short : goal.returns-clause-short
+returns-clause-short g c =
+    IfOk-weaker c.made.result _ _
+    (λ w is. new_short (options_of c.args.options_a.now) (options_of c.args.options_b.now) (g.R.Rng.stream c.args.rng_a) (g.R.Rng.stream c.args.rng_b)
+    (g.C.Checksum.word_of c.args.checksum_a) (g.C.Checksum.word_of c.args.checksum_b) c.requires.a c.requires.b _ is) c.made.ensures.world

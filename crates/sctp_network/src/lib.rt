@@ -1,0 +1,7 @@
+//! Two sockets and the network between them: all packets that they ever sent, of which any may be given again, late or
+//! never, and a log of all that a judge sees.
+#![tactic(auto)]
+
+mod world;
+
+pub use world::{Answer, Call, End, Entry, Event, World, WorldError};

@@ -1,0 +1,289 @@
+//! Two ends and all packets between them.
+
+ghost use Rattle.std.specs.Prelude.{◌≡◌, List, ℕ, Bool, true, false, Some, None, [], ◌∷◌, ◌++◌, length, map, option_map, slice_get, IfOk, IfErr, OnOk, Ok, Err};
+ghost use Rattle.sctp_serial.specs.Messages.{Message};
+ghost use Rattle.sctp_state.specs.Options.{IsValid, SendOptions, options_of, defaults};
+ghost use Rattle.sctp_association.specs.Socket.{endpoint};
+ghost use Rattle.sctp_network.specs.declared.world.WorldError.TheVariants.{Memory as no_memory};
+ghost use Rattle.sctp_network_table.specs.World.{Comes, Happens, Runs, Lacks, RunsUpToLack, AreShort, fresh_world, side_of, is_at_rest, Told, ComesTo, after_call, after_time, call_entry, time_entry, clock, settled, news_of};
+ghost use Rattle.sctp_association_laws.specs.FirstRun.{IsSmall};
+ghost use Rattle.sctp_network_table.specs.FirstRun.{opening, crossing, acknowledging, IsFresh, IsOpen, HasCrossed};
+ghost use Rattle.sctp_network_table.specs.Judge.{A, Given};
+ghost use Rattle.sctp_network.specs.WorldView.{action_of, call_tree, end_tree, entry_tree, side_in, world_of};
+
+mod calling;
+mod log;
+mod side;
+
+pub use log::{Answer, Call, End, Entry, Event};
+use rand_core::Rng;
+use sctp_state::{CallError, Options};
+use sctp_wire::Checksum;
+use side::Side;
+use std::alloc::{AllocError, Global};
+use std::marker::Model;
+use thiserror::Error;
+
+/// Why an event didn't happen.
+#[derive(Clone, Copy, Debug, PartialEq, Eq, Error)]
+pub enum WorldError {
+    /// Memory ran out, now or before: the world has failed.
+    #[error("out of memory")]
+    Memory,
+    /// The event names a packet that the other end didn't send.
+    #[error("no such packet")]
+    NoSuchPacket,
+}
+
+impl From<AllocError> for WorldError {
+    ghost from_gives = { λ _ e. e ≡ no_memory };
+
+    fn from(_e: AllocError) -> WorldError {
+        WorldError::Memory
+    }
+}
+
+impl From<CallError> for WorldError {
+    ghost from_gives = { λ _ e. e ≡ no_memory };
+
+    fn from(_e: CallError) -> WorldError {
+        WorldError::Memory
+    }
+}
+
+/// Two ends, all packets that they sent, and the log.
+#[derive(Drop)]
+pub struct World<R: Rng, C: Checksum> {
+    alloc: Global,
+    a: Side<R, C>,
+    b: Side<R, C>,
+    log: Vec<Entry>,
+    has_failed: bool,
+}
+
+impl<R: Rng, C: Checksum> Model for World<R, C> {
+    ghost use Rattle.std.specs.Prelude.{map};
+    ghost use Rattle.sctp_network.specs.WorldView.{WorldValue, entry_tree};
+
+    ghost Value = { WorldValue R C };
+
+    ghost view = { λ w. record { a = w.a; b = w.b; log = map entry_tree w.log.items; has_failed = w.has_failed } };
+}
+
+impl<R: Rng + Drop, C: Checksum + Drop> World<R, C> {
+    /// Two closed ends. Each has its own options, its generator and its checksum function.
+    pub fn new(
+        alloc: Global,
+        options_a: &Options,
+        options_b: &Options,
+        rng_a: R,
+        rng_b: R,
+        checksum_a: C,
+        checksum_b: C,
+    ) -> Result<World<R, C>, CallError>
+        requires a { IsValid (options_of options_a.now) }
+        requires b { IsValid (options_of options_b.now) }
+        ensures world { IfOk result (λ w. world_of R.stream C.word_of w
+            ≡ fresh_world (options_of options_a.now) (options_of options_b.now) (R.stream rng_a) (R.stream rng_b) (C.word_of checksum_a) (C.word_of checksum_b)) }
+        ensures works { IfOk result (λ w. w.has_failed ≡ false) }
+        ensures short { IfOk result (λ w. AreShort (options_of options_a.now).mtu (options_of options_b.now).mtu (world_of R.stream C.word_of w)) }
+    {
+        World::made(
+            alloc, options_a, options_b, rng_a, rng_b, checksum_a, checksum_b,
+        )
+    }
+
+    fn made(
+        alloc: Global,
+        options_a: &Options,
+        options_b: &Options,
+        rng_a: R,
+        rng_b: R,
+        checksum_a: C,
+        checksum_b: C,
+    ) -> Result<World<R, C>, CallError>
+        requires a { IsValid (options_of options_a.now) }
+        requires b { IsValid (options_of options_b.now) }
+        ensures world { IfOk result (λ w. world_of R.stream C.word_of w
+            ≡ fresh_world (options_of options_a.now) (options_of options_b.now) (R.stream rng_a) (R.stream rng_b) (C.word_of checksum_a) (C.word_of checksum_b)) }
+        ensures works { IfOk result (λ w. w.has_failed ≡ false) }
+    {
+        let a = Side::new(alloc, "a", options_a, rng_a, checksum_a)?;
+        let b = match Side::new(alloc, "b", options_b, rng_b, checksum_b) {
+            Ok(b) => b,
+            Err(fault) => {
+                drop(a);
+                return Err(fault);
+            }
+        };
+        Ok(World {
+            alloc,
+            a,
+            b,
+            log: Vec::new(alloc),
+            has_failed: false,
+        })
+    }
+}
+
+impl<R: Rng, C: Checksum> World<R, C> {
+    /// The packet of this number, from 0 on, that the end sent.
+    pub fn packet(&self, end: End, number: usize) -> Option<&[u8]>
+        ensures { option_map (λ bytes. bytes.now) result
+            ≡ slice_get (side_of (end_tree end) (world_of R.stream C.word_of self.now)).packets number }
+    {
+        match end {
+            End::A => self.a.packet(number),
+            End::B => self.b.packet(number),
+        }
+    }
+
+    /// What happened so far.
+    pub fn log(&self) -> &[Entry]
+        ensures { map entry_tree result.now ≡ self.now.log }
+    {
+        &self.log
+    }
+
+    /// Whether the end has nothing queued and keeps no item.
+    pub fn is_at_rest(&self, end: End) -> bool
+        ensures { result ≡ is_at_rest (end_tree end) (world_of R.stream C.word_of self.now) }
+    {
+        match end {
+            End::A => self.a.socket.is_at_rest(),
+            End::B => self.b.socket.is_at_rest(),
+        }
+    }
+
+    /// Makes one event happen. Each packet that it makes an end send has at most the bytes of its `mtu`. A world that has failed answers `Memory`.
+    pub fn step(&mut self, event: &Event) -> Result<(), WorldError>
+        ensures ok { OnOk result (Happens (action_of event.now) (world_of R.stream C.word_of self.old) (world_of R.stream C.word_of self.new)) }
+        ensures works { OnOk result ((self.old.has_failed ≡ false) × (self.new.has_failed ≡ false)) }
+        ensures lacks { IfErr result (λ e. e ≡ WorldError.NoSuchPacket → Lacks (action_of event.now) (world_of R.stream C.word_of self.old)) }
+        ensures missing { self.old.has_failed ≡ false → Lacks (action_of event.now) (world_of R.stream C.word_of self.old) → result ≡ Err WorldError.NoSuchPacket }
+        ensures same { IfErr result (λ e. e ≡ WorldError.NoSuchPacket → self.new ≡ self.old) }
+        ensures memory { IfErr result (λ e. e ≡ WorldError.Memory → self.new.has_failed ≡ true) }
+        ensures failed { self.old.has_failed ≡ true → result ≡ Err WorldError.Memory }
+        ensures short { OnOk result ((mtu_a mtu_b : ℕ) → AreShort mtu_a mtu_b (world_of R.stream C.word_of self.old)
+            → AreShort mtu_a mtu_b (world_of R.stream C.word_of self.new)) }
+    {
+        if self.has_failed {
+            return Err(WorldError::Memory);
+        }
+        let answer = self.act(event);
+        if answer == Err(WorldError::Memory) {
+            self.has_failed = true;
+        }
+        answer
+    }
+
+    fn act(&mut self, event: &Event) -> Result<(), WorldError>
+        ensures ok { OnOk result (Happens (action_of event.now) (world_of R.stream C.word_of self.old) (world_of R.stream C.word_of self.new)) }
+        ensures lacks { IfErr result (λ e. e ≡ WorldError.NoSuchPacket → Lacks (action_of event.now) (world_of R.stream C.word_of self.old)) }
+        ensures missing { Lacks (action_of event.now) (world_of R.stream C.word_of self.old) → result ≡ Err WorldError.NoSuchPacket }
+        ensures same { IfErr result (λ e. e ≡ WorldError.NoSuchPacket → self.new ≡ self.old) }
+        ensures failed { self.new.has_failed ≡ self.old.has_failed }
+    {
+        match event {
+            Event::Call(End::A, call) => {
+                Ok(self.a.call(self.alloc, End::A, call, &mut self.log)?)
+            }
+            Event::Call(End::B, call) => {
+                Ok(self.b.call(self.alloc, End::B, call, &mut self.log)?)
+            }
+            Event::Give(number, End::A) => give(
+                self.alloc,
+                End::A,
+                *number,
+                &mut self.a,
+                &self.b,
+                &mut self.log,
+            ),
+            Event::Give(number, End::B) => give(
+                self.alloc,
+                End::B,
+                *number,
+                &mut self.b,
+                &self.a,
+                &mut self.log,
+            ),
+            Event::Foreign(end, bytes) => Ok(self.come(*end, bytes)?),
+            Event::Time(End::A, now) => {
+                Ok(self.a.tell_time(self.alloc, End::A, *now, &mut self.log)?)
+            }
+            Event::Time(End::B, now) => {
+                Ok(self.b.tell_time(self.alloc, End::B, *now, &mut self.log)?)
+            }
+        }
+    }
+
+    /// Bytes from elsewhere come to an end.
+    fn come(&mut self, end: End, bytes: &[u8]) -> Result<(), CallError>
+        ensures ok { OnOk result (Comes (end_tree end) bytes.now (world_of R.stream C.word_of self.old) (world_of R.stream C.word_of self.new)) }
+        ensures failed { self.new.has_failed ≡ self.old.has_failed }
+    {
+        match end {
+            End::A => self.a.come(self.alloc, end, bytes, &mut self.log),
+            End::B => self.b.come(self.alloc, end, bytes, &mut self.log),
+        }
+    }
+
+    /// Makes events happen, one after the other, up to the first that doesn't. A world that has failed answers `Memory`.
+    pub fn run(&mut self, events: &[Event]) -> Result<(), WorldError>
+        ensures ok { OnOk result (Runs (map action_of events.now) (world_of R.stream C.word_of self.old) (world_of R.stream C.word_of self.new)) }
+        ensures lacks { IfErr result (λ e. e ≡ WorldError.NoSuchPacket
+            → RunsUpToLack (map action_of events.now) (world_of R.stream C.word_of self.old) (world_of R.stream C.word_of self.new)) }
+        ensures memory { IfErr result (λ e. e ≡ WorldError.Memory → self.new.has_failed ≡ true) }
+        ensures failed { self.old.has_failed ≡ true → result ≡ Err WorldError.Memory }
+        ensures short { OnOk result ((mtu_a mtu_b : ℕ) → AreShort mtu_a mtu_b (world_of R.stream C.word_of self.old)
+            → AreShort mtu_a mtu_b (world_of R.stream C.word_of self.new)) }
+
+        ensures opens { OnOk result (IsFresh (world_of R.stream C.word_of self.old) → map action_of events.now ≡ opening
+            → IsOpen (world_of R.stream C.word_of self.new)) }
+        ensures crosses { OnOk result ((m : Message) (options : SendOptions) → IsSmall m → IsFresh (world_of R.stream C.word_of self.old)
+            → map action_of events.now ≡ opening ++ crossing m options → HasCrossed m (world_of R.stream C.word_of self.new)) }
+        ensures rests { OnOk result ((m : Message) (options : SendOptions) → IsSmall m → IsFresh (world_of R.stream C.word_of self.old)
+            → map action_of events.now ≡ opening ++ (crossing m options ++ acknowledging) → is_at_rest A (world_of R.stream C.word_of self.new) ≡ true) }
+        ensures nothing_lacks { IfErr result (λ e. (m : Message) (options : SendOptions) → IsSmall m → IsFresh (world_of R.stream C.word_of self.old)
+            → map action_of events.now ≡ opening ++ (crossing m options ++ acknowledging) → e ≡ WorldError.Memory) }
+    {
+        if self.has_failed {
+            return Err(WorldError::Memory);
+        }
+        self.run_each(events)
+    }
+
+    fn run_each(&mut self, events: &[Event]) -> Result<(), WorldError>
+        ensures ok { OnOk result (Runs (map action_of events.now) (world_of R.stream C.word_of self.old) (world_of R.stream C.word_of self.new)) }
+        ensures lacks { IfErr result (λ e. e ≡ WorldError.NoSuchPacket
+            → RunsUpToLack (map action_of events.now) (world_of R.stream C.word_of self.old) (world_of R.stream C.word_of self.new)) }
+        ensures memory { IfErr result (λ e. e ≡ WorldError.Memory → self.new.has_failed ≡ true) }
+    {
+        for event in events {
+            self.step(event)?;
+        }
+        Ok(())
+    }
+}
+
+/// Gives an end the packet of this number of the other one.
+fn give<R: Rng, C: Checksum>(
+    alloc: Global,
+    end: End,
+    number: usize,
+    to: &mut Side<R, C>,
+    from: &Side<R, C>,
+    log: &mut Vec<Entry>,
+) -> Result<(), WorldError>
+    ensures ok { OnOk result ((bytes : List ℕ) × (slice_get from.now.packets number ≡ Some bytes)
+        × Told (end_tree end) (Given (end_tree end) (clock (side_in R.stream C.word_of to.old).socket) number) bytes (side_in R.stream C.word_of to.old) (side_in R.stream C.word_of to.new) (map entry_tree log.old.items) (map entry_tree log.new.items)) }
+    ensures lacks { IfErr result (λ e. e ≡ WorldError.NoSuchPacket → slice_get from.now.packets number ≡ None) }
+    ensures missing { slice_get from.now.packets number ≡ None → result ≡ Err WorldError.NoSuchPacket }
+    ensures side { IfErr result (λ e. e ≡ WorldError.NoSuchPacket → to.new ≡ to.old) }
+    ensures log { IfErr result (λ e. e ≡ WorldError.NoSuchPacket → log.new ≡ log.old) }
+{
+    let Some(bytes) = from.packet(number) else {
+        return Err(WorldError::NoSuchPacket);
+    };
+    Ok(to.hear(alloc, end, number, bytes, log)?)
+}

@@ -1,0 +1,5 @@
+pub mod Courses
+pub mod Joined
+pub mod Delivered
+pub mod Composed
+pub mod Proper

@@ -1,0 +1,4 @@
+pub mod RunLemmas
+pub mod MtuLemmas
+pub mod FirstRunLemmas
+pub mod CrossingLemmas

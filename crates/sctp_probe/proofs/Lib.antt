@@ -1,0 +1,2 @@
+pub mod ProbeLemmas
+pub mod AnswerLemmas

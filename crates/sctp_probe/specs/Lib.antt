@@ -1,0 +1,2 @@
+pub mod ByteSums
+pub mod Probe
