@@ -1,6 +1,6 @@
 //! Two ends and all packets between them.
 
-ghost use Rattle.std.specs.Prelude.{◌≡◌, List, ℕ, Bool, true, false, Some, None, [], ◌∷◌, ◌++◌, length, map, option_map, slice_get, IfOk, IfErr, OnOk, Ok, Err};
+ghost use Rattle.std.specs.Prelude.{◌≡◌, List, ℕ, Bool, true, false, Some, None, [], ◌∷◌, ◌++◌, length, map, option_map, slice_get, All, IfOk, IfErr, OnOk, Ok, Err};
 ghost use Rattle.sctp_serial.specs.Messages.{Message};
 ghost use Rattle.sctp_state.specs.Options.{IsValid, SendOptions, options_of, defaults};
 ghost use Rattle.sctp_association.specs.Socket.{endpoint};
@@ -9,6 +9,9 @@ ghost use Rattle.sctp_network_table.specs.World.{Comes, Happens, Runs, Lacks, Ru
 ghost use Rattle.sctp_association_laws.specs.FirstRun.{IsSmall};
 ghost use Rattle.sctp_network_table.specs.FirstRun.{opening, crossing, acknowledging, IsFresh, IsOpen, HasCrossed};
 ghost use Rattle.sctp_network_table.specs.Judge.{A, Given};
+ghost use Rattle.sctp_network_course.specs.Composed.{Composes};
+ghost use Rattle.sctp_network_course.specs.Courses.{ActionFits, IsLed};
+ghost use Rattle.sctp_network_course.specs.Joined.{IsUndisturbed};
 ghost use Rattle.sctp_network.specs.WorldView.{action_of, call_tree, end_tree, entry_tree, side_in, world_of};
 
 mod calling;
@@ -166,6 +169,22 @@ impl<R: Rng, C: Checksum> World<R, C> {
         ensures failed { self.old.has_failed ≡ true → result ≡ Err WorldError.Memory }
         ensures short { OnOk result ((mtu_a mtu_b : ℕ) → AreShort mtu_a mtu_b (world_of R.stream C.word_of self.old)
             → AreShort mtu_a mtu_b (world_of R.stream C.word_of self.new)) }
+        ensures leads { OnOk result (IsLed (world_of R.stream C.word_of self.old) → ActionFits (action_of event.now) → IsLed (world_of R.stream C.word_of self.new)) }
+        ensures composes { OnOk result ((l : IsLed (world_of R.stream C.word_of self.new)) → IsUndisturbed (world_of R.stream C.word_of self.new) → Composes (world_of R.stream C.word_of self.new) l) }
+    {
+        self.happen(event)
+    }
+
+    fn happen(&mut self, event: &Event) -> Result<(), WorldError>
+        ensures ok { OnOk result (Happens (action_of event.now) (world_of R.stream C.word_of self.old) (world_of R.stream C.word_of self.new)) }
+        ensures works { OnOk result ((self.old.has_failed ≡ false) × (self.new.has_failed ≡ false)) }
+        ensures lacks { IfErr result (λ e. e ≡ WorldError.NoSuchPacket → Lacks (action_of event.now) (world_of R.stream C.word_of self.old)) }
+        ensures missing { self.old.has_failed ≡ false → Lacks (action_of event.now) (world_of R.stream C.word_of self.old) → result ≡ Err WorldError.NoSuchPacket }
+        ensures same { IfErr result (λ e. e ≡ WorldError.NoSuchPacket → self.new ≡ self.old) }
+        ensures memory { IfErr result (λ e. e ≡ WorldError.Memory → self.new.has_failed ≡ true) }
+        ensures failed { self.old.has_failed ≡ true → result ≡ Err WorldError.Memory }
+        ensures short { OnOk result ((mtu_a mtu_b : ℕ) → AreShort mtu_a mtu_b (world_of R.stream C.word_of self.old)
+            → AreShort mtu_a mtu_b (world_of R.stream C.word_of self.new)) }
     {
         if self.has_failed {
             return Err(WorldError::Memory);
@@ -246,6 +265,29 @@ impl<R: Rng, C: Checksum> World<R, C> {
             → map action_of events.now ≡ opening ++ (crossing m options ++ acknowledging) → is_at_rest A (world_of R.stream C.word_of self.new) ≡ true) }
         ensures nothing_lacks { IfErr result (λ e. (m : Message) (options : SendOptions) → IsSmall m → IsFresh (world_of R.stream C.word_of self.old)
             → map action_of events.now ≡ opening ++ (crossing m options ++ acknowledging) → e ≡ WorldError.Memory) }
+        ensures leads { OnOk result (IsLed (world_of R.stream C.word_of self.old) → All ActionFits (map action_of events.now) → IsLed (world_of R.stream C.word_of self.new)) }
+        ensures composes { OnOk result ((l : IsLed (world_of R.stream C.word_of self.new)) → IsUndisturbed (world_of R.stream C.word_of self.new) → Composes (world_of R.stream C.word_of self.new) l) }
+    {
+        self.proceed(events)
+    }
+
+    fn proceed(&mut self, events: &[Event]) -> Result<(), WorldError>
+        ensures ok { OnOk result (Runs (map action_of events.now) (world_of R.stream C.word_of self.old) (world_of R.stream C.word_of self.new)) }
+        ensures lacks { IfErr result (λ e. e ≡ WorldError.NoSuchPacket
+            → RunsUpToLack (map action_of events.now) (world_of R.stream C.word_of self.old) (world_of R.stream C.word_of self.new)) }
+        ensures memory { IfErr result (λ e. e ≡ WorldError.Memory → self.new.has_failed ≡ true) }
+        ensures failed { self.old.has_failed ≡ true → result ≡ Err WorldError.Memory }
+        ensures short { OnOk result ((mtu_a mtu_b : ℕ) → AreShort mtu_a mtu_b (world_of R.stream C.word_of self.old)
+            → AreShort mtu_a mtu_b (world_of R.stream C.word_of self.new)) }
+
+        ensures opens { OnOk result (IsFresh (world_of R.stream C.word_of self.old) → map action_of events.now ≡ opening
+            → IsOpen (world_of R.stream C.word_of self.new)) }
+        ensures crosses { OnOk result ((m : Message) (options : SendOptions) → IsSmall m → IsFresh (world_of R.stream C.word_of self.old)
+            → map action_of events.now ≡ opening ++ crossing m options → HasCrossed m (world_of R.stream C.word_of self.new)) }
+        ensures rests { OnOk result ((m : Message) (options : SendOptions) → IsSmall m → IsFresh (world_of R.stream C.word_of self.old)
+            → map action_of events.now ≡ opening ++ (crossing m options ++ acknowledging) → is_at_rest A (world_of R.stream C.word_of self.new) ≡ true) }
+        ensures nothing_lacks { IfErr result (λ e. (m : Message) (options : SendOptions) → IsSmall m → IsFresh (world_of R.stream C.word_of self.old)
+            → map action_of events.now ≡ opening ++ (crossing m options ++ acknowledging) → e ≡ WorldError.Memory) }
     {
         if self.has_failed {
             return Err(WorldError::Memory);
@@ -260,7 +302,7 @@ impl<R: Rng, C: Checksum> World<R, C> {
         ensures memory { IfErr result (λ e. e ≡ WorldError.Memory → self.new.has_failed ≡ true) }
     {
         for event in events {
-            self.step(event)?;
+            self.happen(event)?;
         }
         Ok(())
     }

@@ -1,22 +1,9 @@
-use Rattle.std.proofs.Common.{map}
-use Rattle.std.proofs.lemmas.Result.{on_ok_weaker, IfErr-weaker}
-use Rattle.sctp_network.specs.WorldView.{action_of}
-use Rattle.sctp_network.proofs.GoesLemmas.{opens_by, crosses_by, rests_by, only_memory}
-use Rattle.sctp_network_table.proofs.MtuLemmas.{runs_short}
+use Rattle.sctp_delivery.proofs.LawLemmas.{delivered}
+use Rattle.sctp_network_course.proofs.ComposedLemmas.{on_ok, on_each, compose, led_on}
 use Rattle.sctp_network.proofs.world.World.run.Goals as goal
 
-pub returns-clause-short : goal.returns-clause-short
-returns-clause-short g c =
-    on_ok_weaker c.run_each.result (λ runs mtu_a mtu_b short. runs_short mtu_a mtu_b (map action_of c.args.events.now) _ _ runs short) c.run_each.ensures.ok
+pub returns-clause-leads : goal.returns-clause-leads
+returns-clause-leads g c = on_ok c.proceed.result (λ r l fit. led_on _ _ _ l fit r) c.proceed.ensures.ok
 
-pub returns-clause-opens : goal.returns-clause-opens
-returns-clause-opens g c = on_ok_weaker c.run_each.result (λ runs. opens_by (map action_of c.args.events.now) _ _ runs) c.run_each.ensures.ok
-
-pub returns-clause-crosses : goal.returns-clause-crosses
-returns-clause-crosses g c = on_ok_weaker c.run_each.result (λ runs. crosses_by (map action_of c.args.events.now) _ _ runs) c.run_each.ensures.ok
-
-pub returns-clause-rests : goal.returns-clause-rests
-returns-clause-rests g c = on_ok_weaker c.run_each.result (λ runs. rests_by (map action_of c.args.events.now) _ _ runs) c.run_each.ensures.ok
-
-pub returns-clause-nothing_lacks : goal.returns-clause-nothing_lacks
-returns-clause-nothing_lacks g c = IfErr-weaker c.run_each.result _ _ (λ e lacks. only_memory (map action_of c.args.events.now) _ _ e lacks) c.run_each.ensures.lacks
+pub returns-clause-composes : goal.returns-clause-composes
+returns-clause-composes g c = on_each c.proceed.result (λ l u. compose delivered _ l u)

@@ -11,4 +11,4 @@ loop-event-preserved g c =
     let events = c.args.events.now in
     stepped _ (map action_of (drop i events)) (map action_of (drop (i + 1) events)) _ _ _ _ c.loop-event.invariant
     (ap (map action_of) (drop_more events i c.event-item.result c.loop-event-test.true) ∙ ap (λ (e : Event). action_of e ∷ map action_of (drop (i + 1) events)) (sym c.event-item.is))
-    c.in_ok-step.ensures.ok
+    c.in_ok-happen.ensures.ok

@@ -1,8 +1,9 @@
-use Rattle.std.proofs.lemmas.Result.{on_ok_weaker}
-use Rattle.sctp_network.specs.WorldView.{action_of}
-use Rattle.sctp_network_table.proofs.MtuLemmas.{happens_short}
+use Rattle.sctp_delivery.proofs.LawLemmas.{delivered}
+use Rattle.sctp_network_course.proofs.ComposedLemmas.{on_ok, on_each, compose, led_by_one}
 use Rattle.sctp_network.proofs.world.World.step.Goals as goal
 
-pub returns-else-eq-clause-short : goal.returns-else-eq-clause-short
-returns-else-eq-clause-short g c =
-    on_ok_weaker c.act-answer.result (λ happens mtu_a mtu_b short. happens_short mtu_a mtu_b (action_of c.args.event.now) _ _ happens short) c.act-answer.ensures.ok
+pub returns-clause-leads : goal.returns-clause-leads
+returns-clause-leads g c = on_ok c.happen.result (λ r l fit. led_by_one _ _ _ l fit r) c.happen.ensures.ok
+
+pub returns-clause-composes : goal.returns-clause-composes
+returns-clause-composes g c = on_each c.happen.result (λ l u. compose delivered _ l u)
