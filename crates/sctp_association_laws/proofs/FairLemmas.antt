@@ -15,7 +15,7 @@ use Rattle.sctp_packet.specs.Chunk.{ChunkTree, data_chunk, init_chunk, init_ack_
 use Rattle.sctp_packet.specs.Written.{chunk_item, chunk_value, chunk_is_whole, is_known_chunk}
 use Rattle.sctp_packet.specs.Grammar.{Each, FitsChunk}
 use Rattle.sctp_packet.specs.ReadBack.{ChunkReadsBack, IsReadable}
-use Rattle.sctp_packet.proofs.ValueLemmas.{length_init, length_init_ack}
+use Rattle.sctp_chunk.proofs.ValueLemmas.{length_init, length_init_ack}
 
 pub record IsFairParameter (t : ParameterTree) : Type 0 where
   pub fits : ParameterFits t

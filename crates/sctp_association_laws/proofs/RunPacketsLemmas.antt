@@ -15,7 +15,7 @@ use Rattle.sctp_packet.specs.Grammar.{FitsBlock, FitsTsn, carried}
 use Rattle.sctp_packet.specs.Chunk.{ChunkTree, SackTree, data_chunk, init_chunk, init_ack_chunk, sack_chunk, cookie_echo_chunk, cookie_ack_chunk}
 use Rattle.sctp_packet.specs.Written.{chunk_item, chunk_value, chunk_bytes, chunks_bytes}
 use Rattle.sctp_packet.specs.ReadBack.{ChunkReadsBack}
-use Rattle.sctp_packet.proofs.ValueLemmas.{length_data, length_init, length_init_ack, length_sack}
+use Rattle.sctp_chunk.proofs.ValueLemmas.{length_data, length_init, length_init_ack, length_sack}
 use Rattle.sctp_state.specs.Options.{Options, SendOptions, defaults}
 use Rattle.sctp_state.specs.Capabilities.{announced}
 use Rattle.sctp_state.specs.Cookie.{Cookie, cookie_bytes}

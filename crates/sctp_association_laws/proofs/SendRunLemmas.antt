@@ -10,7 +10,7 @@ use Rattle.sctp_wire.specs.Item.{padding}
 use Rattle.sctp_wire.proofs.SerializeLemmas.{length_padded_item}
 use Rattle.sctp_packet.specs.Chunk.{ChunkTree, FragmentTree, data_chunk}
 use Rattle.sctp_packet.specs.Written.{chunk_item, chunk_bytes, chunks_bytes}
-use Rattle.sctp_packet.proofs.ValueLemmas.{length_data}
+use Rattle.sctp_chunk.proofs.ValueLemmas.{length_data}
 use Rattle.sctp_state.specs.Options.{SendOptions, defaults}
 use Rattle.sctp_state.specs.Timers.{Timer, start}
 use Rattle.sctp_state.specs.Events.{Event, Told, OnBufferedAmountLow, silent, tell_all}

@@ -5,7 +5,7 @@ use Rattle.std.proofs.lemmas.List.Elements.{All-cons, All-nil}
 use Rattle.sctp_serial.specs.declared.api.StreamId.{StreamId}
 use Rattle.sctp_serial.specs.Serial.{serial_difference}
 use Rattle.sctp_serial.specs.Unwrapped.{origin, words, wire}
-use Rattle.sctp_packet.specs.declared.forward_tsn.SkippedStream.{SkippedStream}
+use Rattle.sctp_chunk.specs.declared.forward_tsn.SkippedStream.{SkippedStream}
 use Rattle.sctp_packet.specs.Chunk.{FragmentTree}
 use Rattle.sctp_packet.specs.Grammar.{Each, FitsBlock, FitsTsn, FitsSack}
 use Rattle.sctp_state.specs.Options.{Options}
@@ -17,7 +17,7 @@ use Rattle.sctp_rx.specs.Sack.{block, is_near, blocks_of, tsns, sack, reported}
 use Rattle.sctp_rx.specs.ReassemblyQueue.{Reassembly, Waiting, Added, Forwarded, watermark, queued_bytes, number_of, came, fragment_waits, point_waits, waits, add_now, forward_now, add_or_wait, forward_or_wait, apply, apply_each, waiting_in}
 use Rattle.sctp_rx.specs.Streams.{is_far}
 use Rattle.sctp_rx.specs.ReassemblyQueue as reassembly
-use Rattle.sctp_rx.proofs.SeenOneFormLemmas.{IsInRuns-add, IsInRuns-up_to}
+use Rattle.sctp_tracker.proofs.SeenOneFormLemmas.{IsInRuns-add, IsInRuns-up_to}
 use Rattle.sctp_association_laws.specs.Sound.{FitsTracker}
 use Rattle.sctp_association_laws.proofs.HeardLemmas.{each_take}
 

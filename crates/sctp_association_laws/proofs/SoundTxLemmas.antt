@@ -1,7 +1,7 @@
 -- What the sender sends and keeps stays fitting.
 use Rattle.std.proofs.Common.{ℕ, zero, suc, not, nat_lt, Bool, true, false, cond, Option, Some, None, List, [], ◌∷◌, length}
 use Rattle.std.specs.Prelude.{◌&&◌}
-use Rattle.sctp_packet.specs.declared.sack.GapAckBlock.{GapAckBlock}
+use Rattle.sctp_chunk.specs.declared.sack.GapAckBlock.{GapAckBlock}
 use Rattle.sctp_packet.specs.Grammar.{Each, FitsFragment, FitsChunk}
 use Rattle.sctp_state.specs.Events.{Told}
 use Rattle.sctp_state.specs.Handover.{OutstandingData, Transmission}

@@ -4,7 +4,7 @@ use Rattle.std.proofs.lemmas.Bool.Decides.{nat_tests}
 use Rattle.sctp_serial.specs.Unwrapped.{words}
 use Rattle.sctp_serial.specs.Messages.{Message}
 use Rattle.sctp_packet.specs.Chunk.{FragmentTree, init_ack_chunk}
-use Rattle.sctp_packet.specs.declared.forward_tsn.SkippedStream.{SkippedStream}
+use Rattle.sctp_chunk.specs.declared.forward_tsn.SkippedStream.{SkippedStream}
 use Rattle.sctp_state.specs.Capabilities.{told_by, negotiated}
 use Rattle.sctp_state.specs.Cookie.{Cookie}
 use Rattle.sctp_state.specs.Events.{OnConnected, OnConnectionRestarted}

@@ -9,7 +9,7 @@ use Rattle.sctp_serial.specs.Messages.{Message}
 use Rattle.sctp_packet.specs.Packet.{PacketTree}
 use Rattle.sctp_state.specs.Options.{Options}
 use Rattle.sctp_rx.specs.Delivery.{Extends}
-use Rattle.sctp_rx.proofs.ExtendsLemmas.{extends_by}
+use Rattle.sctp_reassembly.proofs.ExtendsLemmas.{extends_by}
 use Rattle.sctp_table.specs.Association.{State, Closed, CookieWait, Open, Endpoint}
 use Rattle.sctp_table.specs.Shown.{Association, association_in}
 use Rattle.sctp_table.specs.Calls.{ready_in, taken_in}

@@ -2,7 +2,7 @@
 use Rattle.std.proofs.Common.{◌≡◌, ℕ, ◌==◌, Bool, true, false, Option, Some, None, List, [], ◌∷◌, length, codes, refl}
 use Rattle.rand_core.specs.Stream.{Stream}
 use Rattle.sctp_wire.specs.Cause.{CauseTree, no_user_data, user_initiated_abort, protocol_violation}
-use Rattle.sctp_packet.specs.declared.forward_tsn.SkippedStream.{SkippedStream}
+use Rattle.sctp_chunk.specs.declared.forward_tsn.SkippedStream.{SkippedStream}
 use Rattle.sctp_packet.specs.Chunk.{ChunkTree, FragmentTree, SackTree, data_chunk, idata_chunk, forward_tsn_chunk, i_forward_tsn_chunk, sack_chunk, abort_chunk, error_chunk, shutdown_chunk, shutdown_ack_chunk, shutdown_complete_chunk}
 use Rattle.sctp_state.specs.declared.api.ErrorKind.TheVariants.{TooManyRetries, PeerReported, ProtocolViolation, NotConnected}
 use Rattle.sctp_state.specs.Events.{Event, OnClosed, OnAborted}

@@ -1,6 +1,6 @@
 -- Data and forward points: refused ones change nothing, new ones are added, and points reach reassembly.
 use Rattle.std.proofs.Common.{◌≡◌, ℕ, ◌==◌, ◌||◌, ◌&&◌, not, Bool, true, false, Option, None, List, length, refl, ap, ◌∙◌}
-use Rattle.sctp_packet.specs.declared.forward_tsn.SkippedStream.{SkippedStream}
+use Rattle.sctp_chunk.specs.declared.forward_tsn.SkippedStream.{SkippedStream}
 use Rattle.sctp_packet.specs.Chunk.{FragmentTree}
 use Rattle.sctp_rx.specs.Tracker.{number_of, is_valid, has_seen, moves_on}
 use Rattle.sctp_rx.specs.ReassemblyQueue.{Reassembly, add, forward}

@@ -9,8 +9,8 @@ use Rattle.sctp_serial.specs.declared.types.StreamKey.TheVariants.{Ordered, Unor
 use Rattle.sctp_wire.specs.Parameter.{ParameterTree}
 use Rattle.sctp_packet.specs.Chunk.{ChunkTree, FragmentTree, data_chunk, idata_chunk, re_config_chunk, forward_tsn_chunk, i_forward_tsn_chunk}
 use Rattle.sctp_packet.specs.Grammar.{carried}
-use Rattle.sctp_packet.specs.declared.forward_tsn.SkippedStream.{SkippedStream}
-use Rattle.sctp_packet.specs.declared.forward_tsn.SkippedStream.TheVariants.{IForwardTsn}
+use Rattle.sctp_chunk.specs.declared.forward_tsn.SkippedStream.{SkippedStream}
+use Rattle.sctp_chunk.specs.declared.forward_tsn.SkippedStream.TheVariants.{IForwardTsn}
 use Rattle.sctp_outstanding.specs.Entries.{ssn_skip, mid_skip}
 use Rattle.sctp_rx.specs.Tracker as tracker
 use Rattle.sctp_rx.specs.Tracker.{DataTracker, IsTracker}

@@ -6,7 +6,7 @@ use Rattle.sctp_serial.specs.Unwrapped.{origin, words, wire}
 use Rattle.sctp_rx.specs.Seen.{in_runs}
 use Rattle.sctp_rx.specs.Tracker.{Tracker, IsTracker}
 use Rattle.sctp_rx.specs.ReassemblyQueue.{Reassembly}
-use Rattle.sctp_rx.proofs.SeenRunsLemmas.{next_is_new}
+use Rattle.sctp_tracker.proofs.SeenRunsLemmas.{next_is_new}
 use Rattle.sctp_rules.specs.State.{Message, Transfer, count}
 use Rattle.sctp_rules.specs.Rules.{IsAllowed, send_sack, after}
 use Rattle.sctp_rules.specs.Kept.{Kept}

@@ -1,7 +1,7 @@
 -- Numbers that come in stand for the same under other names: DATA, forward points and SACKs.
 use Rattle.std.proofs.Common.{◌≡◌, ℕ, ◌==◌, ◌&&◌, not, Bool, true, false, cond, max, unwrap_or, Option, Some, None, option_map, List, length, refl, sym, ap, ◌∙◌}
 use Rattle.sctp_serial.specs.Unwrapped.{origin}
-use Rattle.sctp_packet.specs.declared.forward_tsn.SkippedStream.{SkippedStream}
+use Rattle.sctp_chunk.specs.declared.forward_tsn.SkippedStream.{SkippedStream}
 use Rattle.sctp_packet.specs.Chunk.{FragmentTree}
 use Rattle.sctp_rx.specs.Tracker.{DataTracker}
 use Rattle.sctp_rx.specs.Tracker as tracker

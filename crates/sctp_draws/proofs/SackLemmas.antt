@@ -1,6 +1,6 @@
 -- A SACK under other names: the same items are acknowledged, and what goes out behind it is written under the names.
 use Rattle.std.proofs.Common.{◌≡◌, ℕ, Bool, true, false, Option, Some, None, List, refl, ap, ◌∙◌}
-use Rattle.sctp_packet.specs.declared.sack.GapAckBlock.{GapAckBlock}
+use Rattle.sctp_chunk.specs.declared.sack.GapAckBlock.{GapAckBlock}
 use Rattle.sctp_packet.specs.Chunk.{SackTree, shutdown_chunk, shutdown_ack_chunk}
 use Rattle.sctp_state.specs.Events.{Told}
 use Rattle.sctp_outstanding.specs.Items.{number_of}

@@ -8,7 +8,7 @@ use Rattle.sctp_state.specs.Options.{Options}
 use Rattle.sctp_state.specs.Capabilities.{capabilities_of}
 use Rattle.sctp_endpoint.specs.declared.transmission_control_block.Identity as given_identity
 use Rattle.sctp_endpoint.specs.declared.transmission_control_block.TransmissionControlBlock as given_tcb
-use Rattle.sctp_packet.specs.declared.sack.SackChunk.{SackChunk}
+use Rattle.sctp_chunk.specs.declared.sack.SackChunk.{SackChunk}
 use Rattle.sctp_packet.specs.Chunk.{SackTree}
 use Rattle.sctp_send_queue.specs.Queue.{Queue}
 use Rattle.sctp_wire.specs.Parameter.{ParameterTree}

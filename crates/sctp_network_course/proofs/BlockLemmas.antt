@@ -5,7 +5,7 @@ use Rattle.std.specs.List.{flat_map}
 use Rattle.std.proofs.lemmas.Grind.{flat_map-append}
 use Rattle.sctp_serial.specs.Messages.{Message}
 use Rattle.sctp_rx.specs.Delivery.{Extends}
-use Rattle.sctp_rx.proofs.ExtendsLemmas.{extends_by}
+use Rattle.sctp_reassembly.proofs.ExtendsLemmas.{extends_by}
 use Rattle.sctp_table.specs.Association.{State, Closed, CookieWait, Open}
 use Rattle.sctp_table.specs.Calls.{ready_in, taken_in}
 use Rattle.sctp_table.specs.Laws.{TakeMessage}

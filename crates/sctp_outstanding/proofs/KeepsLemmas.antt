@@ -2,8 +2,8 @@
 use Rattle.std.proofs.Common.{◌≡◌, ℕ, zero, suc, Bool, true, false, cond, Option, Some, None, List, [], ◌∷◌, ◌++◌, refl, ap, ◌∙◌}
 use Rattle.std.specs.Prelude.{◌-◌, ◌&&◌, map, slice_get, option_map, unwrap_or, ◌||◌, not, if◌then◌else◌}
 use Rattle.std.specs.List.{list_all}
-use Rattle.sctp_packet.specs.declared.sack.GapAckBlock.{GapAckBlock}
-use Rattle.sctp_packet.specs.Covered.{is_covered}
+use Rattle.sctp_chunk.specs.declared.sack.GapAckBlock.{GapAckBlock}
+use Rattle.sctp_chunk.specs.Covered.{is_covered}
 use Rattle.sctp_state.specs.Events.{Told}
 use Rattle.sctp_state.specs.declared.api.GivenUpCause.TheVariants.{Retransmissions}
 use Rattle.sctp_outstanding.specs.declared.item.ItemState.{ItemState}

@@ -4,8 +4,8 @@ use Rattle.std.specs.Prelude.{◌≤◌, nat_le, ◌-◌, ◌==◌, ◌&&◌, �
 use Rattle.std.specs.List.{AllByRecursion}
 use Rattle.std.proofs.lemmas.List.{append_assoc}
 use Rattle.std.proofs.lemmas.Bool.Decides.{nat_tests}
-use Rattle.sctp_packet.specs.declared.sack.GapAckBlock.{GapAckBlock}
-use Rattle.sctp_packet.specs.Covered.{is_covered}
+use Rattle.sctp_chunk.specs.declared.sack.GapAckBlock.{GapAckBlock}
+use Rattle.sctp_chunk.specs.Covered.{is_covered}
 use Rattle.sctp_state.specs.Events.{GivenUp, Told}
 use Rattle.sctp_state.specs.declared.api.GivenUpCause.{GivenUpCause}
 use Rattle.sctp_state.specs.declared.api.GivenUpCause.TheVariants.{Lifetime, Retransmissions}
@@ -18,7 +18,7 @@ use Rattle.sctp_outstanding.specs.Items.{Items, change_at, lay_down, last_of, in
 use Rattle.sctp_outstanding.specs.Losses.{Step, placeholders, placeholder, abandon_message, given_up, given_up_if, gives_up, loses, nack_item, nack_at, nack_below, expires, expired_of, option_bind, expire_at, expire_below, change_items}
 use Rattle.sctp_outstanding.specs.Resending.{Resent, again_of, again_at, taken, turn_at, step_at, resent_below}
 use Rattle.sctp_outstanding.specs.Sack.{settle, settled, leaving, staying, hear, heard_first, reported_below}
-use Rattle.sctp_packet.specs.Chunk.{FragmentTree}
+use Rattle.sctp_chunk.specs.Chunk.{FragmentTree}
 use Rattle.sctp_outstanding.specs.Records.{is_recorded, are_distinct, IsTold, ToldOnce, TellsCount, TellsLifetime}
 
 -- ---- records

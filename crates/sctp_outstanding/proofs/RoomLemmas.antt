@@ -8,7 +8,7 @@ use Rattle.sctp_outstanding.specs.declared.item.ItemState.{ItemState}
 use Rattle.sctp_outstanding.specs.declared.item.ItemState.TheVariants.{InFlight, Missing, Queued, QueuedFast, Acked, GivenUp}
 use Rattle.sctp_outstanding.specs.declared.outstanding_data.Turn.{Turn}
 use Rattle.sctp_outstanding.specs.declared.outstanding_data.Turn.TheVariants.{Send, PassOver, Leave}
-use Rattle.sctp_packet.specs.Chunk.{FragmentTree}
+use Rattle.sctp_chunk.specs.Chunk.{FragmentTree}
 use Rattle.sctp_outstanding.specs.Item.{Item, flies, waits, waits_fast, resent, slowed, miss_fast, should_be_retransmitted, is_fast, size_of, mark_as_retransmitted}
 use Rattle.sctp_outstanding.specs.Items.{Outstanding, when, written, packet_part, queued_part, flight_bytes, flight_items, waiting_items, change_at}
 use Rattle.sctp_outstanding.specs.Resending.{Resent, size_in, allowed, again_of, turn_of, turn_at, taken, step_at, resent_below, empty_packet, resend, chunk_bytes}

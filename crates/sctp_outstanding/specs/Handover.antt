@@ -1,6 +1,6 @@
 -- The items in the record of a socket that is handed over, with wire numbers; and those of one that takes it up.
 use Rattle.std.specs.Prelude.{ℕ, ◌+◌, ◌-◌, ◌%◌, ◌^◌, min, if◌then◌else◌, unwrap_or, option_map, List, [], map}
-use Rattle.sctp_packet.specs.Chunk.{FragmentTree}
+use Rattle.sctp_chunk.specs.Chunk.{FragmentTree}
 use Rattle.sctp_state.specs.Handover.{OutstandingData, Transmission}
 use Rattle.sctp_state.specs.HandoverTimes.{ms_from, moment_from, ms_since, moment_before, lifecycle_from}
 use Rattle.sctp_outstanding.specs.declared.item.ItemState.{ItemState}

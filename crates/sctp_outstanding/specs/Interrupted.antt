@@ -2,7 +2,7 @@
 use Rattle.std.specs.Prelude.{◌≡◌, ℕ, not, Bool, false, List}
 use Rattle.sctp_state.specs.Events.{Told}
 use Rattle.sctp_outstanding.specs.Items.{Outstanding}
-use Rattle.sctp_packet.specs.declared.sack.GapAckBlock.{GapAckBlock}
+use Rattle.sctp_chunk.specs.declared.sack.GapAckBlock.{GapAckBlock}
 use Rattle.sctp_outstanding.specs.Sack.{heard_first}
 use Rattle.sctp_outstanding.specs.Losses.{Step, first_step, nack_below, expire_below}
 

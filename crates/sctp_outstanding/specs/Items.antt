@@ -4,7 +4,7 @@ use Rattle.std.specs.Prelude.{ℕ, zero, suc, ◌+◌, ◌-◌, ◌%◌, ◌^◌
 use Rattle.std.specs.List.{sum_by}
 use Rattle.sctp_serial.specs.Serial.{serial_difference}
 use Rattle.sctp_serial.specs.Unwrapped.{origin, words, wire, nearest}
-use Rattle.sctp_packet.specs.Chunk.{FragmentTree}
+use Rattle.sctp_chunk.specs.Chunk.{FragmentTree}
 use Rattle.sctp_outstanding.specs.declared.item.ItemState.TheVariants.{InFlight}
 use Rattle.sctp_outstanding.specs.Item.{Item, is_of, abandon, is_outstanding, should_be_retransmitted, is_fast, is_acked, chunk_size}
 

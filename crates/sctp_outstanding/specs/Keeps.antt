@@ -2,7 +2,7 @@
 -- up stays so. Items leave by a cumulative TSN alone.
 use Rattle.std.specs.Prelude.{◌≡◌, ℕ, ◌||◌, not, Bool, true, List, [], ◌∷◌}
 use Rattle.std.specs.List.{list_all}
-use Rattle.sctp_packet.specs.declared.sack.GapAckBlock.{GapAckBlock}
+use Rattle.sctp_chunk.specs.declared.sack.GapAckBlock.{GapAckBlock}
 use Rattle.sctp_state.specs.Events.{Told}
 use Rattle.sctp_outstanding.specs.Item.{Item, is_of, is_abandoned}
 use Rattle.sctp_outstanding.specs.Items.{Items, inserted}

@@ -1,7 +1,7 @@
 -- How far a walk through items and blocks has come. Each says that what is done and what is left give the whole.
 use Rattle.std.specs.Prelude.{◌≡◌, ℕ, zero, suc, ◌+◌, ◌≤◌, Bool, Option, Some, None, List, [], ◌∷◌, drop, length, slice_get}
-use Rattle.sctp_packet.specs.declared.sack.GapAckBlock.{GapAckBlock}
-use Rattle.sctp_packet.specs.Covered.{is_covered, AreRuns}
+use Rattle.sctp_chunk.specs.declared.sack.GapAckBlock.{GapAckBlock}
+use Rattle.sctp_chunk.specs.Covered.{is_covered, AreRuns}
 use Rattle.sctp_outstanding.specs.Item.{Item}
 use Rattle.sctp_outstanding.specs.Items.{acked_part}
 use Rattle.sctp_outstanding.specs.Sack.{settle, newly_acked, below_highest}

@@ -1,7 +1,7 @@
 -- Items that are sent again (RFC 9260 sections 7.2.4 and 6.3.3).
 use Rattle.std.specs.Prelude.{◌≡◌, ℕ, zero, suc, ◌+◌, ◌-◌, ◌==◌, ◌&&◌, nat_le, min, Bool, if◌then◌else◌, Option, Some, None, List, [], ◌∷◌, ◌++◌, length, slice_get}
 use Rattle.std.specs.List.{sum_by}
-use Rattle.sctp_packet.specs.Chunk.{FragmentTree}
+use Rattle.sctp_chunk.specs.Chunk.{FragmentTree}
 use Rattle.sctp_outstanding.specs.declared.outstanding_data.Turn.{Turn}
 use Rattle.sctp_outstanding.specs.declared.outstanding_data.Turn.TheVariants.{Send, PassOver, Leave}
 use Rattle.sctp_outstanding.specs.Item.{Item, is_fast, should_be_retransmitted, size_of, chunk_size, mark_as_retransmitted, miss_fast}

@@ -2,8 +2,8 @@
 use Rattle.std.specs.Prelude.{ℕ, suc, ◌+◌, ◌-◌, ◌^◌, ◌&&◌, not, nat_lt, nat_le, max, Bool, false, if◌then◌else◌, Option, Some, None, List, [], ◌∷◌, ◌++◌, take, drop, filter, sum_by, slice_get, ◌==◌}
 use Rattle.sctp_serial.specs.Unwrapped.{origin}
 use Rattle.sctp_state.specs.Events.{Event, OnLifecycleMessageMaybeExpired, OnLifecycleMessageDelivered, OnLifecycleEnd, Told, tell_all}
-use Rattle.sctp_packet.specs.declared.sack.GapAckBlock.{GapAckBlock}
-use Rattle.sctp_packet.specs.Covered.{is_covered}
+use Rattle.sctp_chunk.specs.declared.sack.GapAckBlock.{GapAckBlock}
+use Rattle.sctp_chunk.specs.Covered.{is_covered}
 use Rattle.sctp_outstanding.specs.Item.{Item, is_acked, is_open, is_abandoned, chunk_size, ack, uncover, rtt_from}
 use Rattle.sctp_outstanding.specs.Items.{Items, when, next_number}
 use Rattle.sctp_outstanding.specs.Losses.{Step, first_step, nack_below}

@@ -1,9 +1,9 @@
 -- What the program's values say, without where they lie in memory.
 use Rattle.std.specs.Prelude.{ℕ, [], map}
-use Rattle.sctp_packet.specs.Chunk.{FragmentTree}
-use Rattle.sctp_packet.specs.Written.{key_stream}
-use Rattle.sctp_packet.specs.Views.{is_unordered_key, fragment_tree}
-use Rattle.sctp_packet.specs.declared.data.Data.{Data}
+use Rattle.sctp_chunk.specs.Chunk.{FragmentTree}
+use Rattle.sctp_chunk.specs.Written.{key_stream}
+use Rattle.sctp_chunk.specs.Views.{is_unordered_key, fragment_tree}
+use Rattle.sctp_chunk.specs.declared.data.Data.{Data}
 use Rattle.sctp_serial.specs.declared.types.tsn.Tsn.{Tsn}
 use Rattle.sctp_outstanding.specs.declared.outstanding_data.Filling.{Filling}
 use Rattle.sctp_outstanding.specs.Resending.{Resent}

@@ -2,12 +2,12 @@
 
 ghost use Rattle.std.specs.Prelude.{◌≡◌, ℕ, ◌-◌, ◌<◌, ◌≤◌, ◌^◌, ◌&&◌, Bool, length, min, max, false, true, None, IfOk};
 ghost use Rattle.std.specs.Duration.{as_nanos};
-ghost use Rattle.sctp_packet.specs.Views.{fragment_tree};
+ghost use Rattle.sctp_chunk.specs.Views.{fragment_tree};
 ghost use Rattle.sctp_outstanding.specs.Item.{flies, waits, waits_fast, lacks, has_ack, is_gone, is_due, header_size, size_of, chunk_size, acked, uncovered, nacked, resent, slowed};
 
 mod handover;
 
-use sctp_packet::Data;
+use sctp_chunk::Data;
 use sctp_serial::{LifecycleId, OutgoingMessageId, SocketTime};
 use std::alloc::{AllocError, Global};
 use std::marker::Model;
@@ -168,7 +168,7 @@ pub struct Item {
 
 impl Model for Item {
     ghost use Rattle.std.specs.Prelude.{◌<◌, ◌≤◌, ◌^◌, length};
-    ghost use Rattle.sctp_packet.specs.Views.{fragment_tree};
+    ghost use Rattle.sctp_chunk.specs.Views.{fragment_tree};
     ghost use Rattle.sctp_outstanding.specs.Item.{Item};
 
     ghost Value = { Item };

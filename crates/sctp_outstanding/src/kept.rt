@@ -14,7 +14,7 @@ mod handover;
 use crate::item::Item;
 use crate::telling::tell_left;
 use crate::totals::Totals;
-use sctp_packet::Data;
+use sctp_chunk::Data;
 use sctp_serial::{Fsn, Mid, OutgoingMessageId, PpId, Ssn, StreamKey};
 use sctp_state::Events;
 use std::alloc::{AllocError, Global};

@@ -2,10 +2,10 @@
 
 ghost use Rattle.std.specs.Prelude.{if◌then◌else◌, ◌≡◌, ◌⊎◌, ℕ, ◌+◌, ◌-◌, ◌*◌, ◌<◌, ◌≤◌, ◌^◌, ◌∷◌, ◌++◌, ◌&&◌, [], not, nat_lt, min, length, map, slice_get, option_map, filter, take, true, ◌||◌, drop, ◌==◌, Option, Some, None, false, IsTrue, IfOk, OnOk, OnErr};
 ghost use Rattle.std.specs.Duration.{as_nanos};
-ghost use Rattle.sctp_packet.specs.Views.{fragment_tree, forward_tsn_tree, i_forward_tsn_tree};
-ghost use Rattle.sctp_packet.specs.Chunk.{forward_tsn_chunk, i_forward_tsn_chunk};
+ghost use Rattle.sctp_chunk.specs.Views.{fragment_tree, forward_tsn_tree, i_forward_tsn_tree};
+ghost use Rattle.sctp_chunk.specs.Chunk.{forward_tsn_chunk, i_forward_tsn_chunk};
 ghost use Rattle.sctp_outstanding.specs.Entries.{ssn_skip, mid_skip};
-ghost use Rattle.sctp_packet.specs.Covered.{AreRuns};
+ghost use Rattle.sctp_chunk.specs.Covered.{AreRuns};
 ghost use Rattle.sctp_serial.specs.Unwrapped.{origin};
 ghost use Rattle.sctp_state.specs.Events.{give_up, tell_all};
 ghost use Rattle.sctp_outstanding.specs.Views.{discard_of, point_of};
@@ -24,7 +24,7 @@ use crate::item::Item;
 use crate::kept::{Change, Kept, placeholder};
 use crate::sack::{AckInfo, highest_end, settle_all, take_out};
 use crate::skips::{SkipEntry, chunk_size_with, mid_skips, put_if, ssn_skips};
-use sctp_packet::{Data, ForwardTsnChunk, GapAckBlock, IForwardTsnChunk};
+use sctp_chunk::{Data, ForwardTsnChunk, GapAckBlock, IForwardTsnChunk};
 use sctp_serial::{LifecycleId, OutgoingMessageId, SerialNumber, SocketTime, StreamId, Tsn};
 use sctp_state::{Events, GivenUp, GivenUpCause};
 use std::alloc::{AllocError, Global};

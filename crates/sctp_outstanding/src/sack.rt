@@ -1,8 +1,8 @@
 //! What a SACK says of the kept items.
 
 ghost use Rattle.std.specs.Prelude.{◌≡◌, ℕ, ◌+◌, ◌-◌, ◌<◌, ◌≤◌, ◌^◌, ◌&&◌, nat_le, min, length, take, drop, sum_by, slice_get, slice_index_or, if◌then◌else◌};
-ghost use Rattle.sctp_packet.specs.declared.sack.GapAckBlock.{GapAckBlock};
-ghost use Rattle.sctp_packet.specs.Covered.{AreRuns, is_covered};
+ghost use Rattle.sctp_chunk.specs.declared.sack.GapAckBlock.{GapAckBlock};
+ghost use Rattle.sctp_chunk.specs.Covered.{AreRuns, is_covered};
 ghost use Rattle.sctp_outstanding.specs.Item.{chunk_size};
 ghost use Rattle.sctp_outstanding.specs.Items.{change_at};
 ghost use Rattle.sctp_outstanding.specs.Sack.{open_size, left_part, settle, newly_acked, below_highest, settled, new_bytes_at, is_new_at, highest_end};
@@ -10,7 +10,7 @@ ghost use Rattle.sctp_outstanding.specs.Passes.{IsCursor, acked_at};
 
 use crate::item::Item;
 use crate::kept::{Change, Kept};
-use sctp_packet::GapAckBlock;
+use sctp_chunk::GapAckBlock;
 
 /// What a SACK acknowledged.
 #[derive(Clone, Copy, Debug, PartialEq, Eq)]

@@ -5,7 +5,7 @@ ghost use Rattle.std.specs.List.{list_any};
 ghost use Rattle.sctp_outstanding.specs.Forward.{is_before, is_same, is_alike, is_alike_at, named, entries_before, size_with, with_entry};
 ghost use Rattle.sctp_outstanding.specs.Entries.{ssn_skip, mid_skip};
 
-use sctp_packet::SkippedStream;
+use sctp_chunk::SkippedStream;
 use sctp_serial::{Mid, Ssn, StreamId, StreamKey};
 use std::alloc::{AllocError, Global};
 

@@ -7,8 +7,8 @@ use Rattle.std.proofs.lemmas.Bool.{eqb-true}
 use Rattle.sctp_wire.specs.Fields.{be16, be32, length_be32}
 use Rattle.sctp_wire.specs.Serialize.{IsEncodable, padded_item}
 use Rattle.sctp_wire.proofs.SerializeLemmas.{length_padded_item}
-use Rattle.sctp_packet.specs.Chunk.{ChunkTree}
-use Rattle.sctp_packet.specs.Written.{chunk_item, chunk_bytes, chunks_bytes}
+use Rattle.sctp_chunk.specs.Chunk.{ChunkTree}
+use Rattle.sctp_chunk.specs.Written.{chunk_item, chunk_bytes, chunks_bytes}
 use Rattle.sctp_packet.specs.Packet.{HeaderTree, header_bytes, unsummed_bytes, joined_bytes, packet_bytes}
 use Rattle.sctp_packet.proofs.PacketLemmas.{length_joined}
 use Rattle.sctp_packet.specs.Builder.{BuilderTree, HasPacket, built}

@@ -5,8 +5,8 @@ use Rattle.sctp_wire.specs.declared.checksum.Policy.{Policy}
 use Rattle.sctp_packet.specs.declared.packet.PacketParseError.{PacketParseError}
 use Rattle.sctp_packet.specs.declared.packet.PacketParseError.TheVariants as faults
 use Rattle.sctp_packet.specs.declared.packet.SctpPacket.{SctpPacket}
-use Rattle.sctp_packet.specs.Chunk.{ChunkTree}
-use Rattle.sctp_packet.specs.Grammar.{carried}
+use Rattle.sctp_chunk.specs.Chunk.{ChunkTree}
+use Rattle.sctp_chunk.specs.Grammar.{carried}
 use Rattle.sctp_packet.specs.ReadBack.{ChunkReadsBack}
 use Rattle.sctp_packet.specs.Packet.{FitsHeader, Accepts, Refuses, lets_through, packet_bytes}
 use Rattle.sctp_packet.specs.PacketView.{packet_tree}

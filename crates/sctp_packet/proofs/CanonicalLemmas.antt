@@ -14,14 +14,14 @@ use Rattle.sctp_wire.specs.Cause.{CauseTree, IsCause, cause_item, missing_mandat
 use Rattle.sctp_wire.specs.ReadBack.{ParameterReadsBack, CauseReadsBack, IsText}
 use Rattle.sctp_wire.proofs.SerializeLemmas.{length_padded_item}
 use Rattle.sctp_wire.specs.declared.checksum.Policy.{Policy}
-use Rattle.sctp_packet.specs.declared.forward_tsn.SkippedStream.{SkippedStream}
-use Rattle.sctp_packet.specs.declared.forward_tsn.SkippedStream.TheVariants as skips
-use Rattle.sctp_packet.specs.Chunk.{ChunkTree, data_chunk, init_chunk, init_ack_chunk, sack_chunk, heartbeat_request_chunk, heartbeat_ack_chunk, abort_chunk, shutdown_chunk, shutdown_ack_chunk, error_chunk, cookie_echo_chunk, cookie_ack_chunk, shutdown_complete_chunk, idata_chunk, re_config_chunk, forward_tsn_chunk, i_forward_tsn_chunk, unknown_chunk}
-use Rattle.sctp_packet.specs.Written.{chunk_item, chunk_value, chunk_bytes, chunks_bytes, chunk_is_whole, init_fields, is_mid_skip}
-use Rattle.sctp_packet.specs.Grammar.{IsChunk, SaysSkips, carried}
+use Rattle.sctp_chunk.specs.declared.forward_tsn.SkippedStream.{SkippedStream}
+use Rattle.sctp_chunk.specs.declared.forward_tsn.SkippedStream.TheVariants as skips
+use Rattle.sctp_chunk.specs.Chunk.{ChunkTree, data_chunk, init_chunk, init_ack_chunk, sack_chunk, heartbeat_request_chunk, heartbeat_ack_chunk, abort_chunk, shutdown_chunk, shutdown_ack_chunk, error_chunk, cookie_echo_chunk, cookie_ack_chunk, shutdown_complete_chunk, idata_chunk, re_config_chunk, forward_tsn_chunk, i_forward_tsn_chunk, unknown_chunk}
+use Rattle.sctp_chunk.specs.Written.{chunk_item, chunk_value, chunk_bytes, chunks_bytes, chunk_is_whole, init_fields, is_mid_skip}
+use Rattle.sctp_chunk.specs.Grammar.{IsChunk, SaysSkips, carried}
 use Rattle.sctp_packet.specs.ReadBack.{ChunkReadsBack, IsReadable}
 use Rattle.sctp_packet.specs.Packet.{HeaderTree, PacketTree, IsPacket, Accepts, packet_bytes, canonical}
-use Rattle.sctp_packet.proofs.InnerLemmas.{each_fits}
+use Rattle.sctp_chunk.proofs.InnerLemmas.{each_fits}
 use Rattle.sctp_packet.proofs.ReadBackLemmas.{chunks_tile}
 use Rattle.sctp_packet.proofs.PacketLemmas.{length_joined}
 use Rattle.sctp_packet.proofs.LawLemmas.{one_packet_lem, packet_of}

@@ -11,13 +11,13 @@ use Rattle.sctp_wire.proofs.RefusalLemmas.{BreaksAs-Breaks, one_break}
 use Rattle.sctp_packet.specs.declared.packet.PacketParseError.{PacketParseError}
 use Rattle.sctp_packet.specs.declared.packet.PacketParseError.TheVariants as faults
 use Rattle.sctp_packet.specs.declared.packet.SctpPacket.{SctpPacket}
-use Rattle.sctp_packet.specs.Chunk.{ChunkTree}
-use Rattle.sctp_packet.specs.Written.{chunks_bytes}
-use Rattle.sctp_packet.specs.Grammar.{IsChunk, RefusesChunk, carried}
+use Rattle.sctp_chunk.specs.Chunk.{ChunkTree}
+use Rattle.sctp_chunk.specs.Written.{chunks_bytes}
+use Rattle.sctp_chunk.specs.Grammar.{IsChunk, RefusesChunk, carried}
 use Rattle.sctp_packet.specs.ReadBack.{ChunkReadsBack}
 use Rattle.sctp_packet.specs.Packet.{HeaderTree, PacketTree, IsPacket, FitsHeader, Accepts, Refuses, IsFault, lets_through, checksum_field, header_bytes, packet_bytes}
 use Rattle.sctp_packet.specs.PacketView.{packet_tree}
-use Rattle.sctp_packet.proofs.FieldLemmas.{cut16, cut32, same32}
+use Rattle.sctp_chunk.proofs.FieldLemmas.{cut16, cut32, same32}
 use Rattle.sctp_packet.proofs.PacketLemmas.{body_at, field_at, length_joined}
 use Rattle.sctp_packet.proofs.OneChunkLemmas.{one_chunk}
 use Rattle.sctp_packet.proofs.StandsLemmas.{chunk_stands, chunk_fault}

@@ -1,8 +1,3 @@
-pub mod ValueLemmas
-pub mod FieldLemmas
-pub mod SackLemmas
-pub mod InnerLemmas
-pub mod SkipLemmas
 pub mod PacketLemmas
 pub mod OneChunkLemmas
 pub mod ReadBackLemmas

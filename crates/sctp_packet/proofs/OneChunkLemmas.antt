@@ -18,13 +18,13 @@ use Rattle.sctp_wire.proofs.TilesLemmas.{cut_same, one_tiling}
 use Rattle.sctp_wire.proofs.SerializeLemmas.{length_entries}
 use Rattle.sctp_wire.proofs.OneParameterLemmas.{one_parameter_lem}
 use Rattle.sctp_wire.proofs.OneCauseLemmas.{one_cause_lem}
-use Rattle.sctp_packet.specs.declared.sack.GapAckBlock.{GapAckBlock}
-use Rattle.sctp_packet.specs.declared.forward_tsn.SkippedStream.{SkippedStream}
-use Rattle.sctp_packet.specs.declared.forward_tsn.SkippedStream.TheVariants as skips
-use Rattle.sctp_packet.specs.Chunk.{ChunkTree, FragmentTree, InitTree, SackTree, data_chunk, init_chunk, init_ack_chunk, sack_chunk, heartbeat_request_chunk, heartbeat_ack_chunk, abort_chunk, shutdown_chunk, shutdown_ack_chunk, error_chunk, cookie_echo_chunk, cookie_ack_chunk, shutdown_complete_chunk, idata_chunk, re_config_chunk, forward_tsn_chunk, i_forward_tsn_chunk, unknown_chunk}
-use Rattle.sctp_packet.specs.Written.{is_known_chunk, flag, data_value, idata_value, ppid_or_fsn, init_fields, sack_value, block_bytes, length_block_bytes, tsn_bytes, skip_bytes, forward_value, key_stream, key_flag, is_ssn_skip}
-use Rattle.sctp_packet.specs.Grammar.{IsChunk, SaysInit, SaysSkip, SaysSkips, FitsInit, FitsBlock, FitsTsn, FitsSkip, FitsSack, Each}
-use Rattle.sctp_packet.proofs.FieldLemmas.{same16, same32, cut16, cut32}
+use Rattle.sctp_chunk.specs.declared.sack.GapAckBlock.{GapAckBlock}
+use Rattle.sctp_chunk.specs.declared.forward_tsn.SkippedStream.{SkippedStream}
+use Rattle.sctp_chunk.specs.declared.forward_tsn.SkippedStream.TheVariants as skips
+use Rattle.sctp_chunk.specs.Chunk.{ChunkTree, FragmentTree, InitTree, SackTree, data_chunk, init_chunk, init_ack_chunk, sack_chunk, heartbeat_request_chunk, heartbeat_ack_chunk, abort_chunk, shutdown_chunk, shutdown_ack_chunk, error_chunk, cookie_echo_chunk, cookie_ack_chunk, shutdown_complete_chunk, idata_chunk, re_config_chunk, forward_tsn_chunk, i_forward_tsn_chunk, unknown_chunk}
+use Rattle.sctp_chunk.specs.Written.{is_known_chunk, flag, data_value, idata_value, ppid_or_fsn, init_fields, sack_value, block_bytes, length_block_bytes, tsn_bytes, skip_bytes, forward_value, key_stream, key_flag, is_ssn_skip}
+use Rattle.sctp_chunk.specs.Grammar.{IsChunk, SaysInit, SaysSkip, SaysSkips, FitsInit, FitsBlock, FitsTsn, FitsSkip, FitsSack, Each}
+use Rattle.sctp_chunk.proofs.FieldLemmas.{same16, same32, cut16, cut32}
 
 -- ---- entries
 

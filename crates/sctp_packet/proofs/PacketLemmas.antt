@@ -7,7 +7,7 @@ use Rattle.sctp_wire.specs.declared.checksum.Policy.{Policy}
 use Rattle.sctp_wire.specs.declared.error.ChunkParseError.{ChunkParseError}
 use Rattle.sctp_wire.specs.declared.error.ChunkParseError.TheVariants as faults
 use Rattle.sctp_packet.specs.declared.packet.PacketParseError.{PacketParseError}
-use Rattle.sctp_packet.specs.Grammar.{IsChunk, RefusesChunk}
+use Rattle.sctp_chunk.specs.Grammar.{IsChunk, RefusesChunk}
 use Rattle.sctp_packet.specs.Packet.{HeaderTree, header_bytes, joined_bytes, checksum_field, IsSized, lets_through, Refuses}
 use Rattle.sctp_packet.specs.Faults.{IsPacketFault}
 

@@ -9,13 +9,13 @@ use Rattle.sctp_wire.specs.Parameter.{ParameterTree, ParameterFits, parameter_it
 use Rattle.sctp_wire.specs.Cause.{CauseTree, CauseFits, cause_item, CauseIsOfItsVariant}
 use Rattle.sctp_wire.specs.ReadBack.{ParameterReadsBack, CauseReadsBack, IsText}
 use Rattle.sctp_serial.specs.declared.types.tsn.Tsn.{Tsn}
-use Rattle.sctp_packet.specs.declared.sack.GapAckBlock.{GapAckBlock}
-use Rattle.sctp_packet.specs.Chunk.{ChunkTree, SackTree, data_chunk, init_chunk, init_ack_chunk, sack_chunk, heartbeat_request_chunk, heartbeat_ack_chunk, abort_chunk, shutdown_chunk, shutdown_ack_chunk, error_chunk, cookie_echo_chunk, cookie_ack_chunk, shutdown_complete_chunk, idata_chunk, re_config_chunk, forward_tsn_chunk, i_forward_tsn_chunk, unknown_chunk}
-use Rattle.sctp_packet.specs.Written.{chunk_item, chunk_value, chunk_is_whole, init_fields}
-use Rattle.sctp_packet.specs.Grammar.{FitsChunk, FitsSack, FitsBlock, FitsTsn}
+use Rattle.sctp_chunk.specs.declared.sack.GapAckBlock.{GapAckBlock}
+use Rattle.sctp_chunk.specs.Chunk.{ChunkTree, SackTree, data_chunk, init_chunk, init_ack_chunk, sack_chunk, heartbeat_request_chunk, heartbeat_ack_chunk, abort_chunk, shutdown_chunk, shutdown_ack_chunk, error_chunk, cookie_echo_chunk, cookie_ack_chunk, shutdown_complete_chunk, idata_chunk, re_config_chunk, forward_tsn_chunk, i_forward_tsn_chunk, unknown_chunk}
+use Rattle.sctp_chunk.specs.Written.{chunk_item, chunk_value, chunk_is_whole, init_fields}
+use Rattle.sctp_chunk.specs.Grammar.{FitsChunk, FitsSack, FitsBlock, FitsTsn}
 use Rattle.sctp_packet.specs.ReadBack.{ChunkReadsBack, IsReadable, HasItsTypes, InsideFits}
-use Rattle.sctp_packet.proofs.InnerLemmas.{each_fits}
-use Rattle.sctp_packet.proofs.ValueLemmas.{length_sack}
+use Rattle.sctp_chunk.proofs.InnerLemmas.{each_fits}
+use Rattle.sctp_chunk.proofs.ValueLemmas.{length_sack}
 
 parameters_back : (ps : List ParameterTree) → All (λ p. IsEncodable (parameter_item p)) ps → All (λ p. parameter_is_whole p ≡ true) ps → All ParameterFits ps → All IsOfItsVariant ps
     → All ParameterReadsBack ps

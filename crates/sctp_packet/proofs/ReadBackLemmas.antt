@@ -15,11 +15,11 @@ use Rattle.sctp_wire.specs.ReadBack.{ParameterReadsBack, CauseReadsBack}
 use Rattle.sctp_wire.proofs.LawLemmas.{parameter_written, cause_written}
 use Rattle.sctp_wire.proofs.ReadBackLemmas.{tiles_padded, tiles_inner}
 use Rattle.sctp_wire.proofs.RefusalLemmas.{Tiles-map}
-use Rattle.sctp_packet.specs.declared.forward_tsn.SkippedStream.{SkippedStream}
-use Rattle.sctp_packet.specs.declared.forward_tsn.SkippedStream.TheVariants as skips
-use Rattle.sctp_packet.specs.Chunk.{ChunkTree, FragmentTree, data_chunk, init_chunk, init_ack_chunk, sack_chunk, heartbeat_request_chunk, heartbeat_ack_chunk, abort_chunk, shutdown_chunk, shutdown_ack_chunk, error_chunk, cookie_echo_chunk, cookie_ack_chunk, shutdown_complete_chunk, idata_chunk, re_config_chunk, forward_tsn_chunk, i_forward_tsn_chunk, unknown_chunk}
-use Rattle.sctp_packet.specs.Written.{flag, fragment_flags, reflected_flag, chunk_item, chunk_value, chunk_bytes, chunks_bytes, data_value, idata_value, skip_bytes, forward_value, key_flag, is_mid_skip}
-use Rattle.sctp_packet.specs.Grammar.{IsChunk, SaysSkips, carried}
+use Rattle.sctp_chunk.specs.declared.forward_tsn.SkippedStream.{SkippedStream}
+use Rattle.sctp_chunk.specs.declared.forward_tsn.SkippedStream.TheVariants as skips
+use Rattle.sctp_chunk.specs.Chunk.{ChunkTree, FragmentTree, data_chunk, init_chunk, init_ack_chunk, sack_chunk, heartbeat_request_chunk, heartbeat_ack_chunk, abort_chunk, shutdown_chunk, shutdown_ack_chunk, error_chunk, cookie_echo_chunk, cookie_ack_chunk, shutdown_complete_chunk, idata_chunk, re_config_chunk, forward_tsn_chunk, i_forward_tsn_chunk, unknown_chunk}
+use Rattle.sctp_chunk.specs.Written.{flag, fragment_flags, reflected_flag, chunk_item, chunk_value, chunk_bytes, chunks_bytes, data_value, idata_value, skip_bytes, forward_value, key_flag, is_mid_skip}
+use Rattle.sctp_chunk.specs.Grammar.{IsChunk, SaysSkips, carried}
 use Rattle.sctp_packet.specs.ReadBack.{ChunkReadsBack}
 
 flags_say : (i u b e : Bool) → (i ≡ flag (fragment_flags i u b e) 8) × (u ≡ flag (fragment_flags i u b e) 4) × (b ≡ flag (fragment_flags i u b e) 2) × (e ≡ flag (fragment_flags i u b e) 1)

@@ -14,11 +14,11 @@ use Rattle.sctp_wire.proofs.TilesLemmas.{whole_not_broken}
 use Rattle.sctp_wire.proofs.SerializeLemmas.{length_entries}
 use Rattle.sctp_wire.proofs.RefusalLemmas.{BreaksAs-Breaks, one_break, one_fault_as}
 use Rattle.sctp_wire.proofs.LawLemmas.{parameter_stands, cause_stands}
-use Rattle.sctp_packet.specs.declared.forward_tsn.SkippedStream.{SkippedStream}
-use Rattle.sctp_packet.specs.Chunk.{ChunkTree, FragmentTree, InitTree, SackTree, data_chunk, init_chunk, init_ack_chunk, sack_chunk, heartbeat_request_chunk, heartbeat_ack_chunk, abort_chunk, shutdown_chunk, shutdown_ack_chunk, error_chunk, cookie_echo_chunk, cookie_ack_chunk, shutdown_complete_chunk, idata_chunk, re_config_chunk, forward_tsn_chunk, i_forward_tsn_chunk, unknown_chunk}
-use Rattle.sctp_packet.specs.Written.{is_known_chunk, data_value, idata_value, init_fields, sack_value, block_bytes, length_block_bytes, tsn_bytes, skip_bytes, forward_value, is_ssn_skip}
-use Rattle.sctp_packet.specs.Grammar.{IsChunk, RefusesChunk, ValueShape, any_value, exactly, at_least, in_steps, by_counts, parameters_behind, of_causes, value_shape, known_shape, IsFaulty, IsCounted, SaysInit, SaysSkips, FitsSack}
-use Rattle.sctp_packet.proofs.SkipLemmas.{length_ssn_skips}
+use Rattle.sctp_chunk.specs.declared.forward_tsn.SkippedStream.{SkippedStream}
+use Rattle.sctp_chunk.specs.Chunk.{ChunkTree, FragmentTree, InitTree, SackTree, data_chunk, init_chunk, init_ack_chunk, sack_chunk, heartbeat_request_chunk, heartbeat_ack_chunk, abort_chunk, shutdown_chunk, shutdown_ack_chunk, error_chunk, cookie_echo_chunk, cookie_ack_chunk, shutdown_complete_chunk, idata_chunk, re_config_chunk, forward_tsn_chunk, i_forward_tsn_chunk, unknown_chunk}
+use Rattle.sctp_chunk.specs.Written.{is_known_chunk, data_value, idata_value, init_fields, sack_value, block_bytes, length_block_bytes, tsn_bytes, skip_bytes, forward_value, is_ssn_skip}
+use Rattle.sctp_chunk.specs.Grammar.{IsChunk, RefusesChunk, ValueShape, any_value, exactly, at_least, in_steps, by_counts, parameters_behind, of_causes, value_shape, known_shape, IsFaulty, IsCounted, SaysInit, SaysSkips, FitsSack}
+use Rattle.sctp_chunk.proofs.SkipLemmas.{length_ssn_skips}
 use Rattle.sctp_packet.proofs.OneChunkLemmas.{length_front, length_says}
 
 parameter_fault : (i : Item) (fault other : ChunkParseError) → RefusesParameter i fault → RefusesParameter i other → fault ≢ Memory → other ≢ Memory → fault ≡ other

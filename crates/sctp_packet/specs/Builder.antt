@@ -1,7 +1,7 @@
 -- A packet that is being built: a header, a limit, and the bytes of the chunks that were added.
 use Rattle.std.specs.Prelude.{◌≡◌, ℕ, ◌+◌, ◌-◌, ◌<◌, ◌≤◌, Bool, if◌then◌else◌, List, [], ◌∷◌, length, drop}
-use Rattle.sctp_packet.specs.Chunk.{ChunkTree}
-use Rattle.sctp_packet.specs.Written.{chunks_bytes}
+use Rattle.sctp_chunk.specs.Chunk.{ChunkTree}
+use Rattle.sctp_chunk.specs.Written.{chunks_bytes}
 use Rattle.sctp_packet.specs.Packet.{HeaderTree, unsummed_bytes, joined_bytes}
 
 pub record BuilderTree : Type 0 where

@@ -9,9 +9,9 @@ use Rattle.sctp_wire.specs.declared.checksum.Policy.{Policy}
 use Rattle.sctp_wire.specs.declared.error.ChunkParseError.TheVariants as chunk_faults
 use Rattle.sctp_packet.specs.declared.packet.PacketParseError.{PacketParseError}
 use Rattle.sctp_packet.specs.declared.packet.PacketParseError.TheVariants.{TooShort, TooLong, InvalidChecksum, Chunk, Memory}
-use Rattle.sctp_packet.specs.Chunk.{ChunkTree}
-use Rattle.sctp_packet.specs.Written.{chunks_bytes}
-use Rattle.sctp_packet.specs.Grammar.{IsChunk, RefusesChunk}
+use Rattle.sctp_chunk.specs.Chunk.{ChunkTree}
+use Rattle.sctp_chunk.specs.Written.{chunks_bytes}
+use Rattle.sctp_chunk.specs.Grammar.{IsChunk, RefusesChunk}
 
 -- the common header without its checksum (RFC 9260 section 3.1)
 pub record HeaderTree : Type 0 where

@@ -4,9 +4,9 @@ use Rattle.sctp_wire.specs.Serialize.{IsEncodable}
 use Rattle.sctp_wire.specs.Parameter.{ParameterFits, IsOfItsVariant}
 use Rattle.sctp_wire.specs.Cause.{CauseFits, CauseIsOfItsVariant}
 use Rattle.sctp_wire.specs.ReadBack.{ParameterReadsBack, CauseReadsBack, IsText}
-use Rattle.sctp_packet.specs.Chunk.{ChunkTree, data_chunk, init_chunk, init_ack_chunk, sack_chunk, heartbeat_request_chunk, heartbeat_ack_chunk, abort_chunk, shutdown_chunk, shutdown_ack_chunk, error_chunk, cookie_echo_chunk, cookie_ack_chunk, shutdown_complete_chunk, idata_chunk, re_config_chunk, forward_tsn_chunk, i_forward_tsn_chunk, unknown_chunk}
-use Rattle.sctp_packet.specs.Written.{chunk_item, chunk_is_whole, is_known_chunk}
-use Rattle.sctp_packet.specs.Grammar.{FitsChunk}
+use Rattle.sctp_chunk.specs.Chunk.{ChunkTree, data_chunk, init_chunk, init_ack_chunk, sack_chunk, heartbeat_request_chunk, heartbeat_ack_chunk, abort_chunk, shutdown_chunk, shutdown_ack_chunk, error_chunk, cookie_echo_chunk, cookie_ack_chunk, shutdown_complete_chunk, idata_chunk, re_config_chunk, forward_tsn_chunk, i_forward_tsn_chunk, unknown_chunk}
+use Rattle.sctp_chunk.specs.Written.{chunk_item, chunk_is_whole, is_known_chunk}
+use Rattle.sctp_chunk.specs.Grammar.{FitsChunk}
 
 -- Each item's type is one of its variant, inside too; and a COOKIE ECHO has a cookie.
 abbrev pub IsReadable : ChunkTree → Type 0

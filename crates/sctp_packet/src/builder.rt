@@ -4,14 +4,14 @@ ghost use Rattle.std.specs.Prelude.{◌≡◌, ◌≢◌, ◌⊎◌, ℕ, ◌+�
 ghost use Rattle.sctp_wire.specs.Fields.{be16, be32};
 ghost use Rattle.sctp_wire.specs.Serialize.{IsEncodable, is_encodable, padded_item};
 ghost use Rattle.sctp_wire.specs.Room.{Fills};
-ghost use Rattle.sctp_packet.specs.Chunk.{ChunkTree};
-ghost use Rattle.sctp_packet.specs.Written.{chunk_item, chunk_bytes, chunk_is_whole};
-ghost use Rattle.sctp_packet.specs.ChunkView.{chunk_tree};
+ghost use Rattle.sctp_chunk.specs.Chunk.{ChunkTree};
+ghost use Rattle.sctp_chunk.specs.Written.{chunk_item, chunk_bytes, chunk_is_whole};
+ghost use Rattle.sctp_chunk.specs.ChunkView.{chunk_tree};
 ghost use Rattle.sctp_packet.specs.Packet.{HeaderTree, header_bytes, unsummed_bytes, joined_bytes};
 ghost use Rattle.sctp_packet.specs.PacketView.{header_tree};
 ghost use Rattle.sctp_packet.specs.Builder.{BuilderTree, Holds, remaining, so_far, built};
 
-use crate::chunk::Chunk;
+use sctp_chunk::Chunk;
 use crate::packet::{COMMON_HEADER_SIZE, CommonHeader};
 use sctp_wire::{SerializableTlv, push_u16, push_u32};
 use std::alloc::{AllocError, Global};
@@ -169,7 +169,7 @@ fn has_room(chunk: &Chunk, room: usize) -> bool
 }
 
 /// Appends a chunk, behind a header where there are no bytes yet.
-#[tactic(auto, unfolding(crate::specs::Written::chunk_bytes))]
+#[tactic(auto, unfolding(sctp_chunk::specs::Written::chunk_bytes))]
 fn push_chunk(
     bytes: &mut Vec<u8>,
     header: CommonHeader,

@@ -1,10 +1,10 @@
 //! SACKs of peers: their blocks put into one form, and the test whether they are in it.
 
 ghost use Rattle.std.specs.Prelude.{◌≡◌, ◌≤◌, ◌↔◌, IsTrue, List, All, length};
-ghost use Rattle.sctp_packet.specs.declared.sack.GapAckBlock.{GapAckBlock};
-ghost use Rattle.sctp_packet.specs.Covered.{SameOffsets, IsMaximalRun, AreRuns, AreValid, Ascend};
+ghost use Rattle.sctp_chunk.specs.declared.sack.GapAckBlock.{GapAckBlock};
+ghost use Rattle.sctp_chunk.specs.Covered.{SameOffsets, IsMaximalRun, AreRuns, AreValid, Ascend};
 
-use crate::sack::{GapAckBlock, SackChunk};
+use sctp_chunk::{GapAckBlock, SackChunk};
 
 /// The chunk with its gap ack blocks as the maximal runs of the offsets that they cover, ascending; the other fields stay.
 /// A block whose start is above its end covers nothing. It takes no memory, and n log n comparisons for n blocks.

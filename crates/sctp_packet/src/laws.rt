@@ -5,11 +5,11 @@ ghost use Rattle.sctp_wire.specs.Item.{Item};
 ghost use Rattle.sctp_wire.specs.declared.checksum.Policy.{Policy};
 ghost use Rattle.sctp_packet.specs.declared.packet.PacketParseError.{PacketParseError};
 ghost use Rattle.sctp_packet.specs.declared.packet.SctpPacket.{SctpPacket};
-ghost use Rattle.sctp_packet.specs.Chunk.{ChunkTree};
-ghost use Rattle.sctp_packet.specs.Grammar.{IsChunk, carried};
+ghost use Rattle.sctp_chunk.specs.Chunk.{ChunkTree};
+ghost use Rattle.sctp_chunk.specs.Grammar.{IsChunk, carried};
 ghost use Rattle.sctp_packet.specs.ReadBack.{ChunkReadsBack};
 ghost use Rattle.sctp_packet.specs.Packet.{HeaderTree, PacketTree, IsPacket, FitsHeader, Accepts, Refuses, IsFault, lets_through, packet_bytes, canonical};
-ghost use Rattle.sctp_packet.specs.Written.{chunks_bytes};
+ghost use Rattle.sctp_chunk.specs.Written.{chunks_bytes};
 ghost use Rattle.sctp_packet.specs.Builder.{BuilderTree, Holds, built};
 ghost use Rattle.sctp_packet.specs.PacketView.{packet_tree};
 

@@ -5,13 +5,13 @@ ghost use Rattle.sctp_wire.specs.Item.{Tiles};
 ghost use Rattle.sctp_wire.specs.Refusal.{BreaksAs};
 ghost use Rattle.sctp_wire.specs.declared.error.ChunkParseError.TheVariants.{Memory as no_memory_for_chunk};
 ghost use Rattle.sctp_packet.specs.declared.packet.PacketParseError.TheVariants.{Memory as no_memory, Chunk as chunk_fault};
-ghost use Rattle.sctp_packet.specs.Grammar.{IsChunk, RefusesChunk};
-ghost use Rattle.sctp_packet.specs.ChunkView.{chunk_tree};
+ghost use Rattle.sctp_chunk.specs.Grammar.{IsChunk, RefusesChunk};
+ghost use Rattle.sctp_chunk.specs.ChunkView.{chunk_tree};
 ghost use Rattle.sctp_packet.specs.Packet.{Accepts, Refuses, FitsHeader, joined_bytes, checksum_field};
 ghost use Rattle.sctp_packet.specs.PacketView.{header_tree, packet_tree};
 ghost use Rattle.sctp_packet.specs.Faults.{IsPacketFault};
 
-use crate::chunk::Chunk;
+use sctp_chunk::Chunk;
 use sctp_wire::{ChunkParseError, Policy, items_from_bytes, u16_at, u32_at};
 use std::alloc::Global;
 use thiserror::Error;

@@ -7,17 +7,17 @@ ghost use Rattle.sctp_wire.specs.ParameterViews.{parameter_tree};
 ghost use Rattle.sctp_wire.specs.Cause.{CauseFits, cause_item};
 ghost use Rattle.sctp_wire.specs.CauseViews.{cause_tree};
 ghost use Rattle.sctp_wire.specs.ReadBack.{IsText};
-ghost use Rattle.sctp_packet.specs.Written.{chunk_item, chunk_is_whole, key_stream};
-ghost use Rattle.sctp_packet.specs.Grammar.{Each, FitsFragment, FitsInit, FitsBlock, FitsTsn, FitsSkip, FitsChunk};
-ghost use Rattle.sctp_packet.specs.Views.{fragment_tree, init_tree, init_ack_tree, sack_chunk_tree};
-ghost use Rattle.sctp_packet.specs.ChunkView.{chunk_tree};
+ghost use Rattle.sctp_chunk.specs.Written.{chunk_item, chunk_is_whole, key_stream};
+ghost use Rattle.sctp_chunk.specs.Grammar.{Each, FitsFragment, FitsInit, FitsBlock, FitsTsn, FitsSkip, FitsChunk};
+ghost use Rattle.sctp_chunk.specs.Views.{fragment_tree, init_tree, init_ack_tree, sack_chunk_tree};
+ghost use Rattle.sctp_chunk.specs.ChunkView.{chunk_tree};
 ghost use Rattle.sctp_packet.specs.ReadBack.{HasItsTypes, InsideFits, ChunkReadsBack};
 
-use crate::chunk::Chunk;
-use crate::data::Data;
-use crate::forward_tsn::SkippedStream;
-use crate::init::{InitAckChunk, InitChunk};
-use crate::sack::{GapAckBlock, SackChunk};
+use sctp_chunk::Chunk;
+use sctp_chunk::Data;
+use sctp_chunk::SkippedStream;
+use sctp_chunk::{InitAckChunk, InitChunk};
+use sctp_chunk::{GapAckBlock, SackChunk};
 use sctp_serial::{StreamKey, Tsn};
 use sctp_wire::{ErrorCause, Parameter, cause_fits, parameter_fits};
 
@@ -73,7 +73,7 @@ fn outside_fits(chunk: &Chunk)
 }
 
 /// The numbers and texts of the items inside a chunk.
-#[tactic(auto, unfolding(crate::specs::Written::chunk_value))]
+#[tactic(auto, unfolding(sctp_chunk::specs::Written::chunk_value))]
 fn inside_fits(chunk: &Chunk)
     requires { IsEncodable (chunk_item (chunk_tree chunk.now)) }
     ensures { InsideFits (chunk_tree chunk.now) }

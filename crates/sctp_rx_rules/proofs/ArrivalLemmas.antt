@@ -10,7 +10,7 @@ use Rattle.sctp_rx.specs.Held.{Held, rank_of, intervals_of, is_complete, left_by
 use Rattle.sctp_rx.specs.Settled.{AreInOrder, AreSettled, IsSettledInOrder, IsSettled}
 use Rattle.sctp_rx.specs.Delivery.{OrderedDelivery, UnorderedDelivery, fresh_ordered, fresh_unordered, deliver, completed, at_rest, settled, ordered_arrival, unordered_arrival}
 use Rattle.sctp_rx.specs.Streams.{Streams, Outcome, with_ordered, with_unordered, unchanged, is_far, add_ordered, add_unordered}
-use Rattle.sctp_rx.proofs.SettledInsertLemmas.{came_in}
+use Rattle.sctp_reassembly.proofs.SettledInsertLemmas.{came_in}
 use Rattle.sctp_rules.specs.Reassembly.{Queue, KeyOf, next_of, Added}
 use Rattle.sctp_rx_rules.specs.View.{View, IsFiled, IsSeenAs, chunk_of_held, key_of_held, ordered_at, unordered_at, held_on, view_with}
 use Rattle.sctp_rx_rules.proofs.AmongLemmas.{held_item}

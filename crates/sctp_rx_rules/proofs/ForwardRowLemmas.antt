@@ -5,8 +5,8 @@ use Rattle.std.proofs.lemmas.Bool.{cond-false, true≢false}
 use Rattle.std.proofs.lemmas.Bool.Decides.{nat_tests}
 use Rattle.sctp_serial.specs.Messages as messages
 use Rattle.sctp_serial.specs.Unwrapped.{origin}
-use Rattle.sctp_packet.specs.declared.forward_tsn.SkippedStream.{SkippedStream}
-use Rattle.sctp_packet.specs.declared.forward_tsn.SkippedStream.TheVariants.{ForwardTsn, IForwardTsn}
+use Rattle.sctp_chunk.specs.declared.forward_tsn.SkippedStream.{SkippedStream}
+use Rattle.sctp_chunk.specs.declared.forward_tsn.SkippedStream.TheVariants.{ForwardTsn, IForwardTsn}
 use Rattle.sctp_rx.specs.Held.{Held}
 use Rattle.sctp_rx.specs.Settled.{AreSettled}
 use Rattle.sctp_rx.specs.Streams as streams
@@ -14,8 +14,8 @@ use Rattle.sctp_rx.specs.Streams.{Streams, Outcome, is_far, by_stream, dropped_t
 use Rattle.sctp_rx.specs.ReassemblyQueue.{Reassembly, number_of, came, made, forward, forward_now, forward_or_wait, point_waits, waits, Forwarded}
 use Rattle.sctp_rx.specs.Tracker as tracker
 use Rattle.sctp_rx.specs.Tracker.{Tracker}
-use Rattle.sctp_rx.proofs.SeenOneFormLemmas.{contains-up_to}
-use Rattle.sctp_rx.proofs.SettledQueueLemmas.{settled_passes}
+use Rattle.sctp_tracker.proofs.SeenOneFormLemmas.{contains-up_to}
+use Rattle.sctp_reassembly.proofs.SettledQueueLemmas.{settled_passes}
 use Rattle.sctp_rules.specs.State.{Message, Entry, ForwardPoint, Transfer, IsAmong, place_of, ordered_of}
 use Rattle.sctp_rules.specs.Rules.{forward_comes, deliver}
 use Rattle.sctp_rules.specs.Kept.{Kept}

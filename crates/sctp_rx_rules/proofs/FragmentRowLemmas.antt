@@ -12,8 +12,8 @@ use Rattle.sctp_rx.specs.Streams as streams
 use Rattle.sctp_rx.specs.Streams.{Streams, Outcome, unchanged, with_ordered, with_unordered, is_far, held_as, add_in_order, add_ordered, add_unordered}
 use Rattle.sctp_rx.specs.ReassemblyQueue.{Reassembly, number_of, came, made, add}
 use Rattle.sctp_rx.specs.Tracker.{Tracker, IsTracker, observe}
-use Rattle.sctp_rx.proofs.SeenOneFormLemmas.{contains-add}
-use Rattle.sctp_rx.proofs.SettledQueueLemmas.{settled_arrives}
+use Rattle.sctp_tracker.proofs.SeenOneFormLemmas.{contains-add}
+use Rattle.sctp_reassembly.proofs.SettledQueueLemmas.{settled_arrives}
 use Rattle.sctp_rules.specs.State.{Message, Transfer, put}
 use Rattle.sctp_rules.specs.Rules.{data_comes, late_comes, deliver}
 use Rattle.sctp_rules.specs.Kept.{Kept}

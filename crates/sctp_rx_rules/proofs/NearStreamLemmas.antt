@@ -5,7 +5,7 @@ use Rattle.std.specs.Prelude.{◌&&◌, ◌==◌}
 use Rattle.std.proofs.lemmas.Bool.{cases_eq, cond-false, eq-eqb, ne_eqb}
 use Rattle.sctp_serial.specs.Unwrapped.{origin}
 use Rattle.sctp_packet.specs.Chunk.{FragmentTree}
-use Rattle.sctp_packet.specs.declared.forward_tsn.SkippedStream.{SkippedStream}
+use Rattle.sctp_chunk.specs.declared.forward_tsn.SkippedStream.{SkippedStream}
 use Rattle.sctp_rx.specs.Held.{Held}
 use Rattle.sctp_rx.specs.Delivery.{UnorderedDelivery, fresh_ordered, fresh_unordered, ordered_forward, unordered_arrival, unordered_forward}
 use Rattle.sctp_rx.specs.Streams as streams

@@ -9,7 +9,7 @@ use Rattle.sctp_rx.specs.Seen.{in_runs}
 use Rattle.sctp_rx.specs.Tracker as tracker
 use Rattle.sctp_rx.specs.Tracker.{DataTracker, Tracker, IsTracker, moves_on}
 use Rattle.sctp_rx.specs.ReassemblyQueue.{Reassembly, near_first, number_of, came}
-use Rattle.sctp_rx.proofs.SeenRunsLemmas.{next_is_new}
+use Rattle.sctp_tracker.proofs.SeenRunsLemmas.{next_is_new}
 use Rattle.sctp_rules.specs.State.{Message, Transfer, count}
 use Rattle.sctp_rules.specs.Windows.{Windows, IsNear, IsTimely}
 use Rattle.sctp_rules.specs.Kept.{Kept}

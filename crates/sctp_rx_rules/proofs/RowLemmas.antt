@@ -10,8 +10,8 @@ use Rattle.sctp_rx.specs.Held.{Held}
 use Rattle.sctp_rx.specs.Seen.{in_runs}
 use Rattle.sctp_rx.specs.Tracker.{Tracker, IsTracker, tracker, observe, forward, moves_on}
 use Rattle.sctp_rx.specs.ReassemblyQueue.{Reassembly, reassembly}
-use Rattle.sctp_rx.proofs.SeenOneFormLemmas.{contains-up_to}
-use Rattle.sctp_rx.proofs.SettledQueueLemmas.{settled_new}
+use Rattle.sctp_tracker.proofs.SeenOneFormLemmas.{contains-up_to}
+use Rattle.sctp_reassembly.proofs.SettledQueueLemmas.{settled_new}
 use Rattle.sctp_rules.specs.State.{Message, Transfer, IsAmong, start, put}
 use Rattle.sctp_rules.specs.Rules.{Event, IsAllowed, after, send_sack}
 use Rattle.sctp_rules.specs.Kept.{Kept}

@@ -7,8 +7,8 @@ use Rattle.sctp_serial.specs.Messages.{Message}
 use Rattle.sctp_rx.specs.Held.{Held, rank_of, intervals_of, is_complete, is_in_turn, left_by}
 use Rattle.sctp_rx.specs.Settled.{AreInOrder}
 use Rattle.sctp_rx.specs.Delivery.{OrderedDelivery, message_of_run, preceded_by, delivering, deliver_within, completed}
-use Rattle.sctp_rx.proofs.SettledRunsLemmas.{left_order}
-use Rattle.sctp_rx.proofs.FindLemmas.{left_unfound}
+use Rattle.sctp_reassembly.proofs.SettledRunsLemmas.{left_order}
+use Rattle.sctp_reassembly.proofs.FindLemmas.{left_unfound}
 use Rattle.sctp_rules.specs.Rules.{same}
 use Rattle.sctp_rules.proofs.ToolsLemmas.{same_is, same_self}
 use Rattle.sctp_rules.specs.Reassembly.{Chunk, Queue, KeyOf, next_of, ReadyRun, RunTaken, Readied, no_more, one_more, NoneReady}

@@ -3,8 +3,8 @@ use Rattle.std.specs.Prelude.{◌≡◌, ℕ, ◌+◌, ◌^◌, ◌<◌, ◌==�
 use Rattle.sctp_serial.specs.Unwrapped.{origin, words, halves, nearest}
 use Rattle.sctp_serial.specs.declared.types.StreamKey.TheVariants.{Ordered, Unordered}
 use Rattle.sctp_packet.specs.Chunk.{FragmentTree}
-use Rattle.sctp_packet.specs.declared.forward_tsn.SkippedStream.{SkippedStream}
-use Rattle.sctp_packet.specs.declared.forward_tsn.SkippedStream.TheVariants.{ForwardTsn, IForwardTsn}
+use Rattle.sctp_chunk.specs.declared.forward_tsn.SkippedStream.{SkippedStream}
+use Rattle.sctp_chunk.specs.declared.forward_tsn.SkippedStream.TheVariants.{ForwardTsn, IForwardTsn}
 use Rattle.sctp_rx.specs.Streams.{Streams, ordered_number, unordered_number}
 use Rattle.sctp_rx.specs.ReassemblyQueue.{Reassembly, number_of}
 use Rattle.sctp_rules.specs.State.{Message, Entry, Sender, Receiver, fragment, place_of, count, ordered_of, stream_of}

@@ -10,11 +10,11 @@ ghost use Rattle.std.specs.Prelude.{◌≡◌, ◌+◌, ◌++◌, ◌^◌, ◌<�
 ghost use Rattle.sctp_serial.specs.Messages as messages;
 ghost use Rattle.sctp_serial.specs.Unwrapped.{origin};
 ghost use Rattle.sctp_packet.specs.Chunk.{FragmentTree};
-ghost use Rattle.sctp_packet.specs.declared.forward_tsn.SkippedStream.{SkippedStream};
+ghost use Rattle.sctp_chunk.specs.declared.forward_tsn.SkippedStream.{SkippedStream};
 ghost use Rattle.sctp_state.specs.Options.{Options};
 ghost use Rattle.sctp_rx.specs.Tracker.{IsTracker, Tracker, ack_timeout, acking, moves_on, observe, packet_end, take_ack, tracker, update_rto};
 ghost use Rattle.sctp_rx.specs.Tracker as tracker;
-ghost use Rattle.sctp_rx.specs.declared.data_tracker.AckState.{AckState};
+ghost use Rattle.sctp_tracker.specs.declared.data_tracker.AckState.{AckState};
 ghost use Rattle.sctp_rx.specs.Sack.{reported};
 ghost use Rattle.sctp_rx.specs.ReassemblyQueue.{Reassembly, add, forward, number_of, reassembly};
 ghost use Rattle.sctp_rules.specs.Kept.{Kept};

@@ -6,7 +6,7 @@ ghost use Rattle.std.specs.Prelude.{◌≡◌, ◌+◌, ◌^◌, ◌<◌, ◌≤
 ghost use Rattle.sctp_serial.specs.Messages as messages;
 ghost use Rattle.sctp_serial.specs.Unwrapped.{origin, wire, words};
 ghost use Rattle.sctp_packet.specs.Chunk.{FragmentTree};
-ghost use Rattle.sctp_packet.specs.declared.forward_tsn.SkippedStream.{SkippedStream};
+ghost use Rattle.sctp_chunk.specs.declared.forward_tsn.SkippedStream.{SkippedStream};
 ghost use Rattle.sctp_rx.specs.ReassemblyQueue.{Reassembly, add, forward, number_of, reassembly};
 ghost use Rattle.sctp_rx.specs.Tracker as tracker;
 ghost use Rattle.sctp_rx.specs.Tracker.{DataTracker, IsTracker, Tracker, moves_on, observe};

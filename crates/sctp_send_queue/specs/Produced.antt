@@ -6,7 +6,7 @@ use Rattle.sctp_state.specs.Events.{Event, OnBufferedAmountLow, OnTotalBufferedA
 use Rattle.sctp_state.specs.declared.api.GivenUpCause.TheVariants.{Lifetime}
 use Rattle.sctp_state.specs.Scheduler.{Scheduler, accept, peek, set_bytes_remaining}
 use Rattle.sctp_state.specs.Thresholds.{crosses}
-use Rattle.sctp_packet.specs.Chunk.{FragmentTree}
+use Rattle.sctp_chunk.specs.Chunk.{FragmentTree}
 use Rattle.sctp_send_queue.specs.declared.send_queue.message.MessageNumbers.{MessageNumbers}
 use Rattle.sctp_send_queue.specs.declared.send_queue.stream.PauseState.{PauseState}
 use Rattle.sctp_send_queue.specs.declared.send_queue.stream.PauseState.TheVariants.{NotPaused, Pending, Paused, Resetting}

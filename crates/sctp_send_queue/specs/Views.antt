@@ -3,7 +3,7 @@ use Rattle.std.specs.Prelude.{ℕ, None, unwrap_or, option_map}
 use Rattle.std.specs.Duration.{as_nanos}
 use Rattle.sctp_serial.specs.declared.api.Message.{Message}
 use Rattle.sctp_state.specs.declared.api.options.SendOptions.{SendOptions}
-use Rattle.sctp_packet.specs.Views.{fragment_tree}
+use Rattle.sctp_chunk.specs.Views.{fragment_tree}
 use Rattle.sctp_send_queue.specs.declared.data_to_send.DataToSend.{DataToSend}
 use Rattle.sctp_send_queue.specs.Queue.{Queued, expiry_of}
 use Rattle.sctp_send_queue.specs.Produced.{Produced}

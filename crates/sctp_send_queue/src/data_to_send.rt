@@ -1,6 +1,6 @@
 //! What the send queue hands out.
 
-use sctp_packet::Data;
+use sctp_chunk::Data;
 use sctp_serial::{LifecycleId, OutgoingMessageId, SocketTime};
 
 /// A fragment that is to be sent, with what its message was accepted with.

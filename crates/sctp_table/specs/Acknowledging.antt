@@ -1,6 +1,6 @@
 -- SACK (RFC 9260 sections 3.3.4, 6.2.1).
 use Rattle.std.specs.Prelude.{ℕ, ◌+◌, nat_lt, nat_le, min, max, Bool, true, false, if◌then◌else◌, Option, Some, None, List, [], ◌∷◌, codes}
-use Rattle.sctp_packet.specs.declared.sack.GapAckBlock.{GapAckBlock}
+use Rattle.sctp_chunk.specs.declared.sack.GapAckBlock.{GapAckBlock}
 use Rattle.sctp_packet.specs.Chunk.{SackTree}
 use Rattle.sctp_state.specs.declared.api.ErrorKind.TheVariants.{NotConnected}
 use Rattle.sctp_state.specs.Errors.{ErrorCounter, no_errors}

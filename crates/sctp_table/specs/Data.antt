@@ -2,7 +2,7 @@
 use Rattle.std.specs.Prelude.{ℕ, ◌==◌, ◌||◌, ◌&&◌, not, nat_le, Bool, true, false, List, [], ◌∷◌, length, codes}
 use Rattle.sctp_wire.specs.Cause.{no_user_data}
 use Rattle.sctp_packet.specs.Chunk.{FragmentTree, error_chunk}
-use Rattle.sctp_packet.specs.declared.forward_tsn.SkippedStream.{SkippedStream}
+use Rattle.sctp_chunk.specs.declared.forward_tsn.SkippedStream.{SkippedStream}
 use Rattle.sctp_state.specs.declared.api.ErrorKind.TheVariants.{NotConnected, ProtocolViolation}
 use Rattle.sctp_rx.specs.Tracker.{DataTracker, number_of, is_valid, has_seen, moves_on, observe}
 use Rattle.sctp_rx.specs.Tracker as tracker

@@ -2,7 +2,7 @@
 use Rattle.std.proofs.Common.{◌≡◌, ℕ, zero, suc, ◌+◌, ◌≤◌, ◌<◌, Bool, true, false, Option, Some, None, List, [], ◌∷◌, length, drop, IfSome, arith}
 use Rattle.std.specs.Prelude.{unwrap_or, option_map, is_some, if◌then◌else◌}
 use Rattle.std.proofs.lemmas.List.{length-take}
-use Rattle.sctp_packet.specs.Chunk.{FragmentTree}
+use Rattle.sctp_chunk.specs.Chunk.{FragmentTree}
 use Rattle.sctp_state.specs.Events.{Told}
 use Rattle.sctp_send_queue.specs.declared.send_queue.message.MessageNumbers.{MessageNumbers}
 use Rattle.sctp_send_queue.specs.Queue.{Queue, Queued, stream}

@@ -1,6 +1,6 @@
 -- Forward points in their chunks (RFC 3758 section 3.5, RFC 8260 section 2.3).
 use Rattle.std.specs.Prelude.{ℕ, ◌+◌, ◌-◌, ◌*◌, ◌/◌, Bool, true, false, map}
-use Rattle.sctp_packet.specs.Chunk.{ChunkTree, forward_tsn_chunk, i_forward_tsn_chunk}
+use Rattle.sctp_chunk.specs.Chunk.{ChunkTree, forward_tsn_chunk, i_forward_tsn_chunk}
 use Rattle.sctp_state.specs.Events.{Told}
 use Rattle.sctp_outstanding.specs.Entries.{ssn_skip, mid_skip}
 use Rattle.sctp_outstanding.specs.Items.{written}

@@ -1,7 +1,7 @@
 -- What is sent again, and what that leaves (RFC 9260 sections 6.3.3, 7.2.4).
 use Rattle.std.specs.Prelude.{ℕ, ◌+◌, ◌-◌, nat_lt, min, Bool, true, false, List, length}
 use Rattle.std.specs.List.{sum_by}
-use Rattle.sctp_packet.specs.Chunk.{FragmentTree}
+use Rattle.sctp_chunk.specs.Chunk.{FragmentTree}
 use Rattle.sctp_outstanding.specs.Item.{size_of}
 use Rattle.sctp_outstanding.specs.Items.{flight_bytes}
 use Rattle.sctp_outstanding.specs.Resending.{Resent, resend}

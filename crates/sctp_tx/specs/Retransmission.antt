@@ -1,7 +1,7 @@
 -- What is sent again, and when: the items, the windows, and the timer of retransmissions (RFC 9260 sections 6.3, 7.2).
 use Rattle.std.specs.Prelude.{ℕ, ◌-◌, ◌==◌, ◌&&◌, ◌||◌, not, nat_lt, Bool, true, false, if◌then◌else◌, Option, None, option_map, List, length}
 use Rattle.std.specs.Duration.{as_nanos}
-use Rattle.sctp_packet.specs.declared.sack.GapAckBlock.{GapAckBlock}
+use Rattle.sctp_chunk.specs.declared.sack.GapAckBlock.{GapAckBlock}
 use Rattle.sctp_state.specs.Events.{Told}
 use Rattle.sctp_state.specs.Options.{Options}
 use Rattle.sctp_state.specs.Timers.{Timer, timer, start, stop, is_running, expire}

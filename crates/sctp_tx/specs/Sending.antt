@@ -1,7 +1,7 @@
 -- What a packet takes: first what is to be sent again, then new fragments, as far as the windows let them go (RFC 9260
 -- sections 6.1, 7.2).
 use Rattle.std.specs.Prelude.{ℕ, zero, suc, ◌-◌, ◌*◌, ◌/◌, ◌&&◌, nat_lt, min, Bool, true, false, if◌then◌else◌, Option, Some, None, List, [], ◌∷◌, ◌++◌}
-use Rattle.sctp_packet.specs.Chunk.{FragmentTree}
+use Rattle.sctp_chunk.specs.Chunk.{FragmentTree}
 use Rattle.sctp_state.specs.Events.{Told}
 use Rattle.sctp_outstanding.specs.Item.{Item, header_size, size_of}
 use Rattle.sctp_outstanding.specs.Items.{Discard, next_number, written, first_sent, inserted}

@@ -2,13 +2,13 @@
 
 ghost use Rattle.std.specs.Prelude.{◌≡◌, ◌-◌, ◌==◌, min, ◌^◌, ◌<◌, ◌≤◌, ◌++◌, ◌∷◌, [], suc, nat_lt, length, map, is_some, true, false, IsTrue, OnOk, OnErr, IfOk, IfSome, Ok};
 ghost use Rattle.std.specs.Duration.{as_nanos};
-ghost use Rattle.sctp_packet.specs.Covered.{AreRuns};
+ghost use Rattle.sctp_chunk.specs.Covered.{AreRuns};
 ghost use Rattle.sctp_state.specs.Options.{options_of, IsValid};
 ghost use Rattle.sctp_state.specs.Timers.{is_due, next_expiry, set_duration};
 ghost use Rattle.sctp_outstanding.specs.Items.{number_of, written, next_number, flight_bytes, flight_payload, flight_items, fast_items, begin_reset};
 ghost use Rattle.sctp_outstanding.specs.Losses.{nack_all, expire_outstanding};
 ghost use Rattle.sctp_outstanding.specs.Forward.{is_forward_due};
-ghost use Rattle.sctp_packet.specs.ChunkView.{chunk_tree};
+ghost use Rattle.sctp_chunk.specs.ChunkView.{chunk_tree};
 ghost use Rattle.sctp_tx.specs.ForwardPoints.{expired, forward_chunk};
 ghost use Rattle.sctp_outstanding.specs.Sack.{is_valid, acked_bytes};
 ghost use Rattle.sctp_tx.specs.Retransmission.{sender, heard, step_of, sender_if, told_if, answer_if, answer_of, windows_after, after_sack, kept_running, is_quiet, timed_out_sender};
@@ -20,7 +20,7 @@ ghost use Rattle.sctp_outstanding.specs.Item.{size_of};
 ghost use Rattle.sctp_tx.specs.Resent.{sizes, mixes, recounted_by, resent, resent_by, resent_fast, send_fast, timed, may_send_new};
 ghost use Rattle.sctp_tx.specs.Sending.{send, fill, filling, turned, offered, sent_new, discard_all};
 ghost use Rattle.sctp_outstanding.specs.Views.{chunk_of};
-ghost use Rattle.sctp_packet.specs.Views.{fragment_tree};
+ghost use Rattle.sctp_chunk.specs.Views.{fragment_tree};
 
 mod handover;
 mod windows;

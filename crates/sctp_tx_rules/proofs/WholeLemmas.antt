@@ -1,7 +1,7 @@
 -- Whole operations, whatever the packets are that are told: a SACK, a timeout, and lifetimes that end. And what isn't shown.
 use Rattle.std.proofs.Common.{◌≡◌, ℕ, ◌+◌, not, Bool, true, false, Option, List, length, sym, subst}
 use Rattle.sctp_serial.specs.Unwrapped.{origin}
-use Rattle.sctp_packet.specs.declared.sack.GapAckBlock.{GapAckBlock}
+use Rattle.sctp_chunk.specs.declared.sack.GapAckBlock.{GapAckBlock}
 use Rattle.sctp_state.specs.Events.{Told}
 use Rattle.sctp_send_queue.specs.Queue.{Queue}
 use Rattle.sctp_outstanding.specs.Items.{Items}

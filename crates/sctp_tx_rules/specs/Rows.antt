@@ -5,7 +5,7 @@ use Rattle.std.specs.Prelude.{option_map, unwrap_or, ◌≡◌, ℕ, ◌+◌, �
 use Rattle.sctp_serial.specs.Unwrapped.{origin, words, wire}
 use Rattle.sctp_serial.specs.declared.api.Message as given
 use Rattle.sctp_packet.specs.Chunk.{FragmentTree}
-use Rattle.sctp_packet.specs.declared.sack.GapAckBlock.{GapAckBlock}
+use Rattle.sctp_chunk.specs.declared.sack.GapAckBlock.{GapAckBlock}
 use Rattle.sctp_state.specs.Events.{Told, give_up}
 use Rattle.sctp_state.specs.Options.{Options}
 use Rattle.sctp_state.specs.declared.api.GivenUpCause.{GivenUpCause}

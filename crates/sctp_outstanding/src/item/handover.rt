@@ -1,12 +1,12 @@
 //! An item in the record of a socket that is handed over.
 
 ghost use Rattle.std.specs.Prelude.{◌≡◌, ◌%◌, ◌<◌, ◌≤◌, ◌^◌, length, IfOk};
-ghost use Rattle.sctp_packet.specs.Views.{fragment_tree};
+ghost use Rattle.sctp_chunk.specs.Views.{fragment_tree};
 ghost use Rattle.sctp_state.specs.Handover.{outstanding_data_of};
 ghost use Rattle.sctp_outstanding.specs.Handover.{item_record, fragment_from, state_from, reports_in, item_from};
 
 use crate::item::{Item, ItemState};
-use sctp_packet::Data;
+use sctp_chunk::Data;
 use sctp_serial::{Fsn, Mid, OutgoingMessageId, PpId, SocketTime, Ssn, StreamId, StreamKey};
 use sctp_state::api::handover::HandoverOutstandingData;
 use sctp_state::api::handover::times::{

@@ -8,7 +8,7 @@ ghost use Rattle.sctp_outstanding.specs.declared.outstanding_data.Turn.TheVarian
 use crate::item::copy_of;
 use crate::kept::Change;
 use crate::outstanding_data::{Filling, OutstandingData, Turn};
-use sctp_packet::Data;
+use sctp_chunk::Data;
 use sctp_serial::Tsn;
 use std::alloc::AllocError;
 

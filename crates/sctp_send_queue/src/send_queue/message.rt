@@ -2,8 +2,8 @@
 
 ghost use Rattle.std.specs.Prelude.{◌≡◌, ℕ, ◌+◌, ◌-◌, ◌<◌, ◌≤◌, ◌^◌, Bool, length, IfOk, None, option_map, min, if◌then◌else◌};
 ghost use Rattle.std.specs.Duration.{as_nanos};
-ghost use Rattle.sctp_packet.specs.Written.{key_stream};
-ghost use Rattle.sctp_packet.specs.Views.{is_unordered_key};
+ghost use Rattle.sctp_chunk.specs.Written.{key_stream};
+ghost use Rattle.sctp_chunk.specs.Views.{is_unordered_key};
 ghost use Rattle.sctp_send_queue.specs.Queue.{left, expiry_of};
 ghost use Rattle.sctp_send_queue.specs.Produced.{is_stale, is_due, made_of, moved};
 ghost use Rattle.sctp_send_queue.specs.Resets.{is_partly};
@@ -15,7 +15,7 @@ ghost use Rattle.sctp_send_queue.specs.Restarted.{whole};
 ghost use Rattle.sctp_send_queue.specs.Views.{produced_of, queued_of};
 
 use crate::data_to_send::DataToSend;
-use sctp_packet::Data;
+use sctp_chunk::Data;
 use sctp_serial::{
     Fsn, LifecycleId, Message, Mid, OutgoingMessageId, PpId, SerialNumber, SocketTime, Ssn,
     StreamId, StreamKey,

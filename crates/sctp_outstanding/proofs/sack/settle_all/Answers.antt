@@ -2,7 +2,7 @@ use Rattle.std.proofs.Common.{◌≡◌, ◌≤◌, ◌<◌, ◌+◌, ◌-◌, �
 use Rattle.std.specs.List.{sum_by}
 use Rattle.sctp_outstanding.specs.Items.{Kept, change_at, acked_part}
 use Rattle.sctp_outstanding.specs.Sack.{settled, new_bytes_at, highest_end}
-use Rattle.sctp_packet.specs.Covered.{is_covered}
+use Rattle.sctp_chunk.specs.Covered.{is_covered}
 use Rattle.sctp_outstanding.specs.Passes.{acked_from, acked_before}
 use Rattle.sctp_outstanding.proofs.TotalsLemmas.{length-change}
 use Rattle.sctp_outstanding.proofs.RestLemmas.{counted, settled-end, acked-end, below-end}

@@ -1,6 +1,6 @@
 use Rattle.std.proofs.Common.{vec_len, refl}
 use Rattle.std.proofs.lemmas.Result.{IfOk-equal}
-use Rattle.sctp_packet.specs.Written.{chunk_bytes}
+use Rattle.sctp_chunk.specs.Written.{chunk_bytes}
 use Rattle.sctp_packet.specs.PacketView.{header_tree}
 use Rattle.sctp_packet.proofs.BuilderLemmas.{chunk_behind_header, not_empty}
 use Rattle.sctp_packet.proofs.builder.push_chunk.Goals as goal

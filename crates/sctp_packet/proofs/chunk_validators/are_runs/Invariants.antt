@@ -1,5 +1,5 @@
 use Rattle.std.proofs.Common.{◌≤◌, ◌↔◌, ◌+◌, ◌^◌, drop}
-use Rattle.sctp_packet.specs.Covered.{AreRuns}
+use Rattle.sctp_chunk.specs.Covered.{AreRuns}
 use Rattle.sctp_packet.proofs.chunk_validators.are_runs.Given as goal
 
 abbrev pub invariant-loop-block : goal.invariant-loop-block

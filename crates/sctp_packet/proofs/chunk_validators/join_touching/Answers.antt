@@ -1,7 +1,7 @@
 use Rattle.std.proofs.Common.{rules, ◌≡◌, ◌∙◌, List, sym, ap, subst, arith}
 use Rattle.std.proofs.lemmas.Grind.{common_steps}
-use Rattle.sctp_packet.specs.declared.sack.GapAckBlock.{GapAckBlock}
-use Rattle.sctp_packet.specs.Covered.{is_covered, AreRuns}
+use Rattle.sctp_chunk.specs.declared.sack.GapAckBlock.{GapAckBlock}
+use Rattle.sctp_chunk.specs.Covered.{is_covered, AreRuns}
 use Rattle.sctp_packet.proofs.CoveredLemmas.{joined_all, is_covered-joined_all, AreRuns-joined_all}
 use Rattle.sctp_packet.proofs.chunk_validators.join_touching.Goals as goal
 

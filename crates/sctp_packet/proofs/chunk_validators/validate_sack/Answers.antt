@@ -1,6 +1,6 @@
 use Rattle.std.proofs.Common.{List, sym, subst, arith}
-use Rattle.sctp_packet.specs.declared.sack.GapAckBlock.{GapAckBlock}
-use Rattle.sctp_packet.specs.Covered.{AreRuns}
+use Rattle.sctp_chunk.specs.declared.sack.GapAckBlock.{GapAckBlock}
+use Rattle.sctp_chunk.specs.Covered.{AreRuns}
 use Rattle.sctp_packet.proofs.ValidLemmas.{valid_from_runs, runs_lower, runs_from_valid}
 use Rattle.sctp_packet.proofs.chunk_validators.validate_sack.Goals as goal
 

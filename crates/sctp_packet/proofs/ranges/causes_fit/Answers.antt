@@ -7,7 +7,7 @@ use Rattle.sctp_wire.specs.Serialize.{IsEncodable}
 use Rattle.sctp_wire.specs.Cause.{CauseFits, cause_item}
 use Rattle.sctp_wire.specs.CauseViews.{cause_tree}
 use Rattle.sctp_wire.specs.ReadBack.{IsText}
-use Rattle.sctp_packet.proofs.InnerLemmas.{each_fits}
+use Rattle.sctp_chunk.proofs.InnerLemmas.{each_fits}
 use Rattle.sctp_packet.proofs.ranges.causes_fit.Goals as goal
 
 pub cause_fits-requires : goal.cause_fits-requires

@@ -1,6 +1,6 @@
 use Rattle.std.proofs.Common.{ℕ, ◌<◌, get_or}
-use Rattle.sctp_packet.specs.declared.forward_tsn.SkippedStream.{SkippedStream}
-use Rattle.sctp_packet.specs.Grammar.{FitsSkip}
+use Rattle.sctp_chunk.specs.declared.forward_tsn.SkippedStream.{SkippedStream}
+use Rattle.sctp_chunk.specs.Grammar.{FitsSkip}
 use Rattle.sctp_packet.proofs.ranges.skips_fit.Given as goal
 
 abbrev pub invariant-loop-skip : goal.invariant-loop-skip

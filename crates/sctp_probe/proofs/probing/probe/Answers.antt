@@ -3,7 +3,7 @@ use Rattle.sctp_serial.specs.declared.api.StreamId.{StreamId}
 use Rattle.sctp_packet.specs.PacketView.{packet_tree}
 use Rattle.sctp_packet.specs.Views.{fragment_tree}
 use Rattle.sctp_packet.specs.Written.{key_stream}
-use Rattle.sctp_packet.proofs.ValueLemmas.{key_id}
+use Rattle.sctp_chunk.proofs.ValueLemmas.{key_id}
 use Rattle.sctp_probe.proofs.ProbeLemmas.{accepted, reported}
 use Rattle.sctp_probe.proofs.probing.probe.Goals as goal
 

@@ -1,5 +1,5 @@
 use Rattle.std.proofs.Common.{◌≡◌, ◌≤◌, ℕ, List, true, map, rules, sym, subst}
-use Rattle.sctp_packet.specs.Chunk.{FragmentTree}
+use Rattle.sctp_chunk.specs.Chunk.{FragmentTree}
 use Rattle.sctp_outstanding.specs.Views.{chunk_of}
 use Rattle.sctp_outstanding.specs.Resending.{resend, chunk_bytes}
 use Rattle.sctp_outstanding.proofs.RoomLemmas.{resend-fits}

@@ -1,5 +1,5 @@
 use Rattle.std.proofs.Common.{◌≡◌, ◌≤◌, ℕ, List, false, ◌∙◌, map, rules, ap, sym, subst}
-use Rattle.sctp_packet.specs.Chunk.{FragmentTree}
+use Rattle.sctp_chunk.specs.Chunk.{FragmentTree}
 use Rattle.sctp_outstanding.specs.Views.{chunk_of}
 use Rattle.sctp_outstanding.specs.Items.{waiting_items}
 use Rattle.sctp_outstanding.specs.Resending.{Resent, resend, chunk_bytes}

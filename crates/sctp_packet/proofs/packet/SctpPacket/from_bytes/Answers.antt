@@ -2,7 +2,7 @@ use Rattle.std.proofs.Common.{◌≡◌, ◌⊎◌, ℕ, List, drop, sym, ap, su
 use Rattle.std.proofs.lemmas.Result.{err_from_is_err_and}
 use Rattle.sctp_wire.specs.Refusal.{BreaksAs}
 use Rattle.sctp_wire.specs.declared.error.ChunkParseError.TheVariants as faults
-use Rattle.sctp_packet.specs.Grammar.{IsChunk, RefusesChunk}
+use Rattle.sctp_chunk.specs.Grammar.{IsChunk, RefusesChunk}
 use Rattle.sctp_packet.specs.Packet.{checksum_field, lets_through}
 use Rattle.sctp_packet.specs.PacketView.{header_tree}
 use Rattle.sctp_packet.proofs.PacketLemmas.{body_at, field_at, chunks_refused}

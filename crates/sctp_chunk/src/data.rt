@@ -1,0 +1,317 @@
+//! DATA (RFC 9260 section 3.3.1) and I-DATA (RFC 8260 section 2.1): fragments of messages.
+
+ghost use Rattle.std.specs.Prelude.{◌≡◌, ℕ, ◌+◌, ◌^◌, ◌-◌, min, true, false, [], ◌∷◌, ◌++◌, IfOk, IfErr, OnOk};
+ghost use Rattle.sctp_chunk.specs.Written.{chunk_item, chunk_value, data_value, idata_value, fragment_flags, ppid_or_fsn, flag, key_stream};
+ghost use Rattle.sctp_chunk.specs.Grammar.{IsChunk, RefusesChunkAs};
+ghost use Rattle.sctp_chunk.specs.Views.{raw_chunk, fragment_tree, data_chunk_tree, idata_chunk_tree, is_unordered_key};
+ghost use Rattle.std.specs.Prelude.{Some};
+ghost use Rattle.sctp_chunk.specs.ChunkText.{chunk_text};
+
+use crate::flags::FragmentFlags;
+use crate::raw::RawChunk;
+use sctp_serial::{Fsn, Mid, PpId, Ssn, StreamId, StreamKey, Tsn};
+use sctp_wire::{ChunkParseError, SerializableTlv, push_u16, push_u32, u16_at, u32_at};
+use std::alloc::{AllocError, Global};
+use std::fmt;
+
+const FLAG_IMMEDIATE: u8 = 8;
+
+const FLAG_UNORDERED: u8 = 4;
+
+const FLAG_BEGINNING: u8 = 2;
+
+const FLAG_END: u8 = 1;
+
+/// A fragment of a message.
+#[derive(Debug, Drop)]
+pub struct Data {
+    pub stream_key: StreamKey,
+    /// The message's number in its stream, where messages are not interleaved; else 0.
+    pub ssn: Ssn,
+    /// The message's number in its stream, where messages are interleaved; else 0.
+    pub mid: Mid,
+    /// The fragment's number in its message, where messages are interleaved; else 0.
+    pub fsn: Fsn,
+    pub ppid: PpId,
+    pub payload: Vec<u8>,
+    /// Whether the message begins here.
+    pub is_beginning: bool,
+    /// Whether the message ends here.
+    pub is_end: bool,
+}
+
+impl Data {
+    /// No payload, numbers 0, ordered on stream 0, neither beginning nor end. Takes no memory.
+    pub fn empty(alloc: Global) -> Data
+        ensures { fragment_tree result ≡ record {
+          stream_id = 0;
+          is_unordered = false;
+          ssn = 0;
+          mid = 0;
+          fsn = 0;
+          ppid = 0;
+          payload = [];
+          is_beginning = false;
+          is_end = false;
+        } }
+    {
+        Data {
+            stream_key: StreamKey::Ordered(StreamId(0)),
+            ssn: Ssn(0),
+            mid: Mid(0),
+            fsn: Fsn(0),
+            ppid: PpId(0),
+            payload: Vec::new(alloc),
+            is_beginning: false,
+            is_end: false,
+        }
+    }
+
+    /// The flags of a chunk that carries the fragment.
+    fn flags(&self, immediate_ack: bool) -> u8
+        ensures { result ≡ fragment_flags immediate_ack (fragment_tree self.now).is_unordered self.now.is_beginning self.now.is_end }
+    {
+        let is_unordered = is_unordered(self.stream_key);
+        (if immediate_ack { FLAG_IMMEDIATE } else { 0 })
+            + ((if is_unordered { FLAG_UNORDERED } else { 0 })
+                + ((if self.is_beginning { FLAG_BEGINNING } else { 0 })
+                    + (if self.is_end { FLAG_END } else { 0 })))
+    }
+
+    /// The flags as they are shown.
+    fn shown_flags(&self, immediate: bool) -> FragmentFlags
+        ensures { result ≡ record { immediate = immediate; unordered = (fragment_tree self.now).is_unordered; beginning = self.now.is_beginning; end = self.now.is_end } }
+    {
+        FragmentFlags {
+            immediate,
+            unordered: is_unordered(self.stream_key),
+            beginning: self.is_beginning,
+            end: self.is_end,
+        }
+    }
+
+    /// What stands in the field that I-DATA has for both.
+    fn ppid_or_fsn(&self) -> u32
+        ensures { result ≡ ppid_or_fsn (fragment_tree self.now) }
+    {
+        if self.is_beginning {
+            self.ppid.0
+        } else {
+            self.fsn.0
+        }
+    }
+}
+
+fn is_unordered(key: StreamKey) -> bool
+    ensures { result ≡ is_unordered_key key }
+{
+    match key {
+        StreamKey::Ordered(_) => false,
+        StreamKey::Unordered(_) => true,
+    }
+}
+
+fn stream_key(is_unordered: bool, id: u16) -> StreamKey
+    ensures stream { key_stream result ≡ id }
+    ensures kind { is_unordered_key result ≡ is_unordered }
+{
+    StreamKey::new(is_unordered, StreamId(id))
+}
+
+fn has_flag(flags: u8, mask: u8) -> bool
+    ensures { result ≡ flag flags mask }
+{
+    flags & mask != 0
+}
+
+/// A fragment of a message that is not interleaved with others.
+#[derive(Debug, Drop)]
+pub struct DataChunk {
+    pub tsn: Tsn,
+    pub data: Data,
+    /// Whether the sender asks for an acknowledgement at once.
+    pub immediate_ack: bool,
+}
+
+#[tactic(auto, unfolding(crate::specs::Written::data_value))]
+impl DataChunk {
+    pub const TYPE: u8 = 0;
+
+    /// What the chunk says; `InvalidType` where it is of another type, `InvalidLength` where its value has under 12 bytes.
+    pub fn try_from(alloc: Global, raw: RawChunk<'_>) -> Result<DataChunk, ChunkParseError>
+        ensures ok { IfOk result (λ c. IsChunk (raw_chunk raw.entry) (data_chunk_tree c)) }
+        ensures refused { IfErr result (RefusesChunkAs 0 (raw_chunk raw.entry)) }
+    {
+        let value = raw.value_as(Self::TYPE)?;
+        let (tsn, rest) = u32_at(value)?;
+        let (stream_id, rest) = u16_at(rest)?;
+        let (ssn, rest) = u16_at(rest)?;
+        let (ppid, payload) = u32_at(rest)?;
+        let payload = Vec::from_slice(alloc, payload)?;
+        Ok(DataChunk {
+            tsn: Tsn(tsn),
+            data: Data {
+                stream_key: stream_key(has_flag(raw.flags, FLAG_UNORDERED), stream_id),
+                ssn: Ssn(ssn),
+                mid: Mid(0),
+                fsn: Fsn(0),
+                ppid: PpId(ppid),
+                payload,
+                is_beginning: has_flag(raw.flags, FLAG_BEGINNING),
+                is_end: has_flag(raw.flags, FLAG_END),
+            },
+            immediate_ack: has_flag(raw.flags, FLAG_IMMEDIATE),
+        })
+    }
+}
+
+#[tactic(auto, unfolding(crate::specs::Written::chunk_value, crate::specs::Written::data_value))]
+impl SerializableTlv for DataChunk {
+    ghost item_of = { λ c. chunk_item (data_chunk_tree c) };
+
+    ghost parts_agree = { λ c. true };
+
+    fn kind(&self) -> [u8; 2] {
+        [Self::TYPE, self.data.flags(self.immediate_ack)]
+    }
+
+    #[tactic(auto, using(crate::proofs::ValueLemmas::length_data))]
+    fn value_size(&self) -> usize {
+        self.data.payload.len().saturating_add(12)
+    }
+
+    fn is_whole(&self) -> bool {
+        true
+    }
+
+    #[tactic(auto, using(crate::proofs::ValueLemmas::length_data_fields), unfolding(crate::specs::Written::chunk_value, crate::specs::Written::data_value))]
+    fn push_value(&self, output: &mut Vec<u8>) -> Result<(), AllocError> {
+        push_u32(output, self.tsn.0)?;
+        push_u16(output, self.data.stream_key.id().0)?;
+        push_u16(output, self.data.ssn.0)?;
+        push_u32(output, self.data.ppid.0)?;
+        output.extend_from_slice(&self.data.payload)
+    }
+}
+
+/// A fragment of a message that may be interleaved with others.
+#[derive(Debug, Drop)]
+pub struct IDataChunk {
+    pub tsn: Tsn,
+    pub data: Data,
+    /// Whether the sender asks for an acknowledgement at once.
+    pub immediate_ack: bool,
+}
+
+#[tactic(auto, unfolding(crate::specs::Written::idata_value))]
+impl IDataChunk {
+    pub const TYPE: u8 = 64;
+
+    /// What the chunk says; `InvalidType` where it is of another type, `InvalidLength` where its value has under 16 bytes.
+    pub fn try_from(alloc: Global, raw: RawChunk<'_>) -> Result<IDataChunk, ChunkParseError>
+        ensures ok { IfOk result (λ c. IsChunk (raw_chunk raw.entry) (idata_chunk_tree c)) }
+        ensures refused { IfErr result (RefusesChunkAs 64 (raw_chunk raw.entry)) }
+    {
+        let value = raw.value_as(Self::TYPE)?;
+        let (tsn, rest) = u32_at(value)?;
+        let (stream_id, rest) = u16_at(rest)?;
+        let (_reserved, rest) = u16_at(rest)?;
+        let (mid, rest) = u32_at(rest)?;
+        let (ppid_or_fsn, payload) = u32_at(rest)?;
+        let payload = Vec::from_slice(alloc, payload)?;
+        let is_beginning = has_flag(raw.flags, FLAG_BEGINNING);
+        Ok(IDataChunk {
+            tsn: Tsn(tsn),
+            data: Data {
+                stream_key: stream_key(has_flag(raw.flags, FLAG_UNORDERED), stream_id),
+                ssn: Ssn(0),
+                mid: Mid(mid),
+                fsn: Fsn(if is_beginning { 0 } else { ppid_or_fsn }),
+                ppid: PpId(if is_beginning { ppid_or_fsn } else { 0 }),
+                payload,
+                is_beginning,
+                is_end: has_flag(raw.flags, FLAG_END),
+            },
+            immediate_ack: has_flag(raw.flags, FLAG_IMMEDIATE),
+        })
+    }
+}
+
+#[tactic(auto, unfolding(crate::specs::Written::chunk_value, crate::specs::Written::idata_value))]
+impl SerializableTlv for IDataChunk {
+    ghost item_of = { λ c. chunk_item (idata_chunk_tree c) };
+
+    ghost parts_agree = { λ c. true };
+
+    fn kind(&self) -> [u8; 2] {
+        [Self::TYPE, self.data.flags(self.immediate_ack)]
+    }
+
+    #[tactic(auto, using(crate::proofs::ValueLemmas::length_idata))]
+    fn value_size(&self) -> usize {
+        self.data.payload.len().saturating_add(16)
+    }
+
+    fn is_whole(&self) -> bool {
+        true
+    }
+
+    #[tactic(auto, using(crate::proofs::ValueLemmas::length_idata_fields), unfolding(crate::specs::Written::chunk_value, crate::specs::Written::idata_value))]
+    fn push_value(&self, output: &mut Vec<u8>) -> Result<(), AllocError> {
+        push_u32(output, self.tsn.0)?;
+        push_u16(output, self.data.stream_key.id().0)?;
+        push_u16(output, 0)?;
+        push_u32(output, self.data.mid.0)?;
+        push_u32(output, self.data.ppid_or_fsn())?;
+        output.extend_from_slice(&self.data.payload)
+    }
+}
+
+#[tactic(auto, unfolding(crate::specs::ChunkText::chunk_text))]
+impl fmt::Display for DataChunk {
+    ghost output = { λ c. Some (chunk_text (data_chunk_tree c)) };
+
+    fn fmt<W: fmt::Write>(&self, f: &mut fmt::Formatter<W>) -> fmt::Result {
+        write!(
+            f,
+            "DATA, tsn={}, stream_key={}, ssn={}, ppid={}, payload={} bytes{}",
+            self.tsn.0,
+            self.data.stream_key.id().0,
+            self.data.ssn.0,
+            self.data.ppid.0,
+            self.data.payload.len(),
+            self.data.shown_flags(self.immediate_ack)
+        )
+    }
+}
+
+#[tactic(auto, unfolding(crate::specs::ChunkText::chunk_text))]
+impl fmt::Display for IDataChunk {
+    ghost output = { λ c. Some (chunk_text (idata_chunk_tree c)) };
+
+    fn fmt<W: fmt::Write>(&self, f: &mut fmt::Formatter<W>) -> fmt::Result {
+        let flags = self.data.shown_flags(self.immediate_ack);
+        if self.data.is_beginning {
+            return write!(
+                f,
+                "I-DATA, tsn={}, stream_key={}, mid={}, ppid={}, payload={} bytes{}",
+                self.tsn.0,
+                self.data.stream_key.id().0,
+                self.data.mid.0,
+                self.data.ppid.0,
+                self.data.payload.len(),
+                flags
+            );
+        }
+        write!(
+            f,
+            "I-DATA, tsn={}, stream_key={}, mid={}, fsn={}, payload={} bytes{}",
+            self.tsn.0,
+            self.data.stream_key.id().0,
+            self.data.mid.0,
+            self.data.fsn.0,
+            self.data.payload.len(),
+            flags
+        )
+    }
+}

@@ -1,0 +1,74 @@
+//! Flags and lists of TSNs as they are shown.
+
+ghost use Rattle.std.specs.Prelude.{◌≡◌, ◌||◌, if◌then◌else◌, [], Some, codes};
+ghost use Rattle.std.specs.Prelude.{map};
+ghost use Rattle.sctp_wire.specs.Show.{joined};
+ghost use Rattle.sctp_chunk.specs.ChunkText.{letter, fragment_flags_text, reflected_text, tsn_text};
+
+use sctp_serial::Tsn;
+use std::fmt;
+
+/// The flag T, where it is set.
+pub fn reflected_text(tag_reflected: bool) -> &'static str
+    ensures { result.now ≡ reflected_text tag_reflected }
+{
+    if tag_reflected { ", flags=T" } else { "" }
+}
+
+/// The flags of DATA and I-DATA that are set.
+#[derive(Clone, Copy)]
+pub struct FragmentFlags {
+    pub immediate: bool,
+    pub unordered: bool,
+    pub beginning: bool,
+    pub end: bool,
+}
+
+impl fmt::Display for FragmentFlags {
+    ghost output = { λ x. Some (fragment_flags_text x.immediate x.unordered x.beginning x.end) };
+
+    fn fmt<W: fmt::Write>(&self, f: &mut fmt::Formatter<W>) -> fmt::Result {
+        if !self.is_some() {
+            return Ok(());
+        }
+        let immediate = letter(self.immediate, "I");
+        let unordered = letter(self.unordered, "U");
+        let beginning = letter(self.beginning, "B");
+        let end = letter(self.end, "E");
+        write!(f, ", flags={immediate}{unordered}{beginning}{end}")
+    }
+}
+
+impl FragmentFlags {
+    fn is_some(self) -> bool
+        ensures { result ≡ (self.immediate || (self.unordered || (self.beginning || self.end))) }
+    {
+        self.immediate || self.unordered || self.beginning || self.end
+    }
+}
+
+fn letter(is_set: bool, text: &'static str) -> &'static str
+    ensures { result.now ≡ letter is_set text.now }
+{
+    if is_set { text } else { "" }
+}
+
+/// TSNs, with `/` between.
+#[derive(Clone, Copy)]
+pub struct JoinedTsns<'a>(pub &'a [Tsn]);
+
+#[tactic(auto, unfolding(sctp_wire::specs::Show::joined))]
+impl fmt::Display for JoinedTsns<'_> {
+    ghost output = { λ list. Some (joined (map tsn_text list.0.now)) };
+
+    fn fmt<W: fmt::Write>(&self, f: &mut fmt::Formatter<W>) -> fmt::Result {
+        let Some((first, others)) = self.0.split_first() else {
+            return Ok(());
+        };
+        write!(f, "{}", first.0)?;
+        for tsn in others {
+            write!(f, "/{}", tsn.0)?;
+        }
+        Ok(())
+    }
+}

@@ -1,0 +1,165 @@
+//! SACK (RFC 9260 section 3.3.4).
+
+ghost use Rattle.std.specs.Prelude.{◌≡◌, ◌≢◌, ◌⊎◌, ℕ, ◌+◌, ◌*◌, ◌%◌, ◌^◌, ◌-◌, ◌<◌, min, true, [], ◌∷◌, ◌++◌, length, IfOk, IfErr, OnOk, OnErr};
+ghost use Rattle.sctp_chunk.specs.Written.{chunk_item};
+ghost use Rattle.sctp_chunk.specs.Grammar.{IsChunk, RefusesChunkAs};
+ghost use Rattle.sctp_chunk.specs.Views.{raw_chunk, sack_chunk_tree};
+ghost use Rattle.std.specs.Prelude.{Some};
+ghost use Rattle.sctp_chunk.specs.ChunkText.{chunk_text, block_text};
+ghost use Rattle.std.proofs.Common.{refl};
+
+use crate::flags::JoinedTsns;
+use crate::raw::RawChunk;
+use sctp_serial::Tsn;
+use sctp_wire::{
+    ChunkParseError, Entry, Joined, Listed, SerializableTlv, entries_from_bytes, push_entries,
+    push_u16, push_u32, u16_at, u32_at,
+};
+use std::alloc::{AllocError, Global};
+use std::fmt;
+
+/// A block of TSNs that came, as offsets from the cumulative TSN: from `start` to `end`, both included.
+#[derive(Clone, Copy, Debug, PartialEq, Eq)]
+pub struct GapAckBlock {
+    pub start: u16,
+    pub end: u16,
+}
+
+impl GapAckBlock {
+    pub fn new(start: u16, end: u16) -> GapAckBlock
+        ensures { result ≡ record { start = start; end = end } }
+    {
+        GapAckBlock { start, end }
+    }
+}
+
+#[tactic(auto, unfolding(crate::specs::Written::block_bytes))]
+impl Entry for GapAckBlock {
+    ghost use Rattle.std.proofs.Common.{arith};
+    ghost use Rattle.sctp_chunk.specs.Written.{block_bytes, length_block_bytes};
+    ghost use Rattle.sctp_chunk.specs.Grammar.{FitsBlock};
+
+    ghost width = { 4 };
+
+    ghost bytes_of = { block_bytes };
+
+    ghost in_range = { FitsBlock };
+
+    ghost width_is_positive = { Prim.omega arith };
+
+    ghost width_of = { length_block_bytes };
+
+    fn entry_at(bytes: &[u8]) -> Result<(GapAckBlock, &[u8]), ChunkParseError> {
+        let (start, rest) = u16_at(bytes)?;
+        let (end, rest) = u16_at(rest)?;
+        Ok((GapAckBlock { start, end }, rest))
+    }
+
+    fn push_to(&self, output: &mut Vec<u8>) -> Result<(), AllocError> {
+        push_u16(output, self.start)?;
+        push_u16(output, self.end)
+    }
+}
+
+/// Which TSNs came.
+#[derive(Debug, Drop)]
+pub struct SackChunk {
+    pub cumulative_tsn_ack: Tsn,
+    /// The receiver's window, in bytes.
+    pub a_rwnd: u32,
+    pub gap_ack_blocks: Vec<GapAckBlock>,
+    pub duplicate_tsns: Vec<Tsn>,
+}
+
+#[tactic(auto, unfolding(crate::specs::Written::sack_value))]
+impl SackChunk {
+    pub const TYPE: u8 = 3;
+
+    /// What the chunk says; `InvalidType` where it is of another type, `InvalidLength` where its value does not hold
+    /// just the blocks and duplicates that its counts say.
+    pub fn try_from(alloc: Global, raw: RawChunk<'_>) -> Result<SackChunk, ChunkParseError>
+        ensures ok { IfOk result (λ c. IsChunk (raw_chunk raw.entry) (sack_chunk_tree c)) }
+        ensures refused { IfErr result (RefusesChunkAs 3 (raw_chunk raw.entry)) }
+    {
+        let value = raw.value_as(Self::TYPE)?;
+        let (cumulative_tsn_ack, rest) = u32_at(value)?;
+        let (a_rwnd, rest) = u32_at(rest)?;
+        let (block_count, rest) = u16_at(rest)?;
+        let (duplicate_count, rest) = u16_at(rest)?;
+        let blocks_size = 4 * block_count as usize;
+        if rest.len() != blocks_size + 4 * duplicate_count as usize {
+            return Err(ChunkParseError::InvalidLength);
+        }
+        let (blocks, duplicates) = rest.split_at(blocks_size);
+        let gap_ack_blocks = entries_from_bytes(alloc, blocks)?;
+        let duplicate_tsns = entries_from_bytes(alloc, duplicates)?;
+        Ok(SackChunk {
+            cumulative_tsn_ack: Tsn(cumulative_tsn_ack),
+            a_rwnd,
+            gap_ack_blocks,
+            duplicate_tsns,
+        })
+    }
+}
+
+#[tactic(auto, unfolding(crate::specs::Written::chunk_value, crate::specs::Written::sack_value))]
+impl SerializableTlv for SackChunk {
+    ghost item_of = { λ c. chunk_item (sack_chunk_tree c) };
+
+    ghost parts_agree = { λ c. true };
+
+    fn kind(&self) -> [u8; 2] {
+        [Self::TYPE, 0]
+    }
+
+    #[tactic(auto, using(crate::proofs::ValueLemmas::length_sack))]
+    fn value_size(&self) -> usize {
+        let blocks = self.gap_ack_blocks.len().saturating_mul(4);
+        let duplicates = self.duplicate_tsns.len().saturating_mul(4);
+        blocks.saturating_add(duplicates).saturating_add(12)
+    }
+
+    fn is_whole(&self) -> bool {
+        true
+    }
+
+    #[tactic(auto, using(crate::proofs::ValueLemmas::length_sack))]
+    fn push_value(&self, output: &mut Vec<u8>) -> Result<(), AllocError> {
+        push_u32(output, self.cumulative_tsn_ack.0)?;
+        push_u32(output, self.a_rwnd)?;
+        push_u16(output, self.gap_ack_blocks.len() as u16)?;
+        push_u16(output, self.duplicate_tsns.len() as u16)?;
+        push_entries(output, &self.gap_ack_blocks)?;
+        push_entries(output, &self.duplicate_tsns)
+    }
+}
+
+#[tactic(auto, unfolding(crate::specs::ChunkText::chunk_text))]
+impl fmt::Display for SackChunk {
+    ghost output = { λ c. Some (chunk_text (sack_chunk_tree c)) };
+
+    fn fmt<W: fmt::Write>(&self, f: &mut fmt::Formatter<W>) -> fmt::Result {
+        write!(
+            f,
+            "SACK, cumulative_tsn_ack={}, a_rwnd={}, gap_ack_blocks={}, duplicate_tsns={}",
+            self.cumulative_tsn_ack.0,
+            self.a_rwnd,
+            Joined(&self.gap_ack_blocks),
+            JoinedTsns(&self.duplicate_tsns)
+        )
+    }
+}
+
+impl fmt::Display for GapAckBlock {
+    ghost output = { λ b. Some (block_text b) };
+
+    fn fmt<W: fmt::Write>(&self, f: &mut fmt::Formatter<W>) -> fmt::Result {
+        write!(f, "{}-{}", self.start, self.end)
+    }
+}
+
+impl Listed for GapAckBlock {
+    ghost text = { block_text };
+
+    ghost shows = { λ b. refl };
+}

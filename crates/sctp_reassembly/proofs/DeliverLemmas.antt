@@ -1,0 +1,122 @@
+-- What becomes ready, one message after the other.
+use Rattle.std.proofs.Common.{◌≡◌, ℕ, zero, suc, ◌+◌, ◌<◌, ◌≤◌, ◌==◌, Bool, true, false, cond, Option, Some, None, List, [], ◌∷◌, ◌++◌, length, refl, ap, sym, subst, ◌∙◌, arith, append_assoc, length-append, append-nil}
+use Rattle.std.specs.Prelude.{◌&&◌, nat_lt, option_map, option_to_list}
+use Rattle.std.specs.List.{find}
+use Rattle.std.proofs.lemmas.Bool.Decides.{nat_tests}
+use Rattle.sctp_serial.specs.Messages.{Message}
+use Rattle.sctp_reassembly.specs.Runs.{flat, is_held, with_item}
+use Rattle.sctp_reassembly.specs.Held.{Held, rank_of, goes_on, NonePass, NoneComplete, NoneInTurn, without_first_of, left_by, intervals_of, is_in_turn, is_complete, IsTaken, IsPlaced, bytes_of, payload_of}
+use Rattle.sctp_reassembly.specs.Delivery.{OrderedDelivery, OrderedStream, deliver, deliver_within, at_rest, preceded_by, delivering, ordered_arrival, message_of_run, completed, ready_bytes}
+use Rattle.std.proofs.lemmas.List.Sums.{sum_by_push}
+use Rattle.sctp_reassembly.proofs.FindLemmas.{found, not_found, left_none, taken_left}
+
+module _ (test : List Held → Bool) where
+  pub length_found : (rs : List (List Held)) (r : List Held) → find test rs ≡ Some r → length rs ≡ suc (length (without_first_of test rs))
+  length_found [] r h = absurd (cc)
+  length_found (q ∷ rs) r h = go (test q) h (length_found rs r)
+    where
+      go : (b : Bool) → cond b (Some q) (find test rs) ≡ Some r → (find test rs ≡ Some r → length rs ≡ suc (length (without_first_of test rs))) → suc (length rs) ≡ suc (length (cond b rs (q ∷ without_first_of test rs)))
+      go true h ih = refl
+      go false h ih = ap suc (ih h)
+
+  pub found_passes : (rs : List (List Held)) (r : List Held) → find test rs ≡ Some r → test r ≡ true
+  found_passes [] r h = absurd (cc)
+  found_passes (q ∷ rs) r h = go (test q) refl h (found_passes rs r)
+    where
+      go : (b : Bool) → test q ≡ b → cond b (Some q) (find test rs) ≡ Some r → (find test rs ≡ Some r → test r ≡ true) → test r ≡ true
+      go true is h ih = subst (λ (t : List Held). test t ≡ true) (inside h) is
+        where
+          inside : Some q ≡ Some r → q ≡ r
+          inside h = cc
+      go false is h ih = ih h
+
+second : (b : Bool) (a m : ℕ) → (b && (a == m)) ≡ true → a ≡ m
+second true a m h = grind (arith, nat_tests)
+second false a m h = cc
+
+pub turn_number : (run : List Held) (x : Held) (n : ℕ) → is_in_turn n run ≡ true → ((h : Held) (hs : List Held) → run ≡ h ∷ hs → x ≡ h) → x.number ≡ n
+turn_number [] x n h first = absurd (cc)
+turn_number (g ∷ gs) x n h first = ap (λ (t : Held). t.number) (first g gs refl) ∙ second (is_complete (g ∷ gs)) g.number n h
+
+-- nothing is in turn
+pub deliver_ends : (n : ℕ) (hs : List Held) → find (is_in_turn n) (intervals_of hs) ≡ None → deliver n hs ≡ at_rest n hs
+deliver_ends n hs none = go (length (intervals_of hs))
+  where
+    go : (most : ℕ) → deliver_within most n hs ≡ at_rest n hs
+    go zero = refl
+    go (suc most) = ap (λ (o : Option (List Held)). delivering o n hs (deliver_within most (suc n) (left_by (is_in_turn n) hs))) none
+
+-- a message is
+pub deliver_step : (n : ℕ) (hs new r : List Held) → find (is_in_turn n) (intervals_of hs) ≡ Some r → new ≡ left_by (is_in_turn n) hs → intervals_of new ≡ without_first_of (is_in_turn n) (intervals_of hs)
+    → deliver n hs ≡ preceded_by (message_of_run r) (deliver (suc n) new)
+deliver_step n hs new r is left intervals =
+    ap (λ (most : ℕ). deliver_within most n hs) (length_found (is_in_turn n) (intervals_of hs) r is ∙ ap suc (ap length (sym intervals))) ∙ one (length (intervals_of new)) ∙ ap (λ (t : List Held). preceded_by (message_of_run r) (deliver_within (length (intervals_of new)) (suc n) t)) (sym left)
+  where
+    one : (most : ℕ) → deliver_within (suc most) n hs ≡ preceded_by (message_of_run r) (deliver_within most (suc n) (left_by (is_in_turn n) hs))
+    one most = ap (λ (o : Option (List Held)). delivering o n hs (deliver_within most (suc n) (left_by (is_in_turn n) hs))) is
+
+pub length-payload : (hs : List Held) → length (payload_of hs) ≡ bytes_of hs
+length-payload [] = refl
+length-payload (h ∷ hs) = length-append h.fragment.payload (payload_of hs) ∙ ap (λ (t : ℕ). length h.fragment.payload + t) (length-payload hs)
+
+-- ---- unordered messages
+
+NonePass-front : (test : List Held → Bool) (xs ys : List (List Held)) → NonePass test (xs ++ ys) → NonePass test xs
+NonePass-front test [] ys h = tt
+NonePass-front test (x ∷ xs) ys h = (h.0, NonePass-front test xs ys h.1)
+
+NonePass-with : (test : List Held → Bool) (xs ys : List (List Held)) (r : List Held) → NonePass test (xs ++ ys) → test r ≡ false → NonePass test (xs ++ r ∷ ys)
+NonePass-with test [] ys r h k = (k, h)
+NonePass-with test (x ∷ xs) ys r h k = (h.0, NonePass-with test xs ys r h.1 k)
+
+same_rest : {X : Type 0} (ps qs ps' qs' : List X) (x y : X) → ps ++ x ∷ qs ≡ ps' ++ y ∷ qs' → length ps ≡ length ps' → ps ++ qs ≡ ps' ++ qs'
+same_rest [] qs [] qs' x y h k = cc
+same_rest [] qs (p ∷ ps') qs' x y h k = absurd (omega arith)
+same_rest (p ∷ ps) qs [] qs' x y h k = absurd (omega arith)
+same_rest (p ∷ ps) qs (p' ∷ ps') qs' x y h k = let t = same_rest ps qs ps' qs' x y (cc) (omega arith) in cc
+
+module _ (old mid : List Held) (x : Held) (place : ℕ) (none : NoneComplete (intervals_of old)) (p : IsPlaced old mid x place) where
+  pub none_incomplete : ((front back : List (List Held)) (r : List Held) → intervals_of mid ≡ front ++ r ∷ back → length front ≡ place → is_complete r ≡ false) → NoneComplete (intervals_of mid)
+  none_incomplete incomplete = rw p.runs (NonePass-with is_complete p.front p.back p.run (p.others is_complete none) (incomplete p.front p.back p.run p.runs p.at))
+
+  none_around : (run new : List Held) (t : IsTaken mid run new place) → NoneComplete (t.front ++ t.back)
+  none_around run new t = subst NoneComplete (same_rest p.front p.back t.front t.back p.run run (sym p.runs ∙ t.runs) (p.at ∙ sym t.at)) (p.others is_complete none)
+
+  pub none_taken : (run new : List Held) → IsTaken mid run new place → NoneComplete (intervals_of new)
+  none_taken run new t = rw t.left (none_around run new t)
+
+  pub left_taken : (run new : List Held) → IsTaken mid run new place → new ≡ left_by is_complete mid
+  left_taken run new t = taken_left is_complete mid run new t.front t.back t.runs (NonePass-front is_complete t.front t.back (none_around run new t)) t.complete t.rest
+
+  pub found_taken : (run new : List Held) → IsTaken mid run new place → completed mid ≡ message_of_run run ∷ []
+  found_taken run new t =
+      ap (λ (o : Option (List Held)). option_to_list (option_map message_of_run o))
+      (ap (find is_complete) t.runs ∙ found is_complete t.front t.back run (NonePass-front is_complete t.front t.back (none_around run new t)) t.complete)
+
+-- nothing is in turn where nothing was, and the interval that took the fragment is not
+pub none_turned : (old mid : List Held) (x : Held) (place n : ℕ) → IsPlaced old mid x place → ((front back : List (List Held)) (r : List Held) → intervals_of mid ≡ front ++ r ∷ back → length front ≡ place → false ≡ is_in_turn n r)
+    → NoneInTurn n (intervals_of old) → NoneInTurn n (intervals_of mid)
+none_turned old mid x place n p told none =
+    subst (NoneInTurn n) (sym p.runs) (NonePass-with (is_in_turn n) p.front p.back p.run (p.others (is_in_turn n) none) (sym (told p.front p.back p.run p.runs p.at)))
+
+-- a fragment comes by which nothing is in turn
+pub arrives_settled : (x : Held) (s : OrderedStream) (hs : List Held) → nat_lt x.number s.next ≡ false → hs ≡ with_item rank_of x s.held → NoneInTurn s.next (intervals_of hs) → ordered_arrival x s ≡ at_rest s.next hs
+arrives_settled x s hs late made none = rw late (ap (deliver s.next) (sym made) ∙ deliver_ends s.next hs (not_found (is_in_turn s.next) (intervals_of hs) none))
+
+pub none_completed : (hs : List Held) → NoneComplete (intervals_of hs) → completed hs ≡ []
+none_completed hs none = ap (λ (o : Option (List Held)). option_to_list (option_map message_of_run o)) (not_found is_complete (intervals_of hs) none)
+
+-- an unordered fragment whose key is held
+pub added_none : (old mid : List Held) (x : Held) → mid ≡ with_item rank_of x old → true ≡ is_held rank_of (rank_of x) old → mid ≡ old
+added_none old mid x value held = value ∙ rw (sym held) refl
+
+pub nothing_more : (rs ms : List Message) → ms ≡ [] → rs ≡ rs ++ ms
+nothing_more rs ms none = sym (append-nil rs) ∙ ap (λ (t : List Message). rs ++ t) (sym none)
+
+-- one message more, before the others
+pub one_earlier : (ready new : List Message) (m n : Message) (d : OrderedDelivery) (whole : List Message) → new ≡ ready ++ m ∷ [] → m ≡ n → ready ++ (preceded_by n d).messages ≡ whole → new ++ d.messages ≡ whole
+one_earlier ready new m n d whole made same h =
+    ap (λ (t : List Message). t ++ d.messages) made ∙ (append_assoc ready (m ∷ []) d.messages ∙ (ap (λ (t : Message). ready ++ t ∷ d.messages) same ∙ h))
+
+pub ready_pushed : (old new : List Message) (m : Message) → new ≡ old ++ m ∷ [] → ready_bytes new ≡ ready_bytes old + length m.payload
+ready_pushed old new m made = ap ready_bytes made ∙ sum_by_push (λ t. length t.payload) old m

@@ -1,0 +1,69 @@
+-- The streams of a queue stay at rest.
+use Rattle.std.proofs.Common.{◌≡◌, ℕ, ◌+◌, Bool, true, false, cond, List, [], ◌∷◌}
+use Rattle.sctp_serial.specs.declared.api.StreamId.{StreamId}
+use Rattle.sctp_chunk.specs.declared.forward_tsn.SkippedStream.{SkippedStream}
+use Rattle.sctp_chunk.specs.Chunk.{FragmentTree}
+use Rattle.sctp_reassembly.specs.Streams as streams
+use Rattle.sctp_reassembly.specs.Streams.{is_far}
+use Rattle.sctp_reassembly.specs.ReassemblyQueue.{Waiting, Added, Forwarded, Reassembly, reassembly, number_of, came, waits, add_now, forward_now, fragment_waits, point_waits, add_or_wait, forward_or_wait, add, forward, apply, apply_each, waiting_in, reset}
+use Rattle.std.specs.List.{All}
+use Rattle.std.specs.Map.{values_of}
+use Rattle.std.proofs.lemmas.List.Elements.{All-nil, All-cons}
+use Rattle.sctp_serial.specs.Unwrapped.{origin}
+use Rattle.sctp_state.specs.declared.api.handover.HandoverOrderedStream.{HandoverOrderedStream}
+use Rattle.sctp_state.specs.declared.api.handover.HandoverUnorderedStream.{HandoverUnorderedStream}
+use Rattle.sctp_state.specs.Handover.{Receive}
+use Rattle.sctp_reassembly.specs.Delivery.{OrderedStream, UnorderedStream, fresh_unordered}
+use Rattle.sctp_reassembly.specs.ReassemblyHandover.{ordered_entries, unordered_entries, restored}
+use Rattle.sctp_reassembly.specs.Settled.{IsSettledInOrder, IsSettled, AreSettled}
+use Rattle.sctp_reassembly.proofs.SettledStreamsLemmas.{settled_none, settled_add, settled_point, settled_reset}
+
+pub settled_new : (max_size : ℕ) (b : Bool) → AreSettled (reassembly max_size b).streams
+settled_new max_size b = settled_none b
+
+module _ (r : Reassembly) (h : AreSettled r.streams) where
+  pub settled_arrives : (tsn : ℕ) (f : FragmentTree) → AreSettled (add tsn f r).streams
+  settled_arrives tsn f = go (is_far (number_of r tsn))
+    where
+      now : (b : Bool) → AreSettled (cond b (waits (Added (number_of r tsn) f) (came tsn r)) (add_now (number_of r tsn) f (came tsn r))).streams
+      now true = h
+      now false = settled_add r.streams h (number_of r tsn) f
+
+      go : (b : Bool) → AreSettled (cond b r (add_or_wait (number_of r tsn) f (came tsn r))).streams
+      go true = h
+      go false = now (fragment_waits (number_of r tsn) f.stream_id r.deferred)
+
+  pub settled_passes : (tsn : ℕ) (es : List SkippedStream) → AreSettled (forward tsn es r).streams
+  settled_passes tsn es = go (is_far (number_of r tsn))
+    where
+      now : (b : Bool) → AreSettled (cond b (waits (Forwarded (number_of r tsn) es) (came tsn r)) (forward_now (number_of r tsn) es (came tsn r))).streams
+      now true = h
+      now false = settled_point (number_of r tsn) es r.streams h
+
+      go : (b : Bool) → AreSettled (cond b r (forward_or_wait (number_of r tsn) es (came tsn r))).streams
+      go true = h
+      go false = now (point_waits (number_of r tsn) r.deferred)
+
+settled_applied : (w : Waiting) (r : Reassembly) → AreSettled r.streams → AreSettled (apply w r).streams
+settled_applied (Added n f) r h = settled_add r.streams h n f
+settled_applied (Forwarded n es) r h = settled_point n es r.streams h
+
+settled_all : (ws : List Waiting) (r : Reassembly) → AreSettled r.streams → AreSettled (apply_each ws r).streams
+settled_all [] r h = h
+settled_all (w ∷ ws) r h = settled_all ws (apply w r) (settled_applied w r h)
+
+pub settled_begins_anew : (ids : List StreamId) (r : Reassembly) → AreSettled r.streams → AreSettled (reset ids r).streams
+settled_begins_anew ids r h = settled_all (waiting_in r.deferred) _ (settled_reset r.streams h ids)
+
+-- ---- what a record holds
+
+restored_ordered : (ss : List HandoverOrderedStream) → All IsSettledInOrder (values_of (ordered_entries ss))
+restored_ordered [] = All-nil IsSettledInOrder
+restored_ordered (s ∷ ss) = All-cons IsSettledInOrder (record { next = origin + s.next_ssn; held = [] }) (values_of (ordered_entries ss)) (record { order = tt; none = tt }) (restored_ordered ss)
+
+restored_unordered : (ss : List HandoverUnorderedStream) → All IsSettled (values_of (unordered_entries ss))
+restored_unordered [] = All-nil IsSettled
+restored_unordered (s ∷ ss) = All-cons IsSettled fresh_unordered (values_of (unordered_entries ss)) (record { order = tt; none = tt }) (restored_unordered ss)
+
+pub settled_restored : (rx : Receive) (r : Reassembly) → AreSettled (restored rx r).streams
+settled_restored rx r = record { ordered = restored_ordered rx.ordered_streams; unordered = restored_unordered rx.unordered_streams }

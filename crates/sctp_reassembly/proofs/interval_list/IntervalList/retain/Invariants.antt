@@ -1,0 +1,17 @@
+use Rattle.std.proofs.Common.{◌≡◌, ℕ, ◌+◌, ◌-◌, ◌<◌, ◌≤◌, length, take}
+use Rattle.sctp_reassembly.specs.Runs.{from_rank}
+use Rattle.sctp_reassembly.specs.Held.{rank_of, NoneComplete, intervals_of, bytes_of}
+use Rattle.sctp_reassembly.specs.Intervals.{held_of, lists_of, entries_of, IsKept}
+use Rattle.sctp_reassembly.specs.Key.{rank_at}
+use Rattle.sctp_reassembly.proofs.interval_list.IntervalList.retain.Given as goal
+
+abbrev pub invariant-loop-key : goal.invariant-loop-key
+invariant-loop-key g l = record {
+  kept : IsKept (held_of g.K.ReassemblyKey.number g.K.ReassemblyKey.index) l.self-inside.intervals.items l.self-inside.bytes;
+  same : from_rank rank_of (rank_at g.K.ReassemblyKey.number g.K.ReassemblyKey.index l.key) (entries_of (held_of g.K.ReassemblyKey.number g.K.ReassemblyKey.index) l.self-inside.intervals.items) ≡ from_rank rank_of (rank_at g.K.ReassemblyKey.number g.K.ReassemblyKey.index l.key) l.fn.self;
+  fewer : bytes_of (entries_of (held_of g.K.ReassemblyKey.number g.K.ReassemblyKey.index) l.self-inside.intervals.items) ≤ bytes_of l.fn.self;
+  none : NoneComplete (intervals_of l.fn.self) → NoneComplete (lists_of (held_of g.K.ReassemblyKey.number g.K.ReassemblyKey.index) l.self-inside.intervals.items);
+}
+
+abbrev pub decreases-loop-key : goal.decreases-loop-key
+decreases-loop-key g l = length (entries_of (held_of g.K.ReassemblyKey.number g.K.ReassemblyKey.index) l.self-inside.intervals.items)

@@ -1,0 +1,9 @@
+use Rattle.std.proofs.Common.{◌≡◌, ◌+◌, ◌-◌, ◌<◌, ◌≤◌, ◌==◌, suc, length, ◌∷◌, ◌++◌, [], ap, sym, ◌∙◌, refl, arith, take, drop, true, false, not, None, rules}
+use Rattle.sctp_reassembly.proofs.ListLemmas.{none_more}
+use Rattle.sctp_reassembly.specs.Intervals.{held_of}
+use Rattle.sctp_reassembly.proofs.interval_list.place_in_turn.Goals as goal
+
+pub loop-place-preserved : goal.loop-place-preserved
+loop-place-preserved g c =
+    let told : c.is_in_turn.result ≡ false = search rules in
+    record { within = omega arith; before = none_more (held_of g.K.ReassemblyKey.number g.K.ReassemblyKey.index) c.args.number c.loop-place.place c.args.intervals.now c.index-intervals-place.result c.is_in_turn.result (omega arith) c.index-intervals-place.is c.is_in_turn.ensures told c.loop-place.invariant.before }

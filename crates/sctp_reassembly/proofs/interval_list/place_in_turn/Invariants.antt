@@ -1,0 +1,13 @@
+use Rattle.std.proofs.Common.{◌≡◌, ℕ, ◌+◌, ◌-◌, ◌<◌, ◌≤◌, length, take}
+use Rattle.sctp_reassembly.specs.Held.{NoneInTurn}
+use Rattle.sctp_reassembly.specs.Intervals.{held_of, lists_of}
+use Rattle.sctp_reassembly.proofs.interval_list.place_in_turn.Given as goal
+
+abbrev pub invariant-loop-place : goal.invariant-loop-place
+invariant-loop-place g l = record {
+  within : l.place ≤ length l.intervals;
+  before : NoneInTurn l.number (lists_of (held_of g.K.ReassemblyKey.number g.K.ReassemblyKey.index) (take l.place l.intervals));
+}
+
+abbrev pub decreases-loop-place : goal.decreases-loop-place
+decreases-loop-place g l = length l.intervals - l.place

@@ -1,0 +1,14 @@
+use Rattle.std.proofs.Common.{ap, map, arith}
+use Rattle.sctp_reassembly.proofs.PlaceLemmas.{lists_set_same, lists_changed, run_front}
+use Rattle.std.proofs.lemmas.Result.{err_from_is_err_and}
+use Rattle.sctp_reassembly.specs.Intervals.{held_of}
+use Rattle.sctp_reassembly.proofs.interval_list.put_before.Goals as goal
+
+pub returns-in_err-push_front-clause-err : goal.returns-in_err-push_front-clause-err
+returns-in_err-push_front-clause-err g c =
+    let p = err_from_is_err_and c.from_residual.result c.from_residual.ensures.1 in
+    rw p.1 (lists_set_same (held_of g.K.ReassemblyKey.number g.K.ReassemblyKey.index) _ _ c.index_mut.result.now _ (omega arith) c.index_mut.ensures.value (ap (map (held_of g.K.ReassemblyKey.number g.K.ReassemblyKey.index)) c.in_err-push_front.ensures.items))
+
+pub returns-clause-ok : goal.returns-clause-ok
+returns-clause-ok g c ps qs i is at =
+    lists_changed (held_of g.K.ReassemblyKey.number g.K.ReassemblyKey.index) _ ps qs i c.index_mut.result.now _ _ _ is at c.index_mut.ensures.value (λ e. run_front (held_of g.K.ReassemblyKey.number g.K.ReassemblyKey.index) c.push_front.new.self.items c.index_mut.result.now.entries.items i c.args.entry c.in_ok-push_front.ensures.items (ap (λ t. t.entries.items) e))

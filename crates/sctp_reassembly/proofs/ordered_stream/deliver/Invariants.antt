@@ -1,0 +1,16 @@
+use Rattle.std.proofs.Common.{◌≡◌, ◌+◌, ◌≤◌, ◌++◌, length}
+use Rattle.sctp_reassembly.specs.Held.{bytes_of, intervals_of}
+use Rattle.sctp_reassembly.specs.Delivery.{deliver, ready_bytes, Extends}
+use Rattle.sctp_reassembly.proofs.ordered_stream.deliver.Given as goal
+
+abbrev pub invariant-loop-interval : goal.invariant-loop-interval
+invariant-loop-interval g l = record {
+  stream : (deliver l.next l.list).stream ≡ (deliver l.fn.next l.fn.list).stream;
+  messages : l.ready ++ (deliver l.next l.list).messages ≡ l.fn.ready ++ (deliver l.fn.next l.fn.list).messages;
+  onward : l.fn.next ≤ l.next;
+  kept : Extends l.fn.ready l.ready;
+  bytes : bytes_of l.list + ready_bytes l.ready ≤ bytes_of l.fn.list + ready_bytes l.fn.ready;
+}
+
+abbrev pub decreases-loop-interval : goal.decreases-loop-interval
+decreases-loop-interval g l = length (intervals_of l.list)

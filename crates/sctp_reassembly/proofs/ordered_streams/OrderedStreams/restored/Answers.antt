@@ -1,0 +1,12 @@
+use Rattle.std.proofs.Common.{[], ◌+◌, refl, ap, sym, ◌∙◌}
+use Rattle.sctp_serial.specs.Unwrapped.{origin}
+use Rattle.sctp_state.specs.declared.api.handover.HandoverOrderedStream.{HandoverOrderedStream}
+use Rattle.sctp_reassembly.specs.Held.{bytes_of}
+use Rattle.sctp_reassembly.specs.Delivery.{OrderedStream, fresh_ordered}
+use Rattle.sctp_reassembly.specs.Streams.{ordered_bytes}
+use Rattle.sctp_reassembly.proofs.RestoredLemmas.{weightless}
+use Rattle.sctp_reassembly.proofs.ordered_streams.OrderedStreams.restored.Goals as goal
+
+pub invariant_of-result : goal.invariant_of-result
+invariant_of-result g c =
+    sym (ap ordered_bytes c.in_ok-read.ensures ∙ weightless (λ (s : HandoverOrderedStream). s.id) (λ (s : HandoverOrderedStream). record { next = origin + s.next_ssn; held = [] }) (λ (s : OrderedStream). bytes_of s.held) (λ r. refl) c.args.records.now)

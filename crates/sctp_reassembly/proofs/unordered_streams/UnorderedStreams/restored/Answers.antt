@@ -1,0 +1,12 @@
+use Rattle.std.proofs.Common.{[], ◌+◌, refl, ap, sym, ◌∙◌}
+use Rattle.sctp_serial.specs.Unwrapped.{origin}
+use Rattle.sctp_state.specs.declared.api.handover.HandoverUnorderedStream.{HandoverUnorderedStream}
+use Rattle.sctp_reassembly.specs.Held.{bytes_of}
+use Rattle.sctp_reassembly.specs.Delivery.{UnorderedStream, fresh_unordered}
+use Rattle.sctp_reassembly.specs.Streams.{unordered_bytes}
+use Rattle.sctp_reassembly.proofs.RestoredLemmas.{weightless}
+use Rattle.sctp_reassembly.proofs.unordered_streams.UnorderedStreams.restored.Goals as goal
+
+pub invariant_of-result : goal.invariant_of-result
+invariant_of-result g c =
+    sym (ap unordered_bytes c.in_ok-read.ensures ∙ weightless (λ (s : HandoverUnorderedStream). s.id) (λ (s : HandoverUnorderedStream). fresh_unordered) (λ (s : UnorderedStream). bytes_of s.held) (λ r. refl) c.args.records.now)

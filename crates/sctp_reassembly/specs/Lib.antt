@@ -1,0 +1,13 @@
+pub mod Runs
+pub mod Key
+pub mod KeyLaws
+pub mod Held
+pub mod Intervals
+pub mod Delivery
+pub mod Streams
+pub mod ReassemblyQueue
+pub mod Forms
+pub mod WaitingViews
+pub mod ReassemblyHandover
+pub mod Settled
+pub mod Ready

@@ -1,0 +1,195 @@
+//! A stream whose messages become ready in the order of their numbers.
+
+ghost use Rattle.std.specs.Prelude.{◌≡◌, ℕ, suc, ◌+◌, ◌<◌, ◌≤◌, ◌^◌, ◌++◌, max, length, OnOk, OnErr, IfOk, [], true, false, nat_lt};
+ghost use Rattle.sctp_serial.specs.Unwrapped.{origin};
+ghost use Rattle.sctp_reassembly.specs.Held.{bytes_of, rank_of, intervals_of, NoneInTurn};
+ghost use Rattle.sctp_reassembly.specs.Key.{rank_at};
+ghost use Rattle.sctp_reassembly.specs.Intervals.{held};
+ghost use Rattle.sctp_reassembly.specs.Runs.{with_item, from_rank};
+ghost use Rattle.sctp_reassembly.specs.Delivery.{deliver, ordered_arrival, ready_bytes, Extends};
+
+use crate::interval_list::IntervalList;
+use crate::message::message_of;
+use crate::ready_messages::ReadyMessages;
+use crate::reassembly_key::ReassemblyKey;
+use sctp_chunk::Data;
+use std::alloc::{AllocError, Global};
+use std::marker::Model;
+
+/// The number of a stream's first message. Numbers may lie below it, as those of messages from before a reset.
+pub const FIRST: u64 = 1 << 32;
+
+/// The fragments of a stream's ordered messages, and which message is next.
+#[derive(Drop)]
+pub struct OrderedStream<K: ReassemblyKey> {
+    alloc: Global,
+    // wide enough for the number behind that of any key
+    next: u128,
+    list: IntervalList<K>,
+    // whether nothing in the list is in turn; not so after want of memory
+    is_settled: bool,
+}
+
+impl<K: ReassemblyKey> Model for OrderedStream<K> {
+    ghost use Rattle.sctp_reassembly.specs.Delivery.{OrderedStream, IsOrdered};
+
+    ghost Value = { OrderedStream };
+
+    ghost view = { λ s. record { next = s.next; held = s.list } };
+
+    ghost invariant = { λ s. IsOrdered (record { next = s.next; held = s.list }) s.is_settled };
+}
+
+// Makes the complete messages ready that are in turn, one after the other.
+#[tactic(auto, using(crate::proofs::ExtendsLemmas::extends_none, crate::proofs::ExtendsLemmas::extends_both))]
+fn deliver<K: ReassemblyKey>(
+    alloc: Global,
+    next: &mut u128,
+    list: &mut IntervalList<K>,
+    ready: &mut ReadyMessages,
+) -> Result<(), AllocError>
+    requires { bytes_of list.old + ready_bytes ready.old < 2 ^ 64 }
+    ensures next { OnOk result (next.new ≡ (deliver next.old list.old).stream.next) }
+    ensures held { OnOk result (list.new ≡ (deliver next.old list.old).stream.held) }
+    ensures ready { OnOk result (ready.new ≡ ready.old ++ (deliver next.old list.old).messages) }
+    ensures settled { OnOk result (NoneInTurn next.new (intervals_of list.new)) }
+    ensures onward { next.old ≤ next.new }
+    ensures kept { Extends ready.old ready.new }
+    ensures bytes { bytes_of list.new + ready_bytes ready.new ≤ bytes_of list.old + ready_bytes ready.old }
+{
+    while let Some(interval) = list.pop_front_if_complete_and(*next) {
+        let number = interval.first().key.number();
+        let message = message_of(alloc, &interval)?;
+        ready.push(message)?;
+        *next = number as u128 + 1;
+    }
+    Ok(())
+}
+
+// Adds a fragment, and says whether the interval that took it is in turn.
+fn add_in<K: ReassemblyKey>(
+    list: &mut IntervalList<K>,
+    key: K,
+    fragment: Data,
+    next: u128,
+) -> Result<bool, AllocError>
+    requires { bytes_of list.old + length fragment.payload.items < 2 ^ 64 }
+    ensures value { OnOk result (list.new ≡ with_item rank_of (held (K.number key) (K.index key) fragment) list.old) }
+    ensures none { IfOk result (λ turn. turn ≡ false → NoneInTurn next (intervals_of list.old) → NoneInTurn next (intervals_of list.new)) }
+    ensures bytes { bytes_of list.new ≤ bytes_of list.old + length fragment.payload.items }
+    ensures err { OnErr result (list.new ≡ list.old) }
+{
+    let added = list.add(key, fragment)?;
+    match added {
+        Some(place) => Ok(list.is_in_turn_at(place, next)),
+        None => Ok(false),
+    }
+}
+
+// Whether nothing is in turn: nothing was before, and no interval came to be.
+fn stays_settled(is_settled: bool, is_turn: bool) -> bool
+    ensures settled { result ≡ true → is_settled ≡ true }
+    ensures turn { result ≡ true → is_turn ≡ false }
+{
+    is_settled && !is_turn
+}
+
+impl<K: ReassemblyKey> OrderedStream<K> {
+    ghost use Rattle.sctp_reassembly.specs.Delivery.{fresh_ordered, ordered_arrival, ordered_forward};
+
+    /// A stream of which nothing came.
+    pub fn new(alloc: Global) -> OrderedStream<K>
+        ensures { result ≡ fresh_ordered }
+    {
+        OrderedStream {
+            alloc,
+            next: FIRST as u128,
+            list: IntervalList::new(alloc),
+            is_settled: true,
+        }
+    }
+
+    /// A stream of which nothing is held, and whose next message has this number.
+    pub fn restored(alloc: Global, next: u128) -> OrderedStream<K>
+        requires { origin ≤ next }
+        ensures { result ≡ record { next = next; held = [] } }
+    {
+        OrderedStream {
+            alloc,
+            next,
+            list: IntervalList::new(alloc),
+            is_settled: true,
+        }
+    }
+
+    /// Whether fragments are held.
+    pub fn is_held(&self) -> bool
+        ensures { result ≡ nat_lt 0 (length self.now.held) }
+    {
+        !self.list.is_empty()
+    }
+
+    /// The number of the message that becomes ready next.
+    pub fn next(&self) -> u128
+        ensures value { result ≡ self.now.next }
+        ensures range { origin ≤ result }
+    {
+        self.next
+    }
+
+    /// How many bytes of payload are held.
+    pub fn queued_bytes(&self) -> usize
+        ensures { result ≡ bytes_of self.now.held }
+    {
+        self.list.total_bytes()
+    }
+
+    /// Adds a fragment, unless its message is below the next one; what is in turn then becomes ready. Takes a search by
+    /// halves, unless the fragment completes the next message.
+    ///
+    /// Without memory the fragment, or a message that was in turn, may be lost; what was ready stays ready.
+    #[tactic(auto, using(crate::proofs::ExtendsLemmas::extends_none))]
+    pub fn add(
+        &mut self,
+        key: K,
+        fragment: Data,
+        ready: &mut ReadyMessages,
+    ) -> Result<(), AllocError>
+        requires { bytes_of self.old.held + ready_bytes ready.old + length fragment.payload.items < 2 ^ 64 }
+        ensures ok { OnOk result (self.new ≡ (ordered_arrival (held (K.number key) (K.index key) fragment) self.old).stream) }
+        ensures ready { OnOk result (ready.new ≡ ready.old ++ (ordered_arrival (held (K.number key) (K.index key) fragment) self.old).messages) }
+        ensures kept { Extends ready.old ready.new }
+        ensures bytes { bytes_of self.new.held + ready_bytes ready.new ≤ bytes_of self.old.held + ready_bytes ready.old + length fragment.payload.items }
+    {
+        if (key.number() as u128) < self.next {
+            return Ok(());
+        }
+        let is_turn = add_in(&mut self.list, key, fragment, self.next)?;
+        self.is_settled = stays_settled(self.is_settled, is_turn);
+        if self.is_settled {
+            return Ok(());
+        }
+        deliver(self.alloc, &mut self.next, &mut self.list, ready)?;
+        self.is_settled = true;
+        Ok(())
+    }
+
+    /// Drops the messages up to the number before that of the key, and moves the next number to it, never back. What is in
+    /// turn then becomes ready.
+    ///
+    /// Without memory a message that was in turn may be lost; what was ready stays ready.
+    pub fn forward(&mut self, first: K, ready: &mut ReadyMessages) -> Result<(), AllocError>
+        requires { bytes_of self.old.held + ready_bytes ready.old < 2 ^ 64 }
+        ensures ok { (n : ℕ) → K.number first ≡ suc n → K.index first ≡ 0 → OnOk result (self.new ≡ (ordered_forward n self.old).stream) }
+        ensures ready { (n : ℕ) → K.number first ≡ suc n → K.index first ≡ 0 → OnOk result (ready.new ≡ ready.old ++ (ordered_forward n self.old).messages) }
+        ensures kept { Extends ready.old ready.new }
+        ensures bytes { bytes_of self.new.held + ready_bytes ready.new ≤ bytes_of self.old.held + ready_bytes ready.old }
+    {
+        self.is_settled = false;
+        self.list.retain(first);
+        self.next = self.next.max(first.number() as u128);
+        deliver(self.alloc, &mut self.next, &mut self.list, ready)?;
+        self.is_settled = true;
+        Ok(())
+    }
+}

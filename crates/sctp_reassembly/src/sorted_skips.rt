@@ -1,0 +1,28 @@
+//! Entries of a forward point in the order of their streams.
+
+ghost use Rattle.std.specs.Prelude.{◌≡◌, IfOk};
+ghost use Rattle.sctp_reassembly.specs.Streams.{skipped_id, by_stream};
+
+use sctp_chunk::SkippedStream;
+use std::alloc::{AllocError, Global};
+
+fn stream_id(entry: SkippedStream) -> u16
+    ensures { result ≡ skipped_id entry }
+{
+    match entry {
+        SkippedStream::ForwardTsn(id, _) => id.0,
+        SkippedStream::IForwardTsn(key, _) => key.id().0,
+    }
+}
+
+/// The entries by ascending stream, those of one stream as they came.
+pub(crate) fn by_stream(
+    alloc: Global,
+    entries: &[SkippedStream],
+) -> Result<Vec<SkippedStream>, AllocError>
+    ensures { IfOk result (λ sorted. sorted.items ≡ by_stream entries.now) }
+{
+    let mut sorted = Vec::from_slice(alloc, entries)?;
+    sorted.sort_by_key(|entry| stream_id(*entry))?;
+    Ok(sorted)
+}

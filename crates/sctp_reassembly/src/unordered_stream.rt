@@ -1,0 +1,151 @@
+//! A stream whose messages become ready when they are complete.
+
+ghost use Rattle.std.specs.Prelude.{◌≡◌, ℕ, suc, ◌+◌, ◌<◌, ◌≤◌, ◌^◌, ◌++◌, max, length, nat_lt, OnOk, []};
+ghost use Rattle.sctp_serial.specs.Unwrapped.{origin};
+
+use crate::interval_list::IntervalList;
+use crate::message::message_of;
+use crate::ordered_stream::FIRST;
+use crate::ready_messages::ReadyMessages;
+use crate::reassembly_key::ReassemblyKey;
+use sctp_chunk::Data;
+use std::alloc::{AllocError, Global};
+use std::marker::Model;
+
+/// The fragments of a stream's unordered messages.
+#[derive(Drop)]
+pub struct UnorderedStream<K: ReassemblyKey> {
+    alloc: Global,
+    near: u64,
+    passed: u64,
+    list: IntervalList<K>,
+}
+
+impl<K: ReassemblyKey> Model for UnorderedStream<K> {
+    ghost use Rattle.sctp_reassembly.specs.Delivery.{UnorderedStream, IsUnordered};
+
+    ghost Value = { UnorderedStream };
+
+    ghost view = { λ s. record { near = s.near; passed = s.passed; held = s.list } };
+
+    ghost invariant = { λ s. IsUnordered (record { near = s.near; passed = s.passed; held = s.list }) };
+}
+
+ghost use Rattle.sctp_reassembly.specs.Runs.{with_item};
+ghost use Rattle.sctp_reassembly.specs.Held.{rank_of, bytes_of, intervals_of, is_complete, left_by, NoneComplete};
+ghost use Rattle.sctp_reassembly.specs.Intervals.{held};
+ghost use Rattle.sctp_reassembly.specs.Delivery.{completed, ready_bytes, Extends};
+
+// Adds a fragment, and makes the message ready that it completes.
+#[tactic(auto, using(crate::proofs::ExtendsLemmas::extends_none))]
+fn take_in<K: ReassemblyKey>(
+    alloc: Global,
+    list: &mut IntervalList<K>,
+    key: K,
+    fragment: Data,
+    ready: &mut ReadyMessages,
+) -> Result<(), AllocError>
+    requires room { bytes_of list.old + ready_bytes ready.old + length fragment.payload.items < 2 ^ 64 }
+    requires settled { NoneComplete (intervals_of list.old) }
+    ensures held { OnOk result (list.new ≡ left_by is_complete (with_item rank_of (held (K.number key) (K.index key) fragment) list.old)) }
+    ensures ready { OnOk result (ready.new ≡ ready.old ++ completed (with_item rank_of (held (K.number key) (K.index key) fragment) list.old)) }
+    ensures settled { NoneComplete (intervals_of list.new) }
+    ensures kept { Extends ready.old ready.new }
+    ensures bytes { bytes_of list.new + ready_bytes ready.new ≤ bytes_of list.old + ready_bytes ready.old + length fragment.payload.items }
+{
+    let added = list.add(key, fragment)?;
+    let Some(place) = added else {
+        return Ok(());
+    };
+    let Some(interval) = list.pop_if_complete(place) else {
+        return Ok(());
+    };
+    let message = message_of(alloc, &interval)?;
+    ready.push(message)
+}
+
+impl<K: ReassemblyKey> UnorderedStream<K> {
+    ghost use Rattle.sctp_reassembly.specs.Delivery.{fresh_unordered, unordered_arrival, unordered_forward, held_from};
+    ghost use Rattle.sctp_reassembly.specs.Key.{rank_at};
+
+    /// A stream of which nothing came.
+    pub fn new(alloc: Global) -> UnorderedStream<K>
+        ensures { result ≡ fresh_unordered }
+    {
+        UnorderedStream {
+            alloc,
+            near: FIRST,
+            passed: 0,
+            list: IntervalList::new(alloc),
+        }
+    }
+
+    /// Whether fragments are held.
+    pub fn is_held(&self) -> bool
+        ensures { result ≡ nat_lt 0 (length self.now.held) }
+    {
+        !self.list.is_empty()
+    }
+
+    /// The last number that came.
+    pub fn near(&self) -> u64
+        ensures value { result ≡ self.now.near }
+        ensures least { origin ≤ result }
+        ensures most { result < 2 ^ 63 }
+    {
+        self.near
+    }
+
+    /// How many bytes of payload are held.
+    pub fn queued_bytes(&self) -> usize
+        ensures { result ≡ bytes_of self.now.held }
+    {
+        self.list.total_bytes()
+    }
+
+    /// Adds a fragment, unless a forward point passed its message; a message that it completes becomes ready. Takes a search
+    /// by halves, unless it does complete one.
+    ///
+    /// Without memory the fragment, or the message that it completes, may be lost; what was ready stays ready.
+    #[tactic(auto, using(crate::proofs::ExtendsLemmas::extends_none))]
+    pub fn add(
+        &mut self,
+        key: K,
+        fragment: Data,
+        ready: &mut ReadyMessages,
+    ) -> Result<(), AllocError>
+        requires room { bytes_of self.old.held + ready_bytes ready.old + length fragment.payload.items < 2 ^ 64 }
+        requires small { K.number key < 2 ^ 63 }
+        ensures ok { OnOk result (self.new ≡ (unordered_arrival (held (K.number key) (K.index key) fragment) self.old).stream) }
+        ensures ready { OnOk result (ready.new ≡ ready.old ++ (unordered_arrival (held (K.number key) (K.index key) fragment) self.old).messages) }
+        ensures kept { Extends ready.old ready.new }
+        ensures bytes { bytes_of self.new.held + ready_bytes ready.new ≤ bytes_of self.old.held + ready_bytes ready.old + length fragment.payload.items }
+    {
+        let number = key.number();
+        self.near = number.max(FIRST);
+        if number < self.passed {
+            return Ok(());
+        }
+        take_in(self.alloc, &mut self.list, key, fragment, ready)
+    }
+
+    /// Drops the messages before that of the key, which later fragments won't bring back.
+    pub fn forward(&mut self, first: K)
+        requires some { 0 < K.number first }
+        requires small { K.number first < 2 ^ 63 }
+        ensures value { (n : ℕ) → K.number first ≡ suc n → K.index first ≡ 0 → self.new ≡ unordered_forward n self.old }
+        ensures bytes { bytes_of self.new.held ≤ bytes_of self.old.held }
+    {
+        self.list.retain(first);
+        self.near = self.near.max(first.number() - 1);
+        self.passed = self.passed.max(first.number());
+    }
+
+    /// Drops the fragments before the key.
+    pub fn forward_to(&mut self, first: K)
+        ensures value { self.new ≡ held_from (rank_at K.number K.index first) self.old }
+        ensures bytes { bytes_of self.new.held ≤ bytes_of self.old.held }
+    {
+        self.list.retain(first);
+    }
+}

@@ -1,8 +1,0 @@
-use Rattle.std.proofs.Common.{◌≡◌, refl, arith}
-use Rattle.sctp_rx.specs.Held.{rank_of, goes_on, begins, ends}
-use Rattle.sctp_rx.proofs.ListLemmas.{first_stops, last_stops}
-use Rattle.sctp_rx.proofs.RunLemmas.{runs_of-around}
-use Rattle.sctp_rx.proofs.interval_laws.messages_are_intervals.Goals as goal
-
-pub returns : goal.returns
-returns c front run back h = runs_of-around rank_of goes_on begins ends first_stops last_stops front run back h

@@ -1,7 +1,0 @@
-use Rattle.std.proofs.Common.{arith}
-use Rattle.sctp_rx.proofs.ListLemmas.{length-kept}
-use Rattle.sctp_rx.specs.Intervals.{held_of}
-use Rattle.sctp_rx.proofs.interval_list.IntervalList.len.Goals as goal
-
-pub returns : goal.returns
-returns g c = let n = length-kept (held_of g.K.ReassemblyKey.number g.K.ReassemblyKey.index) c.self.inside.intervals.items c.args.self.now c.self.invariant.runs c.self.view_is in omega (arith, n)

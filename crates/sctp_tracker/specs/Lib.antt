@@ -1,0 +1,5 @@
+pub mod Seen
+pub mod SeenSteps
+pub mod Tracker
+pub mod Sack
+pub mod TrackerHandover

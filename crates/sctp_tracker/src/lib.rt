@@ -1,0 +1,6 @@
+//! Which TSNs came from the peer, and when they are acknowledged (RFC 9260 section 6.2, RFC 3758).
+#![tactic(auto)]
+
+pub mod data_tracker;
+
+pub use data_tracker::DataTracker;
