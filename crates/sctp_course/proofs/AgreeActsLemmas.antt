@@ -9,7 +9,7 @@ use Rattle.sctp_table.specs.Packets.{Packet, fits, added_if, add, add_all, heade
 use Rattle.sctp_table.specs.Association.{Tcb}
 use Rattle.sctp_table.specs.Sending.{data_chunk_of, data_chunks}
 use Rattle.sctp_table.specs.Laws.{Packing}
-use Rattle.sctp_association_laws.specs.Mapped.{Carried}
+use Rattle.sctp_table_laws.specs.Mapped.{Carried}
 use Rattle.sctp_course.specs.Acts.{Making, is_plain}
 use Rattle.sctp_course.specs.Course.{as_carried, packets_in, has_connected}
 use Rattle.sctp_course.proofs.ToldLemmas.{is_light}

@@ -14,7 +14,7 @@ use Rattle.sctp_table.specs.Association.{Tcb, Phase, CookieEchoed, Established, 
 use Rattle.sctp_table.specs.Packets.{Packet, new_packet, fits, added_if, add, say, emit}
 use Rattle.sctp_table.specs.Opening.{long_word, connected, cookie_ack, tcb_by, establishes, Verdict, EstablishNew, RestartDetected, SimultaneousInit, MaintainExisting, Discard, InvalidTag, new_if, judged, compared, by_tags, kept, too_late, restarts_in, on_verdict}
 use Rattle.sctp_table.specs.Laws.{NoPacket}
-use Rattle.sctp_association_laws.specs.Mapped.{Carried}
+use Rattle.sctp_table_laws.specs.Mapped.{Carried}
 use Rattle.sctp_course.specs.Acts.{at, nothing, idle, calm, is_opened, is_plain, adds_plain, Keeps}
 use Rattle.sctp_course.specs.Course.{AreGiven}
 use Rattle.sctp_course.specs.Agreement.{Draw, Association, crossed, Has, Notes, association_of, held_in, noted, AreDistinct}

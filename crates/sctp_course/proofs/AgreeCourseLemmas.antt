@@ -14,7 +14,7 @@ use Rattle.sctp_table.specs.Association.{State, Closed, CookieWait, Open, Contex
 use Rattle.sctp_table.specs.Opening.{connect, complains}
 use Rattle.sctp_table.specs.Input.{refusal, counts, taken_if, handled, on_standing, repeats_if, has_data}
 use Rattle.sctp_table.specs.Laws.{Call, Connect, Restore, Packet, called}
-use Rattle.sctp_association_laws.specs.Mapped.{Carried}
+use Rattle.sctp_table_laws.specs.Mapped.{Carried}
 use Rattle.sctp_course.specs.Acts.{calm, nothing}
 use Rattle.sctp_course.specs.Course.{Side, Pair, as_carried, new_side, packets_in, emitted, has_connected, Turn, Calls, Gives, Refuses, took, as_heard, given, foreign_if, turned, goes, AreGiven, start, state_of}
 use Rattle.sctp_course.specs.Agreement.{Association, crossed, Has, Notes, held_in, drawn_to_connect, noted, noted_taking, noted_given, noted_by, Book, blank, new_book, writes, written, AreDistinct, NoneTwice, IsAllowed, AreAllowed, told_since, AgreesAlong, EndsAgree}

@@ -17,7 +17,7 @@ use Rattle.sctp_table.specs.Sending.{send_cookie}
 use Rattle.sctp_table.specs.Opening.{word, drew_word, long_word, tag_from, tsn_from, next_first, answer, names, agreed_by, cookie_in, t1_cookie, connected, echoed as echoed_by, on_read_cookie}
 use Rattle.sctp_table.specs.Input.{hear}
 use Rattle.sctp_table.specs.Laws.{Call, Packet as Given, NoPacket}
-use Rattle.sctp_association_laws.specs.Mapped.{Carried}
+use Rattle.sctp_table_laws.specs.Mapped.{Carried}
 use Rattle.sctp_course.specs.Acts.{Making, idle, calm, nothing, echoing, IsHeard, Keeps}
 use Rattle.sctp_course.specs.Course.{AreGiven}
 use Rattle.sctp_course.specs.Agreement.{Draw, Association, Has, Notes, association_of, held_in, two_drawn, one_drawn, drawn_for, noted, AreDistinct}

@@ -11,7 +11,7 @@ use Rattle.sctp_state.specs.Cookie.{Cookie, CapabilitiesFit, read_cookie}
 use Rattle.sctp_table.specs.Association.{Tcb, Phase, CookieEchoed, Established, ShutdownPending, ShutdownSent, ShutdownReceived, ShutdownAckSent, State, Closed, CookieWait, Open}
 use Rattle.sctp_table.specs.Sending.{is_alone}
 use Rattle.sctp_table.specs.Opening.{cookie_in}
-use Rattle.sctp_association_laws.specs.Mapped.{Carried}
+use Rattle.sctp_table_laws.specs.Mapped.{Carried}
 use Rattle.sctp_course.specs.Acts.{is_plain}
 use Rattle.sctp_course.specs.Agreement.{Draw, Association, crossed, Has, association_of, AreDistinct}
 use Rattle.sctp_course.proofs.JoinLemmas.{kept_in}

@@ -14,7 +14,7 @@ use Rattle.sctp_table.specs.Association.{Tcb, CookieEchoed, State, Closed, Cooki
 use Rattle.sctp_table.specs.Packets.{Packet, add}
 use Rattle.sctp_table.specs.Opening.{tsn_from, tag_from, word, drew_word, t1_init, connect, cookie_for, agreed_by, init_ack_of, answer, next_first, cookie_in}
 use Rattle.sctp_table.specs.Laws.{NoPacket, Packet as Given}
-use Rattle.sctp_association_laws.specs.Mapped.{Carried}
+use Rattle.sctp_table_laws.specs.Mapped.{Carried}
 use Rattle.sctp_course.specs.Acts.{Making, at, nothing, idle, calm, echoing, Keeps}
 use Rattle.sctp_course.specs.Course.{has_connected, AreGiven}
 use Rattle.sctp_course.specs.Agreement.{Draw, Association, crossed, Has, association_of, two_drawn, AreDistinct}

@@ -12,7 +12,7 @@ use Rattle.sctp_state.specs.Options.{Options}
 use Rattle.sctp_table.specs.Association.{State, Closed, CookieWait, Open, Endpoint}
 use Rattle.sctp_table.specs.Input.{my_tag, abort_flag, complete_flag, has_shutdown_ack, begins_with_cookie, is_single_init, plain_refusal, refusal_by, refusal, Heard, hear, hear_all, hear_rest, has_data, repeats_if, on_standing, ended, handled, counts}
 use Rattle.sctp_table.specs.Laws.{NoPacket}
-use Rattle.sctp_association_laws.specs.Mapped.{Carried}
+use Rattle.sctp_table_laws.specs.Mapped.{Carried}
 use Rattle.sctp_course.specs.Acts.{calm, Keeps}
 use Rattle.sctp_course.specs.Course.{AreGiven}
 use Rattle.sctp_course.specs.Agreement.{Draw, Association, Notes, drawn_for, noted, noted_after, noted_hearing, noted_taking, AreDistinct}

@@ -18,8 +18,8 @@ use Rattle.sctp_table.specs.Association.{Tcb, Phase, State, Closed, CookieWait, 
 use Rattle.sctp_table.specs.Handover.{method_if}
 use Rattle.sctp_table.specs.Opening.{queue_anew, queue_if, other_mode, queue_for}
 use Rattle.sctp_table.specs.Laws.{Call}
-use Rattle.sctp_association_laws.specs.HandoverRoundTrip.{IsConnected, IsNumberedOnce, CallsNumberOnce}
-use Rattle.sctp_association_laws.proofs.HeardLemmas.{IsByte, word_in_fits}
+use Rattle.sctp_table_laws.specs.HandoverRoundTrip.{IsConnected, IsNumberedOnce, CallsNumberOnce}
+use Rattle.sctp_table_laws.proofs.HeardLemmas.{IsByte, word_in_fits}
 use Rattle.sctp_course.specs.Acts.{IsHeard, IsEchoed}
 use Rattle.sctp_course.specs.Asked.{IsAssociated, IsOrdered, IsAsked, NamesPeer, HandsIn}
 use Rattle.sctp_course.proofs.StayLemmas.{Lasts, lasts_same}

@@ -18,8 +18,8 @@ use Rattle.sctp_table.specs.Association.{Context, Standing, with_context, Endpoi
 use Rattle.sctp_table.specs.Calls.{shown_state, refusal, refusal_of, queued, offered, offer, offer_all, sent_if}
 use Rattle.sctp_table.specs.Handover.{refusal_in, taken_as, restored_unless}
 use Rattle.sctp_table.specs.Laws.{Call, Connect, Close, Shutdown, Send, SendMany, ResetStreams, TakeMessage, SetLowThreshold, SetPriority, SetMaxMessageSize, Advance, HandOver, Restore, Packet, NoPacket, called}
-use Rattle.sctp_association_laws.specs.HandoverRoundTrip.{IsNumberedOnce, standing, HandoverGoesOn, MadeConnected, CallsNumberOnce}
-use Rattle.sctp_association_laws.specs.Lifecycles.{is_restore}
+use Rattle.sctp_table_laws.specs.HandoverRoundTrip.{IsNumberedOnce, standing, HandoverGoesOn, MadeConnected, CallsNumberOnce}
+use Rattle.sctp_table_laws.specs.Lifecycles.{is_restore}
 use Rattle.sctp_course.specs.Acts.{IsOffered, alone, among}
 use Rattle.sctp_course.specs.Asked.{IsOrdered, IsAsked, IsAsAsked, HandsIn, offers, NewEndsAreAsAsked, EachCallKeepsEndsAsAsked, NumbersOn, EachCallNumbersOnce, Use, Calls, Takes, used, reached, MayUse, offers_in, offers_along, EachEndGoesOn}
 use Rattle.sctp_course.proofs.ActsLemmas.{keeps_call}

@@ -18,7 +18,7 @@ use Rattle.sctp_send_queue.specs.Restored.{message_from, is_on, messages_from, s
 use Rattle.sctp_send_queue.specs.InOrder.{has_rest}
 use Rattle.sctp_send_queue.specs.TakenUp.{is_numbered_as_sent}
 use Rattle.sctp_send_queue.proofs.TakenUpLemmas.{restored_in_order}
-use Rattle.sctp_association_laws.proofs.HandoverAgainLemmas.{heard_mode, read_again}
+use Rattle.sctp_table_laws.proofs.HandoverAgainLemmas.{heard_mode, read_again}
 use Rattle.sctp_course.specs.Asked.{IsOrdered, IsRecord}
 use Rattle.sctp_course.proofs.AskedKeepsLemmas.{TakesUp}
 

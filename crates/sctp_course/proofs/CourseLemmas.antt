@@ -16,7 +16,7 @@ use Rattle.sctp_table.specs.Association.{State, Endpoint}
 use Rattle.sctp_table.specs.Opening.{complains}
 use Rattle.sctp_table.specs.Input.{refusal, counts, taken_if}
 use Rattle.sctp_table.specs.Laws.{Call, Packet, called, endings}
-use Rattle.sctp_association_laws.specs.Mapped.{Carried}
+use Rattle.sctp_table_laws.specs.Mapped.{Carried}
 use Rattle.sctp_course.specs.Acts.{calm, nothing, IsHeard}
 use Rattle.sctp_course.specs.Course.{Side, Pair, as_carried, new_side, packets_in, emitted, has_connected, Turn, Calls, Gives, Refuses, took, as_heard, given, foreign_if, turned, goes, run, MayCall, MayTurn, side_of, FollowsTheRules, HasNotEnded, AreGiven, start, state_of, AreJoined}
 use Rattle.sctp_course.proofs.UntilLemmas.{endings_both, until_end}

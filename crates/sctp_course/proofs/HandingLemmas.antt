@@ -16,7 +16,7 @@ use Rattle.sctp_table.specs.Calls.{ready_in, taken_in}
 use Rattle.sctp_table.specs.Opening.{complains}
 use Rattle.sctp_table.specs.Input.{refusal, counts, taken_if}
 use Rattle.sctp_table.specs.Laws.{Call, TakeMessage, Packet, called, endings}
-use Rattle.sctp_association_laws.specs.Mapped.{Carried}
+use Rattle.sctp_table_laws.specs.Mapped.{Carried}
 use Rattle.sctp_course.specs.Course.{Side, Pair, emitted, Turn, Calls, Gives, Refuses, as_heard, given, foreign_if, turned, goes, run, MayCall, MayTurn, side_of, FollowsTheRules, HasNotEnded, AreGiven, start, state_of}
 use Rattle.sctp_course.specs.Handing.{ready_at, handed_by, handed_at, new_behind, handed, readied, AreHandedInOrder}
 use Rattle.sctp_course.proofs.UntilLemmas.{until_end}

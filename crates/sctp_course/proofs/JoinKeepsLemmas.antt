@@ -16,7 +16,7 @@ use Rattle.sctp_state.specs.Events.{Event, OnConnected}
 use Rattle.sctp_table.specs.Association.{Identity, Tcb, Phase, CookieEchoed, Closed, CookieWait, Open}
 use Rattle.sctp_table.specs.Opening.{word, drew_word, init_of, init_ack_of, cookie_for, agreed_by, cookie_in, Verdict, RestartDetected, SimultaneousInit, MaintainExisting, by_tags, compared, tcb_by}
 use Rattle.sctp_table.specs.Laws.{Packing, Call, Connect, Shutdown, Restore}
-use Rattle.sctp_association_laws.specs.Mapped.{Carried}
+use Rattle.sctp_table_laws.specs.Mapped.{Carried}
 use Rattle.sctp_course.specs.Acts.{Making, end_of, drawn_tag, drawn_first, IsHeard, IsEchoed, connects, echoes, before_opening, after_opening}
 use Rattle.sctp_course.specs.Course.{has_connected, AreGiven}
 use Rattle.sctp_course.proofs.JoinLemmas.{Draw, Both, IsDraw, drawn_is, View, own_draw, peer_draw, both_of, view_of, late_view, init_by, cookie_by, IsInit, IsPlain, IsInitAck, IsEcho, not_both, Faces, some_same, faces_plain, faced_by, faced_at, faces_at, holds_mine, faced_none}

@@ -25,7 +25,7 @@ use Rattle.sctp_tx.specs.Sending.{Filling, offered, appended, turned_if, turned,
 use Rattle.sctp_tx.specs.Retransmission.{Sender}
 use Rattle.sctp_tx.specs.Resent.{may_send_new, resent}
 use Rattle.sctp_outstanding.specs.Resending.{Resent}
-use Rattle.sctp_association_laws.specs.HandoverRoundTrip.{IsNumberedOnce, CallsNumberOnce}
+use Rattle.sctp_table_laws.specs.HandoverRoundTrip.{IsNumberedOnce, CallsNumberOnce}
 use Rattle.sctp_course.proofs.StayLemmas.{Stays, stays_same, stays_then, stays_resent, stays_timed}
 
 -- ---- ids stay sorted

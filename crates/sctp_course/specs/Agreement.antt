@@ -9,7 +9,7 @@ use Rattle.sctp_table.specs.Association.{Tcb, Phase, CookieEchoed, Established, 
 use Rattle.sctp_table.specs.Opening.{tsn_from, tag_from, word, drew_word, next_first}
 use Rattle.sctp_table.specs.Input.{Heard, refusal, counts, on_standing, repeats_if, has_data, hear}
 use Rattle.sctp_table.specs.Laws.{Call, Connect, Restore, Packet}
-use Rattle.sctp_association_laws.specs.Mapped.{Carried}
+use Rattle.sctp_table_laws.specs.Mapped.{Carried}
 use Rattle.sctp_course.specs.Course.{Side, Pair, has_connected, emitted, as_heard, Turn, Calls, Gives, Refuses, turned, goes, AreGiven, start, state_of}
 
 -- a verification tag, and the first TSN that goes with it

@@ -17,8 +17,8 @@ use Rattle.sctp_send_queue.specs.TakenUp.{is_numbered_as_sent}
 use Rattle.sctp_table.specs.Association.{Tcb, State, Closed, CookieWait, Open, Context, Endpoint, fresh}
 use Rattle.sctp_table.specs.Handover.{readiness}
 use Rattle.sctp_table.specs.Laws.{Packing, Call, Send, SendMany, Restore, Packet, called}
-use Rattle.sctp_association_laws.specs.HandoverRoundTrip.{IsConnected, IsNumberedOnce, Fits, standing, GoesOn}
-use Rattle.sctp_association_laws.specs.Lifecycles.{is_restore}
+use Rattle.sctp_table_laws.specs.HandoverRoundTrip.{IsConnected, IsNumberedOnce, Fits, standing, GoesOn}
+use Rattle.sctp_table_laws.specs.Lifecycles.{is_restore}
 
 -- ---- an end
 

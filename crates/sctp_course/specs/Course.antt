@@ -11,7 +11,7 @@ use Rattle.sctp_state.specs.Events.{Event, SendPacket, OnConnected, silent}
 use Rattle.sctp_table.specs.Association.{Identity, Tcb, Phase, State, Open, Endpoint, fresh}
 use Rattle.sctp_table.specs.Input.{refusal}
 use Rattle.sctp_table.specs.Laws.{Call, Connect, Shutdown, Restore, Packet, called, endings}
-use Rattle.sctp_association_laws.specs.Mapped.{Carried}
+use Rattle.sctp_table_laws.specs.Mapped.{Carried}
 
 -- ---- an end, and what it told
 

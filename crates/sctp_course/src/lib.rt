@@ -9,7 +9,7 @@ ghost use Rattle.sctp_course.specs.Opens.{BothConnect, OneConnects};
 ghost use Rattle.sctp_course.specs.Reopens.{AnOldCookieOpens, ARestartOpens};
 ghost use Rattle.sctp_course.specs.Taking.{InvalidPointsChangeNothing, NewDataIsAdded, PointsReachReassembly, RefusedDataChangesNothing};
 
-use sctp_association_laws::a_handover_and_its_restore_give_the_end_back;
+use sctp_table_laws::a_handover_and_its_restore_give_the_end_back;
 
 /// Two new ends go on by any calls, moments, foreign bytes that they refuse, and packets of the other end, each of which may
 /// come again and in any order. Until an association first ends at one of them, what each end's association can do was

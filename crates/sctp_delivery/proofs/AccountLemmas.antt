@@ -8,7 +8,7 @@ use Rattle.sctp_tx_rules.specs.Led.{given_up_by, given_ups, recorded, delivered,
 use Rattle.sctp_tx_rules.proofs.RestLemmas.{has_more, all_records}
 use Rattle.sctp_tx_rules.proofs.SackLemmas.{delivered_more, ids_more}
 use Rattle.sctp_table.specs.Association.{Endpoint}
-use Rattle.sctp_association_laws.specs.Mapped.{Carried}
+use Rattle.sctp_table_laws.specs.Mapped.{Carried}
 use Rattle.sctp_course.specs.Acts.{calm}
 use Rattle.sctp_course.specs.Course.{Side}
 use Rattle.sctp_delivery.specs.GivenUp.{told_of}

@@ -29,7 +29,7 @@ use Rattle.sctp_rx_rules.specs.Receives.{Receives}
 use Rattle.sctp_rx_rules.specs.Near.{ReadsNear, AreFew}
 use Rattle.sctp_table.specs.Association.{Tcb, State, Closed, CookieWait, Open}
 use Rattle.sctp_table.specs.Laws.{Call}
-use Rattle.sctp_association_laws.specs.Mapped.{Carried}
+use Rattle.sctp_table_laws.specs.Mapped.{Carried}
 use Rattle.sctp_course.specs.Acts.{Making, IsHeard, is_response}
 use Rattle.sctp_course.specs.Course.{packets_in, AreGiven}
 use Rattle.sctp_course.proofs.JoinActsLemmas.{Setting}

@@ -15,7 +15,7 @@ use Rattle.sctp_table.specs.Calls.{ready_in, taken_in}
 use Rattle.sctp_table.specs.Opening.{complains}
 use Rattle.sctp_table.specs.Input.{refusal, counts, taken_if}
 use Rattle.sctp_table.specs.Laws.{Call, Connect, Close, Shutdown, Send, SendMany, ResetStreams, TakeMessage, SetLowThreshold, SetPriority, SetMaxMessageSize, Advance, HandOver, Restore, Packet, NoPacket, called, endings}
-use Rattle.sctp_association_laws.specs.Mapped.{Carried}
+use Rattle.sctp_table_laws.specs.Mapped.{Carried}
 use Rattle.sctp_course.specs.Acts.{Making, calm, HasNoEnd}
 use Rattle.sctp_course.specs.Course.{Side, packets_in, emitted, Turn, Calls, Gives, Refuses, as_heard, given, foreign_if, turned, MayCall, MayTurn, AreGiven, state_of}
 use Rattle.sctp_course.specs.Handing.{handed_by}

@@ -10,7 +10,7 @@ use Rattle.sctp_state.proofs.CapabilitiesLemmas.{agreed-exchanged}
 use Rattle.sctp_rx_rules.specs.View.{ready_of}
 use Rattle.sctp_rules.specs.State.{Message, Transfer}
 use Rattle.sctp_rules.specs.Claims.{Grows}
-use Rattle.sctp_association_laws.specs.Mapped.{Carried}
+use Rattle.sctp_table_laws.specs.Mapped.{Carried}
 use Rattle.sctp_table.specs.Input.{refusal}
 use Rattle.sctp_course.specs.Course.{Side, Pair, emitted, Turn, Calls, Gives, Refuses, given, foreign_if, turned, goes, run, MayTurn, side_of, FollowsTheRules, HasNotEnded, AreGiven, state_of}
 use Rattle.sctp_course.specs.Handing.{ready_at, handed_by, handed_at, new_behind, readied}

@@ -12,7 +12,7 @@ use Rattle.sctp_rules.specs.Rules.{Event}
 use Rattle.sctp_rules.specs.Kept.{Kept}
 use Rattle.sctp_table.specs.Association.{State, Closed, CookieWait, Open}
 use Rattle.sctp_table.specs.Shown.{Association, association_in}
-use Rattle.sctp_association_laws.specs.Mapped.{Carried}
+use Rattle.sctp_table_laws.specs.Mapped.{Carried}
 use Rattle.sctp_course.specs.Course.{Side, emitted, state_of}
 use Rattle.sctp_delivery.specs.Windows.{Stamp, queue_of}
 use Rattle.sctp_delivery.proofs.ClaimLemmas.{GoesOn, SaysOut, SaysIn, first_out, first_in, IsFlowing, SendsIn, ReceivesIn}

@@ -11,7 +11,7 @@ use Rattle.sctp_table.specs.Association.{Context, Standing, Endpoint, with_conte
 use Rattle.sctp_table.specs.Sending.{send_in}
 use Rattle.sctp_table.specs.Calls.{shown_state, refusal_of, offer, offer_all}
 use Rattle.sctp_table.specs.Laws.{Call, Send, SendMany, NoPacket, called}
-use Rattle.sctp_association_laws.specs.Mapped.{Carried}
+use Rattle.sctp_table_laws.specs.Mapped.{Carried}
 use Rattle.sctp_course.specs.Acts.{Making, idle, calm, IsHeard, alone, HasNoEnd, KeepsUntilEnd}
 use Rattle.sctp_course.specs.Course.{Side, packets_in, state_of}
 use Rattle.sctp_course.proofs.UntilLemmas.{none_before, Until, frame}

@@ -20,7 +20,7 @@ use Rattle.sctp_tx_rules.proofs.AcceptLemmas.{accept_row}
 use Rattle.sctp_table.specs.Association.{State, Closed, CookieWait, Open, Context}
 use Rattle.sctp_table.specs.Calls.{shown_state, refusal_by, refusal, queued, offer, offer_all}
 use Rattle.sctp_table.specs.Calls as calls
-use Rattle.sctp_association_laws.specs.Mapped.{Carried}
+use Rattle.sctp_table_laws.specs.Mapped.{Carried}
 use Rattle.sctp_course.specs.Course.{packets_in}
 use Rattle.sctp_course.proofs.ToldLemmas.{tells_refused, quiet_refused}
 use Rattle.sctp_delivery.specs.Accepted.{Offer, unless_refused, accepted_of}

@@ -13,7 +13,7 @@ use Rattle.sctp_rules.specs.State.{Message, Transfer, place_of, count}
 use Rattle.sctp_rules.specs.Windows.{Windows}
 use Rattle.sctp_tx_rules.specs.Led.{recorded, delivered}
 use Rattle.sctp_table.specs.Laws.{Call, Packet}
-use Rattle.sctp_association_laws.specs.Mapped.{Carried}
+use Rattle.sctp_table_laws.specs.Mapped.{Carried}
 use Rattle.sctp_course.specs.Acts.{calm, IsHeard}
 use Rattle.sctp_course.specs.Course.{Side, packets_in, as_heard, AreGiven, state_of}
 use Rattle.sctp_course.proofs.AddedLemmas.{all_at}

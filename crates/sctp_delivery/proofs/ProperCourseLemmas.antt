@@ -14,7 +14,7 @@ use Rattle.sctp_table.specs.Sending.{is_alone, send_in}
 use Rattle.sctp_table.specs.Calls.{shown_state, refusal_of, offer, offer_all, sent_if}
 use Rattle.sctp_table.specs.Input.{refusal}
 use Rattle.sctp_table.specs.Laws.{Call, Connect, Close, Shutdown, Send, SendMany, ResetStreams, TakeMessage, SetLowThreshold, SetPriority, SetMaxMessageSize, Advance, HandOver, Restore, Packet, NoPacket, called}
-use Rattle.sctp_association_laws.specs.Mapped.{Carried}
+use Rattle.sctp_table_laws.specs.Mapped.{Carried}
 use Rattle.sctp_course.specs.Acts.{idle, calm, IsOffered, alone, among}
 use Rattle.sctp_course.specs.Course.{Side, Pair, emitted, Turn, Calls, Gives, Refuses, as_heard, took, given, foreign_if, turned, goes, side_of, start, state_of}
 use Rattle.sctp_course.proofs.PacketActsLemmas.{does_send_buffered}

@@ -11,7 +11,7 @@ use Rattle.sctp_send_queue.specs.Queue.{Queued, Stream, Queue, next_number}
 use Rattle.sctp_outstanding.specs.Item.{Item}
 use Rattle.sctp_table.specs.Association.{Context}
 use Rattle.sctp_table.specs.Calls.{refusal, queued, accepted, offered, offer_all}
-use Rattle.sctp_association_laws.specs.Mapped.{Carried}
+use Rattle.sctp_table_laws.specs.Mapped.{Carried}
 use Rattle.sctp_delivery.specs.Accepted.{unless_refused, accepted_of}
 use Rattle.sctp_delivery.specs.Proper.{Acceptance, accepted_then}
 use Rattle.sctp_delivery.proofs.ProperQueueLemmas.{Waits, Stands, Holds, holds_added}

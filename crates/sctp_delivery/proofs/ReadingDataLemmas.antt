@@ -17,7 +17,7 @@ use Rattle.sctp_rx_rules.specs.Read.{Carries}
 use Rattle.sctp_rx_rules.specs.Near.{IsWritten, AreEntries, AreFew}
 use Rattle.sctp_table.specs.Association.{Tcb, Phase, State, Closed, CookieWait, Open}
 use Rattle.sctp_table.specs.Laws.{Call}
-use Rattle.sctp_association_laws.specs.Mapped.{Carried}
+use Rattle.sctp_table_laws.specs.Mapped.{Carried}
 use Rattle.sctp_course.specs.Acts.{Making, in_open, IsHeard, is_response}
 use Rattle.sctp_course.proofs.JoinActsLemmas.{Setting, InvAt}
 use Rattle.sctp_course.proofs.JoinLemmas.{Draw, view_of, both_of, Faces}

@@ -11,7 +11,7 @@ use Rattle.sctp_rules.specs.State.{Message, Receiver, Transfer, IsAmong, count}
 use Rattle.sctp_rules.specs.Kept.{Kept}
 use Rattle.sctp_table.specs.Association.{Tcb, Phase, State, Closed, CookieWait, Open}
 use Rattle.sctp_table.specs.Laws.{Call}
-use Rattle.sctp_association_laws.specs.Mapped.{Carried}
+use Rattle.sctp_table_laws.specs.Mapped.{Carried}
 use Rattle.sctp_course.specs.Acts.{Making, in_open, IsHeard, point_of}
 use Rattle.sctp_course.proofs.JoinActsLemmas.{Setting, InvAt}
 use Rattle.sctp_course.proofs.JoinLemmas.{Draw, view_of, own_draw, Faces}

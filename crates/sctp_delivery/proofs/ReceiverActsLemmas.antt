@@ -22,7 +22,7 @@ use Rattle.sctp_table.specs.Association.{Identity, Tcb, tcb, Phase, CookieEchoed
 use Rattle.sctp_table.specs.Data.{is_full, takes, taken, forwarded}
 use Rattle.sctp_table.specs.Sending.{selective_ack, acknowledged}
 use Rattle.sctp_table.specs.Laws.{Call}
-use Rattle.sctp_association_laws.specs.Mapped.{Carried}
+use Rattle.sctp_table_laws.specs.Mapped.{Carried}
 use Rattle.sctp_course.specs.Acts.{Making, IsHeard, with_chunk, in_open, in_state, drew_one, drew_two, is_opened, PacketAct, begins, adds_plain, emits, complains, counts, before_packets, after_packets, OpeningAct, connects, adds_init, answers_new, answers_waiting, answers_echoed, answers_again, echoes, adds_cookie, establishes, opens, restarts, opens_again, maintains, adds_cookie_ack, before_opening, after_opening, ClosingAct, closes, shuts, shuts_on, before_closing, after_closing, DataAct, takes_data, takes_idata, takes_forward, takes_iforward, before_data, after_data}
 use Rattle.sctp_course.specs.Course.{packets_in}
 use Rattle.sctp_course.proofs.AddedLemmas.{holds_added}

@@ -15,7 +15,7 @@ use Rattle.sctp_table.specs.Association.{Tcb, Phase}
 use Rattle.sctp_table.specs.Packets.{Packet, add_all, header_to, emit_if}
 use Rattle.sctp_table.specs.Requests.{Requests}
 use Rattle.sctp_table.specs.Laws.{Packing}
-use Rattle.sctp_association_laws.specs.Mapped.{Carried}
+use Rattle.sctp_table_laws.specs.Mapped.{Carried}
 use Rattle.sctp_course.specs.Acts.{Making, is_plain, with_chunk, with_packet, in_open}
 use Rattle.sctp_course.specs.Course.{as_carried, packets_in}
 use Rattle.sctp_course.proofs.AddedLemmas.{holds_added, holds_all_added}

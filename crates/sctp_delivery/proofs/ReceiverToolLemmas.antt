@@ -10,7 +10,7 @@ use Rattle.sctp_rx.specs.ReassemblyQueue.{Reassembly}
 use Rattle.sctp_rules.specs.State.{Message, Transfer, IsAmong}
 use Rattle.sctp_rules.specs.Rules.{Event, accept, begin, number, close, give_up, data_comes, late_comes, deliver, send_sack, leave, send_forward, forward_comes, forget, after, run}
 use Rattle.sctp_rx_rules.specs.Receives.{Goes}
-use Rattle.sctp_association_laws.specs.Mapped.{Carried}
+use Rattle.sctp_table_laws.specs.Mapped.{Carried}
 use Rattle.sctp_delivery.proofs.ClaimLemmas.{is_receiving, GoesOn, SaysIn}
 
 -- what becomes ready is a receiver's

@@ -33,7 +33,7 @@ use Rattle.sctp_table.specs.Packets.{Packet, room, add, add_all}
 use Rattle.sctp_table.specs.Sending.{data_chunk_of, data_chunks, is_small, fast_most}
 use Rattle.sctp_table.specs.Acknowledging.{cleaned}
 use Rattle.sctp_table.specs.Laws.{Call}
-use Rattle.sctp_association_laws.specs.Mapped.{Carried}
+use Rattle.sctp_table_laws.specs.Mapped.{Carried}
 use Rattle.sctp_course.specs.Acts.{Making, in_open, with_context, IsHeard, timeout_of, point_of, takes_sack, before_sack, after_sack, expires, adds_forward, sends, sends_fast, before_sending, after_sending, times_out, before_time, after_time}
 use Rattle.sctp_course.specs.Course.{packets_in}
 use Rattle.sctp_course.proofs.AddedLemmas.{holds_added, holds_all_added}

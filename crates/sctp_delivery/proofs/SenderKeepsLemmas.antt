@@ -9,7 +9,7 @@ use Rattle.sctp_table.specs.Acknowledging.{timed_by}
 use Rattle.sctp_table.specs.Requests.{Request, awake, woken}
 use Rattle.sctp_table.specs.Sending.{selective_ack, asked, acknowledged}
 use Rattle.sctp_table.specs.Laws.{Call}
-use Rattle.sctp_association_laws.specs.Mapped.{Carried}
+use Rattle.sctp_table_laws.specs.Mapped.{Carried}
 use Rattle.sctp_rx.specs.Tracker.{ack_timeout}
 use Rattle.sctp_course.specs.Acts.{Making, in_open, in_state, with_chunk, with_context, SackAct, takes_sack, samples, counts_errors, before_sack, after_sack, SendingAct, asks, adds_ack, expires, adds_forward, forwards_later, asks_no_reset, asks_reset, adds_request, sends, sends_fast, before_sending, after_sending, TimeAct, advances, delay_ends, times_out, beats, times_init, times_cookie, times_request, wakes_request, before_time, after_time}
 use Rattle.sctp_course.proofs.JoinActsLemmas.{Setting, InvAt}

@@ -22,7 +22,7 @@ use Rattle.sctp_table.specs.Resets.{on_outcome}
 use Rattle.sctp_table.specs.Data.{taken, forwarded}
 use Rattle.sctp_table.specs.Input.{at_end}
 use Rattle.sctp_table.specs.Laws.{Call, Packing}
-use Rattle.sctp_association_laws.specs.Mapped.{Carried}
+use Rattle.sctp_table_laws.specs.Mapped.{Carried}
 use Rattle.sctp_course.specs.Acts.{Making, is_plain, with_chunk, with_packet, with_context, in_open, PacketAct, begins, adds_plain, emits, complains, counts, before_packets, after_packets, ClosingAct, closes, shuts, shuts_on, before_closing, after_closing, DataAct, takes_data, takes_idata, takes_forward, takes_iforward, before_data, after_data, CallAct, accepts, refuses, takes_message, sets_low_threshold, sets_priority, sets_max_message_size, before_call, after_call, ResetAct, prepares, defers, performs, processes, takes_response, adds_responses, before_reset, after_reset, InputAct, ends_packet, before_input, after_input}
 use Rattle.sctp_course.specs.Course.{packets_in}
 use Rattle.sctp_course.proofs.ToldLemmas.{TellsQuietly, lightly, tells_all, quiet_same, quiet_all, quiet_refused, quiet_threshold}

@@ -22,7 +22,7 @@ use Rattle.sctp_tx_rules.proofs.WholeLemmas.{shown_again}
 use Rattle.sctp_table.specs.Association.{Identity, Tcb, tcb, Phase, CookieEchoed, Established, State, Closed, CookieWait, Open}
 use Rattle.sctp_table.specs.Opening.{long_word, t1_cookie, names, agreed_by, identity_of, queue_if, other_mode, connected}
 use Rattle.sctp_table.specs.Laws.{Call}
-use Rattle.sctp_association_laws.specs.Mapped.{Carried}
+use Rattle.sctp_table_laws.specs.Mapped.{Carried}
 use Rattle.sctp_course.specs.Acts.{Making, end_of, in_open, in_state, with_context, drew_one, drew_two, echoing, opened_by, is_opened, OpeningAct, connects, adds_init, answers_new, answers_waiting, answers_echoed, answers_again, echoes, adds_cookie, establishes, opens, restarts, opens_again, maintains, adds_cookie_ack, before_opening, after_opening}
 use Rattle.sctp_course.specs.Course.{packets_in}
 use Rattle.sctp_course.proofs.JoinActsLemmas.{Setting, InvAt, packets_both}

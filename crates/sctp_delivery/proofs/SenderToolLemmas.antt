@@ -18,7 +18,7 @@ use Rattle.sctp_tx_rules.specs.Led.{given_ups, recorded, is_sending, Leads, deli
 use Rattle.sctp_tx_rules.proofs.LedLemmas.{happens_more, given_more}
 use Rattle.sctp_tx_rules.proofs.SackLemmas.{delivered_more, ids_more}
 use Rattle.sctp_tx_rules.proofs.SendLemmas.{carries_along}
-use Rattle.sctp_association_laws.specs.Mapped.{Carried}
+use Rattle.sctp_table_laws.specs.Mapped.{Carried}
 use Rattle.sctp_course.specs.Acts.{Making}
 use Rattle.sctp_course.specs.Course.{packets_in}
 use Rattle.sctp_course.proofs.ToldLemmas.{is_light, is_quiet, TellsLightly, TellsQuietly}

@@ -10,7 +10,7 @@ use Rattle.sctp_rules.specs.Kept.{Kept}
 use Rattle.sctp_tx_rules.specs.Led.{is_sending}
 use Rattle.sctp_send_queue.specs.Queue.{Queue}
 use Rattle.sctp_table.specs.Association.{State, Endpoint}
-use Rattle.sctp_association_laws.specs.Mapped.{Carried}
+use Rattle.sctp_table_laws.specs.Mapped.{Carried}
 use Rattle.sctp_course.specs.Acts.{calm}
 use Rattle.sctp_course.specs.Course.{Side, packets_in, emitted, took, state_of}
 use Rattle.sctp_course.proofs.JoinActsLemmas.{packets_both}

@@ -7,7 +7,7 @@ use Rattle.sctp_state.specs.Options.{SendOptions}
 use Rattle.sctp_table.specs.Association.{Context}
 use Rattle.sctp_table.specs.Calls.{shown_state, refusal, offer}
 use Rattle.sctp_table.specs.Laws.{Call, Send, SendMany}
-use Rattle.sctp_association_laws.specs.Mapped.{Carried}
+use Rattle.sctp_table_laws.specs.Mapped.{Carried}
 use Rattle.sctp_course.specs.Course.{Side, Pair, Turn, Calls, goes, state_of}
 
 pub record Offer : Type 0 where

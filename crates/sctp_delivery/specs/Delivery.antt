@@ -6,7 +6,7 @@ use Rattle.sctp_state.specs.Events.{Event}
 use Rattle.sctp_state.specs.Options.{Options, plainly}
 use Rattle.sctp_rules.specs.State.{has}
 use Rattle.sctp_tx_rules.specs.Led.{delivered}
-use Rattle.sctp_association_laws.specs.Mapped.{Carried}
+use Rattle.sctp_table_laws.specs.Mapped.{Carried}
 use Rattle.sctp_course.specs.Course.{Pair, Turn, run, side_of, FollowsTheRules, HasNotEnded, AreGiven, start}
 use Rattle.sctp_course.specs.Handing.{readied, text, two_come}
 use Rattle.sctp_course.specs.Opens.{at_first}

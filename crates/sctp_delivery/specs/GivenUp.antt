@@ -7,7 +7,7 @@ use Rattle.sctp_outstanding.specs.Item.{Item}
 use Rattle.sctp_table.specs.Association.{State, Closed, CookieWait, Open, Endpoint}
 use Rattle.sctp_table.specs.Input.{refusal}
 use Rattle.sctp_table.specs.Laws.{Packet, called}
-use Rattle.sctp_association_laws.specs.Mapped.{Carried}
+use Rattle.sctp_table_laws.specs.Mapped.{Carried}
 use Rattle.sctp_course.specs.Course.{Side, Pair, emitted, Turn, Calls, Gives, Refuses, as_heard, goes, state_of}
 use Rattle.sctp_delivery.specs.Windows.{queue_of}
 

@@ -13,7 +13,7 @@ use Rattle.sctp_state.specs.declared.api.GivenUpCause.TheVariants.{Lifetime, Ret
 use Rattle.sctp_table.specs.Association.{Endpoint}
 use Rattle.sctp_table.specs.Input.{refusal}
 use Rattle.sctp_table.specs.Laws.{Send, Advance, Restore, Packet, called}
-use Rattle.sctp_association_laws.specs.Mapped.{Carried}
+use Rattle.sctp_table_laws.specs.Mapped.{Carried}
 use Rattle.sctp_course.specs.Course.{Side, Pair, emitted, Turn, Calls, Gives, Refuses, as_heard, goes, run, side_of, FollowsTheRules, HasNotEnded, start, state_of}
 use Rattle.sctp_course.specs.Opens.{at_first, one_connects}
 use Rattle.sctp_delivery.specs.Accepted.{Offer, accepted_at, accepted}

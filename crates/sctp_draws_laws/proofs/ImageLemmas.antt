@@ -2,9 +2,9 @@
 use Rattle.std.proofs.Common.{◌≡◌, ap, ◌∙◌}
 use Rattle.sctp_table.specs.Association.{Context, Standing, Endpoint}
 use Rattle.sctp_table.specs.Laws.{Packing}
-use Rattle.sctp_association_laws.specs.Mapped.{Carried, map_context, map_standing}
-use Rattle.sctp_association_laws.proofs.OpeningMapsLemmas.{maps_connect}
-use Rattle.sctp_association_laws.proofs.RowMapsLemmas.{maps_on_sack}
+use Rattle.sctp_table_laws.specs.Mapped.{Carried, map_context, map_standing}
+use Rattle.sctp_table_laws.proofs.OpeningMapsLemmas.{maps_connect}
+use Rattle.sctp_table_laws.proofs.RowMapsLemmas.{maps_on_sack}
 use Rattle.sctp_draws.specs.NamedChunks.{Names}
 use Rattle.sctp_draws.specs.Names.{named_standing, under, with_words}
 use Rattle.sctp_draws.proofs.OpeningLemmas.{named_connect}

@@ -6,7 +6,7 @@ use Rattle.sctp_packet.specs.Packet.{HeaderTree}
 use Rattle.sctp_table.specs.Association.{Closed, Standing}
 use Rattle.sctp_table.specs.Acknowledging.{on_sack}
 use Rattle.sctp_table.specs.Opening.{connect}
-use Rattle.sctp_association_laws.specs.Mapped.{Carried, map_standing}
+use Rattle.sctp_table_laws.specs.Mapped.{Carried, map_standing}
 use Rattle.sctp_draws.specs.NamedChunks.{Names, AreNames, flipped, named_sack, named_header, named_chunks}
 use Rattle.sctp_draws.specs.Names.{named_standing, with_words}
 use Rattle.sctp_draws.specs.Laws.{DrawsTwo}

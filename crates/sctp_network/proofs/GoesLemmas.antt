@@ -4,7 +4,7 @@ use Rattle.std.specs.Prelude.{slice_get}
 use Rattle.rand_core.specs.Stream.{Stream}
 use Rattle.sctp_serial.specs.Messages.{Message}
 use Rattle.sctp_state.specs.Options.{SendOptions, defaults}
-use Rattle.sctp_association_laws.specs.FirstRun.{IsSmall}
+use Rattle.sctp_table_laws.specs.FirstRun.{IsSmall}
 use Rattle.sctp_network.specs.declared.world.WorldError.{WorldError}
 use Rattle.sctp_network.specs.declared.world.WorldError.TheVariants as errors
 use Rattle.sctp_network_table.specs.Judge.{A, B, Connect, Send}

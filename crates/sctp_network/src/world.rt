@@ -6,7 +6,7 @@ ghost use Rattle.sctp_state.specs.Options.{IsValid, SendOptions, options_of, def
 ghost use Rattle.sctp_association.specs.Socket.{endpoint};
 ghost use Rattle.sctp_network.specs.declared.world.WorldError.TheVariants.{Memory as no_memory};
 ghost use Rattle.sctp_network_table.specs.World.{Comes, Happens, Runs, Lacks, RunsUpToLack, AreShort, fresh_world, side_of, is_at_rest, Told, ComesTo, after_call, after_time, call_entry, time_entry, clock, settled, news_of};
-ghost use Rattle.sctp_association_laws.specs.FirstRun.{IsSmall};
+ghost use Rattle.sctp_table_laws.specs.FirstRun.{IsSmall};
 ghost use Rattle.sctp_network_table.specs.FirstRun.{opening, crossing, acknowledging, IsFresh, IsOpen, HasCrossed};
 ghost use Rattle.sctp_network_table.specs.Judge.{A, Given};
 ghost use Rattle.sctp_network_course.specs.Composed.{Composes};

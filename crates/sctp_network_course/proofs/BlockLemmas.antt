@@ -15,7 +15,7 @@ use Rattle.sctp_course.specs.Handing.{ready_at, new_behind, handed_by, handed_at
 use Rattle.sctp_delivery.specs.Accepted.{Offer, accepted_at, accepted}
 use Rattle.sctp_delivery.specs.GivenUp.{given_up_at, given_up}
 use Rattle.sctp_tx_rules.specs.Led.{delivered}
-use Rattle.sctp_association_laws.specs.Mapped.{Carried}
+use Rattle.sctp_table_laws.specs.Mapped.{Carried}
 use Rattle.sctp_state.specs.Events.{Event}
 use Rattle.sctp_network_table.specs.Judge as judge
 use Rattle.sctp_network_table.specs.Judge.{End, A, B, Entry, ready_by, ready, handed_out_by, handed_out, given_up_by}

@@ -6,7 +6,7 @@ use Rattle.sctp_table.specs.Input.{refusal}
 use Rattle.sctp_table.specs.Requests.{Outcome, Unsettled, Done, Denied, outcome}
 use Rattle.sctp_table.specs.Resets.{on_outcome}
 use Rattle.sctp_table.specs.Laws.{Call, Advance, Packet, called}
-use Rattle.sctp_association_laws.specs.Mapped.{Carried}
+use Rattle.sctp_table_laws.specs.Mapped.{Carried}
 use Rattle.sctp_course.specs.Acts.{Making, PacketAct, begins, before_packets, after_packets, OpeningAct, connects, before_opening, after_opening, ClosingAct, closes, before_closing, after_closing, DataAct, takes_data, before_data, after_data, SackAct, takes_sack, before_sack, after_sack, SendingAct, asks, before_sending, after_sending, TimeAct, advances, before_time, after_time, CallAct, accepts, before_call, after_call, ResetAct, takes_response, before_reset, after_reset, HandoverAct, leaves, before_handover, after_handover, InputAct, ends_packet, before_input, after_input, Keeps}
 use Rattle.sctp_course.specs.Course.{Side, emitted, Turn, Calls, Gives, Refuses, as_heard, given, foreign_if, turned, state_of}
 use Rattle.sctp_course.proofs.ActsLemmas.{keeps_call}

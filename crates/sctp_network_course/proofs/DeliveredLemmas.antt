@@ -10,8 +10,8 @@ use Rattle.sctp_state.specs.Options.{Options, SendOptions, IsValid}
 use Rattle.sctp_table.specs.Association.{State, Endpoint}
 use Rattle.sctp_table.specs.Laws as table
 use Rattle.sctp_table.specs.Shown.{Association, association_in}
-use Rattle.sctp_association_laws.specs.Mapped.{Carried, map_end, as_written}
-use Rattle.sctp_association_laws.specs.Sound.{OptionsFit}
+use Rattle.sctp_table_laws.specs.Mapped.{Carried, map_end, as_written}
+use Rattle.sctp_table_laws.specs.Sound.{OptionsFit}
 use Rattle.sctp_rx.specs.Delivery as orders
 use Rattle.sctp_course.specs.Course as course
 use Rattle.sctp_course.specs.Course.{Pair, Turn, Calls, emitted, turned, goes, run, state_of, start, HasNotEnded, AreGiven}

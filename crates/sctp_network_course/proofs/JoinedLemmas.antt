@@ -5,8 +5,8 @@ use Rattle.sctp_state.specs.Options.{Options, IsValid}
 use Rattle.sctp_table.specs.Association.{Identity, Tcb, Phase, State, Closed, CookieWait, Open, Endpoint}
 use Rattle.sctp_table.specs.Laws.{endings}
 use Rattle.sctp_table.specs.Shown.{Association, association_in}
-use Rattle.sctp_association_laws.specs.Mapped.{as_written}
-use Rattle.sctp_association_laws.specs.Sound.{OptionsFit}
+use Rattle.sctp_table_laws.specs.Mapped.{as_written}
+use Rattle.sctp_table_laws.specs.Sound.{OptionsFit}
 use Rattle.sctp_course.specs.Course as course
 use Rattle.sctp_course.specs.Course.{Pair, AreGiven, AreCrossed, EndsAreJoined, run, start}
 use Rattle.sctp_network_table.specs.Judge.{End, A, B, Entry, crossed, held}

@@ -12,7 +12,7 @@ use Rattle.sctp_table.specs.Association.{Context, Endpoint}
 use Rattle.sctp_send_queue.specs.Queue.{Queue, added}
 use Rattle.sctp_table.specs.Calls.{refusal, refusals, with_refusal, queued, offered, offer}
 use Rattle.sctp_table.specs.Shown.{Association}
-use Rattle.sctp_association_laws.specs.Mapped.{Carried}
+use Rattle.sctp_table_laws.specs.Mapped.{Carried}
 use Rattle.sctp_delivery.specs.Accepted.{Offer, unless_refused, accepted_of}
 use Rattle.sctp_tx_rules.specs.Led.{delivered_by}
 use Rattle.sctp_network_table.specs.Judge.{End, same_end, same_association, none_unless, all_unless, some_unless, unrefused, Send, Sent, Received, Entry, Associated, Emitted, Happened, GaveUp, BecameReady, ready_by, handed_out_in, handed_out_by, given_up_by, given_up}

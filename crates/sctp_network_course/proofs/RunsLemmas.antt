@@ -6,10 +6,10 @@ use Rattle.std.proofs.lemmas.List.Elements.{All-nil, All-head, All-tail}
 use Rattle.rand_core.specs.Stream.{Stream}
 use Rattle.sctp_state.specs.Options.{Options}
 use Rattle.sctp_table.specs.Association.{Endpoint}
-use Rattle.sctp_association_laws.specs.Mapped.{as_written}
-use Rattle.sctp_association_laws.specs.Sound.{OptionsFit}
-use Rattle.sctp_association_laws.specs.ReadBack.{as_carried}
-use Rattle.sctp_association_laws.proofs.SoundLawsLemmas.{is_new}
+use Rattle.sctp_table_laws.specs.Mapped.{as_written}
+use Rattle.sctp_table_laws.specs.Sound.{OptionsFit}
+use Rattle.sctp_table_laws.specs.ReadBack.{as_carried}
+use Rattle.sctp_table_laws.proofs.SoundLawsLemmas.{is_new}
 use Rattle.sctp_course.specs.Course as course
 use Rattle.sctp_course.specs.Course.{Pair, Turn, Calls, Refuses, has_connected, MayCall, MayTurn, goes, run, start, new_side}
 use Rattle.sctp_network_table.specs.Judge.{End, A, B, Entry, Answer, Called, Call, Connect, Shutdown, Close, Send, SendMany, Receive, Reset, SetPriority, SetMaxMessageSize, SetLowThreshold, HandOver, connected_by, times_connected}

@@ -9,9 +9,9 @@ use Rattle.std.proofs.lemmas.Bool.{or_left}
 use Rattle.sctp_state.specs.Events.{Event, GivenUp}
 use Rattle.sctp_table.specs.Association.{Endpoint}
 use Rattle.sctp_table.specs.Shown.{Association}
-use Rattle.sctp_association_laws.specs.Mapped.{Carried, map_end, as_written}
-use Rattle.sctp_association_laws.specs.Sound.{IsSound}
-use Rattle.sctp_association_laws.specs.ReadBack.{as_carried}
+use Rattle.sctp_table_laws.specs.Mapped.{Carried, map_end, as_written}
+use Rattle.sctp_table_laws.specs.Sound.{IsSound}
+use Rattle.sctp_table_laws.specs.ReadBack.{as_carried}
 use Rattle.sctp_course.specs.Course as course
 use Rattle.sctp_course.specs.Course.{took, emitted}
 use Rattle.sctp_network_table.specs.Judge.{End, same_end, Entry, Called, Given, Foreign, Timed, Associated, Emitted, Happened, GaveUp, BecameReady, held_after, held_from, held, given_up_by, given_up}

@@ -10,7 +10,7 @@ use Rattle.sctp_table.specs.Calls.{shown_state, refusal, ready_in}
 use Rattle.sctp_table.specs.Handover.{readiness}
 use Rattle.sctp_table.specs.Shown.{Association, association_in}
 use Rattle.sctp_table.specs.Laws as table
-use Rattle.sctp_association_laws.specs.Mapped.{Carried, map_end}
+use Rattle.sctp_table_laws.specs.Mapped.{Carried, map_end}
 use Rattle.sctp_course.specs.Course as course
 use Rattle.sctp_course.specs.Course.{Turn, Calls, Gives, Refuses}
 use Rattle.sctp_course.specs.Handing as handing

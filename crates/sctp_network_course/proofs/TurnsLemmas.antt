@@ -22,14 +22,14 @@ use Rattle.sctp_table.specs.Laws.{Call, Packet, NoPacket, called, Packing}
 use Rattle.sctp_table.specs.Hearing.{Hears, heard, not_read, Judges, taken, refused, unread, policy_of}
 use Rattle.sctp_table.specs.Wire.{field_of, word_in, word_at, written}
 use Rattle.sctp_table_laws.proofs.LawsLemmas.{stays_within}
-use Rattle.sctp_association_laws.specs.Mapped.{Carried, map_end, as_written}
-use Rattle.sctp_association_laws.specs.HeardBack.{IsHearable}
-use Rattle.sctp_association_laws.specs.Sound.{IsSound, ArgumentFits}
-use Rattle.sctp_association_laws.specs.ReadBack.{TellsWhatCanBeRead, as_carried, AreBytes}
-use Rattle.sctp_association_laws.proofs.MappedLemmas.{maps_called}
-use Rattle.sctp_association_laws.proofs.HeardBackLemmas.{is_accepted}
-use Rattle.sctp_association_laws.proofs.SoundLawsLemmas.{stays_sound, can_be_read, stays_sound_refused, can_be_read_refused}
-use Rattle.sctp_association_laws.proofs.SoundHeardLemmas.{emitted_fit}
+use Rattle.sctp_table_laws.specs.Mapped.{Carried, map_end, as_written}
+use Rattle.sctp_table_laws.specs.HeardBack.{IsHearable}
+use Rattle.sctp_table_laws.specs.Sound.{IsSound, ArgumentFits}
+use Rattle.sctp_table_laws.specs.ReadBack.{TellsWhatCanBeRead, as_carried, AreBytes}
+use Rattle.sctp_table_laws.proofs.MappedLemmas.{maps_called}
+use Rattle.sctp_table_laws.proofs.HeardBackLemmas.{is_accepted}
+use Rattle.sctp_table_laws.proofs.SoundLawsLemmas.{stays_sound, can_be_read, stays_sound_refused, can_be_read_refused}
+use Rattle.sctp_table_laws.proofs.SoundHeardLemmas.{emitted_fit}
 use Rattle.sctp_course.specs.Course as course
 use Rattle.sctp_course.specs.Course.{Turn, Calls, Refuses, took, emitted, given, foreign_if, turned, as_heard}
 use Rattle.sctp_delivery.specs.GivenUp as giving

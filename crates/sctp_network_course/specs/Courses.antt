@@ -8,9 +8,9 @@ use Rattle.sctp_state.specs.Events.{silent}
 use Rattle.sctp_table.specs.Laws as table
 use Rattle.sctp_table.specs.Hearing.{policy_of}
 use Rattle.sctp_table.specs.Wire.{field_of, word_at}
-use Rattle.sctp_association_laws.specs.Mapped.{Carried, map_event, map_end, as_written}
-use Rattle.sctp_association_laws.specs.Sound.{OptionsFit, ArgumentFits}
-use Rattle.sctp_association_laws.specs.ReadBack.{AreBytes}
+use Rattle.sctp_table_laws.specs.Mapped.{Carried, map_event, map_end, as_written}
+use Rattle.sctp_table_laws.specs.Sound.{OptionsFit, ArgumentFits}
+use Rattle.sctp_table_laws.specs.ReadBack.{AreBytes}
 use Rattle.sctp_course.specs.Course as course
 use Rattle.sctp_course.specs.Course.{Pair, Turn, Calls, Refuses, emitted, goes, run, start}
 use Rattle.sctp_network_table.specs.Judge.{End, A, B, same_end, none_unless, Entry, Emitted, Happened}

@@ -5,7 +5,7 @@ use Rattle.std.specs.List.{flat_map}
 use Rattle.rand_core.specs.Stream.{Stream}
 use Rattle.sctp_state.specs.Options.{Options}
 use Rattle.sctp_state.specs.Events.{GivenUp}
-use Rattle.sctp_association_laws.specs.Sound.{OptionsFit}
+use Rattle.sctp_table_laws.specs.Sound.{OptionsFit}
 use Rattle.sctp_delivery.specs.Proper.{Acceptance, accepted_then, forgone_then, IsProper}
 use Rattle.sctp_network_table.specs.Judge.{End, same_end, Entry, Called, Given, Foreign, Timed, GaveUp}
 use Rattle.sctp_network_table.specs.World.{World, Action, Runs, fresh_world}

@@ -8,8 +8,8 @@ use Rattle.sctp_table.specs.Association.{Endpoint}
 use Rattle.sctp_table.specs.Laws as table
 use Rattle.sctp_table.specs.Shown.{Association}
 use Rattle.sctp_table.specs.Hearing.{Hears, heard, not_read}
-use Rattle.sctp_association_laws.specs.Lifecycles.{told_end, ends, alive, handed, is_restore, EndsWithin}
-use Rattle.sctp_association_laws.proofs.LifecycleLemmas.{ends_within}
+use Rattle.sctp_table_laws.specs.Lifecycles.{told_end, ends, alive, handed, is_restore, EndsWithin}
+use Rattle.sctp_table_laws.proofs.LifecycleLemmas.{ends_within}
 use Rattle.sctp_network_table.specs.Judge.{End, A, B, Call, Connect, Shutdown, Close, Send, SendMany, Receive, Reset, SetPriority, SetMaxMessageSize, SetLowThreshold, HandOver, Entry, Associated, GaveUp, BecameReady, same_end, same_association}
 use Rattle.sctp_network_table.specs.World.{Side, World, Action, CallOf, Give, GiveForeign, TellTime, Told, ComesTo, told, skipped, Comes, Gives, Happens, Runs, fresh_world, told_entries, gone_entries, association, associated_if, association_entries, ready_at, ready_before, ready_entries, news, news_of, settled, step_of, after_call, after_time, call_entry, time_entry}
 use Rattle.sctp_network_laws.specs.Ended.{only_if, total, handed_by, handed_to, ended_by, ended_at, EndedAreHandedIn, NoLifecycleEndsTwiceHere}

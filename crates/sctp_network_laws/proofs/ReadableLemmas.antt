@@ -15,13 +15,13 @@ use Rattle.sctp_table.specs.Laws as table
 use Rattle.sctp_table.specs.Hearing.{Hears, heard, not_read, Judges, taken, refused, unread, policy_of}
 use Rattle.sctp_table.specs.Wire.{written, word_at}
 use Rattle.sctp_table_laws.proofs.LawsLemmas.{stays_within}
-use Rattle.sctp_association_laws.specs.Mapped.{Carried, as_written}
-use Rattle.sctp_association_laws.specs.HeardBack.{IsHearable, as_heard}
-use Rattle.sctp_association_laws.specs.Sound.{OptionsFit, IsSound, ArgumentFits}
-use Rattle.sctp_association_laws.specs.ReadBack.{ReadsBack, IsOfSuch, CanBeRead, TellsWhatCanBeRead, AreBytes}
-use Rattle.sctp_association_laws.proofs.HeardBackLemmas.{is_accepted}
-use Rattle.sctp_association_laws.proofs.SoundLawsLemmas.{is_new, stays_sound, stays_sound_refused, can_be_read, can_be_read_refused}
-use Rattle.sctp_association_laws.proofs.SoundHeardLemmas.{emitted_fit}
+use Rattle.sctp_table_laws.specs.Mapped.{Carried, as_written}
+use Rattle.sctp_table_laws.specs.HeardBack.{IsHearable, as_heard}
+use Rattle.sctp_table_laws.specs.Sound.{OptionsFit, IsSound, ArgumentFits}
+use Rattle.sctp_table_laws.specs.ReadBack.{ReadsBack, IsOfSuch, CanBeRead, TellsWhatCanBeRead, AreBytes}
+use Rattle.sctp_table_laws.proofs.HeardBackLemmas.{is_accepted}
+use Rattle.sctp_table_laws.proofs.SoundLawsLemmas.{is_new, stays_sound, stays_sound_refused, can_be_read, can_be_read_refused}
+use Rattle.sctp_table_laws.proofs.SoundHeardLemmas.{emitted_fit}
 use Rattle.sctp_network_table.specs.Judge.{End, A, B, Entry}
 use Rattle.sctp_network_table.specs.World.{Side, World, Action, CallOf, Give, GiveForeign, TellTime, Told, ComesTo, told, skipped, Comes, Gives, Happens, Runs, fresh_side, packets_in, settled, step_of, after_call, after_time}
 use Rattle.sctp_network_laws.specs.Readable.{CanBeReadBack, IsReadableSide, IsReadable, GivesBytes, NewWorldsAreReadable, EachActionKeepsWorldsReadable, RunsKeepWorldsReadable}

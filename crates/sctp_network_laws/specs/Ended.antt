@@ -2,7 +2,7 @@
 use Rattle.std.specs.Prelude.{ℕ, ◌+◌, ◌≤◌, Bool, true, false, List, [], ◌∷◌}
 use Rattle.rand_core.specs.Stream.{Stream}
 use Rattle.sctp_state.specs.Options.{Options}
-use Rattle.sctp_association_laws.specs.Lifecycles.{handed, told_end}
+use Rattle.sctp_table_laws.specs.Lifecycles.{handed, told_end}
 use Rattle.sctp_network_table.specs.Judge.{End, Entry, Called, Happened, same_end}
 use Rattle.sctp_network_table.specs.World.{World, Action, Runs, fresh_world, step_of}
 

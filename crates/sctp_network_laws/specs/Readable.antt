@@ -6,10 +6,10 @@ use Rattle.sctp_packet.specs.Grammar.{Each}
 use Rattle.sctp_packet.specs.Packet.{PacketTree, Accepts, lets_through}
 use Rattle.sctp_state.specs.Options.{Options}
 use Rattle.sctp_table.specs.Wire.{written, field_of}
-use Rattle.sctp_association_laws.specs.Mapped.{Carried, as_written}
-use Rattle.sctp_association_laws.specs.HeardBack.{as_heard}
-use Rattle.sctp_association_laws.specs.Sound.{OptionsFit, IsSound, ArgumentFits}
-use Rattle.sctp_association_laws.specs.ReadBack.{ReadsBack, AreBytes}
+use Rattle.sctp_table_laws.specs.Mapped.{Carried, as_written}
+use Rattle.sctp_table_laws.specs.HeardBack.{as_heard}
+use Rattle.sctp_table_laws.specs.Sound.{OptionsFit, IsSound, ArgumentFits}
+use Rattle.sctp_table_laws.specs.ReadBack.{ReadsBack, AreBytes}
 use Rattle.sctp_network_table.specs.World.{Side, World, Action, CallOf, Give, GiveForeign, TellTime, Happens, Runs, fresh_world, side_of, other, step_of}
 
 -- ---- packets

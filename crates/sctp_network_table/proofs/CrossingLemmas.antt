@@ -9,13 +9,13 @@ use Rattle.sctp_state.specs.Events.{Event, SendPacket, OnBufferedAmountLow}
 use Rattle.sctp_table.specs.Association.{Endpoint}
 use Rattle.sctp_table.specs.Calls.{send, refusal_of}
 use Rattle.sctp_table.specs.Input.{on_standing}
-use Rattle.sctp_association_laws.specs.FirstRun.{init_packet, init_ack_packet, cookie_echo_packet, cookie_ack_packet, data_packet, sack_packet, quiet, accepting, sending, taking, resting, fully_sent, association, IsSmall, LeadsOn}
-use Rattle.sctp_association_laws.proofs.OpeningRunLemmas.{telling, opened_a, opened_b, opens, accepts}
-use Rattle.sctp_association_laws.proofs.SendRunLemmas.{sent_end, sends, accepts_message}
-use Rattle.sctp_association_laws.proofs.TakeRunLemmas.{taken_end, takes_it}
-use Rattle.sctp_association_laws.proofs.RestRunLemmas.{rested_end, rests}
-use Rattle.sctp_association_laws.proofs.RunPacketsLemmas.{leads_on}
-use Rattle.sctp_association_laws.proofs.FirstRunLemmas.{it_rests}
+use Rattle.sctp_table_laws.specs.FirstRun.{init_packet, init_ack_packet, cookie_echo_packet, cookie_ack_packet, data_packet, sack_packet, quiet, accepting, sending, taking, resting, fully_sent, association, IsSmall, LeadsOn}
+use Rattle.sctp_table_laws.proofs.OpeningRunLemmas.{telling, opened_a, opened_b, opens, accepts}
+use Rattle.sctp_table_laws.proofs.SendRunLemmas.{sent_end, sends, accepts_message}
+use Rattle.sctp_table_laws.proofs.TakeRunLemmas.{taken_end, takes_it}
+use Rattle.sctp_table_laws.proofs.RestRunLemmas.{rested_end, rests}
+use Rattle.sctp_table_laws.proofs.RunPacketsLemmas.{leads_on}
+use Rattle.sctp_table_laws.proofs.FirstRunLemmas.{it_rests}
 use Rattle.sctp_network_table.specs.Judge.{A, B, Send, Sent, Entry, Called, Given, Emitted, accepted, ready}
 use Rattle.sctp_network_table.specs.World.{Action, World, Takes, Gives, Runs, recorded, calls, packets_in, told_entries, associated_if, ready_entries, ready_before, is_at_rest, fresh_world}
 use Rattle.sctp_network_table.specs.FirstRun.{opening, crossing, acknowledging, IsFresh, HasCrossed}

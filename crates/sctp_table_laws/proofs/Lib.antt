@@ -15,3 +15,54 @@ pub mod LawsLemmas
 pub mod EndingLemmas
 pub mod ResetLawsLemmas
 pub mod MomentsLemmas
+pub mod ToldMapsLemmas
+pub mod SendingMapsLemmas
+pub mod RowMapsLemmas
+pub mod OpeningMapsLemmas
+pub mod TimeMapsLemmas
+pub mod CallMapsLemmas
+pub mod ResetMapsLemmas
+pub mod InputMapsLemmas
+pub mod HandoverMapsLemmas
+pub mod MappedLemmas
+pub mod OpeningRunLemmas
+pub mod QueueRunLemmas
+pub mod IdleRunLemmas
+pub mod SendRunLemmas
+pub mod TakeRunLemmas
+pub mod RestRunLemmas
+pub mod FirstRunLemmas
+pub mod HeardBackLemmas
+pub mod RunPacketsLemmas
+pub mod FairLemmas
+pub mod HeardLemmas
+pub mod OwnLemmas
+pub mod SoundItemsLemmas
+pub mod SoundTrackerLemmas
+pub mod SoundQueueLemmas
+pub mod SoundTxLemmas
+pub mod SoundGoesLemmas
+pub mod SoundSendingLemmas
+pub mod SoundRowsLemmas
+pub mod SoundOpeningLemmas
+pub mod SoundTimeLemmas
+pub mod SoundCallsLemmas
+pub mod SoundResetsLemmas
+pub mod SoundInputLemmas
+pub mod SoundLawsLemmas
+pub mod SoundHeardLemmas
+pub mod ArgumentLemmas
+mod SpendsLemmas
+mod QueueSpendsLemmas
+mod ItemSpendsLemmas
+mod LivesLemmas
+mod RowLivesLemmas
+mod OpeningLivesLemmas
+mod TimeLivesLemmas
+mod CallLivesLemmas
+mod InputLivesLemmas
+pub mod LifecycleLemmas
+mod HandoverValidLemmas
+pub mod HandoverAgainLemmas
+mod NumberedOnceLemmas
+mod NewEndLemmas

@@ -2,13 +2,13 @@
 
 ghost use Rattle.std.specs.Prelude.{map};
 ghost use Rattle.sctp_packet.specs.Grammar.{Each};
-ghost use Rattle.sctp_association_laws.specs.Sound.{ArgumentFits};
+ghost use Rattle.sctp_table_laws.specs.Sound.{ArgumentFits};
 ghost use Rattle.sctp_network_table.specs.World.{step_of};
 ghost use Rattle.sctp_network.specs.WorldView.{action_of, call_tree, world_of};
 ghost use Rattle.sctp_network_laws.specs.Readable.{ActionFits, GivesBytes};
 
 use rand_core::Rng;
-use sctp_association_laws::arguments::{
+use sctp_table_laws::arguments::{
     a_message_fits, a_stream_fits, bytes_fit, messages_fit, streams_fit,
 };
 use sctp_wire::Checksum;

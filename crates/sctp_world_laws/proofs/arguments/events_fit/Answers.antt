@@ -1,4 +1,4 @@
-use Rattle.sctp_association_laws.proofs.ArgumentLemmas.{seen_more, seen_all}
+use Rattle.sctp_table_laws.proofs.ArgumentLemmas.{seen_more, seen_all}
 use Rattle.sctp_network.specs.WorldView.{action_of}
 use Rattle.sctp_network_laws.specs.Readable.{ActionFits}
 use Rattle.sctp_world_laws.proofs.arguments.events_fit.Goals as goal

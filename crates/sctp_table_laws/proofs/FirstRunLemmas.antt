@@ -1,0 +1,31 @@
+-- The first run as a whole.
+use Rattle.std.proofs.Common.{Some, [], ◌∷◌, refl, ap, ◌∙◌}
+use Rattle.rand_core.specs.Stream.{Stream}
+use Rattle.sctp_serial.specs.Messages.{Message}
+use Rattle.sctp_state.specs.Options.{SendOptions}
+use Rattle.sctp_table.specs.Association.{Endpoint}
+use Rattle.sctp_table.specs.Calls.{refusal_of}
+use Rattle.sctp_table.specs.Shown.{is_at_rest}
+use Rattle.sctp_table.specs.Laws.{Packing}
+use Rattle.sctp_table_laws.specs.FirstRun.{quiet, sending, taking, resting, IsSmall, association, Crosses, Rests}
+use Rattle.sctp_table_laws.proofs.OpeningRunLemmas.{opens, shows_by}
+use Rattle.sctp_table_laws.proofs.SendRunLemmas.{accepts_message, sent_end, sends}
+use Rattle.sctp_table_laws.proofs.TakeRunLemmas.{taken_end, takes_it}
+use Rattle.sctp_table_laws.proofs.RestRunLemmas.{rested_end, rests}
+
+module _ {P : Type 0} (pack : Packing P) (a b : Stream) (m : Message) (o : SendOptions) (small : IsSmall m) where
+  pub it_crosses : Crosses pack a b m o
+  it_crosses = record {
+    accepted = ap (λ (s : Endpoint P). refusal_of m (quiet s).standing) (opens pack a b) ∙ accepts_message pack m small;
+    sent = shows_by pack (sending pack a b m o) (sent_end pack a b m o) _ (Some (association a b)) [] (sends pack a b m o small) refl refl;
+    came = shows_by pack (taking pack a b m o) (taken_end pack a b m o) _ (Some (association b a)) (m ∷ []) (takes_it pack a b m o small) refl refl;
+  }
+
+  abbrev rested : Endpoint P
+  rested = rested_end pack a b m o.lifetime o.max_retransmissions o.unordered o.lifecycle_id
+
+  pub it_rests : Rests pack a b m o
+  it_rests = record {
+    heard = shows_by pack (resting pack a b m o) rested _ (Some (association a b)) [] (rests pack a b m o small) refl refl;
+    at_rest = ap (λ (s : Endpoint P). is_at_rest s.standing.state s.standing.context.queue) (rests pack a b m o small);
+  }
