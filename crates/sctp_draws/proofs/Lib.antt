@@ -14,3 +14,4 @@ pub mod TimeLemmas
 pub mod CallLemmas
 pub mod CookieLemmas
 pub mod HearLemmas
+pub mod ImageLemmas

@@ -3,3 +3,4 @@ pub mod Names
 pub mod Laws
 pub mod Renamed
 pub mod NamedCookies
+pub mod Images

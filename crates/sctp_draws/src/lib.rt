@@ -1,9 +1,10 @@
-//! Draws: an end whose tags, ties and first TSNs are others does the same under these names.
+//! Draws: an end whose tags, ties and first TSNs are others does the same under these names, and tells the same packets under them.
 #![tactic(auto)]
 
+ghost use Rattle.sctp_draws.specs.Images.{ConnectsAlike, SacksAreHeardAlike};
+ghost use Rattle.sctp_draws.specs.Laws.{AnswersAreNamed, BurstsAreNamed, CallsAreNamed, ConnectIsNamed, DataIsNamed, EchoesAreNamed, EndingsAreNamed, ForwardPointsAreNamed, MomentsAreNamed, NewBlocksAreNamed, PacketsAreNamed, RefusalsAreNamed, SacksAreNamed, VerdictsAreNamed};
 ghost use Rattle.sctp_draws.specs.NamedCookies.{CookiesAreNamed};
 ghost use Rattle.sctp_draws.specs.Renamed.{PairsAreRenamed};
-ghost use Rattle.sctp_draws.specs.Laws.{AnswersAreNamed, BurstsAreNamed, CallsAreNamed, ConnectIsNamed, DataIsNamed, EchoesAreNamed, EndingsAreNamed, ForwardPointsAreNamed, MomentsAreNamed, NewBlocksAreNamed, PacketsAreNamed, RefusalsAreNamed, SacksAreNamed, VerdictsAreNamed};
 
 /// What is drawn has other names, and the INIT is written under them.
 pub fn what_is_drawn_is_named()
@@ -60,4 +61,10 @@ pub fn calls_are_named()
 /// A packet that opens no association is heard, chunk by chunk, as under the first names.
 pub fn packets_are_named()
     ensures packets { PacketsAreNamed }
+{}
+
+/// What the second end tells is what the first one tells, each packet under the other names.
+pub fn packets_are_images()
+    ensures connects { ConnectsAlike }
+    ensures sacks { SacksAreHeardAlike }
 {}

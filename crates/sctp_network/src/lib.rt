@@ -2,6 +2,7 @@
 //! never, and a log of all that a judge sees.
 #![tactic(auto)]
 
+pub mod arguments;
 mod world;
 
 pub use world::{Answer, Call, End, Entry, Event, World, WorldError};

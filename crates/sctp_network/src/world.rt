@@ -9,9 +9,9 @@ ghost use Rattle.sctp_network_table.specs.World.{Comes, Happens, Runs, Lacks, Ru
 ghost use Rattle.sctp_table_laws.specs.FirstRun.{IsSmall};
 ghost use Rattle.sctp_network_table.specs.FirstRun.{opening, crossing, acknowledging, IsFresh, IsOpen, HasCrossed};
 ghost use Rattle.sctp_network_table.specs.Judge.{A, Given};
-ghost use Rattle.sctp_network_course.specs.Composed.{Composes};
-ghost use Rattle.sctp_network_course.specs.Courses.{ActionFits, IsLed};
-ghost use Rattle.sctp_network_course.specs.Joined.{IsUndisturbed};
+ghost use Rattle.sctp_network_laws.specs.Composed.{Composes};
+ghost use Rattle.sctp_network_laws.specs.Courses.{ActionFits, IsLed};
+ghost use Rattle.sctp_network_laws.specs.Joined.{IsUndisturbed};
 ghost use Rattle.sctp_network.specs.WorldView.{action_of, call_tree, end_tree, entry_tree, side_in, world_of};
 
 mod calling;

@@ -1,7 +1,11 @@
-//! Laws of two ends and all packets between them: along each run every packet can be read back, and no lifecycle ends twice.
+//! Laws of two ends and all packets between them: each run of a new world is a course of two ends, which the theorem is read off.
 #![tactic(auto)]
 
+ghost use Rattle.sctp_network_laws.specs.Courses.{WorldsHaveCourses};
+ghost use Rattle.sctp_network_laws.specs.Delivered.{HandedOutIsAPrefix, OffersAreAccepted, WorldsDeliver};
 ghost use Rattle.sctp_network_laws.specs.Ended.{EndedAreHandedIn, NoLifecycleEndsTwiceHere};
+ghost use Rattle.sctp_network_laws.specs.Joined.{OpeningFollows, WorldsAreJoined};
+ghost use Rattle.sctp_network_laws.specs.Proper.{AcceptancesAreOffers, WorldsAreProper};
 ghost use Rattle.sctp_network_laws.specs.Readable.{EachActionKeepsWorldsReadable, NewWorldsAreReadable, RunsKeepWorldsReadable};
 
 /// Each packet that one of two ends ever sent can be read back, as the chunks that were put together and as nothing else: of a
@@ -19,4 +23,51 @@ pub fn packets_read_back()
 pub fn lifecycles_are_accounted()
     ensures handed { EndedAreHandedIn }
     ensures once { NoLifecycleEndsTwiceHere }
+{}
+
+/// Each run of a new world is a course of two new ends, by one turn an event, for any options, words and checksum functions, calls
+/// whose arguments fit, and bytes from elsewhere. The world's sockets are the course's ends with each packet written, its packets
+/// are those that they told, in order, and the log has all that they told, packets by their numbers. A packet that is given
+/// is heard as the chunks that were put in, where its reader lets the checksum through, and else as no packet. Each packet that was
+/// emitted is to be bytes, numbers up to 255.
+pub fn worlds_have_courses()
+    ensures courses { WorldsHaveCourses }
+{}
+
+/// Until an end tells that an association is over, what each end of a world can do was negotiated of the two option sets, and
+/// the associations that the log says that both hold are crossed. Before its own OnConnected an end calls neither shutdown,
+/// nor connect once an INIT was given to it (RFC 9260 sections 5.1, 5.2). The opening of the first run keeps these rules. Each packet
+/// that was emitted is to be bytes.
+pub fn worlds_are_joined()
+    ensures joined { WorldsAreJoined }
+    ensures can_be_kept { OpeningFollows }
+{}
+
+/// Until an end tells that an association is over, what was handed out at an end, in order, is a prefix of what became ready there,
+/// at each point of the log. The messages of the offers are those that were accepted.
+pub fn messages_are_handed_out_in_order()
+    ensures prefix { HandedOutIsAPrefix }
+    ensures offers { OffersAreAccepted }
+{}
+
+/// And as long as the run keeps its bounds, in either direction and at each point of the log, the messages that became ready at one
+/// end are messages that the other one accepted, byte for byte, each at most once, and on each stream ordered ones in the order of
+/// acceptance (RFC 9260 sections 6.5, 6.6; RFC 8260 section 2.2; RFC 3758 section 3.6). One list of places says which, and grows
+/// at its back. Of the others, an ordered one that isn't ready, while a later one of its stream is, was given up, and the log names
+/// it (RFC 3758 section 3.5). A lifecycle id that the log tells as delivered is that of a message that is ready. And between events,
+/// where nothing is queued at the sender and it keeps no item, each message that it accepted is ready or was given up. The bounds
+/// are read off the log and the values of the sockets between events: those of `messages_are_delivered` of `sctp_delivery`.
+pub fn worlds_deliver()
+    ensures delivered { WorldsDeliver }
+{}
+
+/// Each record of a message given up is proper, by what stands before it in the log, whatever rules the run follows, and behind the
+/// end of an association too: the message was accepted there, by its place, and its cause holds. Either the message has a lifetime,
+/// and the end's clock isn't before acceptance plus lifetime (RFC 3758 section 4.1); or it was sent again as often as its limit
+/// says, 65,535 times where none was set (RFC 7496 section 3.2). Clocks are those of the log: an event has its end's clock, which
+/// only moments move. An end accepts fewer than 2^32 messages, so that their numbers don't wrap. Each packet that was emitted is to be
+/// bytes.
+pub fn records_are_proper()
+    ensures proper { WorldsAreProper }
+    ensures offers { AcceptancesAreOffers }
 {}

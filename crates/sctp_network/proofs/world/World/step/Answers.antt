@@ -1,5 +1,5 @@
 use Rattle.sctp_delivery.proofs.LawLemmas.{delivered}
-use Rattle.sctp_network_course.proofs.ComposedLemmas.{on_ok, on_each, compose, led_by_one}
+use Rattle.sctp_network_laws.proofs.ComposedLemmas.{on_ok, on_each, compose, led_by_one}
 use Rattle.sctp_network.proofs.world.World.step.Goals as goal
 
 pub returns-clause-leads : goal.returns-clause-leads

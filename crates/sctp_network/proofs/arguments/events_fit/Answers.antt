@@ -1,0 +1,15 @@
+use Rattle.sctp_table_laws.proofs.ArgumentLemmas.{seen_more, seen_all}
+use Rattle.sctp_network.specs.WorldView.{action_of}
+use Rattle.sctp_network_laws.specs.Readable.{ActionFits}
+use Rattle.sctp_network.proofs.arguments.events_fit.Goals as goal
+
+pub loop-event-init : goal.loop-event-init
+loop-event-init c = tt
+
+pub loop-event-preserved : goal.loop-event-preserved
+loop-event-preserved c =
+    seen_more ActionFits action_of c.args.events.now c.loop-event.event-index c.event-item.result c.loop-event-test.true c.event-item.is
+    c.loop-event.invariant c.an_event_fits.ensures.fits
+
+pub returns : goal.returns
+returns c = record { fit = seen_all ActionFits action_of c.args.events.now c.loop-event.event-index c.loop-event-test.false c.loop-event.invariant }

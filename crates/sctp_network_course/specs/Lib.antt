@@ -1,5 +1,0 @@
-pub mod Courses
-pub mod Joined
-pub mod Delivered
-pub mod Composed
-pub mod Proper

@@ -1,0 +1,353 @@
+-- A world's log is made of blocks, one a turn of its course; and what holds of each beginning of it.
+use Rattle.std.proofs.Common.{◌≡◌, ◌⊎◌, inl, inr, ℕ, suc, not, Bool, true, false, Some, List, [], ◌∷◌, ◌++◌, length, drop, refl, sym, ap, subst, ◌∙◌, append-nil, append_assoc}
+use Rattle.std.specs.Prelude.{⊤}
+use Rattle.std.specs.List.{flat_map}
+use Rattle.std.proofs.lemmas.Grind.{flat_map-append}
+use Rattle.sctp_serial.specs.Messages.{Message}
+use Rattle.sctp_rx.specs.Delivery.{Extends}
+use Rattle.sctp_reassembly.proofs.ExtendsLemmas.{extends_by}
+use Rattle.sctp_table.specs.Association.{State, Closed, CookieWait, Open}
+use Rattle.sctp_table.specs.Calls.{ready_in, taken_in}
+use Rattle.sctp_table.specs.Laws.{TakeMessage}
+use Rattle.sctp_table.specs.Shown.{Association, association_in}
+use Rattle.sctp_course.specs.Course.{Side, Pair, Turn, Calls, Gives, Refuses, turned, goes, run, side_of, state_of}
+use Rattle.sctp_course.specs.Handing.{ready_at, new_behind, handed_by, handed_at, handed, readied}
+use Rattle.sctp_delivery.specs.Accepted.{Offer, accepted_at, accepted}
+use Rattle.sctp_delivery.specs.GivenUp.{given_up_at, given_up}
+use Rattle.sctp_tx_rules.specs.Led.{delivered}
+use Rattle.sctp_table_laws.specs.Mapped.{Carried}
+use Rattle.sctp_state.specs.Events.{Event}
+use Rattle.sctp_network_table.specs.Judge as judge
+use Rattle.sctp_network_table.specs.Judge.{End, A, B, Entry, ready_by, ready, handed_out_by, handed_out, given_up_by}
+use Rattle.sctp_network_laws.specs.Courses.{is_a}
+use Rattle.sctp_network_laws.specs.Delivered.{offers_by, offers, gone, reported_by, reported}
+use Rattle.sctp_network_laws.proofs.WorldLemmas.{gone_more, numbers_of}
+use Rattle.sctp_network_laws.proofs.TellingLemmas.{IsTold, none_new}
+use Rattle.sctp_network_laws.proofs.PrefixLemmas.{one_is_longer, no_front}
+
+-- ---- courses, by one turn more
+
+pub accepted_more : (x : Bool) (es : List (Bool × Turn)) (e : Bool × Turn) (w : Pair) → accepted x (es ++ e ∷ []) w ≡ accepted x es w ++ accepted_at x e.0 e.1 (run es w)
+accepted_more x [] e w = append-nil (accepted_at x e.0 e.1 w)
+accepted_more x (d ∷ es) e w =
+    ap (λ (l : List Offer). accepted_at x d.0 d.1 w ++ l) (accepted_more x es e (goes d.0 d.1 w))
+    ∙ sym (append_assoc (accepted_at x d.0 d.1 w) (accepted x es (goes d.0 d.1 w)) (accepted_at x e.0 e.1 (run es (goes d.0 d.1 w))))
+
+abbrev pub readied_at : Bool → (Bool × Turn) → Pair → List Message
+readied_at x e w = new_behind (ready_at (side_of x w)) (ready_at (side_of x (goes e.0 e.1 w)))
+
+pub readied_more : (x : Bool) (es : List (Bool × Turn)) (e : Bool × Turn) (w : Pair) → readied x (es ++ e ∷ []) w ≡ readied x es w ++ readied_at x e (run es w)
+readied_more x [] e w = append-nil (readied_at x e w)
+readied_more x (d ∷ es) e w =
+    ap (λ (l : List Message). readied_at x d w ++ l) (readied_more x es e (goes d.0 d.1 w))
+    ∙ sym (append_assoc (readied_at x d w) (readied x es (goes d.0 d.1 w)) (readied_at x e (run es (goes d.0 d.1 w))))
+
+pub handed_more : (x : Bool) (es : List (Bool × Turn)) (e : Bool × Turn) (w : Pair) → handed x (es ++ e ∷ []) w ≡ handed x es w ++ handed_at x e.0 e.1 (run es w)
+handed_more x [] e w = append-nil (handed_at x e.0 e.1 w)
+handed_more x (d ∷ es) e w =
+    ap (λ (l : List Message). handed_at x d.0 d.1 w ++ l) (handed_more x es e (goes d.0 d.1 w))
+    ∙ sym (append_assoc (handed_at x d.0 d.1 w) (handed x es (goes d.0 d.1 w)) (handed_at x e.0 e.1 (run es (goes d.0 d.1 w))))
+
+pub given_up_more : (x : Bool) (es : List (Bool × Turn)) (e : Bool × Turn) (w : Pair) → given_up x (es ++ e ∷ []) w ≡ given_up x es w ++ given_up_at x e.0 e.1 (run es w)
+given_up_more x [] e w = append-nil (given_up_at x e.0 e.1 w)
+given_up_more x (d ∷ es) e w =
+    ap (λ (l : List ℕ). given_up_at x d.0 d.1 w ++ l) (given_up_more x es e (goes d.0 d.1 w))
+    ∙ sym (append_assoc (given_up_at x d.0 d.1 w) (given_up x es (goes d.0 d.1 w)) (given_up_at x e.0 e.1 (run es (goes d.0 d.1 w))))
+
+pub run_more : (es : List (Bool × Turn)) (e : Bool × Turn) (w : Pair) → run (es ++ e ∷ []) w ≡ goes e.0 e.1 (run es w)
+run_more [] e w = refl
+run_more (d ∷ es) e w = run_more es e (goes d.0 d.1 w)
+
+-- ---- blocks
+
+abbrev pub end_at : Bool → End
+end_at true = A
+end_at false = B
+
+-- this turn's entries stand between
+abbrev pub IsBlock : (Bool × Turn) → Pair → (log longer : List Entry) → Type 0
+IsBlock e c log longer = IsTold (end_at e.0) e.1 (side_of e.0 c) (side_of (not e.0) c) (side_of e.0 (goes e.0 e.1 c)) log longer
+
+abbrev pub AreBlocks : List (Bool × Turn) → Pair → (log longer : List Entry) → Type 0
+AreBlocks [] c log longer = longer ≡ log
+AreBlocks (e ∷ es) c log longer = (mid : List Entry) × IsBlock e c log mid × AreBlocks es (goes e.0 e.1 c) mid longer
+
+-- an association that stands is not replaced
+abbrev pub StandsAt : Bool → (Bool × Turn) → Pair → Type 0
+StandsAt x e c = (a : Association) → association_in (state_of (side_of x c)) ≡ Some a → association_in (state_of (side_of x (goes e.0 e.1 c))) ≡ Some a
+
+abbrev pub Stands : List (Bool × Turn) → Pair → Type 0
+Stands [] c = ⊤
+Stands (e ∷ es) c = StandsAt e.0 e c × Stands es (goes e.0 e.1 c)
+
+blocks_longer : (es : List (Bool × Turn)) (c : Pair) (log longer : List Entry) → AreBlocks es c log longer → (more : List Entry) × (longer ≡ log ++ more)
+blocks_longer [] c log longer h = ([], h ∙ sym (append-nil log))
+blocks_longer (e ∷ es) c log longer h =
+    let l = blocks_longer es (goes e.0 e.1 c) h.0 longer h.2 in
+    ((h.1.first ∷ h.1.more) ++ l.0, l.1 ∙ (ap (λ (z : List Entry). z ++ l.0) h.1.logged ∙ append_assoc log (h.1.first ∷ h.1.more) l.0))
+
+-- ---- what a block adds
+
+more_of : {X : Type 0} (f : Entry → List X) (log longer : List Entry) (b : List Entry) (xs : List X) → longer ≡ log ++ b → flat_map f b ≡ xs
+    → flat_map f longer ≡ flat_map f log ++ xs
+more_of f log longer b xs e h = ap (flat_map f) e ∙ (flat_map-append f log b ∙ ap (λ z. flat_map f log ++ z) h)
+
+module _ (e : Bool × Turn) (c : Pair) (log mid : List Entry) (b : IsBlock e c log mid) where
+  abbrev block : List Entry
+  block = b.first ∷ b.more
+
+  offers_block : (x : End) → offers_by x b.first ≡ accepted_at (is_a x) e.0 e.1 c → offers x mid ≡ offers x log ++ accepted_at (is_a x) e.0 e.1 c
+  offers_block x h =
+      more_of (offers_by x) log mid block (accepted_at (is_a x) e.0 e.1 c) b.logged
+      (ap (λ (z : List Offer). z ++ flat_map (offers_by x) b.more) h
+      ∙ (ap (λ (z : List Offer). accepted_at (is_a x) e.0 e.1 c ++ z) (b.quiet x) ∙ append-nil (accepted_at (is_a x) e.0 e.1 c)))
+
+first_offers : (x : End) (e : Bool × Turn) (c : Pair) (log mid : List Entry) (b : IsBlock e c log mid) → offers_by x b.first ≡ accepted_at (is_a x) e.0 e.1 c
+first_offers A (true, t) c log mid b = b.offers
+first_offers B (true, t) c log mid b = b.no_offers
+first_offers A (false, t) c log mid b = b.no_offers
+first_offers B (false, t) c log mid b = b.offers
+
+block_ready : (x : End) (e : Bool × Turn) (c : Pair) (log mid : List Entry) (b : IsBlock e c log mid) → flat_map (ready_by x) (b.first ∷ b.more) ≡ readied_at (is_a x) e c
+block_ready A (true, t) c log mid b = b.ready
+block_ready B (true, t) c log mid b = b.none_ready ∙ sym (none_new (ready_at c.b))
+block_ready A (false, t) c log mid b = b.none_ready ∙ sym (none_new (ready_at c.a))
+block_ready B (false, t) c log mid b = b.ready
+
+block_handed : (x : End) (e : Bool × Turn) (c : Pair) (log mid : List Entry) (b : IsBlock e c log mid) → flat_map (handed_out_by x) (b.first ∷ b.more) ≡ handed_at (is_a x) e.0 e.1 c
+block_handed A (true, t) c log mid b = b.handed
+block_handed B (true, t) c log mid b = b.none_handed
+block_handed A (false, t) c log mid b = b.none_handed
+block_handed B (false, t) c log mid b = b.handed
+
+offers_turn : (x : End) (e : Bool × Turn) (c : Pair) (log mid : List Entry) → IsBlock e c log mid → offers x mid ≡ offers x log ++ accepted_at (is_a x) e.0 e.1 c
+offers_turn x e c log mid b = offers_block e c log mid b x (first_offers x e c log mid b)
+
+ready_turn : (x : End) (e : Bool × Turn) (c : Pair) (log mid : List Entry) → IsBlock e c log mid → ready x mid ≡ ready x log ++ readied_at (is_a x) e c
+ready_turn x e c log mid b = more_of (ready_by x) log mid (b.first ∷ b.more) (readied_at (is_a x) e c) b.logged (block_ready x e c log mid b)
+
+handed_turn : (x : End) (e : Bool × Turn) (c : Pair) (log mid : List Entry) → IsBlock e c log mid → handed_out x mid ≡ handed_out x log ++ handed_at (is_a x) e.0 e.1 c
+handed_turn x e c log mid b = more_of (handed_out_by x) log mid (b.first ∷ b.more) (handed_at (is_a x) e.0 e.1 c) b.logged (block_handed x e c log mid b)
+
+none_more : (x : End) (log longer b : List Entry) → longer ≡ log ++ b → judge.given_up x b ≡ [] → gone x longer ≡ gone x log ++ []
+none_more x log longer b e h = gone_more x log longer b [] e (numbers_of (judge.given_up x b) [] h)
+
+gone_turn : (x : End) (e : Bool × Turn) (c : Pair) (log mid : List Entry) → IsBlock e c log mid → gone x mid ≡ gone x log ++ given_up_at (is_a x) e.0 e.1 c
+gone_turn A (true, t) c log mid b = b.gave_up
+gone_turn B (true, t) c log mid b = none_more B log mid (b.first ∷ b.more) b.logged b.none_gone
+gone_turn A (false, t) c log mid b = none_more A log mid (b.first ∷ b.more) b.logged b.none_gone
+gone_turn B (false, t) c log mid b = b.gave_up
+
+-- where it was so before
+abbrev AreReported : End → List Entry → Pair → Type 0
+AreReported x log c = reported x log ≡ delivered (side_of (is_a x) c).told
+
+reported_turn : (x : End) (e : Bool × Turn) (c : Pair) (log mid : List Entry) → IsBlock e c log mid → AreReported x log c → AreReported x mid (goes e.0 e.1 c)
+reported_turn A (true, t) c log mid b h = b.reports
+reported_turn B (true, t) c log mid b h = more_of (reported_by B) log mid (b.first ∷ b.more) [] b.logged b.none_reported ∙ (append-nil (reported B log) ∙ h)
+reported_turn A (false, t) c log mid b h = more_of (reported_by A) log mid (b.first ∷ b.more) [] b.logged b.none_reported ∙ (append-nil (reported A log) ∙ h)
+reported_turn B (false, t) c log mid b h = b.reports
+
+-- ---- whole runs
+
+joins : {X : Type 0} (last mid log rest new : List X) → last ≡ mid ++ rest → mid ≡ log ++ new → last ≡ log ++ (new ++ rest)
+joins {X} last mid log rest new e f = e ∙ (ap (λ (l : List X). l ++ rest) f ∙ append_assoc log new rest)
+
+pub offers_run : (x : End) (es : List (Bool × Turn)) (c : Pair) (log longer : List Entry) → AreBlocks es c log longer → offers x longer ≡ offers x log ++ accepted (is_a x) es c
+offers_run x [] c log longer h = ap (offers x) h ∙ sym (append-nil (offers x log))
+offers_run x (e ∷ es) c log longer h =
+    joins (offers x longer) (offers x h.0) (offers x log) (accepted (is_a x) es (goes e.0 e.1 c)) (accepted_at (is_a x) e.0 e.1 c)
+    (offers_run x es (goes e.0 e.1 c) h.0 longer h.2) (offers_turn x e c log h.0 h.1)
+
+pub ready_run : (x : End) (es : List (Bool × Turn)) (c : Pair) (log longer : List Entry) → AreBlocks es c log longer → ready x longer ≡ ready x log ++ readied (is_a x) es c
+ready_run x [] c log longer h = ap (ready x) h ∙ sym (append-nil (ready x log))
+ready_run x (e ∷ es) c log longer h =
+    joins (ready x longer) (ready x h.0) (ready x log) (readied (is_a x) es (goes e.0 e.1 c)) (readied_at (is_a x) e c)
+    (ready_run x es (goes e.0 e.1 c) h.0 longer h.2) (ready_turn x e c log h.0 h.1)
+
+pub handed_run : (x : End) (es : List (Bool × Turn)) (c : Pair) (log longer : List Entry) → AreBlocks es c log longer → handed_out x longer ≡ handed_out x log ++ handed (is_a x) es c
+handed_run x [] c log longer h = ap (handed_out x) h ∙ sym (append-nil (handed_out x log))
+handed_run x (e ∷ es) c log longer h =
+    joins (handed_out x longer) (handed_out x h.0) (handed_out x log) (handed (is_a x) es (goes e.0 e.1 c)) (handed_at (is_a x) e.0 e.1 c)
+    (handed_run x es (goes e.0 e.1 c) h.0 longer h.2) (handed_turn x e c log h.0 h.1)
+
+-- ---- each beginning of the log
+
+-- so many turns have been
+pub record IsReached (c : Pair) (done : List (Bool × Turn)) (log : List Entry) : Type 0 where
+  pub offers_are : (x : End) → offers x log ≡ accepted (is_a x) done c
+  pub ready_are : (x : End) → ready x log ≡ readied (is_a x) done c
+  pub handed_are : (x : End) → handed_out x log ≡ handed (is_a x) done c
+  pub gone_are : (x : End) → gone x log ≡ given_up (is_a x) done c
+  pub reported_are : (x : End) → reported x log ≡ delivered (side_of (is_a x) (run done c)).told
+
+-- nothing was told yet
+pub nothing_yet : (c : Pair) → ((x : Bool) → (side_of x c).told ≡ []) → IsReached c [] []
+nothing_yet c none = record {
+  offers_are = λ x. refl;
+  ready_are = λ x. refl;
+  handed_are = λ x. refl;
+  gone_are = λ x. refl;
+  reported_are = λ x. sym (ap (λ (es : List (Event Carried)). delivered es) (none (is_a x)));
+}
+
+pub reached_more : (c : Pair) (done : List (Bool × Turn)) (e : Bool × Turn) (log mid : List Entry) → IsReached c done log → IsBlock e (run done c) log mid → IsReached c (done ++ e ∷ []) mid
+reached_more c done e log mid r b = record {
+  offers_are = λ x. offers_turn x e (run done c) log mid b ∙ (ap (λ (z : List Offer). z ++ accepted_at (is_a x) e.0 e.1 (run done c)) (r.offers_are x) ∙ sym (accepted_more (is_a x) done e c));
+  ready_are = λ x. ready_turn x e (run done c) log mid b ∙ (ap (λ (z : List Message). z ++ readied_at (is_a x) e (run done c)) (r.ready_are x) ∙ sym (readied_more (is_a x) done e c));
+  handed_are = λ x. handed_turn x e (run done c) log mid b ∙ (ap (λ (z : List Message). z ++ handed_at (is_a x) e.0 e.1 (run done c)) (r.handed_are x) ∙ sym (handed_more (is_a x) done e c));
+  gone_are = λ x. gone_turn x e (run done c) log mid b ∙ (ap (λ (z : List ℕ). z ++ given_up_at (is_a x) e.0 e.1 (run done c)) (r.gone_are x) ∙ sym (given_up_more (is_a x) done e c));
+  reported_are = λ x. reported_turn x e (run done c) log mid b (r.reported_are x) ∙ sym (ap (λ (z : Pair). delivered (side_of (is_a x) z).told) (run_more done e c));
+}
+
+pub same_front : (a xs ys : List Entry) → a ++ xs ≡ a ++ ys → xs ≡ ys
+same_front [] xs ys h = h
+same_front (z ∷ a) xs ys h = same_front a xs ys (ap (λ (l : List Entry). elim l [ [] ↦ a ++ xs | u ∷ us ↦ us ]) h)
+
+-- What holds after each turn, and within each block where it holds before and behind it, holds of each beginning.
+module _ (all : List (Bool × Turn)) (c : Pair) (P : List Entry → Type 0)
+    (at_turn : (done rest : List (Bool × Turn)) (log : List Entry) → all ≡ done ++ rest → IsReached c done log → P log)
+    (within : (done rest : List (Bool × Turn)) (e : Bool × Turn) (log mid front behind : List Entry) → all ≡ done ++ e ∷ rest → IsReached c done log
+    → (b : IsBlock e (run done c) log mid) → b.more ≡ front ++ behind → P log → P mid → P (log ++ b.first ∷ front)) where
+  pub at_each : (done rest : List (Bool × Turn)) (log longer early late : List Entry) → all ≡ done ++ rest → IsReached c done log → AreBlocks rest (run done c) log longer
+      → longer ≡ (log ++ early) ++ late → P (log ++ early)
+  at_each done rest log longer [] late e r h is = subst P (sym (append-nil log)) (at_turn done rest log e r)
+  at_each done [] log longer (k ∷ early) late e r h is = absurd (not_longer log (k ∷ early) late (sym h ∙ is) refl)
+    where
+      same_behind : (a b : List Entry) → a ≡ a ++ b → b ≡ []
+      same_behind [] b h = sym h
+      same_behind (z ∷ a) b h = same_behind a b (ap (λ (l : List Entry). elim l [ [] ↦ a | y ∷ ys ↦ ys ]) h)
+
+      not_longer : (a b d : List Entry) → a ≡ (a ++ b) ++ d → {k : Entry} {bs : List Entry} → b ≡ k ∷ bs → ⊥
+      not_longer a b d h {k} {bs} f = let z : b ≡ [] = no_front b d [] (same_behind a (b ++ d) (h ∙ append_assoc a b d)) refl in cc
+  at_each done (t ∷ rest) log longer (k ∷ early) late e r h is =
+      let d : Pair = run done c in
+      let mid : List Entry = h.0 in
+      let b : IsBlock t d log mid = h.1 in
+      let l = blocks_longer rest (goes t.0 t.1 d) mid longer h.2 in
+      let next : IsReached c (done ++ t ∷ []) mid = reached_more c done t log mid r b in
+      let split : all ≡ (done ++ t ∷ []) ++ rest = e ∙ sym (append_assoc done (t ∷ []) rest) in
+      let here : (b.first ∷ b.more) ++ l.0 ≡ (k ∷ early) ++ late =
+      same_front log ((b.first ∷ b.more) ++ l.0) ((k ∷ early) ++ late)
+      (sym (append_assoc log (b.first ∷ b.more) l.0) ∙ (ap (λ (z : List Entry). z ++ l.0) (sym b.logged) ∙ (sym l.1 ∙ (is ∙ append_assoc log (k ∷ early) late)))) in
+      elim (one_is_longer (b.first ∷ b.more) l.0 (k ∷ early) late here) [
+        | inl m ↦
+            let whole : log ++ k ∷ early ≡ mid ++ m.between =
+            ap (λ (z : List Entry). log ++ z) m.made ∙ (sym (append_assoc log (b.first ∷ b.more) m.between) ∙ ap (λ (z : List Entry). z ++ m.between) (sym b.logged)) in
+            subst P (sym whole)
+            (at_each (done ++ t ∷ []) rest mid longer m.between late split next
+            (subst (λ (z : Pair). AreBlocks rest z mid longer) (sym (run_more done t c)) h.2) (is ∙ ap (λ (z : List Entry). z ++ late) whole))
+        | inr m ↦
+            let same : b.first ≡ k = ap (λ (z : List Entry). elim z [ [] ↦ k | y ∷ ys ↦ y ]) m.made in
+            let more : b.more ≡ early ++ m.between = ap (λ (z : List Entry). elim z [ [] ↦ b.more | y ∷ ys ↦ ys ]) m.made in
+            subst (λ (z : Entry). P (log ++ z ∷ early)) same
+            (within done rest t log mid early m.between e r b more (at_turn done (t ∷ rest) log e r) (at_turn (done ++ t ∷ []) rest mid split next))
+      ]
+
+-- ---- what is read off a beginning that ends within a block
+
+none_behind : {X : Type 0} (xs ys : List X) → xs ++ ys ≡ [] → ys ≡ []
+none_behind [] ys h = h
+none_behind (z ∷ xs) ys h = cc
+
+none_before : {X : Type 0} (xs ys : List X) → xs ++ ys ≡ [] → xs ≡ []
+none_before [] ys h = refl
+none_before (z ∷ xs) ys h = cc
+
+module _ (e : Bool × Turn) (d : Pair) (log mid front behind : List Entry) (b : IsBlock e d log mid) (split : b.more ≡ front ++ behind) where
+  abbrev early : List Entry
+  early = log ++ b.first ∷ front
+
+  pub whole : mid ≡ early ++ behind
+  whole = b.logged ∙ (ap (λ (z : List Entry). log ++ b.first ∷ z) split ∙ sym (append_assoc log (b.first ∷ front) behind))
+
+  -- where the block says nothing
+  pub none_said : {X : Type 0} (f : Entry → List X) → flat_map f (b.first ∷ b.more) ≡ [] → (flat_map f early ≡ flat_map f log) × (flat_map f mid ≡ flat_map f early)
+  none_said {X} f quiet =
+      let both : flat_map f (b.first ∷ front) ++ flat_map f behind ≡ [] =
+      sym (flat_map-append f (b.first ∷ front) behind) ∙ (sym (ap (λ (l : List Entry). flat_map f (b.first ∷ l)) split) ∙ quiet) in (
+        flat_map-append f log (b.first ∷ front)
+            ∙ (ap (λ (z : List X). flat_map f log ++ z) (none_before (flat_map f (b.first ∷ front)) (flat_map f behind) both) ∙ append-nil (flat_map f log)),
+        ap (flat_map f) whole
+            ∙ (flat_map-append f early behind
+            ∙ (ap (λ (z : List X). flat_map f early ++ z) (none_behind (flat_map f (b.first ∷ front)) (flat_map f behind) both) ∙ append-nil (flat_map f early))),
+      )
+
+  -- what stands in the first entry alone
+  pub all_first : {X : Type 0} (f : Entry → List X) → flat_map f b.more ≡ [] → flat_map f mid ≡ flat_map f early
+  all_first {X} f quiet =
+      let none : flat_map f behind ≡ [] = none_behind (flat_map f front) (flat_map f behind) (sym (flat_map-append f front behind) ∙ (sym (ap (flat_map f) split) ∙ quiet)) in
+      ap (flat_map f) whole ∙ (flat_map-append f early behind ∙ (ap (λ (z : List X). flat_map f early ++ z) none ∙ append-nil (flat_map f early)))
+
+  pub ready_split : (y : End) → ready y mid ≡ ready y early ++ ready y behind
+  ready_split y = ap (ready y) whole ∙ flat_map-append (ready_by y) early behind
+
+  pub ready_before : (y : End) → ready y early ≡ ready y log ++ ready y (b.first ∷ front)
+  ready_before y = flat_map-append (ready_by y) log (b.first ∷ front)
+
+-- ---- what was handed out is the beginning of what became ready
+
+extends_more : (before after more longer : List Message) → Extends before after → longer ≡ after ++ more → Extends before longer
+extends_more before after more longer h e =
+    extends_by before longer (h.more ++ more) (e ∙ (ap (λ (l : List Message). l ++ more) h.made ∙ append_assoc before h.more more))
+
+none_dropped : (ms : List Message) → new_behind ms (drop 1 ms) ≡ []
+none_dropped [] = refl
+none_dropped (m ∷ ms) = go ms
+  where
+    go : (ms : List Message) → drop (suc (length ms)) ms ≡ []
+    go [] = refl
+    go (z ∷ zs) = go zs
+
+taken_none : (s : State) → new_behind (ready_in s) (ready_in (taken_in s)) ≡ []
+taken_none Closed = refl
+taken_none (CookieWait tag first t1) = refl
+taken_none (Open phase t) = none_dropped t.reassembly.ready
+
+-- a turn hands out nothing, or nothing becomes ready at it
+one_or_none : (t : Turn) (own beside : Side) → (handed_by t own ≡ []) ⊎ (new_behind (ready_at own) (ready_at (turned t own beside)) ≡ [])
+one_or_none (Calls TakeMessage) own beside = inr (taken_none (state_of own))
+one_or_none (Calls call) own beside = inl refl
+one_or_none (Gives which checksum) own beside = inl refl
+one_or_none (Refuses p) own beside = inl refl
+
+hands_or_readies : (x : Bool) (e : Bool × Turn) (c : Pair) → (handed_at x e.0 e.1 c ≡ []) ⊎ (readied_at x e c ≡ [])
+hands_or_readies true (true, t) c = one_or_none t c.a c.b
+hands_or_readies false (false, t) c = one_or_none t c.b c.a
+hands_or_readies true (false, t) c = inl refl
+hands_or_readies false (true, t) c = inl refl
+
+module _ (x : End) (all : List (Bool × Turn)) (c : Pair)
+    (prefix : (early late : List (Bool × Turn)) → all ≡ early ++ late → Extends (handed (is_a x) early c) (readied (is_a x) early c)) where
+  abbrev IsPrefix : List Entry → Type 0
+  IsPrefix early = Extends (handed_out x early) (ready x early)
+
+  prefix_turn : (done rest : List (Bool × Turn)) (log : List Entry) → all ≡ done ++ rest → IsReached c done log → IsPrefix log
+  prefix_turn done rest log e r =
+      subst (λ (l : List Message). Extends l (ready x log)) (sym (r.handed_are x))
+      (subst (λ (l : List Message). Extends (handed (is_a x) done c) l) (sym (r.ready_are x)) (prefix done rest e))
+
+  prefix_within : (e : Bool × Turn) (d : Pair) (log mid front behind : List Entry) (b : IsBlock e d log mid) → b.more ≡ front ++ behind → IsPrefix log → IsPrefix mid
+      → IsPrefix (log ++ b.first ∷ front)
+  prefix_within e d log mid front behind b split before after =
+      let early : List Entry = log ++ b.first ∷ front in
+      let hands : handed_out x mid ≡ handed_out x early = all_first e d log mid front behind b split (handed_out_by x) (b.hands_nothing x) in
+      elim (hands_or_readies (is_a x) e d) [
+        | inl none ↦
+            let same : handed_out x mid ≡ handed_out x log = handed_turn x e d log mid b ∙ (ap (λ (l : List Message). handed_out x log ++ l) none ∙ append-nil (handed_out x log)) in
+            subst (λ (l : List Message). Extends l (ready x early)) (sym same ∙ hands)
+            (extends_more (handed_out x log) (ready x log) (ready x (b.first ∷ front)) (ready x early) before (ready_before e d log mid front behind b split x))
+        | inr none ↦
+            let nothing : ready x (b.first ∷ front) ++ ready x behind ≡ [] =
+            sym (flat_map-append (ready_by x) (b.first ∷ front) behind)
+            ∙ (sym (ap (λ (l : List Entry). ready x (b.first ∷ l)) split) ∙ (block_ready x e d log mid b ∙ none)) in
+            let last : ready x behind ≡ [] = none_behind (ready x (b.first ∷ front)) (ready x behind) nothing in
+            let same : ready x mid ≡ ready x early =
+            ready_split e d log mid front behind b split x ∙ (ap (λ (l : List Message). ready x early ++ l) last ∙ append-nil (ready x early)) in
+            subst (λ (l : List Message). Extends l (ready x early)) hands (subst (λ (l : List Message). Extends (handed_out x mid) l) same after)
+      ]
+
+  pub prefix_each : (log early late : List Entry) → IsReached c [] [] → AreBlocks all c [] log → log ≡ early ++ late → IsPrefix early
+  prefix_each log early late r h is =
+      at_each all c IsPrefix prefix_turn (λ done rest e l mid front behind s before_it b split before after. prefix_within e (run done c) l mid front behind b split before after)
+      [] all [] log early late refl r h is

@@ -1,0 +1,461 @@
+-- Each run of a world is made of blocks, keeps its course's windows, and delivers what its course delivers.
+use Rattle.std.proofs.Common.{◌≡◌, inl, inr, ℕ, ◌-◌, ◌<◌, ◌^◌, ◌||◌, Bool, true, false, Some, None, List, [], ◌∷◌, ◌++◌, length, map, replicate, slice_get, refl, sym, ap, subst, ◌∙◌, append-nil, append_assoc, arith}
+use Rattle.std.specs.Prelude.{All}
+use Rattle.std.specs.List.{list_any}
+use Rattle.std.proofs.lemmas.List.{length-map, map-append}
+use Rattle.std.proofs.lemmas.List.Elements.{All-head, All-tail}
+use Rattle.rand_core.specs.Stream.{Stream}
+use Rattle.sctp_serial.specs.Messages.{Message}
+use Rattle.sctp_state.specs.Options.{Options, SendOptions, IsValid}
+use Rattle.sctp_table.specs.Association.{State, Endpoint}
+use Rattle.sctp_table.specs.Laws as table
+use Rattle.sctp_table.specs.Shown.{Association, association_in}
+use Rattle.sctp_table_laws.specs.Mapped.{Carried, map_end, as_written}
+use Rattle.sctp_table_laws.specs.Sound.{OptionsFit}
+use Rattle.sctp_rx.specs.Delivery as orders
+use Rattle.sctp_course.specs.Course as course
+use Rattle.sctp_course.specs.Course.{Pair, Turn, Calls, emitted, turned, goes, run, state_of, start, HasNotEnded, AreGiven}
+use Rattle.sctp_course.specs.Handing.{handed_by}
+use Rattle.sctp_course.proofs.CourseLemmas.{Halves, before_run, goes_joined}
+use Rattle.sctp_course.proofs.HandingLemmas.{hands_at, handed_prefix, first_halves}
+use Rattle.sctp_delivery.specs.Accepted.{Offer, accepted}
+use Rattle.sctp_delivery.specs.Accepted as turns
+use Rattle.sctp_delivery.specs.Windows as windows
+use Rattle.sctp_delivery.specs.Windows.{numbered, IsWithin, Stamp, Stamps, IsYoung}
+use Rattle.sctp_delivery.specs.Delivery.{AllAreDone}
+use Rattle.sctp_delivery.specs.GivenUp.{given_up_by, given_up_at}
+use Rattle.sctp_tx_rules.specs.Led.{delivered}
+use Rattle.sctp_delivery.specs.Delivery as courses
+use Rattle.sctp_network_table.specs.Judge as judge
+use Rattle.sctp_network_table.specs.Judge.{End, A, B, same_end, all_unless, unrefused, Entry, Called, Given, Foreign, Answer, Sent, SentMany, accepted_in, accepted_by, Call, Connect, Shutdown, Close, Send, SendMany, Receive, Reset, SetPriority, SetMaxMessageSize, SetLowThreshold, HandOver, ready, handed_out}
+use Rattle.sctp_network_table.specs.World.{Side, World, Action, CallOf, Give, GiveForeign, TellTime, ComesTo, told, skipped, Gives, Happens, Runs, side_of, settled, news_of, clock, calls, call_entry, after_call, tells_time, time_entry, after_time, step_of, fresh_world, is_at_rest}
+use Rattle.sctp_network_laws.specs.Courses.{ActionFits, IsInBytes, is_a, end_of, hearing, IsTurnOf}
+use Rattle.sctp_network_laws.specs.Delivered.{gone, reported, AlongRun, ready_places, SideIsWithin, AreWithin, stamp, stamped, stamps_after, IsTimely, KeepsWindows, resets, asks_more, sets_more, offers_in, offers_by, offers, Delivers, IsInBounds, WorldsDeliver, HandedOutIsAPrefix, OffersAreAccepted}
+use Rattle.sctp_network_laws.specs.Joined.{FollowsTheRules, times_ended}
+use Rattle.sctp_network_laws.proofs.WorldLemmas.{Both, Extends, extends_then, in_bytes_before, Stepped, steps}
+use Rattle.sctp_network_laws.proofs.RunsLemmas.{runs_extends, happens_extends, Ran, ran, fresh_both}
+use Rattle.sctp_network_laws.proofs.JoinedLemmas.{given_of, none_ended}
+use Rattle.sctp_network_laws.proofs.TellingLemmas.{BeginsWith, IsTold, goes_on_told, skipped_told, call_begins, time_begins, give_begins, foreign_begins, given_accepts, given_hands, foreign_accepts, foreign_hands}
+use Rattle.sctp_network_laws.proofs.BlockLemmas.{IsBlock, AreBlocks, StandsAt, Stands, run_more, offers_run, IsReached, nothing_yet, reached_more, prefix_each}
+use Rattle.sctp_network_laws.proofs.PointsLemmas.{delivered_each, at_rest}
+use Rattle.sctp_network_laws.proofs.ReportedLemmas.{reported_is}
+
+-- ---- one event is one block
+
+calls_side : (x : End) (call : Call) (w : World) → side_of x (calls x call w) ≡ settled (side_of x w) (after_call call (side_of x w).socket)
+calls_side A call w = refl
+calls_side B call w = refl
+
+pub calls_log : (x : End) (call : Call) (w : World) → (calls x call w).log ≡ w.log ++ call_entry x call (side_of x w).socket ∷ news_of x (side_of x w) (after_call call (side_of x w).socket)
+calls_log A call w = refl
+calls_log B call w = refl
+
+pub time_side : (x : End) (now : ℕ) (w : World) → side_of x (tells_time x now w) ≡ settled (side_of x w) (after_time now (side_of x w).socket)
+time_side A now w = refl
+time_side B now w = refl
+
+pub time_log : (x : End) (now : ℕ) (w : World) → (tells_time x now w).log ≡ w.log ++ time_entry x now (side_of x w).socket ∷ news_of x (side_of x w) (after_time now (side_of x w).socket)
+time_log A now w = refl
+time_log B now w = refl
+
+module _ (f : Carried → List ℕ) (x : End) (own beside next : course.Side) (w u : World) (is : (side_of x w).socket ≡ map_end f own.end) (is_next : (side_of x u).socket ≡ map_end f next.end)
+    (stands : (a : Association) → association_in (state_of own) ≡ Some a → association_in (state_of next) ≡ Some a) (turn : Turn)
+    (gave_up : gone x u.log ≡ gone x w.log ++ given_up_by turn own beside) (reports : reported x u.log ≡ delivered next.told) where
+  abbrev s : Endpoint (List ℕ)
+  s = (side_of x w).socket
+
+  goes_told : (first : Entry) → BeginsWith x turn own first → (after : Endpoint (List ℕ)) → side_of x u ≡ settled (side_of x w) after → u.log ≡ w.log ++ first ∷ news_of x (side_of x w) after
+      → IsTold x turn own beside next w.log u.log
+  goes_told first b after at logged = goes_on_told f x turn own beside next w.log u.log (side_of x w) (side_of x u) is is_next stands gave_up reports first b after at logged
+
+  call_told : (call : Call) → turn ≡ Calls (step_of call) → u ≡ calls x call w → IsTold x turn own beside next w.log u.log
+  call_told call t e =
+      goes_told (call_entry x call s) (subst (λ (z : Turn). BeginsWith x z own (call_entry x call s)) (sym t) (call_begins f x own s is call)) (after_call call s)
+      (ap (side_of x) e ∙ calls_side x call w) (ap (λ (z : World). z.log) e ∙ calls_log x call w)
+
+  time_told : (now : ℕ) → turn ≡ Calls (table.Advance now) → u ≡ tells_time x now w → IsTold x turn own beside next w.log u.log
+  time_told now t e =
+      goes_told (time_entry x now s) (subst (λ (z : Turn). BeginsWith x z own (time_entry x now s)) (sym t) (time_begins f x own s now)) (after_time now s)
+      (ap (side_of x) e ∙ time_side x now w) (ap (λ (z : World). z.log) e ∙ time_log x now w)
+
+  give_told : (packet : ℕ) → turns.accepted_in turn own ≡ [] → handed_by turn own ≡ [] → Gives x packet w u → IsTold x turn own beside next w.log u.log
+  give_told packet h k g = goes_told (Given x (clock s) packet) (give_begins f x own turn (clock s) packet h k) g.told.after g.told.side g.told.logged
+
+  foreign_told : (bytes : List ℕ) → turns.accepted_in turn own ≡ [] → handed_by turn own ≡ [] → ComesTo x bytes (side_of x w) (side_of x u) w.log u.log → IsTold x turn own beside next w.log u.log
+  foreign_told bytes h k (told t judged) = goes_told (Foreign x (clock s) (Some bytes)) (foreign_begins f x own turn (clock s) (Some bytes) h k) t.after t.side t.logged
+  foreign_told bytes h k (skipped by is_own judged stays logged) =
+      skipped_told f x turn own beside next w.log u.log (side_of x w) (side_of x u) is is_next stands gave_up reports (Foreign x (clock s) None) (foreign_begins f x own turn (clock s) None h k) stays logged
+
+module _ (word_of_a word_of_b : List ℕ → ℕ) where
+  block_of : (action : Action) (w u : World) (c : Pair) (turn : Turn) → Happens action w u → IsTurnOf word_of_a word_of_b action turn c → Both word_of_a word_of_b w c
+      → Both word_of_a word_of_b u (goes (is_a (end_of action)) turn c) → StandsAt (is_a (end_of action)) (is_a (end_of action), turn) c
+      → ((x : End) → gone x u.log ≡ gone x w.log ++ given_up_at (is_a x) (is_a (end_of action)) turn c)
+      → IsBlock (is_a (end_of action), turn) c w.log u.log
+  block_of (CallOf A call) w u c turn e is h k stands gives_up =
+      call_told (as_written word_of_a) A c.a c.b (turned turn c.a c.b) w u h.a.image.socket k.a.image.socket stands turn (gives_up A)
+      (reported_is word_of_a A u.log u.b.packets u.a (turned turn c.a c.b) k.a) call is e
+  block_of (CallOf B call) w u c turn e is h k stands gives_up =
+      call_told (as_written word_of_b) B c.b c.a (turned turn c.b c.a) w u h.b.image.socket k.b.image.socket stands turn (gives_up B)
+      (reported_is word_of_b B u.log u.a.packets u.b (turned turn c.b c.a) k.b) call is e
+  block_of (Give n A) w u c turn g is h k stands gives_up =
+      give_told (as_written word_of_a) A c.a c.b (turned turn c.a c.b) w u h.a.image.socket k.a.image.socket stands turn (gives_up A)
+      (reported_is word_of_a A u.log u.b.packets u.a (turned turn c.a c.b) k.a) n
+      (given_accepts word_of_a word_of_b n c.a c.b c.a turn is) (given_hands word_of_a word_of_b n c.a c.b c.a turn is) g
+  block_of (Give n B) w u c turn g is h k stands gives_up =
+      give_told (as_written word_of_b) B c.b c.a (turned turn c.b c.a) w u h.b.image.socket k.b.image.socket stands turn (gives_up B)
+      (reported_is word_of_b B u.log u.a.packets u.b (turned turn c.b c.a) k.b) n
+      (given_accepts word_of_b word_of_a n c.b c.a c.b turn is) (given_hands word_of_b word_of_a n c.b c.a c.b turn is) g
+  block_of (GiveForeign A bytes) w u c turn g is h k stands gives_up =
+      foreign_told (as_written word_of_a) A c.a c.b (turned turn c.a c.b) w u h.a.image.socket k.a.image.socket stands turn (gives_up A)
+      (reported_is word_of_a A u.log u.b.packets u.a (turned turn c.a c.b) k.a) bytes
+      (foreign_accepts bytes c.a turn is) (foreign_hands bytes c.a turn is) g.comes
+  block_of (GiveForeign B bytes) w u c turn g is h k stands gives_up =
+      foreign_told (as_written word_of_b) B c.b c.a (turned turn c.b c.a) w u h.b.image.socket k.b.image.socket stands turn (gives_up B)
+      (reported_is word_of_b B u.log u.a.packets u.b (turned turn c.b c.a) k.b) bytes
+      (foreign_accepts bytes c.b turn is) (foreign_hands bytes c.b turn is) g.comes
+  block_of (TellTime A now) w u c turn e is h k stands gives_up =
+      time_told (as_written word_of_a) A c.a c.b (turned turn c.a c.b) w u h.a.image.socket k.a.image.socket stands turn (gives_up A)
+      (reported_is word_of_a A u.log u.b.packets u.a (turned turn c.a c.b) k.a) now is e
+  block_of (TellTime B now) w u c turn e is h k stands gives_up =
+      time_told (as_written word_of_b) B c.b c.a (turned turn c.b c.a) w u h.b.image.socket k.b.image.socket stands turn (gives_up B)
+      (reported_is word_of_b B u.log u.a.packets u.b (turned turn c.b c.a) k.b) now is e
+
+  -- ---- windows
+
+  state_same : (f : Carried → List ℕ) (side : Side) (end : course.Side) → side.socket ≡ map_end f end.end → side.socket.standing.state ≡ state_of end
+  state_same f side end e = ap (λ (z : Endpoint (List ℕ)). z.standing.state) e
+
+  stamp_same : (w : World) (c : Pair) → Both word_of_a word_of_b w c → stamp w ≡ windows.stamp c
+  stamp_same w c h =
+      ap (λ (s : State). record { a = numbered s; b = numbered w.b.socket.standing.state }) (state_same (as_written word_of_a) w.a c.a h.a.image.socket)
+      ∙ ap (λ (s : State). record { a = numbered (state_of c.a); b = numbered s }) (state_same (as_written word_of_b) w.b c.b h.b.image.socket)
+
+  within_same : (f : Carried → List ℕ) (side : Side) (end : course.Side) → side.socket ≡ map_end f end.end → SideIsWithin side → IsWithin (state_of end) (windows.queue_of end)
+  within_same f side end e h = subst (λ (z : Endpoint (List ℕ)). IsWithin z.standing.state z.standing.context.queue) e h
+
+  are_within : (w : World) (c : Pair) → Both word_of_a word_of_b w c → AreWithin w → windows.AreWithin c
+  are_within w c h k = record {
+    a = within_same (as_written word_of_a) w.a c.a h.a.image.socket k.a;
+    b = within_same (as_written word_of_b) w.b c.b h.b.image.socket k.b;
+  }
+
+  many_same : (f : Carried → List ℕ) (side : Side) (end : course.Side) → side.packets ≡ map f (emitted end) → length side.packets ≡ length (emitted end)
+  many_same f side end e = ap length e ∙ length-map (emitted end) f
+
+  stamped_same : (f : Carried → List ℕ) (before after : Side) (own next : course.Side) (s t : Stamp) (stamps : List Stamp) → before.packets ≡ map f (emitted own)
+      → after.packets ≡ map f (emitted next) → s ≡ t → stamped before after s stamps ≡ windows.stamped own next t stamps
+  stamped_same f before after own next s t stamps e k i =
+      ap (λ (n : ℕ). stamps ++ replicate (n - length before.packets) s) (many_same f after next k)
+      ∙ (ap (λ (n : ℕ). stamps ++ replicate (length (emitted next) - n) s) (many_same f before own e)
+      ∙ ap (λ (z : Stamp). stamps ++ replicate (length (emitted next) - length (emitted own)) z) i)
+
+  none_stamped : (x : course.Side) (s : Stamp) (stamps : List Stamp) → windows.stamped x x s stamps ≡ stamps
+  none_stamped x s stamps =
+      ap (λ (n : ℕ). stamps ++ replicate n s) (let e : length (emitted x) - length (emitted x) ≡ 0 = omega arith in e) ∙ append-nil stamps
+
+  stamps_same : (at_a : Bool) (turn : Turn) (w u : World) (c : Pair) (s : Stamps) → Both word_of_a word_of_b w c → Both word_of_a word_of_b u (goes at_a turn c)
+      → stamps_after w u s ≡ windows.stamps_after at_a turn c s
+  stamps_same true turn w u c s h k =
+      ap (λ (l : List Stamp). record { of_a = l; of_b = stamped w.b u.b (stamp w) s.of_b })
+      (stamped_same (as_written word_of_a) w.a u.a c.a (turned turn c.a c.b) (stamp w) (windows.stamp c) s.of_a h.a.image.packets k.a.image.packets (stamp_same w c h))
+      ∙ ap (λ (l : List Stamp). record { of_a = windows.stamped c.a (turned turn c.a c.b) (windows.stamp c) s.of_a; of_b = l })
+      (stamped_same (as_written word_of_b) w.b u.b c.b c.b (stamp w) (windows.stamp c) s.of_b h.b.image.packets k.b.image.packets (stamp_same w c h)
+      ∙ none_stamped c.b (windows.stamp c) s.of_b)
+  stamps_same false turn w u c s h k =
+      ap (λ (l : List Stamp). record { of_a = l; of_b = stamped w.b u.b (stamp w) s.of_b })
+      (stamped_same (as_written word_of_a) w.a u.a c.a c.a (stamp w) (windows.stamp c) s.of_a h.a.image.packets k.a.image.packets (stamp_same w c h)
+      ∙ none_stamped c.a (windows.stamp c) s.of_a)
+      ∙ ap (λ (l : List Stamp). record { of_a = s.of_a; of_b = l })
+      (stamped_same (as_written word_of_b) w.b u.b c.b (turned turn c.b c.a) (stamp w) (windows.stamp c) s.of_b h.b.image.packets k.b.image.packets (stamp_same w c h))
+
+  hearing_timely : (b : Bool) (n sum : ℕ) (now : Stamp) (stamps : List Stamp) → ((old : Stamp) → slice_get stamps n ≡ Some old → IsYoung now old)
+      → windows.IsTimely (hearing b n sum) now stamps
+  hearing_timely true n sum now stamps h = h
+  hearing_timely false n sum now stamps h = tt
+
+  timely : (action : Action) (w : World) (c : Pair) (turn : Turn) (s : Stamps) → Both word_of_a word_of_b w c → IsTurnOf word_of_a word_of_b action turn c → IsTimely action (stamp w) s
+      → windows.IsTimely turn (windows.stamp c) (windows.stamps_for (is_a (end_of action)) s)
+  timely (CallOf x call) w c turn s h is t = subst (λ (z : Turn). windows.IsTimely z (windows.stamp c) (windows.stamps_for (is_a x) s)) (sym is) tt
+  timely (Give n A) w c turn s h is t =
+      subst (λ (z : Turn). windows.IsTimely z (windows.stamp c) s.of_b) (sym is.heard)
+      (hearing_timely _ n _ (windows.stamp c) s.of_b (λ old e. subst (λ (z : Stamp). IsYoung z old) (stamp_same w c h) (t old e)))
+  timely (Give n B) w c turn s h is t =
+      subst (λ (z : Turn). windows.IsTimely z (windows.stamp c) s.of_a) (sym is.heard)
+      (hearing_timely _ n _ (windows.stamp c) s.of_a (λ old e. subst (λ (z : Stamp). IsYoung z old) (stamp_same w c h) (t old e)))
+  timely (GiveForeign x bytes) w c turn s h (inl is) t = subst (λ (z : Turn). windows.IsTimely z (windows.stamp c) (windows.stamps_for (is_a x) s)) (sym is.2) tt
+  timely (GiveForeign x bytes) w c turn s h (inr is) t = subst (λ (z : Turn). windows.IsTimely z (windows.stamp c) (windows.stamps_for (is_a x) s)) (sym is) tt
+  timely (TellTime x now) w c turn s h is t = subst (λ (z : Turn). windows.IsTimely z (windows.stamp c) (windows.stamps_for (is_a x) s)) (sym is) tt
+
+  -- ---- resets
+
+  call_resets : (call : Call) → windows.resets (Calls (step_of call)) ≡ resets (CallOf A call)
+  call_resets Connect = refl
+  call_resets Shutdown = refl
+  call_resets Close = refl
+  call_resets (Send m o) = refl
+  call_resets (SendMany ms o) = refl
+  call_resets Receive = refl
+  call_resets (Reset streams) = refl
+  call_resets (SetPriority stream priority) = refl
+  call_resets (SetMaxMessageSize bytes) = refl
+  call_resets (SetLowThreshold stream bytes) = refl
+  call_resets HandOver = refl
+
+  same_resets : (x : End) (call : Call) → resets (CallOf A call) ≡ resets (CallOf x call)
+  same_resets A call = refl
+  same_resets B Connect = refl
+  same_resets B Shutdown = refl
+  same_resets B Close = refl
+  same_resets B (Send m o) = refl
+  same_resets B (SendMany ms o) = refl
+  same_resets B Receive = refl
+  same_resets B (Reset streams) = refl
+  same_resets B (SetPriority stream priority) = refl
+  same_resets B (SetMaxMessageSize bytes) = refl
+  same_resets B (SetLowThreshold stream bytes) = refl
+  same_resets B HandOver = refl
+
+  hearing_resets : (b : Bool) (n sum : ℕ) → windows.resets (hearing b n sum) ≡ false
+  hearing_resets true n sum = refl
+  hearing_resets false n sum = refl
+
+  turn_resets : (action : Action) (turn : Turn) (c : Pair) → IsTurnOf word_of_a word_of_b action turn c → windows.resets turn ≡ resets action
+  turn_resets (CallOf x call) turn c is = ap windows.resets is ∙ (call_resets call ∙ same_resets x call)
+  turn_resets (Give n A) turn c is = ap windows.resets is.heard ∙ hearing_resets _ n _
+  turn_resets (Give n B) turn c is = ap windows.resets is.heard ∙ hearing_resets _ n _
+  turn_resets (GiveForeign x bytes) turn c (inl is) = ap windows.resets is.2
+  turn_resets (GiveForeign x bytes) turn c (inr is) = ap windows.resets is
+  turn_resets (TellTime x now) turn c is = ap windows.resets is
+
+  -- ---- limits
+
+  call_more : (call : Call) → windows.sets_more (Calls (step_of call)) ≡ asks_more call
+  call_more Connect = refl
+  call_more Shutdown = refl
+  call_more Close = refl
+  call_more (Send m o) = refl
+  call_more (SendMany ms o) = refl
+  call_more Receive = refl
+  call_more (Reset streams) = refl
+  call_more (SetPriority stream priority) = refl
+  call_more (SetMaxMessageSize bytes) = refl
+  call_more (SetLowThreshold stream bytes) = refl
+  call_more HandOver = refl
+
+  hearing_more : (b : Bool) (n sum : ℕ) → windows.sets_more (hearing b n sum) ≡ false
+  hearing_more true n sum = refl
+  hearing_more false n sum = refl
+
+  turn_more : (action : Action) (turn : Turn) (c : Pair) → IsTurnOf word_of_a word_of_b action turn c → windows.sets_more turn ≡ sets_more action
+  turn_more (CallOf x call) turn c is = ap windows.sets_more is ∙ call_more call
+  turn_more (Give n A) turn c is = ap windows.sets_more is.heard ∙ hearing_more _ n _
+  turn_more (Give n B) turn c is = ap windows.sets_more is.heard ∙ hearing_more _ n _
+  turn_more (GiveForeign x bytes) turn c (inl is) = ap windows.sets_more is.2
+  turn_more (GiveForeign x bytes) turn c (inr is) = ap windows.sets_more is
+  turn_more (TellTime x now) turn c is = ap windows.sets_more is
+
+  -- ---- whole runs
+
+  -- a world at which so many of the turns have been
+  pub record IsPoint (all : List (Bool × Turn)) (first : Pair) (u : World) : Type 0 where
+    pub early : List (Bool × Turn)
+    pub late : List (Bool × Turn)
+    pub split : all ≡ early ++ late
+    pub reached : IsReached first early u.log
+    pub both : Both word_of_a word_of_b u (run early first)
+
+  pub record Delivering (actions : List Action) (w v : World) (c : Pair) (runs : Runs actions w v) (turns : List (Bool × Turn)) : Type 0 where
+    pub blocks : Stands turns c → AreBlocks turns c w.log v.log
+    pub windows_kept : (s : Stamps) → KeepsWindows actions w v runs s → windows.KeepsWindows turns c s
+    pub streams : list_any (λ (e : Bool × Turn). windows.resets e.1) turns ≡ list_any resets actions
+    pub limits : list_any (λ (e : Bool × Turn). windows.sets_more e.1) turns ≡ list_any sets_more actions
+    pub points : (all done : List (Bool × Turn)) (first : Pair) → all ≡ done ++ turns → run done first ≡ c → Stands turns c → IsReached first done w.log
+        → AlongRun (IsPoint all first) actions w v runs
+
+  pub delivering : (actions : List Action) (w v : World) (c : Pair) (fit : All ActionFits actions) (r : Runs actions w v) (small : IsInBytes v) (h : Both word_of_a word_of_b w c)
+      → Delivering actions w v c r (ran word_of_a word_of_b actions w v c fit r small h).turns
+  unfolding ran
+  delivering [] w v c fit r small h = record {
+    blocks = λ s. ap (λ (z : World). z.log) r;
+    windows_kept = λ s k. are_within w c h k;
+    streams = refl;
+    limits = refl;
+    points = λ all done first split is s reached.
+        record { early = done; late = []; split = split; reached = reached; both = subst (Both word_of_a word_of_b w) (sym is) h };
+  }
+  delivering (action ∷ actions) w v c fit r small h =
+      let u : World = r.0 in
+      let later : Extends u v = runs_extends actions u v r.2 in
+      let first : Extends w u = happens_extends action w u r.1 in
+      let step : Stepped word_of_a word_of_b action w u c =
+      steps word_of_a word_of_b action w u c (All-head ActionFits action actions fit) (in_bytes_before w v (extends_then w u v first later) small) r.1 h in
+      let at_end : Bool = is_a (end_of action) in
+      let d : Pair = goes at_end step.turn c in
+      let rest_turns : List (Bool × Turn) = (ran word_of_a word_of_b actions u v d (All-tail ActionFits action actions fit) r.2 small step.both).turns in
+      let rest = delivering actions u v d (All-tail ActionFits action actions fit) r.2 small step.both in
+      record {
+        blocks = λ s. (u.log, block_of action w u c step.turn r.1 step.is h step.both s.0 step.gone, rest.blocks s.1);
+        windows_kept = λ s k. (
+          are_within w c h k.0,
+          timely action w c step.turn s h step.is k.1,
+          rest.windows_kept (windows.stamps_after at_end step.turn c s)
+              (subst (λ (z : Stamps). KeepsWindows actions u v r.2 z) (stamps_same at_end step.turn w u c s h step.both) k.2),
+        );
+        streams = both_any (turn_resets action step.turn c step.is) rest.streams;
+        limits = both_any (turn_more action step.turn c step.is) rest.limits;
+        points = λ all done first split is s reached.
+            let e : Bool × Turn = (at_end, step.turn) in
+            let b : IsBlock e c w.log u.log = block_of action w u c step.turn r.1 step.is h step.both s.0 step.gone in (
+              record { early = done; late = e ∷ rest_turns; split = split; reached = reached; both = subst (Both word_of_a word_of_b w) (sym is) h },
+              rest.points all (done ++ e ∷ []) first (split ∙ sym (append_assoc done (e ∷ []) rest_turns)) (run_more done e first ∙ ap (goes at_end step.turn) is) s.1
+                  (reached_more first done e w.log u.log reached (subst (λ (z : Pair). IsBlock e z w.log u.log) (sym is) b)),
+            );
+      }
+    where
+      both_any : {p q x y : Bool} → p ≡ q → x ≡ y → (p || x) ≡ (q || y)
+      both_any {p} {q} {x} {y} e f = ap (λ (z : Bool). z || x) e ∙ ap (λ (z : Bool). q || z) f
+
+along_each : (P Q : World → Type 0) → ((u : World) → P u → Q u) → (actions : List Action) (w v : World) (r : Runs actions w v) → AlongRun P actions w v r → AlongRun Q actions w v r
+along_each P Q f [] w v r h = f w h
+along_each P Q f (action ∷ actions) w v r h = (f w h.0, along_each P Q f actions r.0 v r.2 h.1)
+
+-- ---- an association that stands is not replaced
+
+module _ (o q : Options) (own : AreGiven o) (other : AreGiven q) where
+  pub stands_along : (es : List (Bool × Turn)) (c : Pair) → course.FollowsTheRules es c → HasNotEnded (run es c) → Halves o q c.a c.b → Stands es c
+  stands_along [] c follows none h = tt
+  stands_along (e ∷ es) c follows none h =
+      let d : Pair = goes e.0 e.1 c in
+      let not_yet : HasNotEnded d = before_run es d none in (
+        (hands_at o q own other e.0 e.0 e.1 c follows.0 not_yet h).stands,
+        stands_along es d follows.1 none (goes_joined o q own other e.0 e.1 c follows.0 not_yet h),
+      )
+
+-- ---- beginnings of courses
+
+follows_front : (es fs : List (Bool × Turn)) (c : Pair) → course.FollowsTheRules (es ++ fs) c → course.FollowsTheRules es c
+follows_front [] fs c h = tt
+follows_front (e ∷ es) fs c h = (h.0, follows_front es fs (goes e.0 e.1 c) h.1)
+
+run_both : (es fs : List (Bool × Turn)) (c : Pair) → run (es ++ fs) c ≡ run fs (run es c)
+run_both [] fs c = refl
+run_both (e ∷ es) fs c = run_both es fs (goes e.0 e.1 c)
+
+not_ended_front : (es fs : List (Bool × Turn)) (c : Pair) → HasNotEnded (run (es ++ fs) c) → HasNotEnded (run es c)
+not_ended_front es fs c h = before_run fs (run es c) (subst HasNotEnded (run_both es fs c) h)
+
+-- ---- the laws
+
+module _ (a b : Options) (words_a words_b : Stream) (word_of_a word_of_b : List ℕ → ℕ) (actions : List Action) (w : World)
+    (valid_a : IsValid a) (valid_b : IsValid b) (fits_a : OptionsFit a) (fits_b : OptionsFit b) (fit : All ActionFits actions)
+    (runs : Runs actions (fresh_world a b words_a words_b word_of_a word_of_b) w) (small : IsInBytes w) (rules : FollowsTheRules w) (none : (x : End) → times_ended x w.log ≡ 0) where
+  abbrev first_world : World
+  first_world = fresh_world a b words_a words_b word_of_a word_of_b
+
+  abbrev first_pair : Pair
+  first_pair = start a b words_a words_b
+
+  abbrev r : Ran word_of_a word_of_b actions first_world w first_pair
+  r = ran word_of_a word_of_b actions first_world w first_pair fit runs small (fresh_both a b words_a words_b word_of_a word_of_b fits_a fits_b)
+
+  d : Delivering word_of_a word_of_b actions first_world w first_pair runs r.turns
+  d = delivering word_of_a word_of_b actions first_world w first_pair fit runs small (fresh_both a b words_a words_b word_of_a word_of_b fits_a fits_b)
+
+  own : AreGiven a
+  own = given_of a valid_a fits_a
+
+  theirs : AreGiven b
+  theirs = given_of b valid_b fits_b
+
+  not_ended : HasNotEnded (run r.turns first_pair)
+  not_ended = record {
+    a = none_ended word_of_a A w.log w.b.packets w.a (run r.turns first_pair).a r.both.a (none A);
+    b = none_ended word_of_b B w.log w.a.packets w.b (run r.turns first_pair).b r.both.b (none B);
+  }
+
+  stand : Stands r.turns first_pair
+  stand = stands_along a b own theirs r.turns first_pair (r.follows rules) not_ended (first_halves a b words_a words_b)
+
+  blocks : AreBlocks r.turns first_pair [] w.log
+  blocks = d.blocks stand
+
+  offered : (x : End) → offers x w.log ≡ accepted (is_a x) r.turns first_pair
+  offered x = offers_run x r.turns first_pair [] w.log blocks
+
+  bounds : IsInBounds actions first_world w runs → courses.IsInBounds r.turns first_pair
+  bounds k = record {
+    windows = d.windows_kept windows.no_stamps k.windows;
+    streams = d.streams ∙ k.streams;
+    few = λ from_a. few_at from_a;
+    limits = d.limits ∙ k.limits;
+  }
+    where
+      few_at : (from_a : Bool) → length (accepted from_a r.turns first_pair) < 2 ^ 32
+      few_at true = subst (λ (l : List Offer). length l < 2 ^ 32) (offered A) (k.few A)
+      few_at false = subst (λ (l : List Offer). length l < 2 ^ 32) (offered B) (k.few B)
+
+  reached : IsReached first_pair [] []
+  reached = nothing_yet first_pair nothing
+    where
+      nothing : (x : Bool) → (course.side_of x first_pair).told ≡ []
+      nothing true = refl
+      nothing false = refl
+
+  pub delivers : courses.MessagesAreDelivered → IsInBounds actions first_world w runs → (x : End) → Delivers x actions first_world w runs
+  delivers law k x =
+      let from : courses.Delivers (is_a x) r.turns first_pair = law a b words_a words_b r.turns own theirs (r.follows rules) not_ended (bounds k) (is_a x) in
+      record {
+        places = from.places;
+        fits = λ early late e. (delivered_each x r.turns first_pair from w.log early late reached blocks e).fits;
+        skipped = λ early late e. (delivered_each x r.turns first_pair from w.log early late reached blocks e).skipped;
+        reports = λ early late e. (delivered_each x r.turns first_pair from w.log early late reached blocks e).reports;
+        rest =
+            along_each (IsPoint word_of_a word_of_b r.turns first_pair)
+            (λ u. is_at_rest x u ≡ true → AllAreDone (offers x u.log) (gone x u.log) (ready_places x u.log from.places))
+            (λ u p. at_rest word_of_a word_of_b x r.turns first_pair from p.early p.late u p.split p.reached p.both)
+            actions first_world w runs (d.points r.turns [] first_pair refl refl stand reached);
+      }
+
+  pub prefix : (x : End) (early late : List Entry) → w.log ≡ early ++ late → orders.Extends (handed_out x early) (ready x early)
+  prefix x early late is =
+      prefix_each x r.turns first_pair
+      (λ before behind s.
+      let follows : course.FollowsTheRules (before ++ behind) first_pair = subst (λ (l : List (Bool × Turn)). course.FollowsTheRules l first_pair) s (r.follows rules) in
+      let none_yet : HasNotEnded (run (before ++ behind) first_pair) = subst (λ (l : List (Bool × Turn)). HasNotEnded (run l first_pair)) s not_ended in
+      handed_prefix a b words_a words_b before own theirs (follows_front before behind first_pair follows) (not_ended_front before behind first_pair none_yet) (is_a x))
+      w.log early late reached blocks is
+
+pub worlds_deliver : courses.MessagesAreDelivered → WorldsDeliver
+worlds_deliver law w l u k =
+    delivers l.a l.b l.words_a l.words_b l.word_of_a l.word_of_b l.actions w l.valid_a l.valid_b l.fits_a l.fits_b l.fit l.runs u.bytes u.follows u.stands law k
+
+pub handed_is_a_prefix : HandedOutIsAPrefix
+handed_is_a_prefix w l u x early late is =
+    prefix l.a l.b l.words_a l.words_b l.word_of_a l.word_of_b l.actions w l.valid_a l.valid_b l.fits_a l.fits_b l.fit l.runs u.bytes u.follows u.stands x early late is
+
+-- ---- offers and accepted messages
+
+messages_with : (o : SendOptions) (ms : List Message) → map (λ (z : Offer). z.message) (map (λ (m : Message). record { message = m; options = o }) ms) ≡ ms
+messages_with o [] = refl
+messages_with o (m ∷ ms) = ap (λ (l : List Message). m ∷ l) (messages_with o ms)
+
+one_call : (call : Call) (answer : Answer) → accepted_in call answer ≡ map (λ (z : Offer). z.message) (offers_in call answer)
+one_call (Send m o) (Sent None) = refl
+one_call (Send m o) (Sent (Some e)) = refl
+one_call (SendMany ms o) (SentMany refused) = sym (messages_with o (unrefused 0 ms refused))
+one_call call answer = refl
+
+one_entry : (x : End) (e : Entry) → accepted_by x e ≡ map (λ (z : Offer). z.message) (offers_by x e)
+one_entry x (Called y clock call answer) = go (same_end x y)
+  where
+    go : (b : Bool) → all_unless b (accepted_in call answer) ≡ map (λ (z : Offer). z.message) (all_unless b (offers_in call answer))
+    go true = one_call call answer
+    go false = refl
+one_entry x e = refl
+
+pub offers_accepted : OffersAreAccepted
+offers_accepted x [] = refl
+offers_accepted x (e ∷ log) =
+    ap (λ (l : List Message). l ++ judge.accepted x log) (one_entry x e)
+    ∙ (ap (λ (l : List Message). map (λ (z : Offer). z.message) (offers_by x e) ++ l) (offers_accepted x log)
+    ∙ sym (map-append (λ (z : Offer). z.message) (offers_by x e) (offers x log)))

@@ -1,0 +1,203 @@
+-- Each run is a course, and follows the course's rules where the log follows its own.
+use Rattle.std.proofs.Common.{◌≡◌, ◌⊎◌, inl, inr, ℕ, ◌≤◌, Bool, true, false, List, [], ◌∷◌, ◌++◌, length, refl, sym, ap, subst, ◌∙◌, append-nil, append_assoc}
+use Rattle.std.specs.Prelude.{All}
+use Rattle.std.specs.List.{flat_map, list_any}
+use Rattle.std.proofs.lemmas.List.Elements.{All-nil, All-head, All-tail}
+use Rattle.rand_core.specs.Stream.{Stream}
+use Rattle.sctp_state.specs.Options.{Options}
+use Rattle.sctp_table.specs.Association.{Endpoint}
+use Rattle.sctp_table_laws.specs.Mapped.{as_written}
+use Rattle.sctp_table_laws.specs.Sound.{OptionsFit}
+use Rattle.sctp_table_laws.specs.ReadBack.{as_carried}
+use Rattle.sctp_table_laws.proofs.SoundLawsLemmas.{is_new}
+use Rattle.sctp_course.specs.Course as course
+use Rattle.sctp_course.specs.Course.{Pair, Turn, Calls, Refuses, has_connected, MayCall, MayTurn, goes, run, start, new_side}
+use Rattle.sctp_network_table.specs.Judge.{End, A, B, Entry, Answer, Called, Call, Connect, Shutdown, Close, Send, SendMany, Receive, Reset, SetPriority, SetMaxMessageSize, SetLowThreshold, HandOver, connected_by, times_connected}
+use Rattle.sctp_network_table.specs.World.{Side, World, Action, CallOf, Give, GiveForeign, TellTime, ComesTo, told, skipped, Happens, Runs, settled, side_of, news_of, calls, call_entry, after_call, after_time, clock, answer_to, step_of, fresh_side, fresh_world}
+use Rattle.sctp_network_laws.specs.Courses.{ActionFits, IsInBytes, is_a, end_of, hearing, IsHearing, IsForeign, IsTurnOf, AreTurnsOf, WorldsHaveCourses}
+use Rattle.sctp_network_laws.specs.Joined.{asks, MayFollow, FollowsTheRules}
+use Rattle.sctp_course.proofs.JoinLemmas.{not_both}
+use Rattle.sctp_network_laws.proofs.EventLemmas.{Readable, connected_told}
+use Rattle.sctp_network_laws.proofs.NewsLemmas.{connected_by_told}
+use Rattle.sctp_network_laws.proofs.SidesLemmas.{Good, any_more}
+use Rattle.sctp_network_laws.proofs.WorldLemmas.{Both, Extends, extends_same, extends_then, in_bytes_before, Stepped, steps}
+
+-- ---- worlds grow
+
+grows_a : (w u : World) (more : List Entry) (s : Endpoint (List ℕ)) → u.log ≡ w.log ++ more → u.a ≡ settled w.a s → u.b ≡ w.b → Extends w u
+grows_a w u more s logged is same = record {
+  more = more;
+  logged = logged;
+  sent_a = _;
+  sent_b = [];
+  a = ap (λ (z : Side). z.packets) is;
+  b = ap (λ (z : Side). z.packets) same ∙ sym (append-nil w.b.packets);
+}
+
+grows_b : (w u : World) (more : List Entry) (s : Endpoint (List ℕ)) → u.log ≡ w.log ++ more → u.b ≡ settled w.b s → u.a ≡ w.a → Extends w u
+grows_b w u more s logged is same = record {
+  more = more;
+  logged = logged;
+  sent_a = [];
+  sent_b = _;
+  a = ap (λ (z : Side). z.packets) same ∙ sym (append-nil w.a.packets);
+  b = ap (λ (z : Side). z.packets) is;
+}
+
+grows_log : (w u : World) (more : List Entry) → u.log ≡ w.log ++ more → u.a ≡ w.a → u.b ≡ w.b → Extends w u
+grows_log w u more logged a b = record {
+  more = more;
+  logged = logged;
+  sent_a = [];
+  sent_b = [];
+  a = ap (λ (z : Side). z.packets) a ∙ sym (append-nil w.a.packets);
+  b = ap (λ (z : Side). z.packets) b ∙ sym (append-nil w.b.packets);
+}
+
+comes_a : (bytes : List ℕ) (w u : World) → ComesTo A bytes w.a u.a w.log u.log → u.b ≡ w.b → Extends w u
+comes_a bytes w u (told t judged) same = grows_a w u _ t.after t.logged t.side same
+comes_a bytes w u (skipped by own judged stays logged) same = grows_log w u _ logged stays same
+
+comes_b : (bytes : List ℕ) (w u : World) → ComesTo B bytes w.b u.b w.log u.log → u.a ≡ w.a → Extends w u
+comes_b bytes w u (told t judged) same = grows_b w u _ t.after t.logged t.side same
+comes_b bytes w u (skipped by own judged stays logged) same = grows_log w u _ logged same stays
+
+pub happens_extends : (action : Action) (w u : World) → Happens action w u → Extends w u
+happens_extends (CallOf A call) w u e = grows_a w u _ (after_call call w.a.socket) (ap (λ (z : World). z.log) e) (ap (λ (z : World). z.a) e) (ap (λ (z : World). z.b) e)
+happens_extends (CallOf B call) w u e = grows_b w u _ (after_call call w.b.socket) (ap (λ (z : World). z.log) e) (ap (λ (z : World). z.b) e) (ap (λ (z : World). z.a) e)
+happens_extends (Give n A) w u g = grows_a w u _ g.told.after g.told.logged g.told.side g.other_side
+happens_extends (Give n B) w u g = grows_b w u _ g.told.after g.told.logged g.told.side g.other_side
+happens_extends (GiveForeign A bytes) w u g = comes_a bytes w u g.comes g.other_side
+happens_extends (GiveForeign B bytes) w u g = comes_b bytes w u g.comes g.other_side
+happens_extends (TellTime A now) w u e = grows_a w u _ (after_time now w.a.socket) (ap (λ (z : World). z.log) e) (ap (λ (z : World). z.a) e) (ap (λ (z : World). z.b) e)
+happens_extends (TellTime B now) w u e = grows_b w u _ (after_time now w.b.socket) (ap (λ (z : World). z.log) e) (ap (λ (z : World). z.b) e) (ap (λ (z : World). z.a) e)
+
+pub runs_extends : (actions : List Action) (w v : World) → Runs actions w v → Extends w v
+runs_extends [] w v e = subst (Extends w) (sym e) (extends_same w)
+runs_extends (action ∷ actions) w v r = extends_then w r.0 v (happens_extends action w r.0 r.1) (runs_extends actions r.0 v r.2)
+
+-- ---- the rules
+
+module _ (word_of : List ℕ → ℕ) (x : End) (log : List Entry) (others : List (List ℕ)) (side : Side) (end : course.Side) (g : Good word_of x log others side end) where
+  connected_of : 1 ≤ times_connected x log → has_connected end.told ≡ true
+  connected_of h =
+      connected_told (as_written word_of) x 0 end.told
+      (subst (λ (l : List Entry). 1 ≤ length (flat_map (connected_by x) l)) g.image.told (subst (λ (l : List End). 1 ≤ length l) (connected_by_told x log) h))
+
+  not_true : (b : Bool) → (b ≡ true → ⊥) → b ≡ false
+  not_true true f = absurd (f refl)
+  not_true false f = refl
+
+  not_asked : (new : List (List ℕ)) → list_any (asks x (others ++ new)) log ≡ false → end.is_asked ≡ false
+  not_asked new none = not_true end.is_asked (λ e. not_both (list_any (asks x (others ++ new)) log) (any_more x others new log (g.asked e)) none)
+
+  may_connect : (all new : List (List ℕ)) → all ≡ others ++ new → (1 ≤ times_connected x log) ⊎ (list_any (asks x all) log ≡ false)
+      → (has_connected end.told ≡ true) ⊎ (end.is_asked ≡ false)
+  may_connect all new is (inl h) = inl (connected_of h)
+  may_connect all new is (inr none) = inr (not_asked new (ap (λ (ps : List (List ℕ)). list_any (asks x ps) log) (sym is) ∙ none))
+
+module _ (word_of_a word_of_b : List ℕ → ℕ) where
+  may_call : (x : End) (call : Call) (clock : ℕ) (answer : Answer) (w v : World) (c : Pair) → Both word_of_a word_of_b w c → Extends w v → MayFollow v w.log (Called x clock call answer)
+      → MayCall (step_of call) (course.side_of (is_a x) c)
+  may_call A Connect clock answer w v c h e may = may_connect word_of_a A w.log w.b.packets w.a c.a h.a v.b.packets e.sent_b e.b may
+  may_call B Connect clock answer w v c h e may = may_connect word_of_b B w.log w.a.packets w.b c.b h.b v.a.packets e.sent_a e.a may
+  may_call A Shutdown clock answer w v c h e may = connected_of word_of_a A w.log w.b.packets w.a c.a h.a may
+  may_call B Shutdown clock answer w v c h e may = connected_of word_of_b B w.log w.a.packets w.b c.b h.b may
+  may_call x Close clock answer w v c h e may = tt
+  may_call x (Send m o) clock answer w v c h e may = tt
+  may_call x (SendMany ms o) clock answer w v c h e may = tt
+  may_call x Receive clock answer w v c h e may = tt
+  may_call x (Reset streams) clock answer w v c h e may = tt
+  may_call x (SetPriority stream priority) clock answer w v c h e may = tt
+  may_call x (SetMaxMessageSize bytes) clock answer w v c h e may = tt
+  may_call x (SetLowThreshold stream bytes) clock answer w v c h e may = tt
+  may_call x HandOver clock answer w v c h e may = tt
+
+  logged_then : (before rest more log longer : List Entry) (entry : Entry) → log ≡ before ++ entry ∷ rest → longer ≡ log ++ more → longer ≡ before ++ entry ∷ (rest ++ more)
+  logged_then before rest more log longer entry e f = f ∙ ap (λ (l : List Entry). l ++ more) e ∙ append_assoc before (entry ∷ rest) more
+
+  may_follow : (x : End) (call : Call) (w u v : World) → u ≡ calls x call w → Extends u v → FollowsTheRules v
+      → MayFollow v w.log (call_entry x call (side_of x w).socket)
+  may_follow A call w u v e f rules =
+      rules w.log (call_entry A call w.a.socket) _ (logged_then w.log (news_of A w.a (after_call call w.a.socket)) f.more u.log v.log (call_entry A call w.a.socket)
+      (ap (λ (z : World). z.log) e) f.logged)
+  may_follow B call w u v e f rules =
+      rules w.log (call_entry B call w.b.socket) _ (logged_then w.log (news_of B w.b (after_call call w.b.socket)) f.more u.log v.log (call_entry B call w.b.socket)
+      (ap (λ (z : World). z.log) e) f.logged)
+
+  may_hearing : (b : Bool) (n checksum : ℕ) (end : course.Side) → MayTurn (hearing b n checksum) end
+  may_hearing true n checksum end = tt
+  may_hearing false n checksum end = tt
+
+  may_give : (f g : List ℕ → ℕ) (turn : Turn) (n : ℕ) (own beside end : course.Side) → IsHearing f g n own beside turn → MayTurn turn end
+  may_give f g turn n own beside end h = subst (λ (t : Turn). MayTurn t end) (sym h.heard) (may_hearing _ n _ end)
+
+  may_refuse : (turn : Turn) (bytes : List ℕ) (end : course.Side) → IsForeign bytes turn → MayTurn turn end
+  may_refuse turn bytes end (inl x) = subst (λ (t : Turn). MayTurn t end) (sym x.2) tt
+  may_refuse turn bytes end (inr e) = subst (λ (t : Turn). MayTurn t end) (sym e) tt
+
+  pub may_turn : (action : Action) (w u v : World) (c : Pair) (turn : Turn) → Happens action w u → Extends w u → Extends u v → Both word_of_a word_of_b w c → IsTurnOf word_of_a word_of_b action turn c → FollowsTheRules v
+      → MayTurn turn (course.side_of (is_a (end_of action)) c)
+  may_turn (CallOf x call) w u v c turn happens e f h is rules =
+      subst (λ (t : Turn). MayTurn t (course.side_of (is_a x) c)) (sym is)
+      (may_call x call (clock (side_of x w).socket) (answer_to call (side_of x w).socket) w v c h (extends_then w u v e f) (may_follow x call w u v happens f rules))
+  may_turn (Give n A) w u v c turn happens e f h is rules = may_give word_of_a word_of_b turn n c.a c.b c.a is
+  may_turn (Give n B) w u v c turn happens e f h is rules = may_give word_of_b word_of_a turn n c.b c.a c.b is
+  may_turn (GiveForeign x bytes) w u v c turn happens e f h is rules = may_refuse turn bytes (course.side_of (is_a x) c) is
+  may_turn (TellTime x now) w u v c turn happens e f h is rules = subst (λ (t : Turn). MayTurn t (course.side_of (is_a x) c)) (sym is) tt
+
+  -- ---- runs
+
+  pub record Ran (actions : List Action) (w v : World) (c : Pair) : Type 0 where
+    pub turns : List (Bool × Turn)
+    pub are : AreTurnsOf word_of_a word_of_b actions turns c
+    pub both : Both word_of_a word_of_b v (run turns c)
+    pub follows : FollowsTheRules v → course.FollowsTheRules turns c
+
+  unfoldable pub ran : (actions : List Action) (w v : World) (c : Pair) → All ActionFits actions → Runs actions w v → IsInBytes v → Both word_of_a word_of_b w c → Ran actions w v c
+  ran [] w v c fit e small h = record {
+    turns = [];
+    are = tt;
+    both = subst (λ (z : World). Both word_of_a word_of_b z c) (sym e) h;
+    follows = λ rules. tt;
+  }
+  ran (action ∷ actions) w v c fit r small h =
+      let u : World = r.0 in
+      let later : Extends u v = runs_extends actions u v r.2 in
+      let first : Extends w u = happens_extends action w u r.1 in
+      let step : Stepped word_of_a word_of_b action w u c =
+      steps word_of_a word_of_b action w u c (All-head ActionFits action actions fit) (in_bytes_before w v (extends_then w u v first later) small) r.1 h in
+      let rest : Ran actions u v (goes (is_a (end_of action)) step.turn c) =
+      ran actions u v (goes (is_a (end_of action)) step.turn c) (All-tail ActionFits action actions fit) r.2 small step.both in
+      record {
+        turns = (is_a (end_of action), step.turn) ∷ rest.turns;
+        are = (refl, step.is, rest.are);
+        both = rest.both;
+        follows = λ rules. (may_turn action w u v c step.turn r.1 first later h step.is rules, rest.follows rules);
+      }
+
+-- ---- new worlds
+
+fresh_good : (word_of : List ℕ → ℕ) (x : End) (o : Options) (words : Stream) → OptionsFit o → Good word_of x [] [] (fresh_side o words word_of) (new_side o words)
+fresh_good word_of x o words fits = record {
+  image = record { socket = refl; quiet = refl; packets = refl; told = refl };
+  sound = is_new o as_carried words fits;
+  packing = refl;
+  readable = All-nil Readable;
+  held = refl;
+  asked = λ e. cc;
+}
+
+pub fresh_both : (a b : Options) (words_a words_b : Stream) (word_of_a word_of_b : List ℕ → ℕ) → OptionsFit a → OptionsFit b
+    → Both word_of_a word_of_b (fresh_world a b words_a words_b word_of_a word_of_b) (start a b words_a words_b)
+fresh_both a b words_a words_b word_of_a word_of_b fits_a fits_b = record {
+  a = fresh_good word_of_a A a words_a fits_a;
+  b = fresh_good word_of_b B b words_b fits_b;
+}
+
+pub have_courses : WorldsHaveCourses
+have_courses a b words_a words_b word_of_a word_of_b actions w fits_a fits_b fit runs small =
+    let r : Ran word_of_a word_of_b actions (fresh_world a b words_a words_b word_of_a word_of_b) w (start a b words_a words_b) =
+    ran word_of_a word_of_b actions (fresh_world a b words_a words_b word_of_a word_of_b) w (start a b words_a words_b) fit runs small
+    (fresh_both a b words_a words_b word_of_a word_of_b fits_a fits_b) in
+    record { turns = r.turns; are = r.are; images = record { a = r.both.a.image; b = r.both.b.image } }

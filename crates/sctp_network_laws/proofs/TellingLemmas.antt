@@ -1,0 +1,244 @@
+-- Of each event of a world: what it adds to the log of messages is what the turn does in the course.
+use Rattle.std.proofs.Common.{◌≡◌, inl, inr, ℕ, zero, suc, Bool, true, false, Option, Some, None, List, [], ◌∷◌, ◌++◌, length, take, drop, refl, sym, ap, ◌∙◌, append-nil, arith}
+use Rattle.std.specs.List.{flat_map}
+use Rattle.std.proofs.lemmas.Bool.Decides.{nat_tests}
+use Rattle.sctp_serial.specs.Messages.{Message}
+use Rattle.sctp_state.specs.Events.{GivenUp}
+use Rattle.sctp_tx_rules.specs.Led.{delivered}
+use Rattle.sctp_table.specs.Association.{State, Closed, CookieWait, Open, Endpoint}
+use Rattle.sctp_table.specs.Calls.{shown_state, refusal, ready_in}
+use Rattle.sctp_table.specs.Handover.{readiness}
+use Rattle.sctp_table.specs.Shown.{Association, association_in}
+use Rattle.sctp_table.specs.Laws as table
+use Rattle.sctp_table_laws.specs.Mapped.{Carried, map_end}
+use Rattle.sctp_course.specs.Course as course
+use Rattle.sctp_course.specs.Course.{Turn, Calls, Gives, Refuses}
+use Rattle.sctp_course.specs.Handing as handing
+use Rattle.sctp_course.specs.Handing.{new_behind, handed_by}
+use Rattle.sctp_delivery.specs.Accepted.{accepted_by, accepted_in}
+use Rattle.sctp_delivery.specs.GivenUp.{given_up_by}
+use Rattle.sctp_network_table.specs.Judge.{End, A, B, same_end, same_association, same_numbers, all_unless, Call, Connect, Shutdown, Close, Send, SendMany, Receive, Reset, SetPriority, SetMaxMessageSize, SetLowThreshold, HandOver, Answer, Entry, Called, Given, Foreign, Timed, ready_by, handed_out_in, handed_out_by, given_up}
+use Rattle.sctp_network_table.specs.Judge as judge
+use Rattle.sctp_network_table.specs.World as worlds
+use Rattle.sctp_network_table.specs.World.{Side, World, Action, CallOf, Give, GiveForeign, TellTime, ComesTo, told, skipped, Happens, side_of, other, association, ready_before, news_of, settled, recorded, handed_by as record_by, step_of, answer_to, call_entry, after_call, time_entry, after_time, clock}
+use Rattle.sctp_network_laws.specs.Courses.{hearing, IsHearing, IsForeign}
+use Rattle.sctp_network_laws.specs.Delivered.{offers_in, offers_by, gone, reported_by, reported}
+use Rattle.sctp_network_laws.proofs.EventLemmas.{same_itself}
+use Rattle.sctp_network_laws.proofs.LoggedLemmas.{quiet_offers, quiet_handed, quiet_gone, quiet_reported, none_in_news, ready_news, ready_news_other, first_handed, one_offer, many_offers}
+
+-- ---- ends
+
+pub not_other : (x : End) → same_end (other x) x ≡ false
+not_other A = refl
+not_other B = refl
+
+-- ---- associations
+
+numbers_same : (a : Association) → same_numbers a a ≡ true
+numbers_same a = grind (arith, nat_tests)
+
+association_same : (a : Option Association) → same_association a a ≡ true
+association_same None = refl
+association_same (Some a) = numbers_same a
+
+none_kept : (b : Bool) → ready_before b 0 ≡ 0
+none_kept true = refl
+none_kept false = refl
+
+-- messages that were ready stay so, as long as the association stands
+pub same_behind : (s t : State) → ((a : Association) → association_in s ≡ Some a → association_in t ≡ Some a) → (ms : List Message)
+    → drop (ready_before (same_association (association_in s) (association_in t)) (length (ready_in s))) ms ≡ new_behind (ready_in s) ms
+same_behind Closed t h ms = ap (λ (n : ℕ). drop n ms) (none_kept (same_association None (association_in t)))
+same_behind (CookieWait tag first t1) t h ms = ap (λ (n : ℕ). drop n ms) (none_kept (same_association None (association_in t)))
+same_behind (Open phase b) t h ms =
+    ap (λ (o : Option Association). drop (ready_before (same_association (association_in (Open phase b)) o) (length b.reassembly.ready)) ms) (h _ refl)
+    ∙ ap (λ (z : Bool). drop (ready_before z (length b.reassembly.ready)) ms) (association_same (association_in (Open phase b)))
+
+pub none_new : (ms : List Message) → new_behind ms ms ≡ []
+none_new [] = refl
+none_new (m ∷ ms) = none_new ms
+
+-- ---- calls
+
+-- what a call's entry says is what the turn does
+module _ (f : Carried → List ℕ) (x : End) (end : course.Side) (s : Endpoint (List ℕ)) (is : s ≡ map_end f end.end) where
+  call_offers : (call : Call) → offers_in call (answer_to call s) ≡ accepted_by (step_of call) end
+  call_offers (Send m o) = ap (λ (z : Endpoint (List ℕ)). offers_in (Send m o) (answer_to (Send m o) z)) is ∙ one_offer (refusal m (shown_state end.end.standing.state) end.end.standing.context) m o
+  call_offers (SendMany ms o) =
+      ap (λ (z : Endpoint (List ℕ)). offers_in (SendMany ms o) (answer_to (SendMany ms o) z)) is
+      ∙ many_offers 0 ms o (shown_state end.end.standing.state) (map_end f end.end).standing.context end.end.standing.context
+      (record { options = refl; queue = refl; now = refl })
+  call_offers Connect = refl
+  call_offers Shutdown = refl
+  call_offers Close = refl
+  call_offers Receive = refl
+  call_offers (Reset streams) = refl
+  call_offers (SetPriority stream priority) = refl
+  call_offers (SetMaxMessageSize bytes) = refl
+  call_offers (SetLowThreshold stream bytes) = refl
+  call_offers HandOver = refl
+
+  none_handed : (n : ℕ) → handed_out_in (record_by n s) ≡ []
+  none_handed zero = refl
+  none_handed (suc n) = refl
+
+  call_hands : (call : Call) → handed_out_in (answer_to call s) ≡ handed_by (Calls (step_of call)) end
+  call_hands Receive = first_handed (worlds.ready_at s) ∙ ap (λ (z : Endpoint (List ℕ)). take 1 (ready_in z.standing.state)) is
+  call_hands HandOver = none_handed (readiness s.standing)
+  call_hands (Send m o) = refl
+  call_hands (SendMany ms o) = refl
+  call_hands Connect = refl
+  call_hands Shutdown = refl
+  call_hands Close = refl
+  call_hands (Reset streams) = refl
+  call_hands (SetPriority stream priority) = refl
+  call_hands (SetMaxMessageSize bytes) = refl
+  call_hands (SetLowThreshold stream bytes) = refl
+
+-- ---- turns of packets
+
+hearing_accepts : (b : Bool) (n sum : ℕ) (end : course.Side) → accepted_in (hearing b n sum) end ≡ []
+hearing_accepts true n sum end = refl
+hearing_accepts false n sum end = refl
+
+hearing_hands : (b : Bool) (n sum : ℕ) (end : course.Side) → handed_by (hearing b n sum) end ≡ []
+hearing_hands true n sum end = refl
+hearing_hands false n sum end = refl
+
+pub given_accepts : (f g : List ℕ → ℕ) (n : ℕ) (own beside end : course.Side) (turn : Turn) → IsHearing f g n own beside turn → accepted_in turn end ≡ []
+given_accepts f g n own beside end turn h = ap (λ (t : Turn). accepted_in t end) h.heard ∙ hearing_accepts _ n _ end
+
+pub given_hands : (f g : List ℕ → ℕ) (n : ℕ) (own beside end : course.Side) (turn : Turn) → IsHearing f g n own beside turn → handed_by turn end ≡ []
+given_hands f g n own beside end turn h = ap (λ (t : Turn). handed_by t end) h.heard ∙ hearing_hands _ n _ end
+
+pub foreign_accepts : (bytes : List ℕ) (end : course.Side) (turn : Turn) → IsForeign bytes turn → accepted_in turn end ≡ []
+foreign_accepts bytes end turn (inl h) = ap (λ (t : Turn). accepted_in t end) h.2
+foreign_accepts bytes end turn (inr h) = ap (λ (t : Turn). accepted_in t end) h
+
+pub foreign_hands : (bytes : List ℕ) (end : course.Side) (turn : Turn) → IsForeign bytes turn → handed_by turn end ≡ []
+foreign_hands bytes end turn (inl h) = ap (λ (t : Turn). handed_by t end) h.2
+foreign_hands bytes end turn (inr h) = ap (λ (t : Turn). handed_by t end) h
+
+-- ---- one event at end x, which was `own` in the course and is `next`, beside the other end
+
+pub record IsTold (x : End) (turn : Turn) (own beside next : course.Side) (log longer : List Entry) : Type 0 where
+  pub first : Entry
+  pub more : List Entry
+  pub logged : longer ≡ log ++ first ∷ more
+  pub quiet : (y : End) → flat_map (offers_by y) more ≡ []
+  pub hands_nothing : (y : End) → flat_map (handed_out_by y) more ≡ []
+  pub offers : offers_by x first ≡ accepted_in turn own
+  pub no_offers : offers_by (other x) first ≡ []
+  pub ready : flat_map (ready_by x) (first ∷ more) ≡ new_behind (handing.ready_at own) (handing.ready_at next)
+  pub none_ready : flat_map (ready_by (other x)) (first ∷ more) ≡ []
+  pub handed : flat_map (handed_out_by x) (first ∷ more) ≡ handed_by turn own
+  pub none_handed : flat_map (handed_out_by (other x)) (first ∷ more) ≡ []
+  pub gave_up : gone x longer ≡ gone x log ++ given_up_by turn own beside
+  pub none_gone : given_up (other x) (first ∷ more) ≡ []
+  pub reports : reported x longer ≡ delivered next.told
+  pub none_reported : reported (other x) (first ∷ more) ≡ []
+
+-- the first entries: what they say of messages
+pub record BeginsWith (x : End) (turn : Turn) (own : course.Side) (first : Entry) : Type 0 where
+  pub offers : offers_by x first ≡ accepted_in turn own
+  pub no_offers : offers_by (other x) first ≡ []
+  pub ready : (y : End) → ready_by y first ≡ []
+  pub handed : handed_out_by x first ≡ handed_by turn own
+  pub none_handed : handed_out_by (other x) first ≡ []
+  pub gone : (y : End) → judge.given_up_by y first ≡ []
+  pub reported : (y : End) → reported_by y first ≡ []
+
+module _ (f : Carried → List ℕ) (x : End) (turn : Turn) (own beside next : course.Side) (log longer : List Entry) (side new : Side)
+    (is : side.socket ≡ map_end f own.end) (is_next : new.socket ≡ map_end f next.end)
+    (stands : (a : Association) → association_in (course.state_of own) ≡ Some a → association_in (course.state_of next) ≡ Some a)
+    (gave_up : gone x longer ≡ gone x log ++ given_up_by turn own beside) (reports : reported x longer ≡ delivered next.told)
+    (first : Entry) (b : BeginsWith x turn own first) where
+  state_is : side.socket.standing.state ≡ course.state_of own
+  state_is = ap (λ (z : Endpoint (List ℕ)). z.standing.state) is
+
+  pub goes_on_told : (after : Endpoint (List ℕ)) → new ≡ settled side after → longer ≡ log ++ first ∷ news_of x side after → IsTold x turn own beside next log longer
+  goes_on_told after at logged =
+      let n : ℕ = length side.packets in
+      let m : ℕ = length (worlds.ready_at side.socket) in
+      let news : List Entry = news_of x side after in
+      let then : after.standing.state ≡ course.state_of next =
+      ap (λ (z : Side). z.socket.standing.state) (sym at) ∙ ap (λ (z : Endpoint (List ℕ)). z.standing.state) is_next in
+      record {
+        first = first;
+        more = news;
+        logged = logged;
+        quiet = λ y. none_in_news (offers_by y) x (quiet_offers y x) (λ z. refl) n m (association side.socket) after;
+        hands_nothing = λ y. none_in_news (handed_out_by y) x (quiet_handed y x) (λ z. refl) n m (association side.socket) after;
+        offers = b.offers;
+        no_offers = b.no_offers;
+        ready =
+            ap (λ (z : List Message). z ++ flat_map (ready_by x) news) (b.ready x)
+            ∙ (ready_news x (same_itself x) n m (association side.socket) after
+            ∙ (ap (λ (s : State). drop (ready_before (same_association (association_in s) (association_in after.standing.state)) (length (ready_in s))) (ready_in after.standing.state)) state_is
+            ∙ (ap (λ (s : State). drop (ready_before (same_association (association_in (course.state_of own)) (association_in s)) (length (ready_in (course.state_of own)))) (ready_in s)) then
+            ∙ same_behind (course.state_of own) (course.state_of next) stands (ready_in (course.state_of next)))));
+        none_ready =
+            ap (λ (z : List Message). z ++ flat_map (ready_by (other x)) news) (b.ready (other x))
+            ∙ ready_news_other (other x) x (not_other x) n m (association side.socket) after;
+        handed =
+            ap (λ (z : List Message). z ++ flat_map (handed_out_by x) news) b.handed
+            ∙ (ap (λ (z : List Message). handed_by turn own ++ z) (none_in_news (handed_out_by x) x (quiet_handed x x) (λ z. refl) n m (association side.socket) after)
+            ∙ append-nil (handed_by turn own));
+        none_handed =
+            ap (λ (z : List Message). z ++ flat_map (handed_out_by (other x)) news) b.none_handed
+            ∙ none_in_news (handed_out_by (other x)) x (quiet_handed (other x) x) (λ z. refl) n m (association side.socket) after;
+        gave_up = gave_up;
+        none_gone =
+            ap (λ (z : List GivenUp). z ++ given_up (other x) news) (b.gone (other x))
+            ∙ none_in_news (judge.given_up_by (other x)) x (quiet_gone (other x) x (not_other x)) (λ z. refl) n m (association side.socket) after;
+        reports = reports;
+        none_reported =
+            ap (λ (z : List ℕ). z ++ reported (other x) news) (b.reported (other x))
+            ∙ none_in_news (reported_by (other x)) x (quiet_reported (other x) x (not_other x)) (λ z. refl) n m (association side.socket) after;
+      }
+
+  -- where nothing happens
+  pub skipped_told : new ≡ side → longer ≡ log ++ first ∷ [] → IsTold x turn own beside next log longer
+  skipped_told at logged =
+      let then : course.state_of next ≡ course.state_of own =
+      ap (λ (z : Endpoint (List ℕ)). z.standing.state) (sym is_next) ∙ (ap (λ (z : Side). z.socket.standing.state) at ∙ state_is) in
+      record {
+        first = first;
+        more = [];
+        logged = logged;
+        quiet = λ y. refl;
+        hands_nothing = λ y. refl;
+        offers = b.offers;
+        no_offers = b.no_offers;
+        ready = ap (λ (z : List Message). z ++ []) (b.ready x) ∙ sym (ap (λ (s : State). new_behind (handing.ready_at own) (ready_in s)) then ∙ none_new (handing.ready_at own));
+        none_ready = ap (λ (z : List Message). z ++ []) (b.ready (other x));
+        handed = ap (λ (z : List Message). z ++ []) b.handed ∙ append-nil (handed_by turn own);
+        none_handed = ap (λ (z : List Message). z ++ []) b.none_handed;
+        gave_up = gave_up;
+        none_gone = ap (λ (z : List GivenUp). z ++ []) (b.gone (other x));
+        reports = reports;
+        none_reported = ap (λ (z : List ℕ). z ++ []) (b.reported (other x));
+      }
+
+-- ---- first entries
+
+module _ (f : Carried → List ℕ) (x : End) (own : course.Side) where
+  pub call_begins : (s : Endpoint (List ℕ)) → s ≡ map_end f own.end → (call : Call) → BeginsWith x (Calls (step_of call)) own (call_entry x call s)
+  call_begins s is call = record {
+    offers = ap (λ (b : Bool). all_unless b (offers_in call (answer_to call s))) (same_itself x) ∙ call_offers f x own s is call;
+    no_offers = ap (λ (b : Bool). all_unless b (offers_in call (answer_to call s))) (not_other x);
+    ready = λ y. refl;
+    handed = ap (λ (b : Bool). all_unless b (handed_out_in (answer_to call s))) (same_itself x) ∙ call_hands f x own s is call;
+    none_handed = ap (λ (b : Bool). all_unless b (handed_out_in (answer_to call s))) (not_other x);
+    gone = λ y. refl;
+    reported = λ y. refl;
+  }
+
+  pub time_begins : (s : Endpoint (List ℕ)) (now : ℕ) → BeginsWith x (Calls (table.Advance now)) own (time_entry x now s)
+  time_begins s now = record { offers = refl; no_offers = refl; ready = λ y. refl; handed = refl; none_handed = refl; gone = λ y. refl; reported = λ y. refl }
+
+  pub give_begins : (turn : Turn) (clock packet : ℕ) → accepted_in turn own ≡ [] → handed_by turn own ≡ [] → BeginsWith x turn own (Given x clock packet)
+  give_begins turn clock packet h k = record { offers = sym h; no_offers = refl; ready = λ y. refl; handed = sym k; none_handed = refl; gone = λ y. refl; reported = λ y. refl }
+
+  pub foreign_begins : (turn : Turn) (clock : ℕ) (bytes : Option (List ℕ)) → accepted_in turn own ≡ [] → handed_by turn own ≡ [] → BeginsWith x turn own (Foreign x clock bytes)
+  foreign_begins turn clock bytes h k = record { offers = sym h; no_offers = refl; ready = λ y. refl; handed = sym k; none_handed = refl; gone = λ y. refl; reported = λ y. refl }
