@@ -3,7 +3,10 @@
 ghost use Rattle.std.specs.Prelude.{◌<◌, ◌^◌};
 
 use sctp_serial::{Message, SocketTime, StreamId};
-use sctp_state::{BatchFault, CallError, HandoverError, HandoverReadiness, Metrics, Options, ResetStreamsError, RestoreError, SendError, SendOptions, SocketEvent, SocketHandoverState, SocketState};
+use sctp_state::{
+    BatchFault, CallError, HandoverError, HandoverReadiness, Metrics, Options, ResetStreamsError,
+    RestoreError, SendError, SendOptions, SocketEvent, SocketHandoverState, SocketState,
+};
 
 /// An end of an SCTP association, which makes no system call. Packets, moments and messages are handed in; events, among
 /// them packets to send, are taken out. A changing call that finds too little memory answers `Memory`, and the socket has

@@ -17,9 +17,11 @@ use crate::validation::validate_packet;
 use rand_core::Rng;
 use sctp_closing::aborts::{handle_abort, handle_error, handle_misuse};
 use sctp_closing::misuse::{handle_unknown, is_passed_over, violation};
-use sctp_closing::shutdown::{handle_shutdown_ack, handle_shutdown_chunk, handle_shutdown_complete};
-use sctp_endpoint::{Context, Phase, State, TransmissionControlBlock};
+use sctp_closing::shutdown::{
+    handle_shutdown_ack, handle_shutdown_chunk, handle_shutdown_complete,
+};
 use sctp_endpoint::outgoing_packet::word_of;
+use sctp_endpoint::{Context, Phase, State, TransmissionControlBlock};
 use sctp_handshake::cookie_echo::{handle_cookie_ack, handle_cookie_echo};
 use sctp_handshake::opening::{handle_init, handle_init_ack};
 use sctp_packet::{Chunk, HeartbeatAckChunk, PacketParseError, SctpPacket};
@@ -39,7 +41,9 @@ pub(crate) fn count_packet<C: Checksum>(context: &mut Context<C>)
 }
 
 /// At the end of a packet an acknowledgement goes out, where one is due, and what else may be sent.
-fn handle_packet_end<C: Checksum>(context: &mut Context<C>, phase: &Phase,
+fn handle_packet_end<C: Checksum>(
+    context: &mut Context<C>,
+    phase: &Phase,
     tcb: &mut TransmissionControlBlock,
 ) -> Result<(), AllocError>
     ensures { OnOk result (opened_of C.word_of phase.now tcb.new context.new ≡ table.ended (phase_of phase.now) (tcb_of tcb.old) (context_of C.word_of context.old)) }
@@ -56,7 +60,9 @@ fn handle_packet_end<C: Checksum>(context: &mut Context<C>, phase: &Phase,
 }
 
 /// After the own SHUTDOWN: it goes out again, and its timer starts anew (RFC 9260 section 9.2).
-fn repeat_shutdown<C: Checksum>(context: &mut Context<C>, phase: &mut Phase,
+fn repeat_shutdown<C: Checksum>(
+    context: &mut Context<C>,
+    phase: &mut Phase,
     tcb: &TransmissionControlBlock,
 ) -> Result<(), AllocError>
     ensures { OnOk result (opened_of C.word_of phase.new tcb.now context.new ≡ table.repeats (phase_of phase.old) (tcb_of tcb.now) (context_of C.word_of context.old)) }
@@ -294,7 +300,10 @@ fn packet_word<C: Checksum>(context: &Context<C>, bytes: &[u8]) -> u32
 }
 
 /// Bytes that are no packet.
-fn refuse_bytes<C: Checksum>(context: &mut Context<C>, fault: PacketParseError) -> Result<(), AllocError>
+fn refuse_bytes<C: Checksum>(
+    context: &mut Context<C>,
+    fault: PacketParseError,
+) -> Result<(), AllocError>
     ensures fault { OnOk result (IsFault fault) }
     ensures told { OnOk result (context_of C.word_of context.new
         ≡ complain ErrorKind.ParseFailed (codes "Failed to parse SCTP packet") (table.counted (context_of C.word_of context.old))) }

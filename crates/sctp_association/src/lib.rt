@@ -8,7 +8,8 @@ mod validation;
 
 pub use api::DcSctpSocket;
 pub use sctp_endpoint::{
-    Association, Context, CookieEchoedState, CookieWaitState, Identity, OutgoingPacket, Phase, ResetRequests, State, TransmissionControlBlock,
+    Association, Context, CookieEchoedState, CookieWaitState, Identity, OutgoingPacket, Phase,
+    ResetRequests, State, TransmissionControlBlock,
 };
 pub use sctp_table_laws as laws;
 pub use socket::Socket;

@@ -24,7 +24,10 @@ use crate::api::DcSctpSocket;
 use crate::input::{handle_input, judge};
 use crate::validation::my_verification_tag;
 use rand_core::Rng;
-use sctp_calls::calls::{send, send_many, set_buffered_amount_low_threshold, set_max_message_size, set_stream_priority, socket_state};
+use sctp_calls::calls::{
+    send, send_many, set_buffered_amount_low_threshold, set_max_message_size, set_stream_priority,
+    socket_state,
+};
 use sctp_calls::handover::{get_handover_readiness, hand_over, restore};
 use sctp_calls::metrics::metrics_in;
 use sctp_calls::receiving::{get_next_message, keeps_items, ready_count, ready_message};
@@ -32,7 +35,11 @@ use sctp_closing::shutdown::{handle_close, handle_shutdown};
 use sctp_endpoint::{Association, Context, State};
 use sctp_handshake::opening::connect;
 use sctp_serial::{Message, SocketTime, StreamId};
-use sctp_state::{BatchFault, BatchSendError, CallError, GivenUp, HandoverError, HandoverReadiness, Metrics, Options, ResetStreamsError, RestoreError, SendError, SendOptions, SocketEvent, SocketHandoverState, SocketState};
+use sctp_state::{
+    BatchFault, BatchSendError, CallError, GivenUp, HandoverError, HandoverReadiness, Metrics,
+    Options, ResetStreamsError, RestoreError, SendError, SendOptions, SocketEvent,
+    SocketHandoverState, SocketState,
+};
 use sctp_timers::timers::{advance_time, poll_timeout};
 use sctp_transfer::stream_reset::reset_streams;
 use sctp_wire::Checksum;
@@ -326,9 +333,7 @@ impl<R: Rng, C: Checksum> DcSctpSocket for Socket<R, C> {
         if self.has_failed {
             return Err(CallError::Failed);
         }
-        if set_buffered_amount_low_threshold(&mut self.context, id, bytes)
-            .is_err()
-        {
+        if set_buffered_amount_low_threshold(&mut self.context, id, bytes).is_err() {
             self.has_failed = true;
             return Err(CallError::Memory);
         }

@@ -8,8 +8,8 @@ ghost use Rattle.sctp_state.specs.Options.{send_options_of};
 ghost use Rattle.sctp_endpoint.specs.Views.{context_of, phase_of, standing_of, state_of};
 ghost use Rattle.sctp_table.specs.Calls as table;
 
-use sctp_endpoint::{Context, Phase, State};
 use sctp_endpoint::sending::send_waiting;
+use sctp_endpoint::{Context, Phase, State};
 use sctp_serial::{LifecycleId, Message, StreamId};
 use sctp_state::{ErrorKind, SendError, SendOptions, SocketEvent, SocketState};
 use sctp_wire::Checksum;
@@ -49,7 +49,9 @@ fn is_queue_full<C: Checksum>(context: &Context<C>, id: StreamId) -> bool
 }
 
 /// A message is refused: its lifecycle ends.
-fn refuse<C: Checksum>(context: &mut Context<C>, refusal: &SendError,
+fn refuse<C: Checksum>(
+    context: &mut Context<C>,
+    refusal: &SendError,
     lifecycle_id: Option<LifecycleId>,
 ) -> Result<(), AllocError>
     ensures { OnOk result (context_of C.word_of context.new ≡ table.refused refusal.now lifecycle_id (context_of C.word_of context.old)) }
@@ -87,7 +89,11 @@ fn complain_of<C: Checksum>(context: &mut Context<C>, refusal: &SendError) -> Re
 }
 
 /// A message is queued.
-fn accept<C: Checksum>(context: &mut Context<C>, message: Message, options: &SendOptions) -> Result<(), AllocError>
+fn accept<C: Checksum>(
+    context: &mut Context<C>,
+    message: Message,
+    options: &SendOptions,
+) -> Result<(), AllocError>
     requires some { 0 < length message.payload.items }
     requires small { length message.payload.items < 2 ^ 32 }
     requires room { total_of context.old.queue.streams.entries < 2 ^ 32 }
@@ -100,7 +106,11 @@ fn accept<C: Checksum>(context: &mut Context<C>, message: Message, options: &Sen
 }
 
 /// Why a message isn't accepted, if it isn't: the first reason that applies.
-fn refusal<C: Checksum>(context: &Context<C>, shown: SocketState, message: &Message) -> Option<SendError>
+fn refusal<C: Checksum>(
+    context: &Context<C>,
+    shown: SocketState,
+    message: &Message,
+) -> Option<SendError>
     ensures answer { result ≡ table.refusal (message_of message.now) shown (context_of C.word_of context.now) }
     ensures some { result ≡ None → 0 < length message.now.payload.items }
     ensures small { result ≡ None → length message.now.payload.items < 2 ^ 32 }
@@ -124,7 +134,9 @@ fn refusal<C: Checksum>(context: &Context<C>, shown: SocketState, message: &Mess
 }
 
 /// A message is queued, or refused; then the answer says why.
-fn offer<C: Checksum>(context: &mut Context<C>, shown: SocketState,
+fn offer<C: Checksum>(
+    context: &mut Context<C>,
+    shown: SocketState,
     message: Message,
     options: &SendOptions,
 ) -> Result<Option<SendError>, AllocError>
@@ -141,17 +153,22 @@ fn offer<C: Checksum>(context: &mut Context<C>, shown: SocketState,
 }
 
 /// Sets the amount in bytes at which a stream is low.
-pub fn set_buffered_amount_low_threshold<C: Checksum>(context: &mut Context<C>, id: StreamId,
+pub fn set_buffered_amount_low_threshold<C: Checksum>(
+    context: &mut Context<C>,
+    id: StreamId,
     bytes: usize,
 ) -> Result<(), AllocError>
     ensures { OnOk result (context_of C.word_of context.new ≡ table.set_low_threshold id.0 bytes (context_of C.word_of context.old)) }
 {
-    context.send_queue
+    context
+        .send_queue
         .set_buffered_amount_low_threshold(id, bytes, &mut context.events)
 }
 
 /// Sets the priority of a stream, by which it is weighed with interleaving.
-pub fn set_stream_priority<C: Checksum>(context: &mut Context<C>, id: StreamId,
+pub fn set_stream_priority<C: Checksum>(
+    context: &mut Context<C>,
+    id: StreamId,
     priority: u16,
 ) -> Result<(), AllocError>
     ensures { OnOk result (context_of C.word_of context.new ≡ table.set_priority id.0 priority (context_of C.word_of context.old)) }

@@ -13,8 +13,8 @@ ghost use Rattle.sctp_table.specs.Handover as table;
 
 use sctp_endpoint::{Context, Identity, Phase, State, TransmissionControlBlock};
 use sctp_serial::{Tsn, ZeroChecksumAlternateErrorDetectionMethod};
-use sctp_state::{Capabilities, HandoverReadiness, RestoreError, SocketEvent, SocketHandoverState};
 use sctp_state::api::handover::{HandoverCapabilities, HandoverSocketState};
+use sctp_state::{Capabilities, HandoverReadiness, RestoreError, SocketEvent, SocketHandoverState};
 use sctp_wire::Checksum;
 use std::alloc::AllocError;
 
@@ -25,7 +25,11 @@ fn is_strict<C: Checksum>(context: &Context<C>) -> bool
     !context.options.enable_handover_with_outstanding_data
 }
 
-fn phase_readiness<C: Checksum>(context: &Context<C>, phase: &Phase, tcb: &TransmissionControlBlock) -> HandoverReadiness
+fn phase_readiness<C: Checksum>(
+    context: &Context<C>,
+    phase: &Phase,
+    tcb: &TransmissionControlBlock,
+) -> HandoverReadiness
     ensures { result.0 ≡ table.readiness_open (phase_of phase.now) (tcb_of tcb.now) (context_of C.word_of context.now) }
 {
     match phase {
@@ -54,23 +58,31 @@ pub fn get_handover_readiness<C: Checksum>(context: &Context<C>, state: &State) 
 }
 
 /// The record of this association.
-fn handover_state<C: Checksum>(context: &Context<C>, tcb: &TransmissionControlBlock,
+fn handover_state<C: Checksum>(
+    context: &Context<C>,
+    tcb: &TransmissionControlBlock,
 ) -> Result<SocketHandoverState, AllocError>
     ensures { IfOk result (λ h. handover_state_of h ≡ table.handover_state (tcb_of tcb.now) (context_of C.word_of context.now)) }
 {
     let mut state = SocketHandoverState::empty(context.alloc);
-    context.send_queue
+    context
+        .send_queue
         .add_to_handover_state(context.clock, &mut state)?;
     tcb.add_to_handover_state(context.clock, &mut state)?;
     Ok(state)
 }
 
 /// What a record says that both ends do, with the own method in place of the checksum.
-fn capabilities_from<C: Checksum>(context: &Context<C>, capabilities: &HandoverCapabilities) -> Capabilities
+fn capabilities_from<C: Checksum>(
+    context: &Context<C>,
+    capabilities: &HandoverCapabilities,
+) -> Capabilities
     ensures { capabilities_of result ≡ table.capabilities_from context.now.options capabilities.now }
 {
     let zero_checksum_method = if capabilities.zero_checksum {
-        context.options.zero_checksum_alternate_error_detection_method
+        context
+            .options
+            .zero_checksum_alternate_error_detection_method
     } else {
         ZeroChecksumAlternateErrorDetectionMethod(0)
     };
@@ -85,7 +97,10 @@ fn capabilities_from<C: Checksum>(context: &Context<C>, capabilities: &HandoverC
 }
 
 /// The control block of a record.
-fn tcb_from<C: Checksum>(context: &Context<C>, state: &SocketHandoverState) -> Result<TransmissionControlBlock, AllocError>
+fn tcb_from<C: Checksum>(
+    context: &Context<C>,
+    state: &SocketHandoverState,
+) -> Result<TransmissionControlBlock, AllocError>
     requires connected { state.now.socket_state ≡ HandoverSocketState.Connected }
     requires valid { IsTrue (is_valid_state (handover_state_of state.now)) }
     ensures { IfOk result (λ t. tcb_of t ≡ table.tcb_from context.now.clock context.now.options (handover_state_of state.now)) }

@@ -16,7 +16,8 @@ const HEADERS: usize = 28;
 fn queued_packets<C: Checksum>(context: &Context<C>) -> usize
     ensures { result ≡ packets_for (total_of context.now.queue.streams.entries) context.now.options.mtu }
 {
-    context.send_queue
+    context
+        .send_queue
         .total_buffered_amount()
         .div_ceil(context.options.mtu - HEADERS)
 }
@@ -32,19 +33,17 @@ fn metrics<C: Checksum>(context: &Context<C>, tcb: &TransmissionControlBlock) ->
         rtx_bytes_count: sender.rtx_bytes_count(),
         cwnd_bytes: sender.cwnd(),
         srtt: tcb.rto.srtt(),
-        unack_data_count: sender.unacked_items().saturating_add(queued_packets(context)),
+        unack_data_count: sender
+            .unacked_items()
+            .saturating_add(queued_packets(context)),
         rx_packets_count: context.rx_packets_count,
         rx_messages_count: tcb.reassembly_queue.rx_messages_count(),
         peer_rwnd_bytes: sender.rwnd().min(u32::MAX as usize) as u32,
         peer_implementation: context.peer_implementation,
         uses_message_interleaving: tcb.capabilities.message_interleaving,
         uses_zero_checksum: tcb.capabilities.zero_checksum_enabled(),
-        negotiated_maximum_incoming_streams: tcb
-            .capabilities
-            .negotiated_maximum_incoming_streams,
-        negotiated_maximum_outgoing_streams: tcb
-            .capabilities
-            .negotiated_maximum_outgoing_streams,
+        negotiated_maximum_incoming_streams: tcb.capabilities.negotiated_maximum_incoming_streams,
+        negotiated_maximum_outgoing_streams: tcb.capabilities.negotiated_maximum_outgoing_streams,
     }
 }
 

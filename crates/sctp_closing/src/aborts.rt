@@ -32,7 +32,10 @@ fn causes_text(alloc: Global, causes: &[ErrorCause]) -> Result<String, AllocErro
 }
 
 /// The association is told as aborted by the peer.
-fn tell_abort<C: Checksum>(context: &mut Context<C>, causes: &[ErrorCause]) -> Result<(), AllocError>
+fn tell_abort<C: Checksum>(
+    context: &mut Context<C>,
+    causes: &[ErrorCause],
+) -> Result<(), AllocError>
     ensures { OnOk result (context_of C.word_of context.new ≡ closing.over (OnAborted ErrorKind.PeerReported (closing.causes_text (map cause_tree causes.now))) (context_of C.word_of context.old)) }
 {
     let text = causes_text(context.alloc, causes)?;
@@ -40,7 +43,10 @@ fn tell_abort<C: Checksum>(context: &mut Context<C>, causes: &[ErrorCause]) -> R
 }
 
 /// An error that the peer reports.
-fn tell_error<C: Checksum>(context: &mut Context<C>, causes: &[ErrorCause]) -> Result<(), AllocError>
+fn tell_error<C: Checksum>(
+    context: &mut Context<C>,
+    causes: &[ErrorCause],
+) -> Result<(), AllocError>
     ensures { OnOk result (context_of C.word_of context.new ≡ complain ErrorKind.PeerReported (closing.causes_text (map cause_tree causes.now)) (context_of C.word_of context.old)) }
 {
     let text = causes_text(context.alloc, causes)?;
@@ -48,7 +54,9 @@ fn tell_error<C: Checksum>(context: &mut Context<C>, causes: &[ErrorCause]) -> R
 }
 
 /// An ABORT goes out, since what was negotiated forbids a chunk.
-fn abort_by_violation<C: Checksum>(context: &mut Context<C>, tcb: &TransmissionControlBlock,
+fn abort_by_violation<C: Checksum>(
+    context: &mut Context<C>,
+    tcb: &TransmissionControlBlock,
     misuse: Misuse,
 ) -> Result<(), AllocError>
     ensures { OnOk result (context_of C.word_of context.new

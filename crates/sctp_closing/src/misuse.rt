@@ -122,7 +122,9 @@ fn first_bytes(alloc: Global, chunk: &UnknownChunk, most: usize) -> Result<Vec<u
 }
 
 /// An ERROR with as much of an unknown chunk as a packet holds.
-fn echo_unknown<C: Checksum>(context: &mut Context<C>, tcb: &TransmissionControlBlock,
+fn echo_unknown<C: Checksum>(
+    context: &mut Context<C>,
+    tcb: &TransmissionControlBlock,
     chunk: &UnknownChunk,
 ) -> Result<(), AllocError>
     ensures { let u = chunk.now in OnOk result (context_of C.word_of context.new
@@ -135,7 +137,10 @@ fn echo_unknown<C: Checksum>(context: &mut Context<C>, tcb: &TransmissionControl
     context.emit_chunk(tcb, Chunk::Error(ErrorChunk { error_causes }))
 }
 
-fn complain_of_unknown<C: Checksum>(context: &mut Context<C>, chunk: &UnknownChunk) -> Result<(), AllocError>
+fn complain_of_unknown<C: Checksum>(
+    context: &mut Context<C>,
+    chunk: &UnknownChunk,
+) -> Result<(), AllocError>
     ensures { let u = chunk.now in OnOk result (context_of C.word_of context.new ≡ table.complained u.typ u.flags u.value.items (context_of C.word_of context.old)) }
 {
     let text = unknown_text(context.alloc, chunk)?;

@@ -13,7 +13,9 @@ use sctp_wire::Checksum;
 use std::alloc::AllocError;
 
 /// The user asks for a shutdown: it goes on once nothing is unacknowledged.
-fn begin_shutdown<C: Checksum>(context: &mut Context<C>, phase: &mut Phase,
+fn begin_shutdown<C: Checksum>(
+    context: &mut Context<C>,
+    phase: &mut Phase,
     tcb: &TransmissionControlBlock,
 ) -> Result<(), AllocError>
     ensures { OnOk result (onward_of C.word_of phase.new context.new ≡ table.shut (phase_of phase.old) (tcb_of tcb.now) (context_of C.word_of context.old)) }
@@ -35,7 +37,9 @@ fn begin_shutdown<C: Checksum>(context: &mut Context<C>, phase: &mut Phase,
 }
 
 /// SHUTDOWN: the peer sends no more, and waits for what is unacknowledged.
-fn take_shutdown<C: Checksum>(context: &mut Context<C>, phase: &mut Phase,
+fn take_shutdown<C: Checksum>(
+    context: &mut Context<C>,
+    phase: &mut Phase,
     tcb: &TransmissionControlBlock,
 ) -> Result<(), AllocError>
     ensures { OnOk result (onward_of C.word_of phase.new context.new ≡ table.shut_by_peer (phase_of phase.old) (tcb_of tcb.now) (context_of C.word_of context.old)) }
@@ -75,7 +79,10 @@ fn answer_out_of_the_blue<C: Checksum>(context: &mut Context<C>, tag: u32) -> Re
 }
 
 /// The shutdown is complete: the peer is told, and the user.
-fn complete_shutdown<C: Checksum>(context: &mut Context<C>, tcb: &TransmissionControlBlock) -> Result<(), AllocError>
+fn complete_shutdown<C: Checksum>(
+    context: &mut Context<C>,
+    tcb: &TransmissionControlBlock,
+) -> Result<(), AllocError>
     ensures { OnOk result (context_of C.word_of context.new ≡ (table.completed (tcb_of tcb.now) (context_of C.word_of context.old)).context) }
 {
     context.emit_chunk(

@@ -15,7 +15,10 @@ use crate::outgoing_packet::OutgoingPacket;
 use crate::transmission_control_block::TransmissionControlBlock;
 use sctp_packet::Chunk;
 use sctp_serial::SocketTime;
-use sctp_state::{BackoffAlgorithm, ErrorKind, Events, Options, SctpImplementation, SocketEvent, Timer, TxErrorCounter};
+use sctp_state::{
+    BackoffAlgorithm, ErrorKind, Events, Options, SctpImplementation, SocketEvent, Timer,
+    TxErrorCounter,
+};
 use sctp_tx::SendQueue;
 use sctp_wire::Checksum;
 use std::alloc::{AllocError, Global};

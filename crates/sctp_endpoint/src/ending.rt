@@ -87,10 +87,7 @@ impl<C: Checksum> Context<C> {
         self.emit_chunk(tcb, Chunk::Shutdown(ShutdownChunk { cumulative_tsn_ack }))
     }
 
-    pub fn send_shutdown_ack(
-        &mut self,
-        tcb: &TransmissionControlBlock,
-    ) -> Result<(), AllocError>
+    pub fn send_shutdown_ack(&mut self, tcb: &TransmissionControlBlock) -> Result<(), AllocError>
         ensures { OnOk result (context_of C.word_of self.new ≡ table.send_shutdown_ack (tcb_of tcb.now) (context_of C.word_of self.old)) }
     {
         self.emit_chunk(tcb, Chunk::ShutdownAck(ShutdownAckChunk {}))

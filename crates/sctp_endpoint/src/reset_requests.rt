@@ -15,7 +15,10 @@ ghost use Rattle.sctp_table.specs.Requests as table;
 use sctp_packet::{Chunk, ReConfigChunk};
 use sctp_serial::{SocketTime, StreamId, Tsn};
 use sctp_state::{BackoffAlgorithm, HandoverReadiness, Options, SocketHandoverState, Timer};
-use sctp_wire::{OutgoingSsnResetRequestParameter, Parameter, ReconfigurationResponseParameter, ReconfigurationResponseResult};
+use sctp_wire::{
+    OutgoingSsnResetRequestParameter, Parameter, ReconfigurationResponseParameter,
+    ReconfigurationResponseResult,
+};
 use std::alloc::{AllocError, Global};
 use std::marker::Model;
 use std::time::Duration;
@@ -169,13 +172,7 @@ impl ResetRequests {
     }
 
     /// A request for these streams begins.
-    pub fn start(
-        &mut self,
-        now: SocketTime,
-        rto: Duration,
-        last_tsn: Tsn,
-        streams: Vec<StreamId>,
-    )
+    pub fn start(&mut self, now: SocketTime, rto: Duration, last_tsn: Tsn, streams: Vec<StreamId>)
         ensures { self.new ≡ table.started now (as_nanos rto) last_tsn.0 (numbers_of streams.items) self.old }
     {
         self.current = Some(ResetRequest {

@@ -19,8 +19,10 @@ use crate::reset_requests::ResetRequests;
 use sctp_packet::{Chunk, Data, DataChunk, IDataChunk};
 use sctp_rx::{DataTracker, ReassemblyQueue};
 use sctp_serial::{SocketTime, StreamId, Tsn};
-use sctp_state::{Capabilities, HandoverReadiness, Options, RetransmissionTimeout, SocketHandoverState};
 use sctp_state::api::handover::{HandoverCapabilities, HandoverSocketState};
+use sctp_state::{
+    Capabilities, HandoverReadiness, Options, RetransmissionTimeout, SocketHandoverState,
+};
 use sctp_tx::RetransmissionQueue;
 use std::alloc::{AllocError, Global};
 

@@ -17,7 +17,10 @@ ghost use Rattle.sctp_endpoint.specs.Views.{context_of};
 use sctp_endpoint::{Context, OutgoingPacket};
 use sctp_packet::{Chunk, InitAckChunk, InitChunk};
 use sctp_serial::Tsn;
-use sctp_state::{BackoffAlgorithm, Capabilities, Options, SctpImplementation, StateCookie, Timer, announced_parameters};
+use sctp_state::{
+    BackoffAlgorithm, Capabilities, Options, SctpImplementation, StateCookie, Timer,
+    announced_parameters,
+};
 use sctp_wire::{Checksum, Parameter, StateCookieParameter};
 use std::alloc::{AllocError, Global};
 use std::time::Duration;
@@ -149,14 +152,23 @@ pub fn t1_cookie<C: Checksum>(context: &Context<C>) -> Timer
 }
 
 /// An INIT is answered; all that has to be kept of it goes along in the cookie.
-pub fn send_init_ack<C: Checksum>(context: &mut Context<C>, init: &InitChunk,
+pub fn send_init_ack<C: Checksum>(
+    context: &mut Context<C>,
+    init: &InitChunk,
     tag: u32,
     initial_tsn: Tsn,
     tie_tag: u64,
 ) -> Result<(), AllocError>
     ensures { OnOk result (context_of C.word_of context.new ≡ answer (init_tree init.now) tag initial_tsn.0 tie_tag (context_of C.word_of context.old)) }
 {
-    let chunk = make_init_ack(context.alloc, &context.options, init, tag, initial_tsn, tie_tag)?;
+    let chunk = make_init_ack(
+        context.alloc,
+        &context.options,
+        init,
+        tag,
+        initial_tsn,
+        tie_tag,
+    )?;
     let agreed = agreed_with(&context.options, init);
     let mut packet = OutgoingPacket::new(context.alloc, init.initiate_tag, context.options.mtu);
     packet.write_checksum(!agreed.zero_checksum_enabled());

@@ -11,9 +11,14 @@ ghost use Rattle.sctp_endpoint.specs.Views.{context_of, endpoint_of, identity_of
 ghost use Rattle.sctp_table.specs.Opening as table;
 
 use crate::draws::{tag_from, tsn_from};
-use crate::handshake::{agreed_by, cookie_in, determine_sctp_implementation, send_init_ack, t1_cookie, t1_init};
+use crate::handshake::{
+    agreed_by, cookie_in, determine_sctp_implementation, send_init_ack, t1_cookie, t1_init,
+};
 use rand_core::Rng;
-use sctp_endpoint::{Context, CookieEchoedState, CookieWaitState, Identity, OutgoingPacket, Phase, State, TransmissionControlBlock};
+use sctp_endpoint::{
+    Context, CookieEchoedState, CookieWaitState, Identity, OutgoingPacket, Phase, State,
+    TransmissionControlBlock,
+};
 use sctp_packet::{AbortChunk, Chunk, InitAckChunk, InitChunk};
 use sctp_serial::Tsn;
 use sctp_state::ErrorKind;
@@ -78,7 +83,13 @@ pub fn handle_init<R: Rng, C: Checksum>(
             send_init_ack(context, init, tag, initial_tsn, 0)
         }
         State::CookieWait(waiting) => {
-            send_init_ack(context, init, waiting.verification_tag, waiting.initial_tsn, 0)
+            send_init_ack(
+                context,
+                init,
+                waiting.verification_tag,
+                waiting.initial_tsn,
+                0,
+            )
         }
         State::Open(phase, tcb) => answer_open(phase, tcb, context, rng, init),
     }
@@ -98,7 +109,9 @@ fn answer_open<R: Rng, C: Checksum>(
     match phase {
         Phase::CookieEchoed(_) => {
             let identity = tcb.identity;
-            send_init_ack(context, init,
+            send_init_ack(
+                context,
+                init,
                 identity.my_verification_tag,
                 identity.my_initial_tsn,
                 0,
@@ -230,17 +243,25 @@ fn echo<C: Checksum>(
 }
 
 /// The queue begins anew, for an association with or without interleaving.
-pub fn reset_queue<C: Checksum>(context: &mut Context<C>, is_interleaved: bool) -> Result<(), AllocError>
+pub fn reset_queue<C: Checksum>(
+    context: &mut Context<C>,
+    is_interleaved: bool,
+) -> Result<(), AllocError>
     ensures { let c = context_of C.word_of context.old in
         OnOk result (context_of C.word_of context.new ≡ record c { queue = table.queue_anew is_interleaved c.queue }) }
 {
     context.send_queue.reset()?;
-    context.send_queue.enable_message_interleaving(is_interleaved);
+    context
+        .send_queue
+        .enable_message_interleaving(is_interleaved);
     Ok(())
 }
 
 /// An ABORT that the cookie is missing.
-fn send_missing_cookie<C: Checksum>(context: &mut Context<C>, peer_tag: u32) -> Result<(), AllocError>
+fn send_missing_cookie<C: Checksum>(
+    context: &mut Context<C>,
+    peer_tag: u32,
+) -> Result<(), AllocError>
     ensures { OnOk result (context_of C.word_of context.new
         ≡ emit (add (abort_chunk false (missing_mandatory_parameter (7 ∷ []) ∷ [])) (packet_to peer_tag (rounded context.old.options.mtu))) (context_of C.word_of context.old)) }
 {

@@ -7,12 +7,12 @@ ghost use Rattle.sctp_network_table.specs.World.{step_of};
 ghost use Rattle.sctp_network.specs.WorldView.{action_of, call_tree, world_of};
 ghost use Rattle.sctp_network_laws.specs.Readable.{ActionFits, GivesBytes};
 
+use crate::world::{Call, End, Event, World};
 use rand_core::Rng;
 use sctp_table_laws::arguments::{
     a_message_fits, a_stream_fits, bytes_fit, messages_fit, streams_fit,
 };
 use sctp_wire::Checksum;
-use crate::world::{Call, End, Event, World};
 
 /// What a call hands in fits.
 pub fn a_call_fits(call: &Call)

@@ -11,8 +11,8 @@ ghost use Rattle.sctp_packet.specs.Packet.{HeaderTree, header_bytes, unsummed_by
 ghost use Rattle.sctp_packet.specs.PacketView.{header_tree};
 ghost use Rattle.sctp_packet.specs.Builder.{BuilderTree, Holds, remaining, so_far, built};
 
-use sctp_chunk::Chunk;
 use crate::packet::{COMMON_HEADER_SIZE, CommonHeader};
+use sctp_chunk::Chunk;
 use sctp_wire::{SerializableTlv, push_u16, push_u32};
 use std::alloc::{AllocError, Global};
 use std::marker::Model;

@@ -15,4 +15,10 @@ pub use laws::{
 };
 pub use packet::{COMMON_HEADER_SIZE, CommonHeader, PacketParseError, SctpPacket};
 pub use ranges::chunk_fits;
-pub use sctp_chunk::{AbortChunk, Chunk, CookieAckChunk, CookieEchoChunk, Data, DataChunk, ErrorChunk, ForwardTsnChunk, GapAckBlock, HeartbeatAckChunk, HeartbeatRequestChunk, IDataChunk, IForwardTsnChunk, InitAckChunk, InitChunk, RawChunk, ReConfigChunk, SackChunk, ShutdownAckChunk, ShutdownChunk, ShutdownCompleteChunk, SkippedStream, UnknownChunk, write_chunk_header};
+pub use sctp_chunk::{
+    AbortChunk, Chunk, CookieAckChunk, CookieEchoChunk, Data, DataChunk, ErrorChunk,
+    ForwardTsnChunk, GapAckBlock, HeartbeatAckChunk, HeartbeatRequestChunk, IDataChunk,
+    IForwardTsnChunk, InitAckChunk, InitChunk, RawChunk, ReConfigChunk, SackChunk,
+    ShutdownAckChunk, ShutdownChunk, ShutdownCompleteChunk, SkippedStream, UnknownChunk,
+    write_chunk_header,
+};

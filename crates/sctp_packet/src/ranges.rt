@@ -13,11 +13,7 @@ ghost use Rattle.sctp_chunk.specs.Views.{fragment_tree, init_tree, init_ack_tree
 ghost use Rattle.sctp_chunk.specs.ChunkView.{chunk_tree};
 ghost use Rattle.sctp_packet.specs.ReadBack.{HasItsTypes, InsideFits, ChunkReadsBack};
 
-use sctp_chunk::Chunk;
-use sctp_chunk::Data;
-use sctp_chunk::SkippedStream;
-use sctp_chunk::{InitAckChunk, InitChunk};
-use sctp_chunk::{GapAckBlock, SackChunk};
+use sctp_chunk::{Chunk, Data, GapAckBlock, InitAckChunk, InitChunk, SackChunk, SkippedStream};
 use sctp_serial::{StreamKey, Tsn};
 use sctp_wire::{ErrorCause, Parameter, cause_fits, parameter_fits};
 

@@ -38,7 +38,10 @@ fn info_in(parameters: &[Parameter]) -> Option<&[u8]>
 }
 
 /// A HEARTBEAT with the next number goes out.
-fn send_heartbeat<C: Checksum>(context: &mut Context<C>, tcb: &TransmissionControlBlock) -> Result<(), AllocError>
+fn send_heartbeat<C: Checksum>(
+    context: &mut Context<C>,
+    tcb: &TransmissionControlBlock,
+) -> Result<(), AllocError>
     ensures { OnOk result (context_of C.word_of context.new ≡ table.sent_with (tcb_of tcb.now) (context_of C.word_of context.old)) }
 {
     let chunk = make_heartbeat(context.alloc, context.heartbeat_counter)?;
@@ -46,7 +49,9 @@ fn send_heartbeat<C: Checksum>(context: &mut Context<C>, tcb: &TransmissionContr
 }
 
 /// At the interval a HEARTBEAT goes out. The answer is whether the time has come.
-pub fn tick_heartbeat_interval<C: Checksum>(context: &mut Context<C>, tcb: &TransmissionControlBlock,
+pub fn tick_heartbeat_interval<C: Checksum>(
+    context: &mut Context<C>,
+    tcb: &TransmissionControlBlock,
 ) -> Result<bool, AllocError>
     ensures due { IfOk result (λ due. due ≡ is_due context.old.clock context.old.heartbeats.interval) }
     ensures context { IfOk result (λ due. context_of C.word_of context.new ≡ table.beat_if due (tcb_of tcb.now) (context_of C.word_of context.old)) }
@@ -81,7 +86,9 @@ pub fn heartbeat_expiry<C: Checksum>(context: &Context<C>) -> SocketTime
 }
 
 /// HEARTBEAT ACK: an answer to the last HEARTBEAT shows that the peer is there.
-pub fn handle_heartbeat_ack<C: Checksum>(context: &mut Context<C>, parameters: &[Parameter],
+pub fn handle_heartbeat_ack<C: Checksum>(
+    context: &mut Context<C>,
+    parameters: &[Parameter],
 ) -> Result<(), AllocError>
     ensures { OnOk result (context_of C.word_of context.new ≡ table.on_heartbeat_ack (map parameter_tree parameters.now) (context_of C.word_of context.old)) }
 {

@@ -7,7 +7,9 @@ ghost use Rattle.sctp_table.specs.Closing.{send_shutdown, send_shutdown_ack};
 ghost use Rattle.sctp_table.specs.Time as table;
 
 use crate::heartbeats::{heartbeat_expiry, tick_heartbeat_interval, tick_heartbeat_timeout};
-use sctp_endpoint::{Context, CookieEchoedState, CookieWaitState, Phase, State, TransmissionControlBlock};
+use sctp_endpoint::{
+    Context, CookieEchoedState, CookieWaitState, Phase, State, TransmissionControlBlock,
+};
 use sctp_serial::SocketTime;
 use sctp_state::Timer;
 use sctp_wire::Checksum;
@@ -21,7 +23,9 @@ fn tick_ack<C: Checksum>(context: &Context<C>, tcb: &mut TransmissionControlBloc
 }
 
 /// T3-rtx (RFC 9260 section 6.3.3), after the other one has expired or not. The answer is whether any did.
-fn tick_t3<C: Checksum>(context: &mut Context<C>, tcb: &mut TransmissionControlBlock,
+fn tick_t3<C: Checksum>(
+    context: &mut Context<C>,
+    tcb: &mut TransmissionControlBlock,
     has_expired: bool,
 ) -> Result<bool, AllocError>
     ensures { IfOk result (λ any. ticking_of C.word_of tcb.new context.new any ≡ table.tick_t3 (ticking_of C.word_of tcb.old context.old has_expired)) }
@@ -37,7 +41,10 @@ fn tick_t3<C: Checksum>(context: &mut Context<C>, tcb: &mut TransmissionControlB
 }
 
 /// The own request to reset streams goes out again, unless there were too many errors.
-fn send_request_again<C: Checksum>(context: &mut Context<C>, tcb: &mut TransmissionControlBlock) -> Result<(), AllocError>
+fn send_request_again<C: Checksum>(
+    context: &mut Context<C>,
+    tcb: &mut TransmissionControlBlock,
+) -> Result<(), AllocError>
     ensures { OnOk result (ticking_of C.word_of tcb.new context.new true ≡ table.requests_again (ticking_of C.word_of tcb.old context.old true)) }
 {
     if context.tx_error_counter.is_exhausted() {
@@ -51,7 +58,9 @@ fn send_request_again<C: Checksum>(context: &mut Context<C>, tcb: &mut Transmiss
 
 /// The reconfiguration timer (RFC 6525 section 5.1.1), after the other ones have expired or not. The answer is whether
 /// any did.
-fn tick_requests<C: Checksum>(context: &mut Context<C>, tcb: &mut TransmissionControlBlock,
+fn tick_requests<C: Checksum>(
+    context: &mut Context<C>,
+    tcb: &mut TransmissionControlBlock,
     has_expired: bool,
 ) -> Result<bool, AllocError>
     ensures { IfOk result (λ any. ticking_of C.word_of tcb.new context.new any ≡ table.tick_requests (ticking_of C.word_of tcb.old context.old has_expired)) }
@@ -68,7 +77,10 @@ fn tick_requests<C: Checksum>(context: &mut Context<C>, tcb: &mut TransmissionCo
 
 /// The timers of a control block, and those of heartbeats, one after the other. The answer is whether any expired.
 #[tactic(auto, unfolding(sctp_table::specs::Time::ticked))]
-fn tick_tcb<C: Checksum>(context: &mut Context<C>, tcb: &mut TransmissionControlBlock) -> Result<bool, AllocError>
+fn tick_tcb<C: Checksum>(
+    context: &mut Context<C>,
+    tcb: &mut TransmissionControlBlock,
+) -> Result<bool, AllocError>
     ensures { IfOk result (λ any. ticking_of C.word_of tcb.new context.new any ≡ table.ticked (tcb_of tcb.old) (context_of C.word_of context.old)) }
 {
     let has_expired = tick_ack(context, tcb);
@@ -79,7 +91,10 @@ fn tick_tcb<C: Checksum>(context: &mut Context<C>, tcb: &mut TransmissionControl
 }
 
 /// Too many errors end the association. The answer is whether it ended.
-fn end_if_exhausted<C: Checksum>(context: &mut Context<C>, tcb: &TransmissionControlBlock) -> Result<bool, AllocError>
+fn end_if_exhausted<C: Checksum>(
+    context: &mut Context<C>,
+    tcb: &TransmissionControlBlock,
+) -> Result<bool, AllocError>
     ensures { IfOk result (λ ended. left_of C.word_of tcb.now context.new ended ≡ table.ended (tcb_of tcb.now) (context_of C.word_of context.old)) }
 {
     if context.tx_error_counter.is_exhausted() {
@@ -90,7 +105,10 @@ fn end_if_exhausted<C: Checksum>(context: &mut Context<C>, tcb: &TransmissionCon
 }
 
 /// Too many errors end the association; else what may be sent goes out. The answer is whether it ended.
-fn go_on<C: Checksum>(context: &mut Context<C>, tcb: &mut TransmissionControlBlock) -> Result<bool, AllocError>
+fn go_on<C: Checksum>(
+    context: &mut Context<C>,
+    tcb: &mut TransmissionControlBlock,
+) -> Result<bool, AllocError>
     ensures { IfOk result (λ ended. left_of C.word_of tcb.new context.new ended ≡ table.goes_on (tcb_of tcb.old) (context_of C.word_of context.old)) }
 {
     if context.tx_error_counter.is_exhausted() {
@@ -101,7 +119,9 @@ fn go_on<C: Checksum>(context: &mut Context<C>, tcb: &mut TransmissionControlBlo
     Ok(false)
 }
 
-fn settle<C: Checksum>(context: &mut Context<C>, tcb: &mut TransmissionControlBlock,
+fn settle<C: Checksum>(
+    context: &mut Context<C>,
+    tcb: &mut TransmissionControlBlock,
     has_expired: bool,
 ) -> Result<bool, AllocError>
     ensures { IfOk result (λ ended. left_of C.word_of tcb.new context.new ended ≡ table.settled_if has_expired (tcb_of tcb.old) (context_of C.word_of context.old)) }
@@ -114,7 +134,10 @@ fn settle<C: Checksum>(context: &mut Context<C>, tcb: &mut TransmissionControlBl
 }
 
 /// The timers of an association that is established or is being shut down, but for T2-shutdown.
-fn tick_established<C: Checksum>(context: &mut Context<C>, tcb: &mut TransmissionControlBlock) -> Result<bool, AllocError>
+fn tick_established<C: Checksum>(
+    context: &mut Context<C>,
+    tcb: &mut TransmissionControlBlock,
+) -> Result<bool, AllocError>
     ensures { IfOk result (λ ended. left_of C.word_of tcb.new context.new ended ≡ table.settled (table.ticked (tcb_of tcb.old) (context_of C.word_of context.old))) }
 {
     let has_expired = tick_tcb(context, tcb)?;
@@ -122,7 +145,9 @@ fn tick_established<C: Checksum>(context: &mut Context<C>, tcb: &mut Transmissio
 }
 
 /// Before the COOKIE ACK: the COOKIE ECHO goes out again (RFC 9260 section 5.1).
-fn tick_cookie_echoed<C: Checksum>(context: &mut Context<C>, echoed: &mut CookieEchoedState,
+fn tick_cookie_echoed<C: Checksum>(
+    context: &mut Context<C>,
+    echoed: &mut CookieEchoedState,
     tcb: &mut TransmissionControlBlock,
 ) -> Result<bool, AllocError>
     ensures timer { OnOk result (echoed.new.t1_cookie ≡ expire context.old.clock echoed.old.t1_cookie) }
@@ -142,7 +167,9 @@ fn tick_cookie_echoed<C: Checksum>(context: &mut Context<C>, echoed: &mut Cookie
     end_if_exhausted(context, tcb)
 }
 
-fn end_if_expired<C: Checksum>(context: &mut Context<C>, tcb: &TransmissionControlBlock,
+fn end_if_expired<C: Checksum>(
+    context: &mut Context<C>,
+    tcb: &TransmissionControlBlock,
     has_expired: bool,
 ) -> Result<bool, AllocError>
     ensures { IfOk result (λ ended. left_of C.word_of tcb.now context.new ended ≡ table.waits_if has_expired (tcb_of tcb.now) (context_of C.word_of context.old)) }
@@ -155,7 +182,9 @@ fn end_if_expired<C: Checksum>(context: &mut Context<C>, tcb: &TransmissionContr
 }
 
 /// After the own SHUTDOWN: T2-shutdown sends it again (RFC 9260 section 9.2).
-fn tick_shutdown_sent<C: Checksum>(context: &mut Context<C>, t2_shutdown: &mut Timer,
+fn tick_shutdown_sent<C: Checksum>(
+    context: &mut Context<C>,
+    t2_shutdown: &mut Timer,
     tcb: &mut TransmissionControlBlock,
 ) -> Result<bool, AllocError>
     ensures timer { OnOk result (t2_shutdown.new ≡ expire context.old.clock t2_shutdown.old) }
@@ -176,7 +205,9 @@ fn tick_shutdown_sent<C: Checksum>(context: &mut Context<C>, t2_shutdown: &mut T
 }
 
 /// After the own SHUTDOWN ACK: T2-shutdown sends it again.
-fn tick_shutdown_ack_sent<C: Checksum>(context: &mut Context<C>, t2_shutdown: &mut Timer,
+fn tick_shutdown_ack_sent<C: Checksum>(
+    context: &mut Context<C>,
+    t2_shutdown: &mut Timer,
     tcb: &mut TransmissionControlBlock,
 ) -> Result<bool, AllocError>
     ensures timer { OnOk result (t2_shutdown.new ≡ expire context.old.clock t2_shutdown.old) }
@@ -196,7 +227,9 @@ fn tick_shutdown_ack_sent<C: Checksum>(context: &mut Context<C>, t2_shutdown: &m
     go_on(context, tcb)
 }
 
-fn tick_open<C: Checksum>(context: &mut Context<C>, phase: &mut Phase,
+fn tick_open<C: Checksum>(
+    context: &mut Context<C>,
+    phase: &mut Phase,
     tcb: &mut TransmissionControlBlock,
 ) -> Result<bool, AllocError>
     ensures { IfOk result (λ ended. standing_after C.word_of phase.new tcb.new context.new ended
@@ -213,7 +246,10 @@ fn tick_open<C: Checksum>(context: &mut Context<C>, phase: &mut Phase,
 }
 
 /// Before the INIT ACK: the INIT goes out again.
-fn tick_cookie_wait<C: Checksum>(context: &mut Context<C>, waiting: &mut CookieWaitState) -> Result<bool, AllocError>
+fn tick_cookie_wait<C: Checksum>(
+    context: &mut Context<C>,
+    waiting: &mut CookieWaitState,
+) -> Result<bool, AllocError>
     ensures tag { OnOk result (waiting.new.verification_tag ≡ waiting.old.verification_tag) }
     ensures first { OnOk result (waiting.new.initial_tsn ≡ waiting.old.initial_tsn) }
     ensures timer { OnOk result (waiting.new.t1_init ≡ expire context.old.clock waiting.old.t1_init) }
@@ -285,7 +321,11 @@ fn running_expiry<C: Checksum>(context: &Context<C>, tcb: &TransmissionControlBl
     next_timeout(tcb).min(heartbeat_expiry(context))
 }
 
-fn phase_expiry<C: Checksum>(context: &Context<C>, phase: &Phase, tcb: &TransmissionControlBlock) -> SocketTime
+fn phase_expiry<C: Checksum>(
+    context: &Context<C>,
+    phase: &Phase,
+    tcb: &TransmissionControlBlock,
+) -> SocketTime
     ensures { result ≡ table.phase_expiry (phase_of phase.now) (tcb_of tcb.now) context.now.heartbeats }
 {
     match phase {

@@ -10,13 +10,16 @@ ghost use Rattle.sctp_endpoint.specs.RequestViews.{outcome_of};
 ghost use Rattle.sctp_endpoint.specs.Views.{context_of, handled_of, handling_of, opened_of, phase_of, sent_of, standing_of, state_of, tcb_of};
 ghost use Rattle.sctp_table.specs.Resets as table;
 
-use sctp_endpoint::{Context, Phase, State, TransmissionControlBlock};
 use sctp_endpoint::reset_requests::ResetOutcome;
 use sctp_endpoint::sending::send_waiting;
+use sctp_endpoint::{Context, Phase, State, TransmissionControlBlock};
 use sctp_packet::{Chunk, ReConfigChunk};
 use sctp_serial::{SerialNumber, StreamId, Tsn};
 use sctp_state::{ErrorKind, ResetStreamsError, SocketEvent};
-use sctp_wire::{Checksum, OutgoingSsnResetRequestParameter, Parameter, ReconfigurationResponseParameter, ReconfigurationResponseResult};
+use sctp_wire::{
+    Checksum, OutgoingSsnResetRequestParameter, Parameter, ReconfigurationResponseParameter,
+    ReconfigurationResponseResult,
+};
 use std::alloc::AllocError;
 
 /// Whether some TSN up to this one did not come yet.
@@ -45,7 +48,9 @@ fn respond(
 }
 
 /// The reset of these streams is to wait for what was sent before it.
-fn defer_reset<C: Checksum>(context: &Context<C>, tcb: &mut TransmissionControlBlock,
+fn defer_reset<C: Checksum>(
+    context: &Context<C>,
+    tcb: &mut TransmissionControlBlock,
     request: &OutgoingSsnResetRequestParameter,
     responses: &mut Vec<Parameter>,
 ) -> Result<(), AllocError>
@@ -60,7 +65,9 @@ fn defer_reset<C: Checksum>(context: &Context<C>, tcb: &mut TransmissionControlB
 }
 
 /// The streams are reset, and the user is told.
-fn perform_reset<C: Checksum>(context: &mut Context<C>, tcb: &mut TransmissionControlBlock,
+fn perform_reset<C: Checksum>(
+    context: &mut Context<C>,
+    tcb: &mut TransmissionControlBlock,
     request: OutgoingSsnResetRequestParameter,
     responses: &mut Vec<Parameter>,
 ) -> Result<(), AllocError>
@@ -75,7 +82,9 @@ fn perform_reset<C: Checksum>(context: &mut Context<C>, tcb: &mut TransmissionCo
     respond(responses, request.request_seq_nbr, answer)
 }
 
-fn reset_or_defer<C: Checksum>(context: &mut Context<C>, tcb: &mut TransmissionControlBlock,
+fn reset_or_defer<C: Checksum>(
+    context: &mut Context<C>,
+    tcb: &mut TransmissionControlBlock,
     request: OutgoingSsnResetRequestParameter,
     responses: &mut Vec<Parameter>,
 ) -> Result<(), AllocError>
@@ -91,7 +100,9 @@ fn reset_or_defer<C: Checksum>(context: &mut Context<C>, tcb: &mut TransmissionC
 
 /// The peer resets its outgoing streams (RFC 6525 section 5.2.2). The last request again is answered as before, once
 /// it was done.
-fn handle_outgoing_request<C: Checksum>(context: &mut Context<C>, tcb: &mut TransmissionControlBlock,
+fn handle_outgoing_request<C: Checksum>(
+    context: &mut Context<C>,
+    tcb: &mut TransmissionControlBlock,
     request: OutgoingSsnResetRequestParameter,
     responses: &mut Vec<Parameter>,
 ) -> Result<(), AllocError>
@@ -114,7 +125,9 @@ fn handle_outgoing_request<C: Checksum>(context: &mut Context<C>, tcb: &mut Tran
 }
 
 /// The peer asks for a reset of its incoming streams: there is nothing to do (RFC 6525 section 5.2.3).
-fn handle_incoming_request<C: Checksum>(context: &Context<C>, tcb: &mut TransmissionControlBlock,
+fn handle_incoming_request<C: Checksum>(
+    context: &Context<C>,
+    tcb: &mut TransmissionControlBlock,
     number: u32,
     responses: &mut Vec<Parameter>,
 ) -> Result<(), AllocError>
@@ -131,7 +144,10 @@ fn handle_incoming_request<C: Checksum>(context: &Context<C>, tcb: &mut Transmis
 }
 
 /// What an answer says of the streams of the own request, and of no others.
-fn handle_outcome<C: Checksum>(context: &mut Context<C>, outcome: ResetOutcome) -> Result<(), AllocError>
+fn handle_outcome<C: Checksum>(
+    context: &mut Context<C>,
+    outcome: ResetOutcome,
+) -> Result<(), AllocError>
     ensures { OnOk result (context_of C.word_of context.new ≡ table.on_outcome (outcome_of outcome) (context_of C.word_of context.old)) }
 {
     match outcome {
@@ -148,7 +164,9 @@ fn handle_outcome<C: Checksum>(context: &mut Context<C>, outcome: ResetOutcome) 
 }
 
 /// The peer answers a request (RFC 6525 section 5.2.7).
-fn handle_response<C: Checksum>(context: &mut Context<C>, tcb: &mut TransmissionControlBlock,
+fn handle_response<C: Checksum>(
+    context: &mut Context<C>,
+    tcb: &mut TransmissionControlBlock,
     response: &ReconfigurationResponseParameter,
 ) -> Result<(), AllocError>
     ensures { let r = response.now in OnOk result (sent_of C.word_of tcb.new context.new
@@ -161,7 +179,9 @@ fn handle_response<C: Checksum>(context: &mut Context<C>, tcb: &mut Transmission
 }
 
 /// One parameter.
-fn handle_parameter<C: Checksum>(context: &mut Context<C>, tcb: &mut TransmissionControlBlock,
+fn handle_parameter<C: Checksum>(
+    context: &mut Context<C>,
+    tcb: &mut TransmissionControlBlock,
     parameter: Parameter,
     responses: &mut Vec<Parameter>,
 ) -> Result<(), AllocError>
@@ -181,7 +201,9 @@ fn handle_parameter<C: Checksum>(context: &mut Context<C>, tcb: &mut Transmissio
 }
 
 /// The parameters in order, up to a second outgoing request. The answer is whether there was none.
-fn handle_parameters<C: Checksum>(context: &mut Context<C>, tcb: &mut TransmissionControlBlock,
+fn handle_parameters<C: Checksum>(
+    context: &mut Context<C>,
+    tcb: &mut TransmissionControlBlock,
     parameters: Vec<Parameter>,
     responses: &mut Vec<Parameter>,
 ) -> Result<bool, AllocError>
@@ -201,7 +223,9 @@ fn handle_parameters<C: Checksum>(context: &mut Context<C>, tcb: &mut Transmissi
 }
 
 /// The responses go out in a packet, where there are some.
-fn send_responses<C: Checksum>(context: &mut Context<C>, tcb: &TransmissionControlBlock,
+fn send_responses<C: Checksum>(
+    context: &mut Context<C>,
+    tcb: &TransmissionControlBlock,
     responses: Vec<Parameter>,
 ) -> Result<(), AllocError>
     ensures { OnOk result (context_of C.word_of context.new ≡ table.send_responses (map parameter_tree responses.items) (tcb_of tcb.now) (context_of C.word_of context.old)) }
@@ -214,7 +238,9 @@ fn send_responses<C: Checksum>(context: &mut Context<C>, tcb: &TransmissionContr
 }
 
 /// The responses go out, and what may be sent then; after a second outgoing request nothing is sent.
-fn finish_reconfig<C: Checksum>(context: &mut Context<C>, phase: &Phase,
+fn finish_reconfig<C: Checksum>(
+    context: &mut Context<C>,
+    phase: &Phase,
     tcb: &mut TransmissionControlBlock,
     responses: Vec<Parameter>,
     is_whole: bool,
@@ -232,7 +258,9 @@ fn finish_reconfig<C: Checksum>(context: &mut Context<C>, phase: &Phase,
     context.send_buffered_packets(tcb, phase.is_alone())
 }
 
-fn take_parameters<C: Checksum>(context: &mut Context<C>, phase: &Phase,
+fn take_parameters<C: Checksum>(
+    context: &mut Context<C>,
+    phase: &Phase,
     tcb: &mut TransmissionControlBlock,
     parameters: Vec<Parameter>,
 ) -> Result<(), AllocError>
@@ -245,7 +273,9 @@ fn take_parameters<C: Checksum>(context: &mut Context<C>, phase: &Phase,
 }
 
 /// A RE-CONFIG without parameters.
-fn complain_of_reconfig<C: Checksum>(context: &mut Context<C>, phase: &Phase,
+fn complain_of_reconfig<C: Checksum>(
+    context: &mut Context<C>,
+    phase: &Phase,
     tcb: &TransmissionControlBlock,
 ) -> Result<(), AllocError>
     ensures { OnOk result (opened_of C.word_of phase.now tcb.now context.new
@@ -258,7 +288,9 @@ fn complain_of_reconfig<C: Checksum>(context: &mut Context<C>, phase: &Phase,
 }
 
 /// RE-CONFIG (RFC 6525 section 5.2): its parameters, the responses, and what may be sent then.
-fn take_reconfig<C: Checksum>(context: &mut Context<C>, phase: &Phase,
+fn take_reconfig<C: Checksum>(
+    context: &mut Context<C>,
+    phase: &Phase,
     tcb: &mut TransmissionControlBlock,
     parameters: Vec<Parameter>,
 ) -> Result<(), AllocError>
@@ -275,10 +307,15 @@ fn take_reconfig<C: Checksum>(context: &mut Context<C>, phase: &Phase,
 fn prepare_reset<C: Checksum>(context: &mut Context<C>, id: StreamId) -> Result<(), AllocError>
     ensures { OnOk result (context_of C.word_of context.new ≡ table.prepared id.0 (context_of C.word_of context.old)) }
 {
-    context.send_queue.prepare_reset_stream(id, &mut context.events)
+    context
+        .send_queue
+        .prepare_reset_stream(id, &mut context.events)
 }
 
-fn prepare_resets<C: Checksum>(context: &mut Context<C>, streams: &[StreamId]) -> Result<(), AllocError>
+fn prepare_resets<C: Checksum>(
+    context: &mut Context<C>,
+    streams: &[StreamId],
+) -> Result<(), AllocError>
     ensures { OnOk result (context_of C.word_of context.new ≡ table.prepare_all (numbers_of streams.now) (context_of C.word_of context.old)) }
 {
     for id in streams {

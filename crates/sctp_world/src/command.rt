@@ -9,8 +9,8 @@ ghost use Rattle.sctp_network_table.specs.Judge.{End as tree, end_name};
 ghost use Rattle.sctp_network.specs.WorldView.{end_tree};
 ghost use Rattle.sctp_world.specs.CommandView.{command_of};
 
-use sctp_network::{Call, End, Event};
 use hex::FromHexError;
+use sctp_network::{Call, End, Event};
 use sctp_serial::{LifecycleId, Message, PpId, SocketTime, StreamId};
 use sctp_state::SendOptions;
 use std::alloc::{AllocError, Global};

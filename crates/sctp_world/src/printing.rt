@@ -8,8 +8,8 @@ ghost use Rattle.sctp_world.specs.Printed.{size_of, kind_name, event_name, event
 ghost use Rattle.sctp_serial.specs.Messages.{message_of};
 ghost use Rattle.sctp_network.specs.WorldView.{answer_tree, end_tree, entry_tree, world_of};
 
-use sctp_network::{Answer, End, Entry, World};
 use rand_core::Rng;
+use sctp_network::{Answer, End, Entry, World};
 use sctp_serial::{Message, StreamId};
 use sctp_state::{ErrorKind, GivenUp, GivenUpCause, ResetStreamsError, SendError, SocketEvent};
 use sctp_wire::Checksum;
