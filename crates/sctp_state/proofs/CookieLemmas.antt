@@ -81,34 +81,19 @@ pub refused_size : (bytes : List ℕ) → length bytes ≢ 48 → read_cookie by
 unfolding read_cookie
 refused_size bytes other = rw (ne_eqb (length bytes) 48 other) refl
 
-refused_magic : (bytes : List ℕ) → length bytes ≡ 48 → starts_with nat_eq bytes magic ≡ false → read_cookie bytes ≡ Err InvalidMagic
+pub refused_magic : (bytes : List ℕ) → length bytes ≡ 48 → starts_with nat_eq bytes magic ≡ false → read_cookie bytes ≡ Err InvalidMagic
 unfolding read_cookie
 refused_magic bytes size other = rw (eq-eqb (length bytes) 48 size, other) refl
 
-refused_tags : (bytes : List ℕ) → length bytes ≡ 48 → starts_with nat_eq bytes magic ≡ true → has_tags (cookie_from bytes) ≡ false
+pub refused_tags : (bytes : List ℕ) → length bytes ≡ 48 → starts_with nat_eq bytes magic ≡ true → has_tags (cookie_from bytes) ≡ false
     → read_cookie bytes ≡ Err InvalidVerificationTag
 unfolding read_cookie
 refused_tags bytes size begins none = rw (eq-eqb (length bytes) 48 size, begins, none) refl
 
-accepted : (bytes : List ℕ) → length bytes ≡ 48 → starts_with nat_eq bytes magic ≡ true → has_tags (cookie_from bytes) ≡ true
+pub accepted : (bytes : List ℕ) → length bytes ≡ 48 → starts_with nat_eq bytes magic ≡ true → has_tags (cookie_from bytes) ≡ true
     → read_cookie bytes ≡ Ok (cookie_from bytes)
 unfolding read_cookie
 accepted bytes size begins both = rw (eq-eqb (length bytes) 48 size, begins, both) refl
-
--- the magic, as a test of the bytes' front tells it
-unless_true : (b : Bool) → (b ≡ true → ⊥) → b ≡ false
-unless_true true h = absurd (h refl)
-unless_true false h = refl
-
-pub magic_split : (bytes rest : List ℕ) → pointwise nat_eq (take 8 bytes) magic ≡ true → rest ≡ drop 8 bytes → bytes ≡ magic ++ rest
-magic_split bytes rest same e =
-    sym (take-append-drop 8 bytes) ∙ ap (λ (front : List ℕ). front ++ drop 8 bytes) (same_text (take 8 bytes) magic (sym same))
-    ∙ ap (λ (tail : List ℕ). magic ++ tail) (sym e)
-
-pub refused_front : (bytes : List ℕ) → length bytes ≡ 48 → pointwise nat_eq (take 8 bytes) magic ≡ false → read_cookie bytes ≡ Err InvalidMagic
-refused_front bytes size other =
-    refused_magic bytes size (unless_true (starts_with nat_eq bytes magic)
-    (λ begins. other_text (take 8 bytes) magic (sym other) (sym (same_text magic (take 8 bytes) (sym begins)))))
 
 pub both_tags : (c : Cookie) → c.peer_tag ≢ 0 → c.my_tag ≢ 0 → has_tags c ≡ true
 both_tags c peer mine = rw (ne_eqb c.peer_tag 0 peer, ne_eqb c.my_tag 0 mine) refl
@@ -122,11 +107,6 @@ no_own_tag c peer none = rw (ne_eqb c.peer_tag 0 peer, eq-eqb c.my_tag 0 none) r
 -- bytes that spell a cookie are refused by its tags alone
 begins_with_magic : (bytes rest : List ℕ) → bytes ≡ magic ++ rest → starts_with nat_eq bytes magic ≡ true
 begins_with_magic bytes rest e = rw e refl
-
-pub refused_tag : (bytes rest : List ℕ) (c : Cookie) → length bytes ≡ 48 → bytes ≡ magic ++ rest → SpellsCookie rest c
-    → has_tags c ≡ false → read_cookie bytes ≡ Err InvalidVerificationTag
-refused_tag bytes rest c size e s none =
-    refused_tags bytes size (begins_with_magic bytes rest e) (ap has_tags (cookie_from-spelled bytes rest c e s) ∙ none)
 
 pub accepted_cookie : (bytes rest : List ℕ) (c : Cookie) → length bytes ≡ 48 → bytes ≡ magic ++ rest → SpellsCookie rest c
     → has_tags c ≡ true → read_cookie bytes ≡ Ok c

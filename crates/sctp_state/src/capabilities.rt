@@ -126,7 +126,6 @@ pub fn announced_parameters(
 ) -> Result<Vec<Parameter>, AllocError>
     ensures { IfOk result (λ list. map parameter_tree list.items ≡ announced (options_of options.now) method.0) }
 {
-    let chunk_types = announced_chunk_types(alloc, options)?;
     let mut parameters = Vec::new(alloc);
     if options.enable_partial_reliability {
         parameters.push(Parameter::ForwardTsnSupported(ForwardTsnSupportedParameter {}))?;
@@ -136,6 +135,7 @@ pub fn announced_parameters(
             method,
         }))?;
     }
+    let chunk_types = announced_chunk_types(alloc, options)?;
     parameters.push(Parameter::SupportedExtensions(SupportedExtensionsParameter { chunk_types }))?;
     Ok(parameters)
 }
@@ -144,16 +144,16 @@ pub fn announced_parameters(
 fn announced_chunk_types(alloc: Global, options: &Options) -> Result<Vec<u8>, AllocError>
     ensures { IfOk result (λ list. list.items ≡ extensions (options_of options.now)) }
 {
-    let mut chunk_types = Vec::new(alloc);
-    chunk_types.push(RE_CONFIG)?;
-    if options.enable_partial_reliability {
-        chunk_types.push(FORWARD_TSN)?;
-    }
-    if options.enable_message_interleaving {
-        chunk_types.push(I_DATA)?;
-        chunk_types.push(I_FORWARD_TSN)?;
-    }
-    Ok(chunk_types)
+    let chunk_types: &[u8] = match (
+        options.enable_partial_reliability,
+        options.enable_message_interleaving,
+    ) {
+        (false, false) => &[RE_CONFIG],
+        (true, false) => &[RE_CONFIG, FORWARD_TSN],
+        (false, true) => &[RE_CONFIG, I_DATA, I_FORWARD_TSN],
+        (true, true) => &[RE_CONFIG, FORWARD_TSN, I_DATA, I_FORWARD_TSN],
+    };
+    Vec::from_slice(alloc, chunk_types)
 }
 
 /// The chunk types of the first parameter that names some.

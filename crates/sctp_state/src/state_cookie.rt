@@ -1,12 +1,13 @@
 //! The cookie of an INIT ACK, which a COOKIE ECHO brings back (RFC 9260 section 5.1.3).
 
-ghost use Rattle.std.specs.Prelude.{◌≡◌, ◌≢◌, ◌+◌, ◌<◌, true, Some, Ok, Err, ◌++◌, length, IfOk, IfErr, IsOkAnd, OnOk, OnErr};
+ghost use Rattle.std.specs.Prelude.{◌≡◌, ◌+◌, ◌≤◌, true, Some, Ok, Err, ◌++◌, length, IfOk, IfErr, IsOkAnd, OnOk};
+ghost use Rattle.sctp_wire.specs.Fields.{be32};
 ghost use Rattle.sctp_state.specs.Capabilities.{capabilities_of};
-ghost use Rattle.sctp_state.specs.Cookie.{Cookie, CapabilitiesFit, CookieFits, SpellsCookie, SpellsCapabilities, cookie_of, cookie_bytes, capability_bytes, has_tags, read_cookie, refusal_text};
+ghost use Rattle.sctp_state.specs.Cookie.{Cookie, CapabilitiesFit, CookieFits, cookie_of, cookie_bytes, cookie_from, capability_bytes, has_tags, read_cookie, refusal_text, u16_in, u32_in, u64_in};
 
 use crate::Capabilities;
 use sctp_serial::{Tsn, ZeroChecksumAlternateErrorDetectionMethod};
-use sctp_wire::{ChunkParseError, ends_here, push_u16, push_u32, push_u64, u16_at, u32_at, u64_at};
+use sctp_wire::{push_u16, push_u32, push_u64};
 use std::alloc::{AllocError, Global};
 use std::error::Error;
 use std::fmt;
@@ -76,12 +77,10 @@ impl StateCookie {
         if bytes.len() != STATE_COOKIE_SIZE {
             return Err(StateCookieError::InvalidSize);
         }
-        let Some(rest) = bytes.strip_prefix(&MAGIC) else {
+        if !bytes.starts_with(&MAGIC) {
             return Err(StateCookieError::InvalidMagic);
-        };
-        let Ok(cookie) = cookie_at(rest) else {
-            return Err(StateCookieError::InvalidSize);
-        };
+        }
+        let cookie = cookie_in(bytes);
         if cookie.peer_tag == 0 || cookie.my_tag == 0 {
             return Err(StateCookieError::InvalidVerificationTag);
         }
@@ -89,22 +88,36 @@ impl StateCookie {
     }
 
     /// The cookie's 48 bytes.
-    #[tactic(auto, unfolding(crate::specs::Cookie::cookie_bytes))]
     pub fn serialize(&self, alloc: Global) -> Result<Vec<u8>, AllocError>
         ensures bytes { IfOk result (λ output. output.items ≡ cookie_bytes (cookie_of self.now)) }
         ensures fits { OnOk result (CookieFits (cookie_of self.now)) }
     {
         let mut output = Vec::with_capacity(alloc, STATE_COOKIE_SIZE)?;
-        output.extend_from_slice(&MAGIC)?;
-        push_u32(&mut output, self.peer_tag)?;
-        push_u32(&mut output, self.my_tag)?;
-        push_u32(&mut output, self.peer_initial_tsn.0)?;
-        push_u32(&mut output, self.my_initial_tsn.0)?;
-        push_u32(&mut output, self.a_rwnd)?;
-        push_u64(&mut output, self.tie_tag)?;
-        push_capabilities(&mut output, self.peer_capabilities)?;
+        push_cookie(&mut output, self)?;
         Ok(output)
     }
+}
+
+/// Appends the cookie's bytes.
+#[tactic(auto, unfolding(crate::specs::Cookie::cookie_bytes))]
+fn push_cookie(output: &mut Vec<u8>, cookie: &StateCookie) -> Result<(), AllocError>
+    ensures bytes { OnOk result (output.new.items ≡ output.old.items ++ cookie_bytes (cookie_of cookie.now)) }
+    ensures fits { OnOk result (CookieFits (cookie_of cookie.now)) }
+{
+    output.extend_from_slice(&MAGIC)?;
+    push_pair(output, cookie.peer_tag, cookie.my_tag)?;
+    push_pair(output, cookie.peer_initial_tsn.0, cookie.my_initial_tsn.0)?;
+    push_u32(output, cookie.a_rwnd)?;
+    push_u64(output, cookie.tie_tag)?;
+    push_capabilities(output, cookie.peer_capabilities)
+}
+
+/// Appends a number of the peer and the one of this end.
+fn push_pair(output: &mut Vec<u8>, peer: u32, own: u32) -> Result<(), AllocError>
+    ensures { OnOk result (output.new.items ≡ output.old.items ++ (be32 peer ++ be32 own)) }
+{
+    push_u32(output, peer)?;
+    push_u32(output, own)
 }
 
 /// Appends the twelve bytes of capabilities.
@@ -126,50 +139,69 @@ fn push_capabilities(output: &mut Vec<u8>, capabilities: Capabilities) -> Result
     push_u16(output, capabilities.negotiated_maximum_outgoing_streams)
 }
 
-/// What the bytes behind the magic say; `InvalidLength` where they aren't 40.
-fn cookie_at(bytes: &[u8]) -> Result<StateCookie, ChunkParseError>
-    ensures ok { IfOk result (λ c. SpellsCookie bytes.now (cookie_of c)) }
-    ensures refused { OnErr result (length bytes.now ≢ 40) }
-    ensures fault { IfErr result (λ e. e ≡ ChunkParseError.InvalidLength) }
+/// The cookie in 48 bytes, each field at its place.
+#[tactic(auto, unfolding(crate::specs::Cookie::cookie_from))]
+fn cookie_in(bytes: &[u8]) -> StateCookie
+    requires { length bytes.now ≡ 48 }
+    ensures { cookie_of result ≡ cookie_from bytes.now }
 {
-    let (peer_tag, rest) = u32_at(bytes)?;
-    let (my_tag, rest) = u32_at(rest)?;
-    let (peer_initial_tsn, rest) = u32_at(rest)?;
-    let (my_initial_tsn, rest) = u32_at(rest)?;
-    let (a_rwnd, rest) = u32_at(rest)?;
-    let (tie_tag, rest) = u64_at(rest)?;
-    let peer_capabilities = capabilities_at(rest)?;
-    Ok(StateCookie {
-        peer_tag,
-        my_tag,
-        peer_initial_tsn: Tsn(peer_initial_tsn),
-        my_initial_tsn: Tsn(my_initial_tsn),
-        a_rwnd,
-        tie_tag,
-        peer_capabilities,
-    })
+    StateCookie {
+        peer_tag: u32_in(bytes, 8),
+        my_tag: u32_in(bytes, 12),
+        peer_initial_tsn: Tsn(u32_in(bytes, 16)),
+        my_initial_tsn: Tsn(u32_in(bytes, 20)),
+        a_rwnd: u32_in(bytes, 24),
+        tie_tag: u64_in(bytes, 28),
+        peer_capabilities: capabilities_in(bytes),
+    }
 }
 
-/// The capabilities in twelve bytes; `InvalidLength` where there are more or fewer. A flag is set where its byte isn't
-/// 0, and the fourth byte isn't looked at.
-fn capabilities_at(bytes: &[u8]) -> Result<Capabilities, ChunkParseError>
-    ensures ok { IfOk result (λ k. SpellsCapabilities bytes.now (capabilities_of k)) }
-    ensures refused { OnErr result (length bytes.now ≢ 12) }
-    ensures fault { IfErr result (λ e. e ≡ ChunkParseError.InvalidLength) }
+/// The capabilities in a cookie's last twelve bytes. A flag is set where its byte isn't 0, and the fourth byte isn't
+/// looked at.
+#[tactic(auto, unfolding(crate::specs::Cookie::cookie_from))]
+fn capabilities_in(bytes: &[u8]) -> Capabilities
+    requires { length bytes.now ≡ 48 }
+    ensures { capabilities_of result ≡ (cookie_from bytes.now).peer_capabilities }
 {
-    let Some((flags, rest)) = bytes.split_first_chunk::<4>() else {
-        return Err(ChunkParseError::InvalidLength);
+    Capabilities {
+        partial_reliability: bytes[36] != 0,
+        message_interleaving: bytes[37] != 0,
+        reconfig: bytes[38] != 0,
+        zero_checksum_method: ZeroChecksumAlternateErrorDetectionMethod(u32_in(bytes, 40)),
+        negotiated_maximum_incoming_streams: u16_in(bytes, 44),
+        negotiated_maximum_outgoing_streams: u16_in(bytes, 46),
+    }
+}
+
+/// The number whose two bytes begin at the place.
+fn u16_in(bytes: &[u8], place: usize) -> u16
+    requires { place + 2 ≤ length bytes.now }
+    ensures { result ≡ u16_in place bytes.now }
+{
+    let Some((number, _)) = bytes[place..].split_first_chunk::<2>() else {
+        unreachable!();
     };
-    let (method, rest) = u32_at(rest)?;
-    let (incoming, rest) = u16_at(rest)?;
-    let (outgoing, rest) = u16_at(rest)?;
-    ends_here(rest)?;
-    Ok(Capabilities {
-        partial_reliability: flags[0] != 0,
-        message_interleaving: flags[1] != 0,
-        reconfig: flags[2] != 0,
-        zero_checksum_method: ZeroChecksumAlternateErrorDetectionMethod(method),
-        negotiated_maximum_incoming_streams: incoming,
-        negotiated_maximum_outgoing_streams: outgoing,
-    })
+    u16::from_be_bytes(*number)
+}
+
+/// The one of four bytes.
+fn u32_in(bytes: &[u8], place: usize) -> u32
+    requires { place + 4 ≤ length bytes.now }
+    ensures { result ≡ u32_in place bytes.now }
+{
+    let Some((number, _)) = bytes[place..].split_first_chunk::<4>() else {
+        unreachable!();
+    };
+    u32::from_be_bytes(*number)
+}
+
+/// The one of eight bytes.
+fn u64_in(bytes: &[u8], place: usize) -> u64
+    requires { place + 8 ≤ length bytes.now }
+    ensures { result ≡ u64_in place bytes.now }
+{
+    let Some((number, _)) = bytes[place..].split_first_chunk::<8>() else {
+        unreachable!();
+    };
+    u64::from_be_bytes(*number)
 }

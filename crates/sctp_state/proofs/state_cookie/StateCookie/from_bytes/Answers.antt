@@ -1,7 +1,7 @@
-use Rattle.std.proofs.Common.{◌≡◌, ℕ, Ok, Err, false, ◌++◌, arith}
-use Rattle.sctp_state.specs.Cookie.{cookie_of, has_tags, magic, read_cookie}
+use Rattle.std.proofs.Common.{◌≡◌, Ok, false, ap, sym, ◌∙◌}
+use Rattle.sctp_state.specs.Cookie.{cookie_of, has_tags, read_cookie}
 use Rattle.sctp_state.specs.declared.state_cookie.StateCookieError.TheVariants.{InvalidSize, InvalidMagic, InvalidVerificationTag}
-use Rattle.sctp_state.proofs.CookieLemmas.{refused_size, refused_front, refused_tag, accepted_cookie, magic_split, both_tags, no_peer_tag, no_own_tag, not_written, as_written}
+use Rattle.sctp_state.proofs.CookieLemmas.{refused_size, refused_magic, refused_tags, accepted, both_tags, no_peer_tag, no_own_tag, not_written, as_written}
 use Rattle.sctp_state.proofs.state_cookie.StateCookie.from_bytes.Goals as goal
 use Rattle.sctp_state.proofs.state_cookie.StateCookie.from_bytes.Goals.{then-cookie-eq0-via-then-cookie-eq0, then-cookie-eq0-via-else-cookie-eq0+then-cookie-eq0-2}
 
@@ -16,23 +16,25 @@ returns-then-bytes-ne-STATE_COOKIE_SIZE-clause-written c =
     not_written c.args.bytes.now InvalidSize (returns-then-bytes-ne-STATE_COOKIE_SIZE-clause-refused c)
 
 -- another magic
-pub returns-in_default-clause-refused : goal.returns-in_default-clause-refused
-returns-in_default-clause-refused c = refused_front c.args.bytes.now c.if-bytes-ne-STATE_COOKIE_SIZE.false c.in_default.ensures.cases
+pub returns-then-not-starts_with-clause-refused : goal.returns-then-not-starts_with-clause-refused
+returns-then-not-starts_with-clause-refused c =
+    refused_magic c.args.bytes.now c.if-bytes-ne-STATE_COOKIE_SIZE.false
+    (sym c.starts_with.ensures.value ∙ c.if-not-starts_with.true)
 
-pub returns-in_default-clause-written : goal.returns-in_default-clause-written
-returns-in_default-clause-written c = not_written c.args.bytes.now InvalidMagic (returns-in_default-clause-refused c)
+pub returns-then-not-starts_with-clause-written : goal.returns-then-not-starts_with-clause-written
+returns-then-not-starts_with-clause-written c =
+    not_written c.args.bytes.now InvalidMagic (returns-then-not-starts_with-clause-refused c)
 
 -- a tag of 0
 pub returns-then-cookie-eq0-clause-refused : goal.returns-then-cookie-eq0-clause-refused
 returns-then-cookie-eq0-clause-refused c =
-    let front = c.in-Some.ensures.cases in
-    let k = cookie_of c.in-Ok.cookie in
+    let k = cookie_of c.cookie_in-cookie.result in
     let none : has_tags k ≡ false = elim c.then-cookie-eq0.branch [
       | then-cookie-eq0-via-then-cookie-eq0 w ↦ no_peer_tag k w.if-cookie-eq0.true
       | then-cookie-eq0-via-else-cookie-eq0+then-cookie-eq0-2 w ↦ no_own_tag k w.if-cookie-eq0.false w.if-cookie-eq0-2.true
     ] in
-    refused_tag c.args.bytes.now c.in-Some.rest.now k c.if-bytes-ne-STATE_COOKIE_SIZE.false
-    (magic_split c.args.bytes.now c.in-Some.rest.now front.0 front.1) c.in-Ok.ensures.ok none
+    refused_tags c.args.bytes.now c.if-bytes-ne-STATE_COOKIE_SIZE.false
+    (sym c.starts_with.ensures.value ∙ c.if-not-starts_with.false) (ap has_tags (sym c.cookie_in-cookie.ensures) ∙ none)
 
 pub returns-then-cookie-eq0-clause-written : goal.returns-then-cookie-eq0-clause-written
 returns-then-cookie-eq0-clause-written c = not_written c.args.bytes.now InvalidVerificationTag (returns-then-cookie-eq0-clause-refused c)
@@ -40,10 +42,11 @@ returns-then-cookie-eq0-clause-written c = not_written c.args.bytes.now InvalidV
 -- a cookie
 pub returns-clause-ok : goal.returns-clause-ok
 returns-clause-ok c =
-    let front = c.in-Some.ensures.cases in
-    accepted_cookie c.args.bytes.now c.in-Some.rest.now (cookie_of c.in-Ok.cookie) c.if-bytes-ne-STATE_COOKIE_SIZE.false
-    (magic_split c.args.bytes.now c.in-Some.rest.now front.0 front.1) c.in-Ok.ensures.ok
-    (both_tags (cookie_of c.in-Ok.cookie) c.if-cookie-eq0.false c.if-cookie-eq0-2.false)
+    let k = cookie_of c.cookie_in-cookie.result in
+    let same = sym c.cookie_in-cookie.ensures in
+    accepted c.args.bytes.now c.if-bytes-ne-STATE_COOKIE_SIZE.false
+    (sym c.starts_with.ensures.value ∙ c.if-not-starts_with.false)
+    (ap has_tags same ∙ both_tags k c.if-cookie-eq0.false c.if-cookie-eq0-2.false) ∙ ap Ok same
 
 pub returns-clause-written : goal.returns-clause-written
-returns-clause-written c = as_written c.args.bytes.now (cookie_of c.in-Ok.cookie) (returns-clause-ok c)
+returns-clause-written c = as_written c.args.bytes.now (cookie_of c.cookie_in-cookie.result) (returns-clause-ok c)
