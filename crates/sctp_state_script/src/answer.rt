@@ -49,11 +49,13 @@ pub fn cut(text: &str, separator: char) -> (&str, &str) {
 /// The line that the text is.
 pub fn line_of(text: &str) -> Line<'_> {
     let (name, rest) = cut(text, ' ');
-    let mut last = "";
+    let last = match rest.rsplit_once(' ') {
+        Some((_, word)) => word,
+        None => rest,
+    };
     let mut numbers = [0; 4];
     let mut count = 0;
     for word in rest.split_whitespace() {
-        last = word;
         if count < 4 {
             numbers[count] = number(word);
             count += 1;
