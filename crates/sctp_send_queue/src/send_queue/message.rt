@@ -3,9 +3,9 @@
 ghost use Rattle.std.specs.Prelude.{◌≡◌, ℕ, ◌+◌, ◌-◌, ◌<◌, ◌≤◌, ◌^◌, Bool, length, IfOk, None, option_map, min, if◌then◌else◌};
 ghost use Rattle.std.specs.Duration.{as_nanos};
 ghost use Rattle.sctp_chunk.specs.Written.{key_stream};
-ghost use Rattle.sctp_chunk.specs.Views.{is_unordered_key};
+ghost use Rattle.sctp_chunk.specs.Views.{is_unordered_key, fragment_tree};
 ghost use Rattle.sctp_send_queue.specs.Queue.{left, expiry_of};
-ghost use Rattle.sctp_send_queue.specs.Produced.{is_stale, is_due, made_of, moved};
+ghost use Rattle.sctp_send_queue.specs.Produced.{is_stale, is_due, ends, piece, made_of, moved};
 ghost use Rattle.sctp_send_queue.specs.Resets.{is_partly};
 ghost use Rattle.sctp_serial.specs.Unwrapped.{words, halves, wire};
 ghost use Rattle.sctp_state.specs.Handover.{stream_message_of};
@@ -261,6 +261,41 @@ impl QueuedMessage {
         self.next_fsn = Fsn(0);
     }
 
+    // The next fragment, of at most `size` bytes, under these numbers.
+    fn piece(
+        &self,
+        alloc: Global,
+        id: StreamId,
+        numbers: MessageNumbers,
+        size: usize,
+    ) -> Result<Data, AllocError>
+        ensures { IfOk result (λ made. fragment_tree made ≡ piece id.0 size numbers self.now) }
+    {
+        let left = self.payload.len() - self.offset;
+        let end = self.offset + left.min(size);
+        Ok(Data {
+            stream_key: stream_key(self.is_unordered, id),
+            ssn: Ssn::wrapped(Ssn(0), numbers.ssn),
+            mid: Mid::wrapped(Mid(0), numbers.mid),
+            fsn: self.next_fsn,
+            ppid: self.ppid,
+            payload: Vec::from_slice(alloc, &self.payload[self.offset..end])?,
+            is_beginning: self.offset == 0,
+            is_end: left <= size,
+        })
+    }
+
+    // The lifecycle ends with the last fragment alone.
+    fn lifecycle_ended(&self, size: usize) -> Option<LifecycleId>
+        ensures { result ≡ (if ends size self.now then self.now.lifecycle else None) }
+    {
+        if self.left() <= size {
+            self.lifecycle_id
+        } else {
+            None
+        }
+    }
+
     /// The next fragment, of at most `size` bytes, under these numbers.
     pub fn fragment(
         &self,
@@ -271,25 +306,12 @@ impl QueuedMessage {
     ) -> Result<DataToSend, AllocError>
         ensures { IfOk result (λ made. produced_of made ≡ made_of id.0 size numbers self.now) }
     {
-        let left = self.payload.len() - self.offset;
-        let end = self.offset + left.min(size);
-        let is_end = left <= size;
-        let data = Data {
-            stream_key: stream_key(self.is_unordered, id),
-            ssn: Ssn::wrapped(Ssn(0), numbers.ssn),
-            mid: Mid::wrapped(Mid(0), numbers.mid),
-            fsn: self.next_fsn,
-            ppid: self.ppid,
-            payload: Vec::from_slice(alloc, &self.payload[self.offset..end])?,
-            is_beginning: self.offset == 0,
-            is_end,
-        };
         Ok(DataToSend {
             message_id: self.message_id,
-            data,
+            data: self.piece(alloc, id, numbers, size)?,
             max_retransmissions: self.max_retransmissions,
             expires_at: self.expires_at,
-            lifecycle_id: if is_end { self.lifecycle_id } else { None },
+            lifecycle_id: self.lifecycle_ended(size),
         })
     }
 
