@@ -3,10 +3,10 @@
 #![tactic(auto)]
 
 #[cfg(test)]
-mod memory;
-#[cfg(test)]
 mod queue_memory;
 #[cfg(test)]
 mod queue_steps;
+#[cfg(test)]
+mod sender_memory;
 #[cfg(test)]
 mod steps;
