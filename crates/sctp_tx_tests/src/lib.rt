@@ -1,15 +1,12 @@
-//! Tests of `sctp_outstanding` and `sctp_tx` over their public items, apart so that each crate is proved once.
+//! Tests of the sender in want of memory, apart so that each crate is proved once. What it does with ample memory the script of
+//! `sctp_sender_script` says.
 #![tactic(auto)]
 
 #[cfg(test)]
-mod item;
+mod queue_memory;
 #[cfg(test)]
-mod items;
+mod queue_steps;
 #[cfg(test)]
-mod memory;
-#[cfg(test)]
-mod parts;
-#[cfg(test)]
-mod sender;
+mod sender_memory;
 #[cfg(test)]
 mod steps;

@@ -1,30 +1,19 @@
 //! Calls on a sender and what they are to answer, one after another. The sender has default options, first TSN 10, and a
 //! peer's window of 5,242,880 bytes. Moments are in milliseconds.
 
+use crate::queue_steps::{Heard, accept, at, heard, is_given_up, named, short};
 use sctp_packet::{Chunk, GapAckBlock, SackChunk, clean_sack};
-use sctp_serial::{LifecycleId, Message, PpId, SocketTime, StreamId, Tsn};
+use sctp_serial::{SocketTime, Tsn};
 use sctp_state::api::handover::HandoverSocketState;
-use sctp_state::{Events, GivenUpCause, Options, SendOptions, SocketEvent, SocketHandoverState};
+use sctp_state::{Events, GivenUpCause, Options, SendOptions, SocketHandoverState};
 use sctp_tx::{HandleSackResult, RetransmissionQueue, SendQueue};
 use std::alloc::{AllocError, Global};
-use std::time::Duration;
+use std::mem;
 
-/// An event, of a message with a lifecycle id.
-#[derive(Clone, Copy, PartialEq, Eq)]
-pub enum Heard {
-    Nothing,
-    Expired(u64),
-    MaybeExpired(u64),
-    Delivered(u64),
-    End(u64),
-    Other,
-}
-
-/// What a SACK is answered with: nothing new, something new, or that with a round trip time.
+/// What a SACK is answered with: something new, or that with a round trip time.
 #[derive(Clone, Copy, PartialEq, Eq)]
 pub enum Answer {
-    Invalid,
-    Nothing,
+    Other,
     Progress,
     RoundTrip(u64),
 }
@@ -43,36 +32,21 @@ pub enum Step {
     SendsNothing(u64),
     /// The packet that ignores the congestion window, with so much room, takes one chunk with this TSN.
     SendsFast(u64, usize, u32),
-    SendsNothingFast(u64, usize),
-    HasFast(bool),
-    CanSend(bool),
     /// A SACK at a moment: its cumulative TSN and a block from one offset to another, none where they are 0.
     Sack(u64, u32, u16, u16, Answer),
     TimesOut(u64, bool),
-    /// When t3-rtx expires.
-    Expires(u64),
-    Rto(u64),
-    SetWindow(usize),
-    /// The congestion window, and what is left of the peer's.
-    Windows(usize, usize),
     /// How many items are in flight or missing, and their bytes.
     Flight(usize, usize),
-    /// How many packets had something that was sent again, and its bytes.
-    Resent(usize, u64),
-    /// The last TSN and the next one.
-    Tsns(u32, u32),
     /// Whether a forward point is due.
     IsDue(u64, bool),
     /// The forward point: its TSN, and how many streams it names.
     Point(u32, usize),
     BeginReset,
     GivenUp(u32, GivenUpCause),
-    NoneGivenUp,
     Hears(Heard),
     QueueIsEmpty(bool),
     /// Whether no item is kept.
     NoneIsKept(bool),
-    Readiness(bool, u32),
     /// At a moment another sender takes this one's record up, and the steps go on with it.
     HandOver(u64),
 }
@@ -95,41 +69,19 @@ pub fn fresh(alloc: Global) -> Sender {
     }
 }
 
-pub fn at(millis: u64) -> SocketTime {
-    SocketTime::zero() + Duration::from_millis(millis)
-}
-
-fn accept(
+fn put(
     sender: &mut Sender,
     stream: u16,
     size: usize,
     options: &SendOptions,
 ) -> Result<bool, AllocError> {
-    let payload = vec![in sender.alloc; 0u8; size]?;
-    if payload.is_empty()
-        || payload.len() > 12_000
-        || sender.queue.total_buffered_amount() > 12_000
-    {
-        return Ok(false);
-    }
-    let message = Message::new(StreamId(stream), PpId(53), payload);
-    sender.queue.add(SocketTime::zero(), message, options)?;
-    Ok(true)
+    accept(sender.alloc, &mut sender.queue, stream, size, options)
 }
 
 fn once(id: u64) -> SendOptions {
     SendOptions {
         max_retransmissions: Some(0),
-        lifecycle_id: LifecycleId::new(id),
-        ..SendOptions::default()
-    }
-}
-
-fn short(id: u64) -> SendOptions {
-    SendOptions {
-        lifetime: Some(Duration::from_millis(100)),
-        lifecycle_id: LifecycleId::new(id),
-        ..SendOptions::default()
+        ..named(id)
     }
 }
 
@@ -170,7 +122,6 @@ fn sack(alloc: Global, tsn: u32, first: u16, last: u16) -> Result<SackChunk, All
 
 fn answer_of(answer: HandleSackResult) -> Answer {
     match answer {
-        HandleSackResult::Invalid => Answer::Invalid,
         HandleSackResult::Valid { rtt: Some(rtt), .. } => Answer::RoundTrip(
             (rtt.as_nanos() / 1_000_000 % (1 << 64)) as u64,
         ),
@@ -178,7 +129,7 @@ fn answer_of(answer: HandleSackResult) -> Answer {
             reset_error_counter: true,
             ..
         } => Answer::Progress,
-        HandleSackResult::Valid { .. } => Answer::Nothing,
+        _ => Answer::Other,
     }
 }
 
@@ -188,40 +139,31 @@ fn hear(sender: &mut Sender, now: SocketTime, sack: SackChunk) -> Result<Answer,
     Ok(answer_of(answer))
 }
 
-fn is_point(sender: &Sender, tsn: u32, streams: usize) -> Result<bool, AllocError> {
-    Ok(match sender.items.create_forward_tsn()? {
+fn is_this_point(chunk: &Chunk, tsn: u32, streams: usize) -> bool {
+    match chunk {
         Chunk::ForwardTsn(chunk) => chunk.new_cumulative_tsn == Tsn(tsn)
             && chunk.skipped_streams.len() == streams,
         _ => false,
-    })
-}
-
-fn told_by(event: &Option<SocketEvent>) -> Heard {
-    match event {
-        None => Heard::Nothing,
-        Some(SocketEvent::OnLifecycleMessageExpired(id)) => Heard::Expired(id.value()),
-        Some(SocketEvent::OnLifecycleMessageMaybeExpired(id)) => Heard::MaybeExpired(id.value()),
-        Some(SocketEvent::OnLifecycleMessageDelivered(id)) => Heard::Delivered(id.value()),
-        Some(SocketEvent::OnLifecycleEnd(id)) => Heard::End(id.value()),
-        Some(_) => Heard::Other,
     }
 }
 
-fn is_given_up(events: &mut Events, message: u32, cause: GivenUpCause) -> bool {
-    match events.next_given_up() {
-        Some(record) => record.number.0 == message && record.cause == cause,
-        None => false,
-    }
+fn is_point(sender: &Sender, tsn: u32, streams: usize) -> Result<bool, AllocError> {
+    let chunk = sender.items.create_forward_tsn()?;
+    let is_so = is_this_point(&chunk, tsn, streams);
+    drop(chunk);
+    Ok(is_so)
 }
 
-fn record_of(sender: &Sender, now: SocketTime) -> Result<SocketHandoverState, AllocError> {
-    let mut state = SocketHandoverState::empty(sender.alloc);
+fn write(
+    sender: &Sender,
+    now: SocketTime,
+    state: &mut SocketHandoverState,
+) -> Result<(), AllocError> {
     state.socket_state = HandoverSocketState::Connected;
     state.my_verification_tag = 1;
     state.peer_verification_tag = 1;
-    sender.queue.add_to_handover_state(now, &mut state)?;
-    sender.items.add_to_handover_state(now, &mut state)?;
-    Ok(state)
+    sender.queue.add_to_handover_state(now, state)?;
+    sender.items.add_to_handover_state(now, state)
 }
 
 /// Answers false where the record isn't valid.
@@ -241,32 +183,37 @@ fn take_up(
     Ok(true)
 }
 
-fn hand_over(sender: &mut Sender, now: SocketTime) -> Result<bool, AllocError> {
-    let state = record_of(sender, now)?;
+fn pass_on(
+    sender: &mut Sender,
+    now: SocketTime,
+    state: &mut SocketHandoverState,
+) -> Result<bool, AllocError> {
+    write(sender, now, state)?;
     let mut other = fresh(sender.alloc);
-    let is_taken = take_up(&mut other, now, &state)?;
-    sender.queue = other.queue;
-    sender.items = other.items;
-    Ok(is_taken)
+    let outcome = take_up(&mut other, now, state);
+    if outcome.is_ok() {
+        mem::swap(&mut sender.queue, &mut other.queue);
+        mem::swap(&mut sender.items, &mut other.items);
+    }
+    drop(other);
+    outcome
+}
+
+fn hand_over(sender: &mut Sender, now: SocketTime) -> Result<bool, AllocError> {
+    let mut state = SocketHandoverState::empty(sender.alloc);
+    let outcome = pass_on(sender, now, &mut state);
+    drop(state);
+    outcome
 }
 
 // Whether a question has its answer; a call is none.
 fn answers(sender: &Sender, step: Step) -> bool {
     let items = &sender.items;
     match step {
-        Step::HasFast(want) => items.has_data_to_be_fast_retransmitted() == want,
-        Step::CanSend(want) => items.can_send_data() == want,
-        Step::Expires(want) => items.next_timeout() == at(want),
-        Step::Windows(cwnd, rwnd) => items.cwnd() == cwnd && items.rwnd() == rwnd,
         Step::Flight(count, bytes) => items.unacked_items() == count
             && items.unacked_packet_bytes() == bytes,
-        Step::Resent(packets, bytes) => items.rtx_packets_count() == packets
-            && items.rtx_bytes_count() == bytes,
-        Step::Tsns(last, next) => items.last_assigned_tsn() == Tsn(last)
-            && items.next_tsn() == Tsn(next),
         Step::QueueIsEmpty(want) => sender.queue.is_empty() == want,
         Step::NoneIsKept(want) => items.is_empty() == want,
-        Step::Readiness(is_strict, want) => items.get_handover_readiness(is_strict).0 == want,
         _ => false,
     }
 }
@@ -274,17 +221,9 @@ fn answers(sender: &Sender, step: Step) -> bool {
 // The calls that send and tell nothing.
 fn settles(sender: &mut Sender, step: Step) -> Result<bool, AllocError> {
     match step {
-        Step::Accept(id, size) => accept(sender, id, size, &SendOptions::default()),
-        Step::AcceptOnce(id, size, name) => accept(sender, id, size, &once(name)),
-        Step::AcceptShort(id, size, name) => accept(sender, id, size, &short(name)),
-        Step::Rto(millis) => {
-            sender.items.update_rto(Duration::from_millis(millis));
-            Ok(true)
-        }
-        Step::SetWindow(cwnd) => {
-            sender.items.set_cwnd(cwnd);
-            Ok(true)
-        }
+        Step::Accept(id, size) => put(sender, id, size, &SendOptions::default()),
+        Step::AcceptOnce(id, size, name) => put(sender, id, size, &once(name)),
+        Step::AcceptShort(id, size, name) => put(sender, id, size, &short(name, 100)),
         Step::BeginReset => {
             sender.items.begin_reset_streams()?;
             Ok(true)
@@ -302,9 +241,6 @@ fn goes(sender: &mut Sender, step: Step) -> Result<bool, AllocError> {
         Step::SendsNothing(millis) => Ok(next(sender, at(millis))? == (Tsn(0), 0)),
         Step::SendsFast(millis, room, tsn) => {
             Ok(next_fast(sender, at(millis), room)? == Tsn(tsn))
-        }
-        Step::SendsNothingFast(millis, room) => {
-            Ok(next_fast(sender, at(millis), room)? == Tsn(0))
         }
         Step::Sack(millis, tsn, first, last, want) => {
             let sack = sack(sender.alloc, tsn, first, last)?;
@@ -327,19 +263,7 @@ pub fn holds(sender: &mut Sender, step: Step) -> Result<bool, AllocError> {
             Ok(is_due == want)
         }
         Step::GivenUp(message, cause) => Ok(is_given_up(&mut sender.events, message, cause)),
-        Step::NoneGivenUp => Ok(sender.events.next_given_up().is_none()),
-        Step::Hears(want) => Ok(told_by(&sender.events.next_event()) == want),
+        Step::Hears(want) => Ok(heard(&mut sender.events) == want),
         _ => goes(sender, step),
     }
-}
-
-/// How many of the steps hold on a new sender, up to the first that doesn't.
-pub fn walk(alloc: Global, steps: &[Step]) -> Result<usize, AllocError> {
-    let mut sender = fresh(alloc);
-    for (count, step) in steps.iter().enumerate() {
-        if !holds(&mut sender, *step)? {
-            return Ok(count);
-        }
-    }
-    Ok(steps.len())
 }

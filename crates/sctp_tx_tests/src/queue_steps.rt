@@ -1,20 +1,19 @@
-//! Calls on a queue and what they are to answer, one after another.
+//! Calls on a send queue and what they are to answer, one after another.
 
-use sctp_send_queue::data_to_send::DataToSend;
-use sctp_send_queue::send_queue::SendQueue;
+use sctp_send_queue::{DataToSend, SendQueue};
 use sctp_serial::{LifecycleId, Message, OutgoingMessageId, PpId, SocketTime, StreamId};
 use sctp_state::{Events, GivenUpCause, SendOptions, SocketEvent};
 use std::alloc::{AllocError, Global};
 use std::time::Duration;
 
-/// An event of the queue: of a stream, or of a message with a lifecycle id.
+/// An event: of a stream, or of a message with a lifecycle id.
 #[derive(Clone, Copy, PartialEq, Eq)]
 pub enum Heard {
     Nothing,
     Low(u16),
-    TotalLow,
     FullySent(u64),
     Expired(u64),
+    MaybeExpired(u64),
     End(u64),
     Other,
 }
@@ -37,7 +36,6 @@ pub enum Step {
     /// The next fragment is a whole message: its stream, its place, SSN and MID, and its length.
     GivesWhole(u16, u32, u16, usize),
     GivesNone(u64),
-    Interleave,
     Priority(u16, u16),
     Threshold(u16, usize),
     Discard(u16, u32),
@@ -56,11 +54,7 @@ pub enum Step {
     Amount(u16, usize),
     Total(usize),
     IsEmpty(bool),
-    HasData(bool),
-    HasReady(bool),
     HasPriority(u16, u16),
-    HasThreshold(u16, usize),
-    Readiness(bool, u32),
 }
 
 pub fn at(millis: u64) -> SocketTime {
@@ -97,7 +91,7 @@ pub fn accept(
     options: &SendOptions,
 ) -> Result<bool, AllocError> {
     let payload = bytes(alloc, length)?;
-    if payload.is_empty() || payload.len() > 1000 || queue.total_buffered_amount() > 1000 {
+    if payload.is_empty() || payload.len() > 12_000 || queue.total_buffered_amount() > 12_000 {
         return Ok(false);
     }
     let message = Message::new(StreamId(stream), PpId(53), payload);
@@ -112,11 +106,10 @@ pub fn named(id: u64) -> SendOptions {
     }
 }
 
-fn short(id: u64) -> SendOptions {
+pub fn short(id: u64, millis: u64) -> SendOptions {
     SendOptions {
-        lifetime: Some(Duration::from_secs(1)),
-        lifecycle_id: LifecycleId::new(id),
-        ..SendOptions::default()
+        lifetime: Some(Duration::from_millis(millis)),
+        ..named(id)
     }
 }
 
@@ -144,7 +137,11 @@ fn gives(
         return Ok(false);
     }
     Ok(match queue.produce(at(millis), most, events)? {
-        Some(made) => is_fragment(&made, want),
+        Some(made) => {
+            let is_so = is_fragment(&made, want);
+            drop(made);
+            is_so
+        }
         None => false,
     })
 }
@@ -161,19 +158,26 @@ fn told_by(event: &Option<SocketEvent>) -> Heard {
     match event {
         None => Heard::Nothing,
         Some(SocketEvent::OnBufferedAmountLow(id)) => Heard::Low(id.0),
-        Some(SocketEvent::OnTotalBufferedAmountLow()) => Heard::TotalLow,
         Some(SocketEvent::OnLifecycleMessageFullySent(id)) => Heard::FullySent(id.value()),
         Some(SocketEvent::OnLifecycleMessageExpired(id)) => Heard::Expired(id.value()),
+        Some(SocketEvent::OnLifecycleMessageMaybeExpired(id)) => Heard::MaybeExpired(id.value()),
         Some(SocketEvent::OnLifecycleEnd(id)) => Heard::End(id.value()),
         Some(_) => Heard::Other,
     }
 }
 
-fn is_given_up(events: &mut Events, message: u32) -> bool {
+/// The next event.
+pub fn heard(events: &mut Events) -> Heard {
+    let event = events.next_event();
+    let told = told_by(&event);
+    drop(event);
+    told
+}
+
+/// Whether the next record is this message's, with this cause.
+pub fn is_given_up(events: &mut Events, message: u32, cause: GivenUpCause) -> bool {
     match events.next_given_up() {
-        Some(record) => {
-            record.number == OutgoingMessageId(message) && record.cause == GivenUpCause::Lifetime
-        }
+        Some(record) => record.number == OutgoingMessageId(message) && record.cause == cause,
         None => false,
     }
 }
@@ -184,11 +188,7 @@ fn answers(queue: &SendQueue, step: Step) -> bool {
         Step::Amount(id, bytes) => queue.buffered_amount(StreamId(id)) == bytes,
         Step::Total(bytes) => queue.total_buffered_amount() == bytes,
         Step::IsEmpty(want) => queue.is_empty() == want,
-        Step::HasData(want) => queue.has_data_to_send() == want,
-        Step::HasReady(want) => queue.has_streams_ready_to_be_reset() == want,
         Step::HasPriority(id, want) => queue.get_priority(StreamId(id)) == want,
-        Step::HasThreshold(id, want) => queue.buffered_amount_low_threshold(StreamId(id)) == want,
-        Step::Readiness(is_strict, want) => queue.get_handover_readiness(is_strict).0 == want,
         _ => false,
     }
 }
@@ -198,11 +198,7 @@ fn settles(alloc: Global, queue: &mut SendQueue, step: Step) -> Result<bool, All
     match step {
         Step::Accept(id, length) => accept(alloc, queue, id, length, &SendOptions::default()),
         Step::AcceptNamed(id, length, name) => accept(alloc, queue, id, length, &named(name)),
-        Step::AcceptShort(id, length, name) => accept(alloc, queue, id, length, &short(name)),
-        Step::Interleave => {
-            queue.enable_message_interleaving(true);
-            Ok(true)
-        }
+        Step::AcceptShort(id, length, name) => accept(alloc, queue, id, length, &short(name, 1000)),
         Step::Priority(id, priority) => {
             queue.set_priority(StreamId(id), priority)?;
             Ok(true)
@@ -249,20 +245,9 @@ pub fn holds(
             queue.prepare_reset_stream(StreamId(id), events)?;
             Ok(true)
         }
-        Step::Hears(want) => Ok(told_by(&events.next_event()) == want),
-        Step::GivenUp(message) => Ok(is_given_up(events, message)),
+        Step::Hears(want) => Ok(heard(events) == want),
+        Step::GivenUp(message) => Ok(is_given_up(events, message, GivenUpCause::Lifetime)),
         Step::NoneGivenUp => Ok(events.next_given_up().is_none()),
         _ => settles(alloc, queue, step),
     }
-}
-
-/// How many of the steps hold on this queue, up to the first that doesn't.
-pub fn walk(alloc: Global, queue: &mut SendQueue, steps: &[Step]) -> Result<usize, AllocError> {
-    let mut events = Events::new(alloc);
-    for (count, step) in steps.iter().enumerate() {
-        if !holds(alloc, queue, &mut events, *step)? {
-            return Ok(count);
-        }
-    }
-    Ok(steps.len())
 }

@@ -1,12 +1,12 @@
 //! Scenarios of a sender in which any allocation may be refused: each call answers as with ample memory, or that memory
 //! lacks. Then it leaves the windows and the timer as it should, and the sender goes on until nothing is left.
 
+use crate::queue_steps::{Heard, at};
 use crate::steps::Step::{
     Accept, AcceptOnce, AcceptShort, BeginReset, Flight, GivenUp, HandOver, Hears, IsDue,
     NoneIsKept, Point, QueueIsEmpty, Sack, Sends, SendsFast, SendsNothing, TimesOut,
 };
-use crate::steps::{Answer, Heard, Sender, Step, at, fresh, holds};
-use crate::{item, items, parts};
+use crate::steps::{Answer, Sender, Step, fresh, holds};
 use sctp_packet::{SackChunk, clean_sack};
 use sctp_serial::SocketTime;
 use sctp_state::GivenUpCause;
@@ -71,7 +71,7 @@ fn turn(alloc: Global, sender: &mut Sender, now: SocketTime) -> Result<(), Alloc
     sender
         .items
         .should_send_forward_tsn(now, &mut sender.events)?;
-    sender.items.create_forward_tsn()?;
+    drop(sender.items.create_forward_tsn()?);
     let events = &mut sender.events;
     sender
         .items
@@ -88,19 +88,25 @@ fn comes_to_rest(alloc: Global, sender: &mut Sender) -> bool {
 }
 
 // Whether these hold up to the first that lacks memory, if one does.
-fn hold(alloc: Global, steps: &[Step]) -> bool {
-    let mut sender = fresh(alloc);
+fn all_hold(alloc: Global, sender: &mut Sender, steps: &[Step]) -> bool {
     for step in steps {
-        let before = seen(&sender);
-        match holds(&mut sender, *step) {
+        let before = seen(sender);
+        match holds(sender, *step) {
             Ok(true) => {}
             Ok(false) => return false,
             Err(_) => {
-                return is_left(before, seen(&sender), *step) && comes_to_rest(alloc, &mut sender);
+                return is_left(before, seen(sender), *step) && comes_to_rest(alloc, sender);
             }
         }
     }
-    comes_to_rest(alloc, &mut sender)
+    comes_to_rest(alloc, sender)
+}
+
+fn hold(alloc: Global, steps: &[Step]) -> bool {
+    let mut sender = fresh(alloc);
+    let outcome = all_hold(alloc, &mut sender, steps);
+    drop(sender);
+    outcome
 }
 
 // Three packets are lost; one goes again, and another sender goes on.
@@ -145,8 +151,8 @@ fn gives_up(alloc: Global) -> bool {
     let steps = [
         AcceptShort(1, 20, 5),
         Sends(0, 10, 20),
-        Hears(Heard::Other),
-        Hears(Heard::Other),
+        Hears(Heard::Low(1)),
+        Hears(Heard::FullySent(5)),
         AcceptOnce(2, 1500, 4),
         Sends(0, 11, 1160),
         BeginReset,
@@ -173,7 +179,4 @@ fn tells_want_of_memory(rt: HostRuntime) {
     assert!(rt; sends_again(rt.alloc()));
     assert!(rt; recovers(rt.alloc()));
     assert!(rt; gives_up(rt.alloc()));
-    assert!(rt; items::do_or_lack(rt.alloc()));
-    assert!(rt; item::do_or_lack(rt.alloc()));
-    assert!(rt; parts::do_or_lack(rt.alloc()));
 }

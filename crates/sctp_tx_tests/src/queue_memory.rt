@@ -1,14 +1,14 @@
 //! Scenarios of the queue in which any allocation may be refused: the call that lacks memory leaves the queue so that, made
 //! once more, it and all that follow answer as with ample memory.
 
-use super::parts;
-use super::steps::Step::*;
-use super::steps::{Heard, Step, at, holds};
+use crate::queue_steps::Step::*;
+use crate::queue_steps::{Heard, Step, at, holds};
 use sctp_send_queue::SendQueue;
 use sctp_serial::SocketTime;
 use sctp_state::api::handover::HandoverSocketState;
 use sctp_state::{Events, Options, SocketHandoverState};
 use std::alloc::Global;
+use std::mem;
 
 // Whether a step holds, where memory lacks at the second attempt.
 fn holds_at_last(alloc: Global, queue: &mut SendQueue, events: &mut Events, step: Step) -> bool {
@@ -18,19 +18,27 @@ fn holds_at_last(alloc: Global, queue: &mut SendQueue, events: &mut Events, step
     }
 }
 
-fn all_hold(alloc: Global, queue: &mut SendQueue, steps: &[Step]) -> bool {
-    let mut events = Events::new(alloc);
+fn each_holds(alloc: Global, queue: &mut SendQueue, events: &mut Events, steps: &[Step]) -> bool {
     for step in steps {
-        if !holds_at_last(alloc, queue, &mut events, *step) {
+        if !holds_at_last(alloc, queue, events, *step) {
             return false;
         }
     }
     true
 }
 
+fn all_hold(alloc: Global, queue: &mut SendQueue, steps: &[Step]) -> bool {
+    let mut events = Events::new(alloc);
+    let outcome = each_holds(alloc, queue, &mut events, steps);
+    drop(events);
+    outcome
+}
+
 fn hold(alloc: Global, steps: &[Step]) -> bool {
     let mut queue = SendQueue::new(alloc, &Options::default());
-    all_hold(alloc, &mut queue, steps)
+    let outcome = all_hold(alloc, &mut queue, steps);
+    drop(queue);
+    outcome
 }
 
 // Priorities, thresholds, and messages of two fragments, one of them expired and one discarded.
@@ -96,53 +104,62 @@ fn resets(alloc: Global) -> bool {
     hold(alloc, &steps)
 }
 
-// The record of a socket without its queue.
-fn record(alloc: Global) -> SocketHandoverState {
-    let mut state = SocketHandoverState::empty(alloc);
+// Another queue takes up the record of a socket without anything else.
+fn takes_up(
+    queue: &SendQueue,
+    other: &mut SendQueue,
+    now: SocketTime,
+    state: &mut SocketHandoverState,
+) -> bool {
     state.socket_state = HandoverSocketState::Connected;
     state.my_verification_tag = 1;
     state.peer_verification_tag = 1;
     state.tx.cwnd = 1;
     state.tx.next_tsn = 1;
-    state
-}
-
-fn writes(queue: &SendQueue, state: &mut SocketHandoverState) -> bool {
-    queue.add_to_handover_state(at(0), state).is_ok()
-        || queue.add_to_handover_state(at(0), state).is_ok()
-}
-
-fn takes_up(queue: &mut SendQueue, now: SocketTime, state: &SocketHandoverState) -> bool {
-    if !state.is_valid() {
+    let is_written = queue.add_to_handover_state(now, state).is_ok()
+        || queue.add_to_handover_state(now, state).is_ok();
+    if !is_written || !state.is_valid() {
         return false;
     }
     if let HandoverSocketState::Closed = state.socket_state {
         return false;
     }
-    queue.restore_from_state(now, state).is_ok() || queue.restore_from_state(now, state).is_ok()
+    other.restore_from_state(now, state).is_ok() || other.restore_from_state(now, state).is_ok()
 }
+
+fn hands_over(alloc: Global, queue: &mut SendQueue) -> bool {
+    let mut state = SocketHandoverState::empty(alloc);
+    let mut other = SendQueue::new(alloc, &Options::default());
+    let outcome = takes_up(queue, &mut other, at(0), &mut state);
+    drop(state);
+    drop(mem::replace(queue, other));
+    outcome
+}
+
+const BEFORE: [Step; 3] = [
+    Accept(7, 6),
+    Gives(0, 4, (7, 0, 0, 0, 0, 4)),
+    AcceptShort(3, 2, 5),
+];
+
+const AFTER: [Step; 7] = [
+    Total(4),
+    Gives(0, 9, (7, 0, 0, 1, 4, 2)),
+    Gives(1000, 9, (3, 1, 0, 0, 0, 2)),
+    Hears(Heard::Low(7)),
+    Hears(Heard::Low(3)),
+    Hears(Heard::FullySent(5)),
+    IsEmpty(true),
+];
 
 // Another queue goes on with a message that is partly sent and one that waits.
 fn goes_on(alloc: Global) -> bool {
     let mut queue = SendQueue::new(alloc, &Options::default());
-    let before = [
-        Accept(7, 6),
-        Gives(0, 4, (7, 0, 0, 0, 0, 4)),
-        AcceptShort(3, 2, 5),
-    ];
-    let mut state = record(alloc);
-    let is_written = all_hold(alloc, &mut queue, &before) && writes(&queue, &mut state);
-    let mut other = SendQueue::new(alloc, &Options::default());
-    let after = [
-        Total(4),
-        Gives(0, 9, (7, 0, 0, 1, 4, 2)),
-        Gives(1000, 9, (3, 1, 0, 0, 0, 2)),
-        Hears(Heard::Low(7)),
-        Hears(Heard::Low(3)),
-        Hears(Heard::FullySent(5)),
-        IsEmpty(true),
-    ];
-    is_written && takes_up(&mut other, at(0), &state) && all_hold(alloc, &mut other, &after)
+    let outcome = all_hold(alloc, &mut queue, &BEFORE)
+        && hands_over(alloc, &mut queue)
+        && all_hold(alloc, &mut queue, &AFTER);
+    drop(queue);
+    outcome
 }
 
 // The test to run with a refused allocation.
@@ -151,5 +168,4 @@ fn tells_want_of_memory(rt: HostRuntime) {
     assert!(rt; sends(rt.alloc()));
     assert!(rt; resets(rt.alloc()));
     assert!(rt; goes_on(rt.alloc()));
-    assert!(rt; parts::do_or_lack(rt.alloc()));
 }
