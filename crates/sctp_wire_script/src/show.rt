@@ -1,0 +1,28 @@
+//! Bytes, tests and faults as they are printed.
+
+use sctp_wire::ChunkParseError;
+use std::{fmt, io};
+
+/// Bytes as hex digits, `-` where there are none.
+#[derive(Clone, Copy)]
+pub struct Hex<'a>(pub &'a [u8]);
+
+impl fmt::Display for Hex<'_> {
+    fn fmt<W: fmt::Write>(&self, f: &mut fmt::Formatter<W>) -> fmt::Result {
+        if self.0.is_empty() {
+            return f.write_str("-");
+        }
+        for byte in self.0 {
+            write!(f, "{byte:02x}")?;
+        }
+        Ok(())
+    }
+}
+
+pub fn yes_or_no(holds: bool) -> &'static str {
+    if holds { "yes" } else { "no" }
+}
+
+pub fn refuse(rt: &HostRuntime, fault: ChunkParseError) -> io::Result<()> {
+    println!(rt; "refused: {fault}")
+}
