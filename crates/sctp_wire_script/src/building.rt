@@ -1,43 +1,51 @@
 //! A builder of packets from port 5000 to port 5001 with the tag 321.
 
-use crate::show::{Hex, refuse, yes_or_no};
-use crate::{chunks, fields};
+use crate::chunks;
+use crate::show::{Hex, refuse};
 use sctp_packet::{Chunk, Data, DataChunk, SctpPacketBuilder};
 use sctp_serial::Tsn;
 use std::alloc::{AllocError, Global};
-use std::io;
+use std::{io, mem};
 
 pub fn empty(alloc: Global, limit: usize) -> SctpPacketBuilder {
     SctpPacketBuilder::new(alloc, 321, 5000, 5001, limit)
 }
 
-/// Whether the line was a command.
+/// Puts an empty one in the place of what was.
+pub fn begin(builder: &mut SctpPacketBuilder, alloc: Global, limit: usize) {
+    drop(mem::replace(builder, empty(alloc, limit)));
+}
+
+/// Whether the line was a command; `number` is 0 where it has none.
 pub fn answer(
     rt: &HostRuntime,
     builder: &mut SctpPacketBuilder,
     name: &str,
-    numbers: &[u32],
+    number: u32,
 ) -> io::Result<bool> {
-    match (name, numbers) {
-        ("builder", [limit]) => begin(rt, builder, *limit as usize)?,
-        ("unsummed", []) => println!(rt; "{}", Hex(builder.unsummed()))?,
-        ("no-checksum", []) => builder.write_checksum(false),
-        ("build", [word]) => build(rt, builder, *word)?,
-        ("data", [size]) => data(rt, builder, *size as usize)?,
-        ("fragment", []) => fragment(rt)?,
+    match name {
+        "builder" => limit(rt, builder, number as usize)?,
+        "unsummed" => println!(rt; "{}", Hex(builder.unsummed()))?,
+        "no-checksum" => builder.write_checksum(false),
+        "build" => build(rt, builder, number)?,
+        "data" => data(rt, builder, number as usize)?,
+        "fragment" => fragment(rt)?,
         _ => return Ok(false),
     }
     Ok(true)
 }
 
-fn begin(rt: &HostRuntime, builder: &mut SctpPacketBuilder, limit: usize) -> io::Result<()> {
-    *builder = empty(rt.alloc(), limit);
+fn limit(rt: &HostRuntime, builder: &mut SctpPacketBuilder, limit: usize) -> io::Result<()> {
+    begin(builder, rt.alloc(), limit);
     room(rt, builder)
 }
 
 fn room(rt: &HostRuntime, builder: &SctpPacketBuilder) -> io::Result<()> {
-    let is_empty = yes_or_no(builder.is_empty());
-    println!(rt; "empty: {is_empty}, room {}", builder.bytes_remaining())
+    println!(rt;
+        "empty: {}, room {}",
+        builder.is_empty(),
+        builder.bytes_remaining()
+    )
 }
 
 /// Adds the chunk where it fits.
@@ -71,7 +79,7 @@ fn data(rt: &HostRuntime, builder: &SctpPacketBuilder, size: usize) -> io::Resul
     let chunk = data_of(rt.alloc(), size)?;
     let fits = builder.fits(&chunk);
     drop(chunk);
-    println!(rt; "{}", yes_or_no(fits))
+    println!(rt; "{fits}")
 }
 
 fn data_of(alloc: Global, size: usize) -> Result<Chunk, AllocError> {
@@ -86,5 +94,7 @@ fn data_of(alloc: Global, size: usize) -> Result<Chunk, AllocError> {
 }
 
 fn fragment(rt: &HostRuntime) -> io::Result<()> {
-    fields::fragment(rt, &Data::empty(rt.alloc()))
+    let data = Data::empty(rt.alloc());
+    println!(rt; "{data:?}")?;
+    chunks::order(rt, data.stream_key)
 }

@@ -1,17 +1,19 @@
 //! Items, parameters and causes.
 
-use crate::show::{Hex, refuse, yes_or_no};
+use crate::show::{Hex, refuse};
 use sctp_wire::{
     ChunkParseError, Parameter, RawItem, RawParameter, SerializableTlv, all_encodable, ends_here,
     error_cause_from_bytes, parameters_from_bytes, parameters_serialize_to,
     parameters_serialized_size, push_u64, text_from_bytes, u64_at,
 };
+use std::alloc::{AllocError, Global};
 use std::fmt::Display;
 use std::io;
 
+/// Whether the line was a command.
 pub fn answer(rt: &HostRuntime, name: &str, bytes: &[u8]) -> io::Result<bool> {
     match name {
-        "item" => item(rt, bytes)?,
+        "item" => println!(rt; "{:?}", RawItem::from_bytes(bytes))?,
         "parameter" => first_parameter(rt, bytes)?,
         "parameters" => tell_read(rt, parameters_from_bytes(rt.alloc(), bytes), bytes)?,
         "causes" => tell_read(rt, error_cause_from_bytes(rt.alloc(), bytes), bytes)?,
@@ -22,23 +24,10 @@ pub fn answer(rt: &HostRuntime, name: &str, bytes: &[u8]) -> io::Result<bool> {
     Ok(true)
 }
 
-fn item(rt: &HostRuntime, bytes: &[u8]) -> io::Result<()> {
-    match RawItem::from_bytes(bytes) {
-        Ok((item, rest)) => {
-            let (value, rest) = (Hex(item.value), Hex(rest));
-            println!(rt;
-                "first {}, second {}, value {value}, then {rest}",
-                item.first, item.second
-            )
-        }
-        Err(fault) => refuse(rt, fault),
-    }
-}
-
 fn first_parameter(rt: &HostRuntime, bytes: &[u8]) -> io::Result<()> {
     match RawParameter::from_bytes(bytes) {
         Ok((raw, rest)) => {
-            println!(rt; "type {}, then {}", raw.typ, Hex(rest))?;
+            println!(rt; "type {}, then {rest:?}", raw.typ)?;
             parameter(rt, raw)
         }
         Err(fault) => refuse(rt, fault),
@@ -59,13 +48,22 @@ fn parameter(rt: &HostRuntime, raw: RawParameter<'_>) -> io::Result<()> {
 /// What it says, its sizes, and the bytes that it is written as.
 pub fn tell<T: SerializableTlv + Display>(rt: &HostRuntime, item: &T) -> io::Result<()> {
     println!(rt; "{item}")?;
-    if !item.encodable() {
-        return println!(rt; "cannot be written");
+    println!(rt;
+        "value {} of {} bytes",
+        item.value_size(),
+        item.serialized_size()
+    )?;
+    let written = written(rt.alloc(), item)?;
+    println!(rt; "{}", Hex(&written))
+}
+
+/// No bytes where it cannot be written.
+fn written<T: SerializableTlv>(alloc: Global, item: &T) -> Result<Vec<u8>, AllocError> {
+    let mut output = Vec::new(alloc);
+    if item.encodable() {
+        item.serialize_to(&mut output)?;
     }
-    let mut written = Vec::new(rt.alloc());
-    item.serialize_to(&mut written)?;
-    let (value, whole) = (item.value_size(), item.serialized_size());
-    println!(rt; "value {value} of {whole} bytes, written {}", Hex(&written))
+    Ok(output)
 }
 
 /// What each of them says, and whether they are written as they came.
@@ -92,16 +90,21 @@ fn tell_all<T: SerializableTlv + Display>(
     for item in items {
         println!(rt; "{item}")?;
     }
-    if !all_encodable(items) {
-        return println!(rt; "cannot be written");
-    }
-    let mut written = Vec::new(rt.alloc());
-    parameters_serialize_to(items, &mut written)?;
-    let alike = yes_or_no(written.as_slice() == bytes);
+    let written = all_written(rt.alloc(), items)?;
+    let size = parameters_serialized_size(items);
     println!(rt;
-        "{} bytes, written alike: {alike}",
-        parameters_serialized_size(items)
+        "{size} bytes, written alike: {}",
+        written.as_slice() == bytes
     )
+}
+
+/// No bytes where one of them cannot be written.
+fn all_written<T: SerializableTlv>(alloc: Global, items: &[T]) -> Result<Vec<u8>, AllocError> {
+    let mut output = Vec::new(alloc);
+    if all_encodable(items) {
+        parameters_serialize_to(items, &mut output)?;
+    }
+    Ok(output)
 }
 
 fn text(rt: &HostRuntime, bytes: &[u8]) -> io::Result<()> {
@@ -113,22 +116,11 @@ fn text(rt: &HostRuntime, bytes: &[u8]) -> io::Result<()> {
 fn word(rt: &HostRuntime, bytes: &[u8]) -> io::Result<()> {
     match u64_at(bytes) {
         Ok((word, rest)) => {
-            ending(rt, rest)?;
-            written_word(rt, word)
+            println!(rt; "{word}, end: {:?}", ends_here(rest))?;
+            let mut written = Vec::new(rt.alloc());
+            push_u64(&mut written, word)?;
+            println!(rt; "{}", Hex(&written))
         }
         Err(fault) => refuse(rt, fault),
     }
-}
-
-fn ending(rt: &HostRuntime, rest: &[u8]) -> io::Result<()> {
-    match ends_here(rest) {
-        Ok(()) => println!(rt; "ends here"),
-        Err(fault) => println!(rt; "more: {fault}"),
-    }
-}
-
-fn written_word(rt: &HostRuntime, word: u64) -> io::Result<()> {
-    let mut written = Vec::new(rt.alloc());
-    push_u64(&mut written, word)?;
-    println!(rt; "{word}, written {}", Hex(&written))
 }

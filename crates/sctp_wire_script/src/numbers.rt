@@ -1,7 +1,9 @@
 //! Commands over numbers: headers, policies, results and limits. A field takes a number's low bits.
 
+ghost use Rattle.std.specs.Prelude.{◌<◌, ◌^◌};
+
 use crate::packets;
-use crate::show::{Hex, refuse, yes_or_no};
+use crate::show::Hex;
 use sctp_packet::write_chunk_header;
 use sctp_serial::Tsn;
 use sctp_wire::{
@@ -12,15 +14,6 @@ use sctp_wire::{
 };
 use std::alloc::{AllocError, Global};
 use std::io;
-
-/// Whether the line was a command.
-pub fn answer(rt: &HostRuntime, name: &str, numbers: &[u32]) -> io::Result<bool> {
-    Ok(
-        answer_policies(rt, name, numbers)?
-            || answer_headers(rt, name, numbers)?
-            || answer_parameters(rt, name, numbers)?,
-    )
-}
 
 /// Numbers of 32 bits, `None` where a word is none.
 pub fn numbers_of(alloc: Global, text: &str) -> Result<Option<Vec<u32>>, AllocError> {
@@ -34,133 +27,85 @@ pub fn numbers_of(alloc: Global, text: &str) -> Result<Option<Vec<u32>>, AllocEr
     Ok(Some(numbers))
 }
 
-fn byte(number: u32) -> u8 {
-    (number & 0xff) as u8
+/// The number at this place, 0 where there is none.
+pub fn number(numbers: &[u32], place: usize) -> u32 {
+    numbers.get(place).copied().unwrap_or(0)
+}
+
+/// Whether the line was a command.
+pub fn answer(rt: &HostRuntime, name: &str, numbers: &[u32]) -> io::Result<bool> {
+    let (first, second) = (number(numbers, 0), number(numbers, 1));
+    match name {
+        "default" => println!(rt; "{}", Policy::default().accepts(first, second))?,
+        "disabled" => println!(rt; "{}", packets::unchecked().accepts(first, second))?,
+        "dtls" => println!(rt; "{}", dtls().accepts(first, second))?,
+        "header" => headers(rt, first, second)?,
+        "misread" => misread(rt, half(first))?,
+        "result" => println!(rt; "{:?}", ReconfigurationResponseResult::try_from(first))?,
+        "response" => response(rt, first, second)?,
+        "cookie" => cookie(rt, first as usize)?,
+        "zeros" => zeros(rt, first as usize)?,
+        _ => return Ok(false),
+    }
+    Ok(true)
+}
+
+fn dtls() -> Policy {
+    Policy {
+        disable_checksum_verification: false,
+        zero_checksum_alternate_error_detection_method: ZERO_CHECKSUM_ALTERNATE_ERROR_DETECTION_METHOD_LOWER_LAYER_DTLS,
+    }
 }
 
 fn half(number: u32) -> u16 {
     (number & 0xffff) as u16
 }
 
-fn answer_policies(rt: &HostRuntime, name: &str, numbers: &[u32]) -> io::Result<bool> {
-    let policy = match name {
-        "default" => Policy::default(),
-        "disabled" => packets::unchecked(),
-        "dtls" => Policy {
-            disable_checksum_verification: false,
-            zero_checksum_alternate_error_detection_method: ZERO_CHECKSUM_ALTERNATE_ERROR_DETECTION_METHOD_LOWER_LAYER_DTLS,
-        },
-        _ => return Ok(false),
-    };
-    let [word, field] = numbers else {
-        return Ok(false);
-    };
-    println!(rt; "{}", yes_or_no(policy.accepts(*word, *field)))?;
-    Ok(true)
-}
-
-fn answer_headers(rt: &HostRuntime, name: &str, numbers: &[u32]) -> io::Result<bool> {
+/// The headers of a parameter, an item and a chunk of this type with a value of so many bytes.
+fn headers(rt: &HostRuntime, typ: u32, size: u32) -> io::Result<()> {
     let mut output = Vec::new(rt.alloc());
-    match (name, numbers) {
-        ("parameter-header", [typ, size]) => parameter_header(&mut output, half(*typ), *size)?,
-        ("item-header", [first, second, size]) => {
-            item_header(&mut output, [byte(*first), byte(*second)], *size)?
-        }
-        ("chunk-header", [typ, flags, size]) => {
-            chunk_header(&mut output, byte(*typ), byte(*flags), *size)?
-        }
-        _ => return Ok(false),
-    }
-    println!(rt; "{}", Hex(&output))?;
-    Ok(true)
+    write_headers(&mut output, half(typ), (size & 0x7fff) as usize)?;
+    println!(rt; "{}", Hex(&output))
 }
 
-fn parameter_header(output: &mut Vec<u8>, typ: u16, size: u32) -> Result<(), AllocError> {
-    if size < 65532 {
-        write_parameter_header(typ, size as usize, output)?;
-    }
-    Ok(())
+fn write_headers(output: &mut Vec<u8>, typ: u16, size: usize) -> Result<(), AllocError>
+    requires { size < 2 ^ 15 }
+{
+    let [first, second] = typ.to_be_bytes();
+    write_parameter_header(typ, size, output)?;
+    write_item_header([first, second], size, output)?;
+    write_chunk_header(first, second, size, output)
 }
 
-fn item_header(output: &mut Vec<u8>, kind: [u8; 2], size: u32) -> Result<(), AllocError> {
-    if size < 65532 {
-        write_item_header(kind, size as usize, output)?;
-    }
-    Ok(())
-}
-
-fn chunk_header(output: &mut Vec<u8>, typ: u8, flags: u8, size: u32) -> Result<(), AllocError> {
-    if size < 65532 {
-        write_chunk_header(typ, flags, size as usize, output)?;
-    }
-    Ok(())
-}
-
-fn answer_parameters(rt: &HostRuntime, name: &str, numbers: &[u32]) -> io::Result<bool> {
-    match (name, numbers) {
-        ("misread", [typ]) => misread(rt, half(*typ))?,
-        ("result", [code]) => result(rt, *code)?,
-        ("response", [code]) => response(rt, *code, None, None)?,
-        ("response", [code, sender]) => response(rt, *code, Some(Tsn(*sender)), None)?,
-        ("cookie", [size]) => cookie(rt, *size as usize)?,
-        ("zeros", [size]) => zeros(rt, *size as usize)?,
-        _ => return Ok(false),
-    }
-    Ok(true)
-}
-
-/// An empty parameter of this type, read as three of other types.
+/// The faults of readers of three other types on an empty parameter of this type.
 fn misread(rt: &HostRuntime, typ: u16) -> io::Result<()> {
     let raw = RawParameter { typ, value: &[] };
-    if let Err(fault) = HeartbeatInfoParameter::try_from(rt.alloc(), raw) {
-        println!(rt; "HEARTBEAT INFO: {fault}")?;
-    }
-    if let Err(fault) = ReconfigurationResponseParameter::try_from(rt.alloc(), raw) {
-        println!(rt; "RESPONSE: {fault}")?;
-    }
-    if let Err(fault) = NoUserDataErrorCause::try_from(rt.alloc(), raw) {
-        println!(rt; "NO USER DATA: {fault}")?;
-    }
-    Ok(())
+    let heartbeat = HeartbeatInfoParameter::try_from(rt.alloc(), raw).err();
+    let response = ReconfigurationResponseParameter::try_from(rt.alloc(), raw).err();
+    let no_user_data = NoUserDataErrorCause::try_from(rt.alloc(), raw).err();
+    println!(rt; "{heartbeat:?}, {response:?}, {no_user_data:?}")
 }
 
-fn result(rt: &HostRuntime, code: u32) -> io::Result<()> {
-    match ReconfigurationResponseResult::try_from(code) {
-        Ok(result) => println!(rt; "{result:?}"),
-        Err(fault) => refuse(rt, fault),
-    }
-}
-
-/// Whether a response with one of its TSNs, or none, can be written.
-fn response(
-    rt: &HostRuntime,
-    code: u32,
-    sender_next_tsn: Option<Tsn>,
-    receiver_next_tsn: Option<Tsn>,
-) -> io::Result<()> {
-    match ReconfigurationResponseResult::try_from(code) {
-        Ok(result) => {
-            let response = ReconfigurationResponseParameter {
-                response_seq_nbr: 10,
-                result,
-                sender_next_tsn,
-                receiver_next_tsn,
-            };
-            println!(rt; "{}", yes_or_no(response.encodable()))
-        }
-        Err(fault) => refuse(rt, fault),
-    }
+/// Whether a response can be written that has neither of its TSNs, or the sender's alone, where it isn't 0.
+fn response(rt: &HostRuntime, seq: u32, tsn: u32) -> io::Result<()> {
+    let response = ReconfigurationResponseParameter {
+        response_seq_nbr: seq,
+        result: ReconfigurationResponseResult::SuccessPerformed,
+        sender_next_tsn: if tsn == 0 { None } else { Some(Tsn(tsn)) },
+        receiver_next_tsn: None,
+    };
+    println!(rt; "{}", response.encodable())
 }
 
 /// Whether a STATE COOKIE of so many zeros can be written.
 fn cookie(rt: &HostRuntime, size: usize) -> io::Result<()> {
     let cookie = vec![in rt.alloc(); 0u8; size]?;
     let parameter = StateCookieParameter { cookie };
-    println!(rt; "{}", yes_or_no(parameter.encodable()))
+    println!(rt; "{}", parameter.encodable())
 }
 
 /// A packet of zeros.
 fn zeros(rt: &HostRuntime, size: usize) -> io::Result<()> {
     let bytes = vec![in rt.alloc(); 0u8; size]?;
-    packets::read(rt, &bytes)
+    packets::read(rt, &bytes, 0, &packets::unchecked())
 }

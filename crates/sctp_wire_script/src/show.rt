@@ -1,6 +1,5 @@
-//! Bytes, tests and faults as they are printed.
+//! Bytes and faults as they are printed.
 
-use sctp_wire::ChunkParseError;
 use std::{fmt, io};
 
 /// Bytes as hex digits, `-` where there are none.
@@ -19,10 +18,6 @@ impl fmt::Display for Hex<'_> {
     }
 }
 
-pub fn yes_or_no(holds: bool) -> &'static str {
-    if holds { "yes" } else { "no" }
-}
-
-pub fn refuse(rt: &HostRuntime, fault: ChunkParseError) -> io::Result<()> {
+pub fn refuse<F: fmt::Display + Drop>(rt: &HostRuntime, fault: F) -> io::Result<()> {
     println!(rt; "refused: {fault}")
 }
