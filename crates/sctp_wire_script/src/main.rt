@@ -1,0 +1,131 @@
+//! The wire formats, row by row: reads items, chunks and packets, writes them again, and says what it finds.
+//!
+//! Standard input has a command a line, and each is answered on standard output; a line that is no command is answered by `?`
+//! and itself. A line that begins with `#` says what the rows below it show; it is printed too, and begins a new builder.
+//! HEX is bytes as hex digits, other words are decimal numbers of 32 bits.
+//!
+//! | command | answers |
+//! |---|---|
+//! | `item HEX`, `raw HEX`, `item-chunk HEX` | the item at the front: as an item, as a chunk, as a chunk that is made of an item |
+//! | `parameter HEX`, `chunk HEX` | what the first one says, its sizes, and the bytes that it is written as |
+//! | `parameters HEX`, `causes HEX`, `chunks HEX` | what each says, and whether they are written alike |
+//! | `fields HEX` | all fields of a chunk |
+//! | `packet HEX`, `sum-0 HEX`, `sum-376 HEX` | what its chunks say, and whether it is written alike: whatever its checksum, and by the default policy where its bytes have the checksum 0 or 376 |
+//! | `text HEX`, `word HEX` | a cause's text; a number of eight bytes |
+//! | `default WORD FIELD`, `dtls WORD FIELD`, `disabled WORD FIELD` | whether the policy lets the checksum in the field through, where the bytes have the word |
+//! | `header TYPE SIZE` | the headers of a parameter, an item and a chunk |
+//! | `misread TYPE`, `result N` | the faults of readers of other types; what became of a request |
+//! | `response N [TSN]`, `cookie SIZE` | whether the parameter can be written |
+//! | `zeros SIZE` | the fault of a packet of zeros |
+//! | `builder LIMIT`, `add HEX`, `unsummed`, `no-checksum`, `build WORD` | a builder up to its limit |
+//! | `data SIZE`, `fragment` | whether a DATA chunk of so many bytes fits into a packet; an empty fragment |
+//! | `clean START END ..`, `validate START END ..` | the SACK of these blocks cleaned; whether it is valid |
+#![tactic(auto)]
+
+mod building;
+mod chunks;
+mod items;
+mod numbers;
+mod packets;
+mod sacks;
+mod show;
+
+use numbers::number;
+use sctp_packet::SctpPacketBuilder;
+use sctp_wire::Policy;
+use std::io;
+use std::io::Read;
+
+/// The limit of a builder where none is named.
+const LIMIT: usize = 1200;
+
+/// Whether the line was a command over bytes.
+fn answer_bytes(
+    rt: &HostRuntime,
+    builder: &mut SctpPacketBuilder,
+    name: &str,
+    bytes: &[u8],
+) -> io::Result<bool> {
+    match name {
+        "packet" => packets::read(rt, bytes, 0, &packets::unchecked())?,
+        "sum-0" => packets::read(rt, bytes, 0, &Policy::default())?,
+        "sum-376" => packets::read(rt, bytes, 376, &Policy::default())?,
+        "add" => building::add(rt, builder, bytes)?,
+        _ => return Ok(items::answer(rt, name, bytes)? || chunks::answer(rt, name, bytes)?),
+    }
+    Ok(true)
+}
+
+fn answer_hex(
+    rt: &HostRuntime,
+    builder: &mut SctpPacketBuilder,
+    name: &str,
+    digits: &str,
+) -> io::Result<bool> {
+    match hex::decode(rt.alloc(), digits) {
+        Ok(bytes) => answer_bytes(rt, builder, name, &bytes),
+        Err(_) => Ok(false),
+    }
+}
+
+/// Whether the line was a command over numbers.
+fn answer_numbers(
+    rt: &HostRuntime,
+    builder: &mut SctpPacketBuilder,
+    name: &str,
+    numbers: &[u32],
+) -> io::Result<bool> {
+    Ok(
+        building::answer(rt, builder, name, number(numbers, 0))?
+            || sacks::answer(rt, name, numbers)?
+            || numbers::answer(rt, name, numbers)?,
+    )
+}
+
+fn answer_words(
+    rt: &HostRuntime,
+    builder: &mut SctpPacketBuilder,
+    name: &str,
+    words: &str,
+) -> io::Result<bool> {
+    match numbers::numbers_of(rt.alloc(), words)? {
+        Some(numbers) => answer_numbers(rt, builder, name, &numbers),
+        None => Ok(false),
+    }
+}
+
+fn answer(rt: &HostRuntime, builder: &mut SctpPacketBuilder, line: &str) -> io::Result<bool> {
+    let (name, rest) = line.split_once(' ').unwrap_or((line, ""));
+    Ok(answer_hex(rt, builder, name, rest)? || answer_words(rt, builder, name, rest)?)
+}
+
+fn answer_line(rt: &HostRuntime, builder: &mut SctpPacketBuilder, line: &str) -> io::Result<()> {
+    if line.starts_with('#') {
+        building::begin(builder, rt.alloc(), LIMIT);
+        println!(rt; "{line}")
+    } else if answer(rt, builder, line)? {
+        Ok(())
+    } else {
+        println!(rt; "? {line}")
+    }
+}
+
+fn answer_all(
+    rt: &HostRuntime,
+    builder: &mut SctpPacketBuilder,
+    input: &mut String,
+) -> io::Result<()> {
+    rt.reader().read_to_string(input)?;
+    for line in input.lines() {
+        answer_line(rt, builder, line)?;
+    }
+    Ok(())
+}
+
+fn main(rt: HostRuntime) -> io::Result<()> {
+    let mut builder = building::empty(rt.alloc(), LIMIT);
+    let mut input = String::new(rt.alloc());
+    let outcome = answer_all(&rt, &mut builder, &mut input);
+    drop(builder);
+    outcome
+}

@@ -1,0 +1,87 @@
+//! Packets, read and built again.
+
+use crate::show::refuse;
+use sctp_packet::{Chunk, SctpPacket, SctpPacketBuilder, chunk_fits};
+use sctp_wire::Policy;
+use std::alloc::AllocError;
+use std::io;
+
+/// The greatest packet.
+const LIMIT: usize = 65535;
+
+/// Lets every checksum through: CRC32c is the caller's.
+pub fn unchecked() -> Policy {
+    Policy {
+        disable_checksum_verification: true,
+        ..Policy::default()
+    }
+}
+
+/// A packet whose bytes have the checksum `word`.
+pub fn read(rt: &HostRuntime, bytes: &[u8], word: u32, policy: &Policy) -> io::Result<()> {
+    match SctpPacket::from_bytes(rt.alloc(), bytes, word, policy) {
+        Ok(packet) => {
+            let outcome = tell(rt, &packet, bytes);
+            drop(packet);
+            outcome
+        }
+        Err(fault) => refuse(rt, fault),
+    }
+}
+
+fn tell(rt: &HostRuntime, packet: &SctpPacket, bytes: &[u8]) -> io::Result<()> {
+    println!(rt; "{} chunks", packet.chunks.len())?;
+    for chunk in &packet.chunks {
+        println!(rt; "{chunk}")?;
+    }
+    let mut builder = builder_of(rt, packet);
+    let outcome = rebuild(rt, packet, &mut builder, bytes);
+    drop(builder);
+    outcome
+}
+
+fn builder_of(rt: &HostRuntime, packet: &SctpPacket) -> SctpPacketBuilder {
+    let header = packet.common_header;
+    SctpPacketBuilder::new(
+        rt.alloc(),
+        header.verification_tag,
+        header.source_port,
+        header.destination_port,
+        LIMIT,
+    )
+}
+
+/// The packet of the same chunks.
+fn rebuild(
+    rt: &HostRuntime,
+    packet: &SctpPacket,
+    builder: &mut SctpPacketBuilder,
+    bytes: &[u8],
+) -> io::Result<()> {
+    add_all(builder, &packet.chunks)?;
+    let room = builder.bytes_remaining();
+    let again = builder.build(packet.common_header.checksum);
+    println!(rt;
+        "written alike: {}, room {room}",
+        is_padded_as(bytes, &again)
+    )
+}
+
+/// Those that fit.
+fn add_all(builder: &mut SctpPacketBuilder, chunks: &[Chunk]) -> Result<(), AllocError> {
+    for chunk in chunks {
+        if builder.fits(chunk) {
+            chunk_fits(chunk);
+            builder.add(chunk)?;
+        }
+    }
+    Ok(())
+}
+
+/// Whether it is the bytes, but for the zeros that bring it to a multiple of four.
+fn is_padded_as(bytes: &[u8], again: &[u8]) -> bool {
+    match again.strip_prefix(bytes) {
+        Some(padding) => again.len() % 4 == 0 && matches!(padding, [] | [0] | [0, 0] | [0, 0, 0]),
+        None => false,
+    }
+}
