@@ -1,10 +1,6 @@
 //! Packets that are put together, and control blocks with default options.
 
 mod blocks;
-mod calls;
-mod conversations;
-mod handover;
-mod link;
 mod memory;
 mod opening;
 
@@ -19,7 +15,7 @@ use sctp_wire::Checksum;
 use std::alloc::{AllocError, Global};
 
 /// The word 7, whatever the bytes are.
-#[derive(Clone, Copy)]
+#[derive(Clone, Copy, Drop)]
 struct Seven;
 
 impl Checksum for Seven {
@@ -134,14 +130,24 @@ fn addresses(alloc: Global, tcb: &TransmissionControlBlock) -> Result<bool, Allo
 /// TSNs begin at the first ones.
 fn begins(alloc: Global) -> bool {
     let tcb = block(alloc, Capabilities::default());
-    addresses(alloc, &tcb) == Ok(true)
+    let begins = addresses(alloc, &tcb) == Ok(true)
         && tcb.retransmission_queue.next_tsn() == Tsn(10)
-        && tcb.data_tracker.last_cumulative_acked_tsn() == Tsn(19)
+        && tcb.data_tracker.last_cumulative_acked_tsn() == Tsn(19);
+    drop(tcb);
+    begins
 }
 
 #[test]
 fn a_control_block_begins(rt: HostRuntime) {
     assert!(rt; begins(rt.alloc()));
+}
+
+/// Whether the fragment goes as I-DATA.
+fn is_i_data(alloc: Global, tcb: &TransmissionControlBlock) -> bool {
+    let chunk = tcb.make_data_chunk(Tsn(10), Data::empty(alloc), false);
+    let is_i_data = matches!(&chunk, Chunk::IData(chunk) if chunk.tsn == Tsn(10));
+    drop(chunk);
+    is_i_data
 }
 
 /// Fragments go as I-DATA where messages are interleaved.
@@ -153,10 +159,9 @@ fn is_interleaved(alloc: Global, message_interleaving: bool) -> bool {
             ..Capabilities::default()
         },
     );
-    match tcb.make_data_chunk(Tsn(10), Data::empty(alloc), false) {
-        Chunk::IData(chunk) => chunk.tsn == Tsn(10),
-        _ => false,
-    }
+    let is_i_data = is_i_data(alloc, &tcb);
+    drop(tcb);
+    is_i_data
 }
 
 #[test]

@@ -1,24 +1,58 @@
 //! An idle end goes on in a new socket, while any allocation may be refused: each call answers as with ample memory, or that
 //! memory lacks, and then its socket fails.
 
-use crate::tests::link::{Watched, made};
-use crate::tests::opening::{Fault, lacks, opens, right, tells_closed, tells_connected};
+use crate::tests::Seven;
+use crate::tests::opening::{Fault, Watched, lacks, opens, right, tells_closed, tells_connected};
+use rand_pcg::Pcg32;
+use sctp_association::{Association, DcSctpSocket, Socket};
 use sctp_state::{
     CallError, HandoverError, Options, RestoreError, SocketHandoverState, SocketState,
 };
 use std::alloc::Global;
 
+impl Watched for Socket<Pcg32, Seven> {
+    fn joined(&self) -> Option<Association> {
+        self.association()
+    }
+}
+
+/// A new one with default options, which draws the words that begin so.
+fn made(alloc: Global, name: &str, words: u64) -> Result<Socket<Pcg32, Seven>, CallError> {
+    Socket::new(
+        alloc,
+        name,
+        &Options::default(),
+        Pcg32::new(words, words),
+        Seven,
+    )
+}
+
 /// The record of an idle end, which tells that it is closed, and nothing else.
 fn hands_over<S: Watched>(socket: &mut S) -> Result<SocketHandoverState, Fault> {
     right(socket.get_handover_readiness().is_ready())?;
-    let state = match socket.get_handover_state_and_close() {
-        Ok(state) => state,
-        Err(HandoverError::Memory) => return Err(lacks(socket)),
-        Err(_) => return Err(Fault::Wrong),
-    };
+    match socket.get_handover_state_and_close() {
+        Ok(state) => is_over(socket, state),
+        Err(HandoverError::Memory) => Err(lacks(socket)),
+        Err(_) => Err(Fault::Wrong),
+    }
+}
+
+fn tells_its_end<S: Watched>(socket: &mut S) -> Result<(), Fault> {
     tells_closed(socket)?;
-    right(socket.poll_event().is_none() && socket.joined().is_none())?;
-    Ok(state)
+    right(socket.poll_event().is_none() && socket.joined().is_none())
+}
+
+fn is_over<S: Watched>(
+    socket: &mut S,
+    state: SocketHandoverState,
+) -> Result<SocketHandoverState, Fault> {
+    match tells_its_end(socket) {
+        Ok(()) => Ok(state),
+        Err(fault) => {
+            drop(state);
+            Err(fault)
+        }
+    }
 }
 
 fn takes<S: Watched>(socket: &mut S, state: &SocketHandoverState) -> Result<(), Fault> {
@@ -55,14 +89,25 @@ fn refuse<S: Watched>(
     refuses(b, state, RestoreError::SocketNotClosed)
 }
 
+/// The new socket takes the record, and tells that it is connected.
+fn takes_over<S: Watched>(
+    b: &mut S,
+    new: &mut S,
+    state: &mut SocketHandoverState,
+) -> Result<(), Fault> {
+    refuse(b, new, state)?;
+    takes(new, state)?;
+    tells_connected(new)
+}
+
 /// The new socket takes the place of `a`.
 fn goes_on<S: Watched>(a: &mut S, b: &mut S, new: &mut S) -> Result<(), Fault> {
     opens(a, b)?;
     let association = a.joined();
     let mut state = hands_over(a)?;
-    refuse(b, new, &mut state)?;
-    takes(new, &state)?;
-    tells_connected(new)?;
+    let outcome = takes_over(b, new, &mut state);
+    drop(state);
+    outcome?;
     right(new.poll_event().is_none() && new.joined() == association)
 }
 
@@ -78,10 +123,9 @@ fn three_go_on<S: Watched>(
 }
 
 fn is_handed_over(alloc: Global) -> Result<(), Fault> {
-    let options = Options::default();
-    let a = made(alloc, "a", &options, 1);
-    let b = made(alloc, "b", &options, 2);
-    three_go_on(a, b, made(alloc, "new", &options, 3))
+    let a = made(alloc, "a", 1);
+    let b = made(alloc, "b", 2);
+    three_go_on(a, b, made(alloc, "new", 3))
 }
 
 #[test]

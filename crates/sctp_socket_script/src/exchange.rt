@@ -1,0 +1,118 @@
+//! The loop in which an owner drives sockets, over a link that loses packets.
+
+use crate::driven::Driven;
+use crate::side::Side;
+use crate::told::take_told;
+use sctp_state::SocketState;
+
+/// An exchange that hasn't ended after as many turns doesn't.
+const TURNS: u32 = 1000;
+
+/// How many packets of each end were handed over or lost, and of how many packets the last one is lost; with 0 none is.
+#[derive(Clone, Copy)]
+struct Course {
+    a: usize,
+    b: usize,
+    lost: usize,
+}
+
+fn is_lost(number: usize, lost: usize) -> bool {
+    lost != 0 && number % lost == lost - 1
+}
+
+/// Hands the packets from this number on to the other end, each once, but those that are lost.
+fn hand_over<S: Driven>(
+    to: &mut Side<S>,
+    packets: &[Vec<u8>],
+    first: usize,
+    lost: usize,
+) -> anyhow::Result<()> {
+    for (number, bytes) in packets.iter().enumerate() {
+        if number >= first && !is_lost(number, lost) {
+            to.socket.handle_input(bytes)?;
+        }
+    }
+    Ok(())
+}
+
+/// Time passes up to the moment at which the first of the sockets has something to do.
+fn pass_time<S: Driven>(rt: &HostRuntime, a: &mut Side<S>, b: &mut Side<S>) -> anyhow::Result<()> {
+    let now = a.socket.poll_timeout().min(b.socket.poll_timeout());
+    println!(rt; "{} ms", now.as_nanos() / 1_000_000)?;
+    a.socket.advance_time(now)?;
+    b.socket.advance_time(now)?;
+    Ok(())
+}
+
+/// Hands over what each end sent; where nothing is on its way, time passes. Then what the sockets tell is taken.
+fn go_on<S: Driven>(
+    rt: &HostRuntime,
+    a: &mut Side<S>,
+    b: &mut Side<S>,
+    course: Course,
+) -> anyhow::Result<Course> {
+    let next = Course {
+        a: a.packets.len(),
+        b: b.packets.len(),
+        ..course
+    };
+    if next.a == course.a && next.b == course.b {
+        pass_time(rt, a, b)?;
+    } else {
+        hand_over(b, &a.packets, course.a, course.lost)?;
+        hand_over(a, &b.packets, course.b, course.lost)?;
+    }
+    take_told(rt, a, true)?;
+    take_told(rt, b, true)?;
+    Ok(next)
+}
+
+/// Whether the end has sent nothing else, has nothing to send, and neither opens nor ends an association.
+fn is_quiet<S: Driven>(side: &Side<S>, sent: usize) -> bool {
+    let is_settled = match side.socket.state() {
+        SocketState::Closed => true,
+        SocketState::Connected => true,
+        SocketState::Connecting => false,
+        SocketState::ShuttingDown => false,
+    };
+    is_settled && side.packets.len() == sent && side.socket.rests()
+}
+
+fn longest(packets: &[Vec<u8>]) -> usize {
+    let mut size = 0;
+    for packet in packets {
+        size = packet.len().max(size);
+    }
+    size
+}
+
+/// How many packets an end sent, and the size of the longest.
+fn tell_packets(rt: &HostRuntime, name: &str, packets: &[Vec<u8>]) -> anyhow::Result<bool> {
+    let (count, size) = (packets.len(), longest(packets));
+    println!(rt; "{name} sent {count} packets of at most {size}")?;
+    Ok(true)
+}
+
+/// Hands over the packets of both ends from this number on, but of so many the last one, until all is quiet.
+pub fn exchange<S: Driven>(
+    rt: &HostRuntime,
+    a: &mut Side<S>,
+    b: &mut Side<S>,
+    first: usize,
+    lost: usize,
+) -> anyhow::Result<bool> {
+    let mut course = Course {
+        a: first,
+        b: first,
+        lost,
+    };
+    for _ in 0..TURNS {
+        if is_quiet(a, course.a) && is_quiet(b, course.b) {
+            println!(rt; "all is quiet")?;
+            break;
+        }
+        course = go_on(rt, a, b, course)?;
+    }
+    tell_packets(rt, a.name, &a.packets)?;
+    tell_packets(rt, b.name, &b.packets)
+}
