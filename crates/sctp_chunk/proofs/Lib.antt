@@ -1,5 +1,6 @@
 pub mod ValueLemmas
 pub mod FieldLemmas
+pub mod FragmentLemmas
 pub mod SackLemmas
 pub mod InnerLemmas
 pub mod SkipLemmas

@@ -10,7 +10,7 @@ ghost use Rattle.sctp_chunk.specs.ChunkText.{chunk_text};
 use crate::flags::FragmentFlags;
 use crate::raw::RawChunk;
 use sctp_serial::{Fsn, Mid, PpId, Ssn, StreamId, StreamKey, Tsn};
-use sctp_wire::{ChunkParseError, SerializableTlv, push_u16, push_u32, u16_at, u32_at};
+use sctp_wire::{ChunkParseError, SerializableTlv, first_u16, first_u32, push_u16, push_u32};
 use std::alloc::{AllocError, Global};
 use std::fmt;
 
@@ -143,10 +143,13 @@ impl DataChunk {
         ensures refused { IfErr result (RefusesChunkAs 0 (raw_chunk raw.entry)) }
     {
         let value = raw.value_as(Self::TYPE)?;
-        let (tsn, rest) = u32_at(value)?;
-        let (stream_id, rest) = u16_at(rest)?;
-        let (ssn, rest) = u16_at(rest)?;
-        let (ppid, payload) = u32_at(rest)?;
+        if value.len() < 12 {
+            return Err(ChunkParseError::InvalidLength);
+        }
+        let (tsn, rest) = first_u32(value);
+        let (stream_id, rest) = first_u16(rest);
+        let (ssn, rest) = first_u16(rest);
+        let (ppid, payload) = first_u32(rest);
         let payload = Vec::from_slice(alloc, payload)?;
         Ok(DataChunk {
             tsn: Tsn(tsn),
@@ -213,11 +216,14 @@ impl IDataChunk {
         ensures refused { IfErr result (RefusesChunkAs 64 (raw_chunk raw.entry)) }
     {
         let value = raw.value_as(Self::TYPE)?;
-        let (tsn, rest) = u32_at(value)?;
-        let (stream_id, rest) = u16_at(rest)?;
-        let (_reserved, rest) = u16_at(rest)?;
-        let (mid, rest) = u32_at(rest)?;
-        let (ppid_or_fsn, payload) = u32_at(rest)?;
+        if value.len() < 16 {
+            return Err(ChunkParseError::InvalidLength);
+        }
+        let (tsn, rest) = first_u32(value);
+        let (stream_id, rest) = first_u16(rest);
+        let (_reserved, rest) = first_u16(rest);
+        let (mid, rest) = first_u32(rest);
+        let (ppid_or_fsn, payload) = first_u32(rest);
         let payload = Vec::from_slice(alloc, payload)?;
         let is_beginning = has_flag(raw.flags, FLAG_BEGINNING);
         Ok(IDataChunk {

@@ -14,7 +14,8 @@ ghost use Rattle.std.proofs.Common.{refl};
 use crate::raw::RawChunk;
 use sctp_serial::{Mid, Ssn, StreamId, StreamKey, Tsn};
 use sctp_wire::{
-    ChunkParseError, Joined, Listed, SerializableTlv, push_u16, push_u32, u16_at, u32_at,
+    ChunkParseError, Joined, Listed, SerializableTlv, first_u16, first_u32, push_u16, push_u32,
+    u32_at,
 };
 use std::alloc::{AllocError, Global};
 use std::fmt;
@@ -207,8 +208,11 @@ fn ssn_skip_at(bytes: &[u8]) -> Result<(SkippedStream, &[u8]), ChunkParseError>
     ensures short { OnErr result (length bytes.now < 4) }
     ensures fault { IfErr result (λ e. e ≡ ChunkParseError.InvalidLength) }
 {
-    let (id, rest) = u16_at(bytes)?;
-    let (ssn, rest) = u16_at(rest)?;
+    if bytes.len() < 4 {
+        return Err(ChunkParseError::InvalidLength);
+    }
+    let (id, rest) = first_u16(bytes);
+    let (ssn, rest) = first_u16(rest);
     Ok((SkippedStream::ForwardTsn(StreamId(id), Ssn(ssn)), rest))
 }
 
@@ -236,9 +240,12 @@ fn mid_skip_at(bytes: &[u8]) -> Result<(SkippedStream, &[u8]), ChunkParseError>
     ensures short { OnErr result (length bytes.now < 8) }
     ensures fault { IfErr result (λ e. e ≡ ChunkParseError.InvalidLength) }
 {
-    let (id, rest) = u16_at(bytes)?;
-    let (flags, rest) = u16_at(rest)?;
-    let (mid, rest) = u32_at(rest)?;
+    if bytes.len() < 8 {
+        return Err(ChunkParseError::InvalidLength);
+    }
+    let (id, rest) = first_u16(bytes);
+    let (flags, rest) = first_u16(rest);
+    let (mid, rest) = first_u32(rest);
     let key = stream_key(flags, id);
     Ok((SkippedStream::IForwardTsn(key, Mid(mid)), rest))
 }

@@ -14,8 +14,8 @@ use crate::inner::{are_whole, parameters_size, push_parameters};
 use crate::raw::RawChunk;
 use sctp_serial::Tsn;
 use sctp_wire::{
-    ChunkParseError, Parameter, SerializableTlv, parameters_from_bytes, push_u16, push_u32, u16_at,
-    u32_at,
+    ChunkParseError, Parameter, SerializableTlv, first_u16, first_u32, parameters_from_bytes,
+    push_u16, push_u32,
 };
 use std::alloc::{AllocError, Global};
 use std::fmt;
@@ -41,11 +41,14 @@ impl InitFields {
         ensures short { OnErr result (length value.now < 16) }
         ensures fault { IfErr result (λ e. e ≡ ChunkParseError.InvalidLength) }
     {
-        let (initiate_tag, rest) = u32_at(value)?;
-        let (a_rwnd, rest) = u32_at(rest)?;
-        let (nbr_outbound_streams, rest) = u16_at(rest)?;
-        let (nbr_inbound_streams, rest) = u16_at(rest)?;
-        let (initial_tsn, rest) = u32_at(rest)?;
+        if value.len() < 16 {
+            return Err(ChunkParseError::InvalidLength);
+        }
+        let (initiate_tag, rest) = first_u32(value);
+        let (a_rwnd, rest) = first_u32(rest);
+        let (nbr_outbound_streams, rest) = first_u16(rest);
+        let (nbr_inbound_streams, rest) = first_u16(rest);
+        let (initial_tsn, rest) = first_u32(rest);
         Ok((
             InitFields {
                 initiate_tag,

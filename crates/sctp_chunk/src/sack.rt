@@ -12,8 +12,8 @@ use crate::flags::JoinedTsns;
 use crate::raw::RawChunk;
 use sctp_serial::Tsn;
 use sctp_wire::{
-    ChunkParseError, Entry, Joined, Listed, SerializableTlv, entries_from_bytes, push_entries,
-    push_u16, push_u32, u16_at, u32_at,
+    ChunkParseError, Entry, Joined, Listed, SerializableTlv, entries_from_bytes, first_u16,
+    first_u32, push_entries, push_u16, push_u32,
 };
 use std::alloc::{AllocError, Global};
 use std::fmt;
@@ -50,8 +50,11 @@ impl Entry for GapAckBlock {
     ghost width_of = { length_block_bytes };
 
     fn entry_at(bytes: &[u8]) -> Result<(GapAckBlock, &[u8]), ChunkParseError> {
-        let (start, rest) = u16_at(bytes)?;
-        let (end, rest) = u16_at(rest)?;
+        if bytes.len() < 4 {
+            return Err(ChunkParseError::InvalidLength);
+        }
+        let (start, rest) = first_u16(bytes);
+        let (end, rest) = first_u16(rest);
         Ok((GapAckBlock { start, end }, rest))
     }
 
@@ -82,10 +85,13 @@ impl SackChunk {
         ensures refused { IfErr result (RefusesChunkAs 3 (raw_chunk raw.entry)) }
     {
         let value = raw.value_as(Self::TYPE)?;
-        let (cumulative_tsn_ack, rest) = u32_at(value)?;
-        let (a_rwnd, rest) = u32_at(rest)?;
-        let (block_count, rest) = u16_at(rest)?;
-        let (duplicate_count, rest) = u16_at(rest)?;
+        if value.len() < 12 {
+            return Err(ChunkParseError::InvalidLength);
+        }
+        let (cumulative_tsn_ack, rest) = first_u32(value);
+        let (a_rwnd, rest) = first_u32(rest);
+        let (block_count, rest) = first_u16(rest);
+        let (duplicate_count, rest) = first_u16(rest);
         let blocks_size = 4 * block_count as usize;
         if rest.len() != blocks_size + 4 * duplicate_count as usize {
             return Err(ChunkParseError::InvalidLength);

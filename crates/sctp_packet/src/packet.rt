@@ -12,7 +12,7 @@ ghost use Rattle.sctp_packet.specs.PacketView.{header_tree, packet_tree};
 ghost use Rattle.sctp_packet.specs.Faults.{IsPacketFault};
 
 use sctp_chunk::Chunk;
-use sctp_wire::{ChunkParseError, Policy, items_from_bytes, u16_at, u32_at};
+use sctp_wire::{ChunkParseError, Policy, first_u16, first_u32, items_from_bytes};
 use std::alloc::Global;
 use thiserror::Error;
 
@@ -71,10 +71,13 @@ impl CommonHeader {
         ensures long { OnOk result (12 ≤ length bytes.now) }
         ensures short { OnErr result (length bytes.now < 12) }
     {
-        let (source_port, rest) = u16_at(bytes)?;
-        let (destination_port, rest) = u16_at(rest)?;
-        let (verification_tag, rest) = u32_at(rest)?;
-        let (checksum, rest) = u32_at(rest)?;
+        if bytes.len() < COMMON_HEADER_SIZE {
+            return Err(ChunkParseError::InvalidLength);
+        }
+        let (source_port, rest) = first_u16(bytes);
+        let (destination_port, rest) = first_u16(rest);
+        let (verification_tag, rest) = first_u32(rest);
+        let (checksum, rest) = first_u32(rest);
         Ok((
             CommonHeader {
                 source_port,

@@ -1,6 +1,6 @@
 //! Fields: numbers of two and four bytes, the most significant byte first, and lists of entries of one width.
 
-ghost use Rattle.std.specs.Prelude.{◌≡◌, ◌≢◌, ◌⊎◌, ℕ, ◌+◌, ◌*◌, ◌%◌, ◌^◌, ◌<◌, List, [], ◌++◌, length, All, IfOk, OnErr, IfErr, OnOk};
+ghost use Rattle.std.specs.Prelude.{◌≡◌, ◌≢◌, ◌⊎◌, ℕ, ◌+◌, ◌*◌, ◌%◌, ◌^◌, ◌<◌, ◌≤◌, List, [], ◌++◌, length, All, IfOk, OnErr, IfErr, OnOk};
 ghost use Rattle.std.specs.List.{flat_map};
 ghost use Rattle.std.proofs.Common.{arith};
 ghost use Rattle.sctp_wire.specs.Fields.{be16, be32, be64, length_be16, length_be32};
@@ -53,6 +53,34 @@ pub fn u64_at(bytes: &[u8]) -> Result<(u64, &[u8]), ChunkParseError>
         return Err(ChunkParseError::InvalidLength);
     };
     Ok((u64::from_be_bytes(*front), rest))
+}
+
+/// The number in the first two bytes, and the bytes behind it: a reader that has tested the length has no error to pass on.
+#[tactic(auto, unfolding(crate::specs::Fields::be16))]
+pub fn first_u16(bytes: &[u8]) -> (u16, &[u8])
+    requires { 2 ≤ length bytes.now }
+    ensures number { bytes.now ≡ be16 result.0 ++ result.1.now }
+    ensures fits { result.0 < 2 ^ 16 }
+    ensures len { length bytes.now ≡ 2 + length result.1.now }
+{
+    let Some((front, rest)) = bytes.split_first_chunk::<2>() else {
+        unreachable!();
+    };
+    (u16::from_be_bytes(*front), rest)
+}
+
+/// The number in the first four bytes, and the bytes behind it: a reader that has tested the length has no error to pass on.
+#[tactic(auto, unfolding(crate::specs::Fields::be32))]
+pub fn first_u32(bytes: &[u8]) -> (u32, &[u8])
+    requires { 4 ≤ length bytes.now }
+    ensures number { bytes.now ≡ be32 result.0 ++ result.1.now }
+    ensures fits { result.0 < 2 ^ 32 }
+    ensures len { length bytes.now ≡ 4 + length result.1.now }
+{
+    let Some((front, rest)) = bytes.split_first_chunk::<4>() else {
+        unreachable!();
+    };
+    (u32::from_be_bytes(*front), rest)
 }
 
 /// `InvalidLength` where bytes are left behind the last field.

@@ -25,8 +25,8 @@ pub use checksum::{Checksum, Policy};
 pub use error::ChunkParseError;
 pub use error_cause::{ErrorCause, error_cause_from_bytes};
 pub use field::{
-    Entry, ends_here, entries_from_bytes, push_entries, push_u16, push_u32, push_u64, u16_at,
-    u32_at, u64_at,
+    Entry, ends_here, entries_from_bytes, first_u16, first_u32, push_entries, push_u16, push_u32,
+    push_u64, u16_at, u32_at, u64_at,
 };
 pub use item::{RawItem, RawParameter, one_item};
 pub use laws::{
