@@ -1,4 +1,4 @@
-//! Tests of `sctp_state` over its public items, apart so that it is proved once.
+//! Tests of `sctp_state` that are no rows of the script of `sctp_state_script`: what derives mean.
 #![tactic(auto)]
 
 #[cfg(test)]

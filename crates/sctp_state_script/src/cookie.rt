@@ -1,0 +1,146 @@
+//! `cookie`: what an end keeps of an INIT by sending it to the peer.
+
+use crate::answer::{
+    Answer, Line, Subject, low_half, low_word, run_commands, tell, tell_all, tell_hex,
+};
+use sctp_serial::{Tsn, ZeroChecksumAlternateErrorDetectionMethod};
+use sctp_state::{Capabilities, StateCookie};
+use std::alloc::{AllocError, Global};
+
+pub fn run(alloc: Global, commands: &str, output: &mut String) -> Result<(), AllocError> {
+    let mut cookie = StateCookie {
+        peer_tag: 0,
+        my_tag: 0,
+        peer_initial_tsn: Tsn(0),
+        my_initial_tsn: Tsn(0),
+        a_rwnd: 0,
+        tie_tag: 0,
+        peer_capabilities: Capabilities::default(),
+    };
+    run_commands(alloc, commands, output, &mut cookie)
+}
+
+impl Subject for StateCookie {
+    /// `write`: the bytes. `read HEX`: takes the cookie of these bytes, or tells why they are none. `show`, `capabilities`, and
+    /// what can be set.
+    fn obey(
+        &mut self,
+        alloc: Global,
+        line: Line<'_>,
+        output: &mut String,
+    ) -> Result<Answer, AllocError> {
+        match line.name {
+            "write" => write_cookie(alloc, self, output),
+            "read" => read(alloc, self, line.last, output),
+            "show" => show(self, output),
+            "capabilities" => show_capabilities(&self.peer_capabilities, output),
+            name => Ok(set(self, name, line.numbers)),
+        }
+    }
+}
+
+fn write_cookie(
+    alloc: Global,
+    cookie: &StateCookie,
+    output: &mut String,
+) -> Result<Answer, AllocError> {
+    let bytes = cookie.serialize(alloc)?;
+    let outcome = tell_hex(alloc, output, &bytes);
+    drop(bytes);
+    outcome
+}
+
+fn read(
+    alloc: Global,
+    cookie: &mut StateCookie,
+    digits: &str,
+    output: &mut String,
+) -> Result<Answer, AllocError> {
+    match hex::decode(alloc, digits) {
+        Ok(bytes) => {
+            let outcome = read_bytes(cookie, &bytes, output);
+            drop(bytes);
+            outcome
+        }
+        Err(_) => Ok(Answer::Unknown),
+    }
+}
+
+fn read_bytes(
+    cookie: &mut StateCookie,
+    bytes: &[u8],
+    output: &mut String,
+) -> Result<Answer, AllocError> {
+    match StateCookie::from_bytes(bytes) {
+        Ok(read) => {
+            *cookie = read;
+            Ok(Answer::Done)
+        }
+        Err(error) => tell(output, &error),
+    }
+}
+
+fn show(cookie: &StateCookie, output: &mut String) -> Result<Answer, AllocError> {
+    let values = [
+        ("peer-tag", cookie.peer_tag as u128),
+        ("my-tag", cookie.my_tag as u128),
+        ("peer-tsn", cookie.peer_initial_tsn.0 as u128),
+        ("my-tsn", cookie.my_initial_tsn.0 as u128),
+        ("window", cookie.a_rwnd as u128),
+        ("tie", cookie.tie_tag as u128),
+    ];
+    tell_all(output, &values)
+}
+
+fn show_capabilities(told: &Capabilities, output: &mut String) -> Result<Answer, AllocError> {
+    let incoming = told.negotiated_maximum_incoming_streams;
+    let outgoing = told.negotiated_maximum_outgoing_streams;
+    let values = [
+        ("partial-reliability", told.partial_reliability as u128),
+        ("interleaving", told.message_interleaving as u128),
+        ("reconfig", told.reconfig as u128),
+        ("method", told.zero_checksum_method.0 as u128),
+        ("incoming", incoming as u128),
+        ("outgoing", outgoing as u128),
+    ];
+    tell_all(output, &values)
+}
+
+/// `tags PEER MINE`, `tsns PEER MINE`, `window BYTES`, `tie TAG`, and what `set_capability` says.
+fn set(cookie: &mut StateCookie, name: &str, numbers: [u64; 4]) -> Answer {
+    let [first, second, _, _] = numbers;
+    match name {
+        "tags" => {
+            cookie.peer_tag = low_word(first);
+            cookie.my_tag = low_word(second);
+        }
+        "tsns" => {
+            cookie.peer_initial_tsn = Tsn(low_word(first));
+            cookie.my_initial_tsn = Tsn(low_word(second));
+        }
+        "window" => cookie.a_rwnd = low_word(first),
+        "tie" => cookie.tie_tag = first,
+        _ => return set_capability(&mut cookie.peer_capabilities, name, numbers),
+    }
+    Answer::Done
+}
+
+/// `can PARTIAL-RELIABILITY INTERLEAVING RECONFIG METHOD`, `streams INCOMING OUTGOING`.
+fn set_capability(told: &mut Capabilities, name: &str, numbers: [u64; 4]) -> Answer {
+    let [first, second, third, fourth] = numbers;
+    match name {
+        "can" => {
+            told.partial_reliability = first == 1;
+            told.message_interleaving = second == 1;
+            told.reconfig = third == 1;
+            told.zero_checksum_method =
+                ZeroChecksumAlternateErrorDetectionMethod(low_word(fourth));
+        }
+        "streams" => {
+            told.negotiated_maximum_incoming_streams = low_half(first);
+            told.negotiated_maximum_outgoing_streams = low_half(second);
+        }
+        _ => return Answer::Unknown,
+    }
+    Answer::Done
+}
