@@ -124,11 +124,7 @@ pub fn tell<T: Display>(output: &mut String, value: &T) -> Result<Answer, AllocE
 }
 
 /// Tells bytes, in hex.
-pub fn tell_hex(
-    alloc: Global,
-    output: &mut String,
-    bytes: &[u8],
-) -> Result<Answer, AllocError> {
+pub fn tell_hex(alloc: Global, output: &mut String, bytes: &[u8]) -> Result<Answer, AllocError> {
     let digits = hex::encode(alloc, bytes)?;
     let outcome = tell(output, &digits);
     drop(digits);
@@ -136,10 +132,7 @@ pub fn tell_hex(
 }
 
 /// Tells values, each with its name. A flag is 1 or 0.
-pub fn tell_all(
-    output: &mut String,
-    values: &[(&str, u128)],
-) -> Result<Answer, AllocError> {
+pub fn tell_all(output: &mut String, values: &[(&str, u128)]) -> Result<Answer, AllocError> {
     output.push_str(":")?;
     for (name, value) in values {
         write!(output, " {name} {value}")?;
