@@ -50,22 +50,27 @@ pub fn cut(text: &str, separator: char) -> (&str, &str) {
 pub fn line_of(text: &str) -> Line<'_> {
     let (name, rest) = cut(text, ' ');
     let last = match rest.rsplit_once(' ') {
-        Some((_, word)) => word,
+        Some((_, last)) => last,
         None => rest,
     };
+    Line {
+        name,
+        last,
+        numbers: numbers_of(rest),
+    }
+}
+
+/// The first four numbers.
+fn numbers_of(words: &str) -> [u64; 4] {
     let mut numbers = [0; 4];
     let mut count = 0;
-    for word in rest.split_whitespace() {
+    for word in words.split_whitespace() {
         if count < 4 {
             numbers[count] = number(word);
             count += 1;
         }
     }
-    Line {
-        name,
-        last,
-        numbers,
-    }
+    numbers
 }
 
 fn number(word: &str) -> u64 {
@@ -119,11 +124,7 @@ pub fn tell<T: Display>(output: &mut String, value: &T) -> Result<Answer, AllocE
 }
 
 /// Tells bytes, in hex.
-pub fn tell_hex(
-    alloc: Global,
-    output: &mut String,
-    bytes: &[u8],
-) -> Result<Answer, AllocError> {
+pub fn tell_hex(alloc: Global, output: &mut String, bytes: &[u8]) -> Result<Answer, AllocError> {
     let digits = hex::encode(alloc, bytes)?;
     let outcome = tell(output, &digits);
     drop(digits);
@@ -131,10 +132,7 @@ pub fn tell_hex(
 }
 
 /// Tells values, each with its name. A flag is 1 or 0.
-pub fn tell_all(
-    output: &mut String,
-    values: &[(&str, u128)],
-) -> Result<Answer, AllocError> {
+pub fn tell_all(output: &mut String, values: &[(&str, u128)]) -> Result<Answer, AllocError> {
     output.push_str(":")?;
     for (name, value) in values {
         write!(output, " {name} {value}")?;

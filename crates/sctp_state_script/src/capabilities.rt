@@ -1,8 +1,6 @@
 //! `capabilities`: what two ends announce and negotiate.
 
-use crate::answer::{
-    Answer, Line, Subject, low_half, low_word, run_commands, tell_all, tell_hex,
-};
+use crate::answer::{Answer, Line, Subject, low_half, low_word, run_commands, tell_all, tell_hex};
 use crate::options::set_option;
 use sctp_serial::ZeroChecksumAlternateErrorDetectionMethod;
 use sctp_state::{Capabilities, Options, announced_parameters};
@@ -87,8 +85,7 @@ fn read(alloc: Global, told: &mut Capabilities, line: Line<'_>) {
 fn read_parameters(alloc: Global, told: &mut Capabilities, streams: [u64; 4], bytes: &[u8]) {
     if let Ok(parameters) = parameters_from_bytes(alloc, bytes) {
         let [outgoing, incoming, _, _] = streams;
-        *told =
-            Capabilities::from_parameters(low_half(outgoing), low_half(incoming), &parameters);
+        *told = Capabilities::from_parameters(low_half(outgoing), low_half(incoming), &parameters);
         drop(parameters);
     }
 }

@@ -133,8 +133,7 @@ fn set_capability(told: &mut Capabilities, name: &str, numbers: [u64; 4]) -> Ans
             told.partial_reliability = first == 1;
             told.message_interleaving = second == 1;
             told.reconfig = third == 1;
-            told.zero_checksum_method =
-                ZeroChecksumAlternateErrorDetectionMethod(low_word(fourth));
+            told.zero_checksum_method = ZeroChecksumAlternateErrorDetectionMethod(low_word(fourth));
         }
         "streams" => {
             told.negotiated_maximum_incoming_streams = low_half(first);

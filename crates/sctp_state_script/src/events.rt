@@ -92,9 +92,16 @@ fn happen(alloc: Global, events: &mut Events, line: Line<'_>) -> Result<Answer, 
     let [first, second, _, _] = line.numbers;
     match line.name {
         "given-up" => give_up(events, first, GivenUpCause::Lifetime),
-        "sent-again" => give_up(events, first, GivenUpCause::Retransmissions(low_word(second))),
+        "sent-again" => give_up(
+            events,
+            first,
+            GivenUpCause::Retransmissions(low_word(second)),
+        ),
         "connected" => add(events, SocketEvent::OnConnected()),
-        "low" => add(events, SocketEvent::OnBufferedAmountLow(StreamId(low_half(first)))),
+        "low" => add(
+            events,
+            SocketEvent::OnBufferedAmountLow(StreamId(low_half(first))),
+        ),
         "end" => end(events, first),
         _ => happen_long(alloc, events, line),
     }
@@ -132,7 +139,10 @@ fn packet(alloc: Global, events: &mut Events, digits: &str) -> Result<Answer, Al
 
 fn aborted(alloc: Global, events: &mut Events, text: &str) -> Result<Answer, AllocError> {
     let text = String::from_str(alloc, text)?;
-    add(events, SocketEvent::OnAborted(ErrorKind::PeerReported, text))
+    add(
+        events,
+        SocketEvent::OnAborted(ErrorKind::PeerReported, text),
+    )
 }
 
 fn reset_by_peer(

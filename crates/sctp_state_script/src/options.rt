@@ -74,9 +74,7 @@ fn windows(o: &Options, output: &mut String) -> Result<Answer, AllocError> {
     write!(
         output,
         " burst {} retransmissions {:?} {:?}",
-        o.max_burst,
-        o.max_retransmissions,
-        o.max_init_retransmits
+        o.max_burst, o.max_retransmissions, o.max_init_retransmits
     )?;
     Ok(Answer::Done)
 }
@@ -112,7 +110,10 @@ fn switches(o: &Options, output: &mut String) -> Result<Answer, AllocError> {
     let values = [
         ("partial-reliability", o.enable_partial_reliability as u128),
         ("interleaving", o.enable_message_interleaving as u128),
-        ("heartbeat-with-rtt", o.heartbeat_interval_include_rtt as u128),
+        (
+            "heartbeat-with-rtt",
+            o.heartbeat_interval_include_rtt as u128,
+        ),
         ("any-checksum", o.disable_checksum_verification as u128),
         ("handover-with-data", handover as u128),
         ("method", method.0 as u128),

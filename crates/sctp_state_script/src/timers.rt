@@ -81,11 +81,7 @@ struct Estimate {
     timeout: RetransmissionTimeout,
 }
 
-pub fn run_timeout(
-    alloc: Global,
-    commands: &str,
-    output: &mut String,
-) -> Result<(), AllocError> {
+pub fn run_timeout(alloc: Global, commands: &str, output: &mut String) -> Result<(), AllocError> {
     let options = Options::default();
     let timeout = RetransmissionTimeout::new(&options);
     let mut estimate = Estimate { options, timeout };
