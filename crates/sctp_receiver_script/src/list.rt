@@ -52,7 +52,11 @@ pub fn run(rt: &HostRuntime, words: &[&str], script: &str) -> Result<()> {
     match word(words, 0)? {
         "tsn" => run_on(rt, IntervalList::<TraditionalKey>::new(rt.alloc()), script),
         "fsn" => run_on(rt, IntervalList::<InterleavedKey>::new(rt.alloc()), script),
-        "mid" => run_on(rt, IntervalList::<UnorderedInterleavedKey>::new(rt.alloc()), script),
+        "mid" => run_on(
+            rt,
+            IntervalList::<UnorderedInterleavedKey>::new(rt.alloc()),
+            script,
+        ),
         _ => Err(refusal()),
     }
 }
@@ -92,7 +96,10 @@ pub fn piece(alloc: Global, words: &[&str]) -> Result<Data> {
 
 fn show_sums<K: Key>(rt: &HostRuntime, list: &IntervalList<K>) -> Result<()> {
     let (count, bytes) = (list.len(), list.total_bytes());
-    println!(rt; "intervals {count}, bytes {bytes}, empty {}", yes_or_no(list.is_empty()))?;
+    println!(rt;
+        "intervals {count}, bytes {bytes}, empty {}",
+        yes_or_no(list.is_empty())
+    )?;
     Ok(())
 }
 
@@ -124,7 +131,7 @@ fn is_in_turn<K: Key>(
 }
 
 fn take<K: Key>(rt: &HostRuntime, list: &mut IntervalList<K>, place: usize) -> Result<()> {
-    if place >= list.len() {
+    if place >= list.len() || list.total_bytes() >= 1 << 40 {
         return Err(refusal());
     }
     match list.pop_if_complete(place) {
@@ -140,6 +147,9 @@ fn take<K: Key>(rt: &HostRuntime, list: &mut IntervalList<K>, place: usize) -> R
 }
 
 fn next<K: Key>(rt: &HostRuntime, list: &mut IntervalList<K>, number: u64) -> Result<()> {
+    if list.total_bytes() >= 1 << 40 {
+        return Err(refusal());
+    }
     match list.pop_front_if_complete_and(number as u128) {
         Some(interval) => {
             let bytes = interval.total_bytes();
@@ -154,7 +164,13 @@ fn next<K: Key>(rt: &HostRuntime, list: &mut IntervalList<K>, number: u64) -> Re
 
 fn show<K: Key>(rt: &HostRuntime, interval: &Interval<K>, bytes: usize) -> Result<()> {
     let (first, last) = (interval.first().key, interval.last().key);
-    print!(rt; "{}/{} to {}/{}", first.number(), first.place(), last.number(), last.place())?;
+    print!(rt;
+        "{}/{} to {}/{}",
+        first.number(),
+        first.place(),
+        last.number(),
+        last.place()
+    )?;
     let number = first.number() as u128;
     let is_turn = yes_or_no(interval.is_in_turn(number));
     let is_early = yes_or_no(interval.is_in_turn(number + 1));

@@ -155,8 +155,15 @@ fn show_record(rt: &HostRuntime, state: &SocketHandoverState) -> Result<()> {
 }
 
 fn show_sizes(rt: &HostRuntime, queue: &ReassemblyQueue) -> Result<()> {
-    print!(rt; "became ready {}, left {}", queue.rx_messages_count(), queue.remaining_bytes())?;
+    print!(rt;
+        "became ready {}, left {}",
+        queue.rx_messages_count(),
+        queue.remaining_bytes()
+    )?;
     let is_above = yes_or_no(queue.is_above_watermark());
-    println!(rt; ", above watermark {is_above}, full {}", yes_or_no(queue.is_full()))?;
+    println!(rt;
+        ", above watermark {is_above}, full {}",
+        yes_or_no(queue.is_full())
+    )?;
     Ok(())
 }

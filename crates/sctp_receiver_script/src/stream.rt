@@ -14,7 +14,7 @@ use sctp_rx::{
 };
 
 /// Whether the sums of bytes are small.
-fn have_room(held: usize, ready: &ReadyMessages) -> bool
+pub fn have_room(held: usize, ready: &ReadyMessages) -> bool
     ensures { IsTrue result → held + ready_bytes ready.now < 2 ^ 63 }
 {
     held < 1 << 40 && ready.total_bytes() < 1 << 40
@@ -178,15 +178,27 @@ struct Alone<S> {
 /// Takes the commands of a script on an ordered stream.
 pub fn run_ordered(rt: &HostRuntime, words: &[&str], script: &str) -> Result<()> {
     let alloc = rt.alloc();
-    let next = if words.len() > 1 { number(words, 1)? } else { 1 << 32 };
+    let next = if words.len() > 1 {
+        number(words, 1)?
+    } else {
+        1 << 32
+    };
     if next < 1 << 32 {
         return Err(refusal());
     }
     match (word(words, 0)?, words.len()) {
         ("tsn", 1) => run_on(rt, traditional::OrderedStream::new(alloc), script),
-        ("tsn", _) => run_on(rt, traditional::OrderedStream::restored(alloc, next as u128), script),
+        ("tsn", _) => run_on(
+            rt,
+            traditional::OrderedStream::restored(alloc, next as u128),
+            script,
+        ),
         ("fsn", 1) => run_on(rt, interleaved::OrderedStream::new(alloc), script),
-        ("fsn", _) => run_on(rt, interleaved::OrderedStream::restored(alloc, next as u128), script),
+        ("fsn", _) => run_on(
+            rt,
+            interleaved::OrderedStream::restored(alloc, next as u128),
+            script,
+        ),
         _ => Err(refusal()),
     }
 }
@@ -215,7 +227,9 @@ impl<S: Stream> Player for Alone<S> {
         match name {
             "add" => self.add(rt, words)?,
             "forward" => self.forward(words)?,
-            "drop" => self.stream.drop_below(number(words, 0)?, number(words, 1)?)?,
+            "drop" => self
+                .stream
+                .drop_below(number(words, 0)?, number(words, 1)?)?,
             "next" => return self.next(rt),
             "state" => {}
             _ => return Err(refusal()),

@@ -2,6 +2,7 @@
 
 use crate::player::{Player, play_each};
 use crate::receiver::{Receiver, show_next, show_sums, takes};
+use crate::stream::have_room;
 use crate::words::{entry, fragment, number, number_of_16_bits, refusal, stream_key, word};
 use anyhow::Result;
 use sctp_packet::{Data, SkippedStream};
@@ -51,17 +52,23 @@ fn run_on<S: ReassemblyStreams + Drop>(rt: &HostRuntime, streams: S, script: &st
 impl<S: ReassemblyStreams> Receiver for Streams<S> {
     fn add(&mut self, tsn: u64, fragment: Data) -> Result<()> {
         let length = fragment.payload.len();
-        if tsn >= 1 << 40 || length >= 1 << 40 || !self.has_room() {
+        if tsn >= 1 << 40
+            || length >= 1 << 40
+            || !have_room(self.streams.queued_bytes(), &self.ready)
+        {
             return Err(refusal());
         }
         Ok(self.streams.add(tsn, fragment, &mut self.ready)?)
     }
 
     fn forward(&mut self, alloc: Global, tsn: u64, entries: &[SkippedStream]) -> Result<()> {
-        if tsn >= 1 << 40 || !self.has_room() {
+        if tsn >= 1 << 40 || !have_room(self.streams.queued_bytes(), &self.ready) {
             return Err(refusal());
         }
-        Ok(self.streams.handle_forward_tsn(alloc, tsn, entries, &mut self.ready)?)
+        Ok(
+            self.streams
+                .handle_forward_tsn(alloc, tsn, entries, &mut self.ready)?,
+        )
     }
 
     fn reset(&mut self, ids: &[StreamId]) -> Result<()> {
@@ -94,10 +101,6 @@ impl<S: ReassemblyStreams> Player for Streams<S> {
 }
 
 impl<S: ReassemblyStreams> Streams<S> {
-    fn has_room(&self) -> bool {
-        self.streams.queued_bytes() < 1 << 40 && self.ready.total_bytes() < 1 << 40
-    }
-
     fn takes(&mut self, rt: &HostRuntime, name: &str, words: &[&str]) -> Result<bool> {
         match name {
             "skip" => self.skip(rt, entry(word(words, 0)?)?)?,
@@ -111,7 +114,7 @@ impl<S: ReassemblyStreams> Streams<S> {
     }
 
     fn skip(&mut self, rt: &HostRuntime, entry: SkippedStream) -> Result<()> {
-        if !self.has_room() {
+        if !have_room(self.streams.queued_bytes(), &self.ready) {
             return Err(refusal());
         }
         self.streams.skip(entry, &mut self.ready)?;
@@ -122,7 +125,7 @@ impl<S: ReassemblyStreams> Streams<S> {
     fn push(&mut self, rt: &HostRuntime, words: &[&str]) -> Result<()> {
         let id = StreamId(number_of_16_bits(words, 0)?);
         let payload = hex::decode(rt.alloc(), word(words, 1)?)?;
-        if !self.has_room() || payload.len() >= 1 << 40 {
+        if !have_room(self.streams.queued_bytes(), &self.ready) || payload.len() >= 1 << 40 {
             return Err(refusal());
         }
         self.ready.push(Message::new(id, PpId(53), payload))?;

@@ -43,14 +43,8 @@ pub fn stream_key(word: &str) -> Result<StreamKey> {
 pub fn entry(word: &str) -> Result<SkippedStream> {
     let (stream, number) = word.split_once(':').ok_or(refusal())?;
     match stream.parse::<u16>() {
-        Ok(id) => Ok(SkippedStream::ForwardTsn(
-            StreamId(id),
-            Ssn(number.parse::<u16>()?),
-        )),
-        Err(_) => Ok(SkippedStream::IForwardTsn(
-            stream_key(stream)?,
-            Mid(number.parse::<u32>()?),
-        )),
+        Ok(id) => Ok(SkippedStream::ForwardTsn(StreamId(id), Ssn(number.parse::<u16>()?))),
+        Err(_) => Ok(SkippedStream::IForwardTsn(stream_key(stream)?, Mid(number.parse::<u32>()?))),
     }
 }
 
