@@ -1,15 +1,7 @@
-//! Tests of `sctp_rx` over its public items, apart so that it is proved once.
+//! Tests of `sctp_rx` that are no script of `sctp_receiver_script`: want of memory, and keys through their bound.
 #![tactic(auto)]
 
-#[cfg(test)]
-mod data_tracker;
-#[cfg(test)]
-mod interval_list;
 #[cfg(test)]
 mod memory;
 #[cfg(test)]
 mod reassembly_key;
-#[cfg(test)]
-mod reassembly_queue;
-#[cfg(test)]
-mod reassembly_streams;

@@ -2,14 +2,14 @@
 //! lacks, and what is ready then is a beginning of what becomes ready otherwise. A call of the tracker and of a handover that
 //! lacks memory changes nothing: made once more, it and all that follow answer as with ample memory.
 
-ghost use Rattle.std.specs.Prelude.{◌≡◌, ◌∷◌, [], true, IfOk};
+ghost use Rattle.std.specs.Prelude.{◌≡◌, ◌∷◌, [], true, IfOk, IsTrue};
 ghost use Rattle.sctp_state.specs.Handover.{receive_of};
 ghost use Rattle.sctp_state.specs.Validity.{is_valid_reception};
 
-use crate::reassembly_queue::{is_valid, record};
 use sctp_packet::{Data, GapAckBlock, SackChunk, SkippedStream};
 use sctp_rx::{DataTracker, ReassemblyQueue};
 use sctp_serial::{Fsn, Mid, PpId, SocketTime, Ssn, StreamId, StreamKey, Tsn};
+use sctp_state::api::handover::HandoverSocketState;
 use sctp_state::{Options, SocketHandoverState};
 use std::alloc::{AllocError, Global};
 
@@ -37,11 +37,11 @@ fn piece(
 }
 
 fn add(queue: &mut ReassemblyQueue, tsn: u32, fragment: Data) -> Result<(), AllocError> {
-    if queue.queued_bytes() < 1 << 40 && fragment.payload.len() < 1 << 40 {
-        queue.add(Tsn(tsn), fragment)
-    } else {
-        Err(AllocError)
+    if queue.queued_bytes() >= 1 << 40 || fragment.payload.len() >= 1 << 40 {
+        drop(fragment);
+        return Err(AllocError);
     }
+    queue.add(Tsn(tsn), fragment)
 }
 
 // A whole message on an ordered stream.
@@ -83,7 +83,9 @@ fn pass(queue: &mut ReassemblyQueue, tsn: u32, stream: u16, number: u16) -> Resu
 
 fn hands_over(alloc: Global, queue: &ReassemblyQueue) -> Result<(), AllocError> {
     let mut state = SocketHandoverState::empty(alloc);
-    queue.add_to_handover_state(&mut state)
+    let outcome = queue.add_to_handover_state(&mut state);
+    drop(state);
+    outcome
 }
 
 const STEPS: u32 = 11;
@@ -152,16 +154,22 @@ fn can_be_reset(queue: &mut ReassemblyQueue) -> bool {
 fn is_sound(alloc: Global, is_interleaved: bool) -> bool {
     let mut queue = ReassemblyQueue::new(alloc, 1000, is_interleaved);
     let is_whole = takes_steps(alloc, &mut queue);
-    are_ready(&mut queue, is_whole) && (is_whole || can_be_reset(&mut queue))
+    let is_good = are_ready(&mut queue, is_whole) && (is_whole || can_be_reset(&mut queue));
+    drop(queue);
+    is_good
+}
+
+fn takes_all(alloc: Global, is_interleaved: bool) -> bool {
+    let mut queue = ReassemblyQueue::new(alloc, 1000, is_interleaved);
+    let is_whole = takes_steps(alloc, &mut queue) && are_ready(&mut queue, true);
+    drop(queue);
+    is_whole
 }
 
 #[test]
 fn takes_all_steps(rt: HostRuntime) {
-    for is_interleaved in [false, true] {
-        let mut queue = ReassemblyQueue::new(rt.alloc(), 1000, is_interleaved);
-        assert!(rt; takes_steps(rt.alloc(), &mut queue));
-        assert!(rt; are_ready(&mut queue, true));
-    }
+    assert!(rt; takes_all(rt.alloc(), false));
+    assert!(rt; takes_all(rt.alloc(), true));
 }
 
 // Whether a TSN is new, where memory lacks once at most.
@@ -180,25 +188,65 @@ fn is_sack(sack: &SackChunk) -> bool {
         && sack.duplicate_tsns.as_slice() == [Tsn(10), Tsn(12)].as_slice()
 }
 
-// Five TSNs with gaps, and two of them again.
-fn tracks(alloc: Global) -> Result<bool, AllocError> {
-    let mut tracker = DataTracker::new(alloc, Tsn(10), &Options::default());
-    for tsn in [15, 10, 12, 14] {
-        if !observe(&mut tracker, tsn)? {
-            return Ok(false);
-        }
-    }
-    if observe(&mut tracker, 12)? || observe(&mut tracker, 10)? {
-        return Ok(false);
-    }
+// Whether the SACK is as it should be, where memory lacks once at most.
+fn tells(tracker: &mut DataTracker) -> Result<bool, AllocError> {
     match tracker.create_selective_ack(4711) {
         Ok(sack) => Ok(is_sack(&sack)),
         Err(_) => Ok(is_sack(&tracker.create_selective_ack(4711)?)),
     }
 }
 
-fn writes(queue: &ReassemblyQueue, state: &mut SocketHandoverState) -> bool {
-    queue.add_to_handover_state(state).is_ok() || queue.add_to_handover_state(state).is_ok()
+// Five TSNs with gaps, and two of them again.
+fn tracks_on(tracker: &mut DataTracker) -> Result<bool, AllocError> {
+    for tsn in [15, 10, 12, 14] {
+        if !observe(tracker, tsn)? {
+            return Ok(false);
+        }
+    }
+    if observe(tracker, 12)? || observe(tracker, 10)? {
+        return Ok(false);
+    }
+    tells(tracker)
+}
+
+fn tracks(alloc: Global) -> Result<bool, AllocError> {
+    let mut tracker = DataTracker::new(alloc, Tsn(10), &Options::default());
+    let outcome = tracks_on(&mut tracker);
+    drop(tracker);
+    outcome
+}
+
+// The record of a socket that has sent nothing.
+fn record(alloc: Global, message_interleaving: bool) -> SocketHandoverState {
+    let mut state = SocketHandoverState::empty(alloc);
+    state.socket_state = HandoverSocketState::Connected;
+    state.my_verification_tag = 1;
+    state.peer_verification_tag = 1;
+    state.capabilities.message_interleaving = message_interleaving;
+    state.tx.cwnd = 1;
+    state.tx.next_tsn = 1;
+    state
+}
+
+// Whether a record is valid, of a connected socket.
+#[tactic(auto, using(sctp_rx::proofs::ReceptionLemmas::valid_reception))]
+fn is_valid(state: &SocketHandoverState) -> bool
+    ensures { IsTrue result → is_valid_reception state.now.capabilities.message_interleaving (receive_of state.now.rx) ≡ true }
+{
+    match state.socket_state {
+        HandoverSocketState::Closed => false,
+        HandoverSocketState::Connected => state.is_valid(),
+    }
+}
+
+// A message came on stream 3 before the handover, and its record is written.
+fn writes(
+    alloc: Global,
+    queue: &mut ReassemblyQueue,
+    state: &mut SocketHandoverState,
+) -> Result<bool, AllocError> {
+    give(alloc, queue, 1, 3, 0, 97)?;
+    Ok(queue.add_to_handover_state(state).is_ok() || queue.add_to_handover_state(state).is_ok())
 }
 
 fn takes_up(queue: &mut ReassemblyQueue, state: &SocketHandoverState) -> bool
@@ -207,31 +255,42 @@ fn takes_up(queue: &mut ReassemblyQueue, state: &SocketHandoverState) -> bool
     queue.restore_from_state(state).is_ok() || queue.restore_from_state(state).is_ok()
 }
 
-fn took_up(alloc: Global, state: &SocketHandoverState) -> Option<ReassemblyQueue> {
-    if !is_valid(state) {
-        return None;
-    }
-    let mut queue = ReassemblyQueue::new(alloc, 1000, state.capabilities.message_interleaving);
-    if takes_up(&mut queue, state) {
-        Some(queue)
-    } else {
-        None
-    }
+// There the second message is in turn.
+fn is_in_turn(alloc: Global, queue: &mut ReassemblyQueue) -> Result<bool, AllocError> {
+    give(alloc, queue, 2, 3, 1, 98)?;
+    Ok(is_next(queue, b"b".as_slice()) == Some(true))
 }
 
-// A message came on stream 3 before the handover; there the second is in turn.
-fn goes_on(alloc: Global, is_interleaved: bool) -> Result<bool, AllocError> {
-    let mut queue = ReassemblyQueue::new(alloc, 1000, is_interleaved);
-    give(alloc, &mut queue, 1, 3, 0, 97)?;
-    let mut state = record(alloc, is_interleaved);
-    if !writes(&queue, &mut state) {
+fn goes_on_elsewhere(alloc: Global, state: &SocketHandoverState) -> Result<bool, AllocError> {
+    if !is_valid(state) {
         return Ok(false);
     }
-    let Some(mut other) = took_up(alloc, &state) else {
-        return Ok(false);
+    let mut queue = ReassemblyQueue::new(alloc, 1000, state.capabilities.message_interleaving);
+    let is_up = takes_up(&mut queue, state);
+    let outcome = if is_up {
+        is_in_turn(alloc, &mut queue)
+    } else {
+        Ok(false)
     };
-    give(alloc, &mut other, 2, 3, 1, 98)?;
-    Ok(is_next(&mut other, b"b".as_slice()) == Some(true))
+    drop(queue);
+    outcome
+}
+
+fn is_handed_over(
+    alloc: Global,
+    queue: &mut ReassemblyQueue,
+    state: &mut SocketHandoverState,
+) -> Result<bool, AllocError> {
+    Ok(writes(alloc, queue, state)? && goes_on_elsewhere(alloc, state)?)
+}
+
+fn goes_on(alloc: Global, is_interleaved: bool) -> Result<bool, AllocError> {
+    let mut queue = ReassemblyQueue::new(alloc, 1000, is_interleaved);
+    let mut state = record(alloc, is_interleaved);
+    let outcome = is_handed_over(alloc, &mut queue, &mut state);
+    drop(queue);
+    drop(state);
+    outcome
 }
 
 // The test to run with a refused allocation.
