@@ -25,7 +25,7 @@ pub fn answer(
 ) -> io::Result<bool> {
     match name {
         "builder" => limit(rt, builder, number as usize)?,
-        "unsummed" => println!(rt; "{}", Hex(builder.unsummed()))?,
+        "unsummed" => unsummed(rt, builder)?,
         "no-checksum" => builder.write_checksum(false),
         "build" => build(rt, builder, number)?,
         "data" => data(rt, builder, number as usize)?,
@@ -33,6 +33,10 @@ pub fn answer(
         _ => return Ok(false),
     }
     Ok(true)
+}
+
+fn unsummed(rt: &HostRuntime, builder: &SctpPacketBuilder) -> io::Result<()> {
+    println!(rt; "{}", Hex(builder.unsummed()))
 }
 
 fn limit(rt: &HostRuntime, builder: &mut SctpPacketBuilder, limit: usize) -> io::Result<()> {

@@ -13,7 +13,7 @@ use std::io;
 pub fn answer(rt: &HostRuntime, name: &str, bytes: &[u8]) -> io::Result<bool> {
     match name {
         "raw" => raw(rt, bytes)?,
-        "item-chunk" => println!(rt; "{:?}", from_item(bytes))?,
+        "item-chunk" => item(rt, bytes)?,
         "chunk" => one(rt, bytes)?,
         "chunks" => all::<Chunk>(rt, bytes)?,
         "fields" => fields(rt, bytes)?,
@@ -33,6 +33,10 @@ fn raw(rt: &HostRuntime, bytes: &[u8]) -> io::Result<()> {
         }
         Err(_) => Ok(()),
     }
+}
+
+fn item(rt: &HostRuntime, bytes: &[u8]) -> io::Result<()> {
+    println!(rt; "{:?}", from_item(bytes))
 }
 
 fn from_item(bytes: &[u8]) -> Result<RawChunk<'_>, ChunkParseError> {

@@ -13,7 +13,7 @@ use std::io;
 /// Whether the line was a command.
 pub fn answer(rt: &HostRuntime, name: &str, bytes: &[u8]) -> io::Result<bool> {
     match name {
-        "item" => println!(rt; "{:?}", RawItem::from_bytes(bytes))?,
+        "item" => item(rt, bytes)?,
         "parameter" => first_parameter(rt, bytes)?,
         "parameters" => tell_read(rt, parameters_from_bytes(rt.alloc(), bytes), bytes)?,
         "causes" => tell_read(rt, error_cause_from_bytes(rt.alloc(), bytes), bytes)?,
@@ -22,6 +22,10 @@ pub fn answer(rt: &HostRuntime, name: &str, bytes: &[u8]) -> io::Result<bool> {
         _ => return Ok(false),
     }
     Ok(true)
+}
+
+fn item(rt: &HostRuntime, bytes: &[u8]) -> io::Result<()> {
+    println!(rt; "{:?}", RawItem::from_bytes(bytes))
 }
 
 fn first_parameter(rt: &HostRuntime, bytes: &[u8]) -> io::Result<()> {

@@ -36,12 +36,12 @@ pub fn number(numbers: &[u32], place: usize) -> u32 {
 pub fn answer(rt: &HostRuntime, name: &str, numbers: &[u32]) -> io::Result<bool> {
     let (first, second) = (number(numbers, 0), number(numbers, 1));
     match name {
-        "default" => println!(rt; "{}", Policy::default().accepts(first, second))?,
-        "disabled" => println!(rt; "{}", packets::unchecked().accepts(first, second))?,
-        "dtls" => println!(rt; "{}", dtls().accepts(first, second))?,
+        "default" => accepts(rt, Policy::default(), first, second)?,
+        "disabled" => accepts(rt, packets::unchecked(), first, second)?,
+        "dtls" => accepts(rt, dtls(), first, second)?,
         "header" => headers(rt, first, second)?,
         "misread" => misread(rt, half(first))?,
-        "result" => println!(rt; "{:?}", ReconfigurationResponseResult::try_from(first))?,
+        "result" => result(rt, first)?,
         "response" => response(rt, first, second)?,
         "cookie" => cookie(rt, first as usize)?,
         "zeros" => zeros(rt, first as usize)?,
@@ -55,6 +55,14 @@ fn dtls() -> Policy {
         disable_checksum_verification: false,
         zero_checksum_alternate_error_detection_method: ZERO_CHECKSUM_ALTERNATE_ERROR_DETECTION_METHOD_LOWER_LAYER_DTLS,
     }
+}
+
+fn accepts(rt: &HostRuntime, policy: Policy, word: u32, field: u32) -> io::Result<()> {
+    println!(rt; "{}", policy.accepts(word, field))
+}
+
+fn result(rt: &HostRuntime, code: u32) -> io::Result<()> {
+    println!(rt; "{:?}", ReconfigurationResponseResult::try_from(code))
 }
 
 fn half(number: u32) -> u16 {
