@@ -59,11 +59,11 @@ pub fn is_before<K: ReassemblyKey>(x: K, y: K) -> bool
 pub fn leads_to<K: ReassemblyKey>(x: K, y: K) -> bool
     ensures { result ≡ (rank_at K.number K.index y == suc (rank_at K.number K.index x)) }
 {
-    x.known();
-    y.known();
-    if !x.cmp(&y).is_lt() {
+    if !is_before(x, y) {
         return false;
     }
+    x.known();
+    y.known();
     x.next().cmp(&y).is_eq()
 }
 
