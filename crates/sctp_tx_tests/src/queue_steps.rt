@@ -167,7 +167,7 @@ fn told_by(event: &Option<SocketEvent>) -> Heard {
 }
 
 /// The next event.
-pub fn heard(events: &mut Events) -> Heard {
+pub fn next_heard(events: &mut Events) -> Heard {
     let event = events.next_event();
     let told = told_by(&event);
     drop(event);
@@ -245,7 +245,7 @@ pub fn holds(
             queue.prepare_reset_stream(StreamId(id), events)?;
             Ok(true)
         }
-        Step::Hears(want) => Ok(heard(events) == want),
+        Step::Hears(want) => Ok(next_heard(events) == want),
         Step::GivenUp(message) => Ok(is_given_up(events, message, GivenUpCause::Lifetime)),
         Step::NoneGivenUp => Ok(events.next_given_up().is_none()),
         _ => settles(alloc, queue, step),

@@ -1,7 +1,7 @@
 //! Calls on a sender and what they are to answer, one after another. The sender has default options, first TSN 10, and a
 //! peer's window of 5,242,880 bytes. Moments are in milliseconds.
 
-use crate::queue_steps::{Heard, accept, at, heard, is_given_up, named, short};
+use crate::queue_steps::{Heard, accept, at, is_given_up, named, next_heard, short};
 use sctp_packet::{Chunk, GapAckBlock, SackChunk, clean_sack};
 use sctp_serial::{SocketTime, Tsn};
 use sctp_state::api::handover::HandoverSocketState;
@@ -263,7 +263,7 @@ pub fn holds(sender: &mut Sender, step: Step) -> Result<bool, AllocError> {
             Ok(is_due == want)
         }
         Step::GivenUp(message, cause) => Ok(is_given_up(&mut sender.events, message, cause)),
-        Step::Hears(want) => Ok(heard(&mut sender.events) == want),
+        Step::Hears(want) => Ok(next_heard(&mut sender.events) == want),
         _ => goes(sender, step),
     }
 }
