@@ -50,7 +50,7 @@ fn record(alloc: Global, message_interleaving: bool) -> SocketHandoverState {
 }
 
 // Whether a record is valid, of a connected socket.
-#[tactic(auto, using(sctp_rx::proofs::ReceptionLemmas::valid_reception))]
+#[tactic(auto, using(sctp_reassembly::proofs::ReceptionLemmas::valid_reception))]
 fn is_valid(state: &SocketHandoverState) -> bool
     ensures { IsTrue result → is_valid_reception state.now.capabilities.message_interleaving (receive_of state.now.rx) ≡ true }
 {
