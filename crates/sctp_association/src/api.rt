@@ -11,8 +11,11 @@ use sctp_state::{
 /// An end of an SCTP association, which makes no system call. Packets, moments and messages are handed in; events, among
 /// them packets to send, are taken out. A changing call that finds too little memory answers `Memory`, and the socket has
 /// failed: from then on changing calls answer `Failed` and change nothing, and what was told before can still be taken.
+///
+/// Write what drives a socket over `S: DcSctpSocket`: it is proved in seconds, over one concrete `Socket` in minutes.
 pub trait DcSctpSocket {
-    /// Takes the event that was told first.
+    /// Takes the event that was told first. An arm that passes events over is written `Some(_event) => ()`, since `Some(_)`
+    /// doesn't take it.
     fn poll_event(&mut self) -> Option<SocketEvent>;
 
     /// Hands out the message that was ready first.
@@ -25,7 +28,8 @@ pub trait DcSctpSocket {
     /// Tells the time. An earlier moment than the last one changes nothing.
     fn advance_time(&mut self, now: SocketTime) -> Result<(), CallError>;
 
-    /// The moment by which the time is to be told next; the greatest one where no timer runs.
+    /// The moment by which the time is to be told next. Where no timer runs that is the greatest one, 2^64 seconds less a
+    /// nanosecond, which no 64 bits of nanoseconds hold.
     fn poll_timeout(&self) -> SocketTime;
 
     /// Opens an association, where the socket is closed.
@@ -38,7 +42,8 @@ pub trait DcSctpSocket {
     fn shutdown(&mut self) -> Result<(), CallError>;
 
     /// Queues a message, and sends as much as may be sent. A refused message changes nothing but the events that tell of
-    /// it and of the end of its lifecycle.
+    /// it and of the end of its lifecycle. A full queue tells an `OnError` at each call: offer no more until
+    /// `OnBufferedAmountLow`, or `OnTotalBufferedAmountLow`, was told.
     fn send(&mut self, message: Message, options: &SendOptions) -> Result<(), SendError>;
 
     /// Queues several messages, and sends then. Some may be refused; the others are sent all the same.

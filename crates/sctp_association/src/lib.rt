@@ -1,4 +1,7 @@
 //! The association: handshake, transfer, timers and the socket (RFC 9260).
+//!
+//! The owner of a [`Socket`] lists this crate and `rand_core`: all that its calls take and answer is exported here. The word of
+//! [`Checksum`] is written big-endian, so a CRC32c (RFC 9260 appendix A) is handed in with its bytes swapped.
 #![tactic(auto)]
 
 mod api;
@@ -11,5 +14,21 @@ pub use sctp_endpoint::{
     Association, Context, CookieEchoedState, CookieWaitState, Identity, OutgoingPacket, Phase,
     ResetRequests, State, TransmissionControlBlock,
 };
+pub use sctp_serial::{
+    LifecycleId, Message, OutgoingMessageId, PpId, SocketTime, StreamId,
+    ZERO_CHECKSUM_ALTERNATE_ERROR_DETECTION_METHOD_LOWER_LAYER_DTLS,
+    ZERO_CHECKSUM_ALTERNATE_ERROR_DETECTION_METHOD_NONE, ZeroChecksumAlternateErrorDetectionMethod,
+};
+pub use sctp_state::api::handover::{
+    HandoverCapabilities, HandoverOrderedStream, HandoverOutgoingStream, HandoverOutstandingData,
+    HandoverReceive, HandoverSocketState, HandoverStreamMessage, HandoverTransmission,
+    HandoverUnorderedStream,
+};
+pub use sctp_state::{
+    BatchFault, BatchSendError, CallError, ErrorKind, GivenUp, GivenUpCause, HandoverError,
+    HandoverReadiness, Metrics, Options, ResetStreamsError, RestoreError, SctpImplementation,
+    SendError, SendOptions, SocketEvent, SocketHandoverState, SocketState,
+};
 pub use sctp_table_laws as laws;
+pub use sctp_wire::Checksum;
 pub use socket::Socket;

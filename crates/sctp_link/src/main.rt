@@ -4,12 +4,12 @@
 //! when time passes.
 #![tactic(auto)]
 
+use anyhow::Result;
 use rand_pcg::Pcg32;
-use sctp_association::{DcSctpSocket, Socket};
-use sctp_serial::{Message, PpId, SocketTime, StreamId};
-use sctp_state::{Options, SendOptions, SocketEvent, SocketState};
-use sctp_wire::Checksum;
-use std::mem;
+use sctp_association::{
+    Checksum, DcSctpSocket, Message, Options, PpId, SendOptions, Socket, SocketEvent, SocketState,
+    SocketTime, StreamId,
+};
 
 /// More turns, or events of one turn, are not looked for.
 const MANY: u32 = 1000;
@@ -26,122 +26,115 @@ impl Checksum for OneWord {
     }
 }
 
-/// A socket, what it sent that is still on its way, and what was counted of it.
+/// A socket, and what is under way to and from it.
 #[derive(Drop)]
-struct Owner<S> {
+struct End<S> {
     socket: S,
-    on_its_way: Vec<Vec<u8>>,
-    sent: u32,
-    received: u32,
+    came: Vec<Vec<u8>>,
+    sent: Vec<Vec<u8>>,
+    told: Vec<SocketEvent>,
+    messages: Vec<Message>,
+    sent_count: u32,
+    message_count: u32,
 }
 
-fn owned<S>(rt: &HostRuntime, socket: S) -> Owner<S> {
-    Owner {
+fn new_end<S>(rt: &HostRuntime, socket: S) -> End<S> {
+    End {
         socket,
-        on_its_way: Vec::new(rt.alloc()),
-        sent: 0,
-        received: 0,
+        came: Vec::new(rt.alloc()),
+        sent: Vec::new(rt.alloc()),
+        told: Vec::new(rt.alloc()),
+        messages: Vec::new(rt.alloc()),
+        sent_count: 0,
+        message_count: 0,
     }
 }
 
-/// Puts a packet on its way; every third one is lost.
-fn post<S>(owner: &mut Owner<S>, bytes: Vec<u8>) -> anyhow::Result<()> {
-    owner.sent = owner.sent.wrapping_add(1);
-    if owner.sent % 3 != 0 {
-        owner.on_its_way.push(bytes)?;
+/// One turn: what came is handed in, the time is told, and all that the socket tells and has ready is taken. Answers by which moment
+/// the time is to be told again.
+fn turn<S: DcSctpSocket>(end: &mut End<S>, now: SocketTime) -> Result<SocketTime> {
+    for bytes in end.came.drain(..) {
+        end.socket.handle_input(&bytes)?;
     }
-    Ok(())
-}
-
-/// Takes all that the socket told since it was asked last, and all messages that it has ready.
-fn take<S: DcSctpSocket>(rt: &HostRuntime, name: &str, owner: &mut Owner<S>) -> anyhow::Result<()> {
+    end.socket.advance_time(now)?;
     for _ in 0..MANY {
-        match owner.socket.poll_event() {
-            Some(SocketEvent::SendPacket(bytes)) => post(owner, bytes)?,
-            Some(event) => println!(rt; "{name} {event:?}")?,
+        match end.socket.poll_event() {
+            Some(SocketEvent::SendPacket(bytes)) => end.sent.push(bytes)?,
+            Some(event) => end.told.push(event)?,
             None => break,
         }
     }
     for _ in 0..MANY {
-        match owner.socket.get_next_message() {
-            Some(message) => println!(rt; "{name} has {:?}", message.payload)?,
+        match end.socket.get_next_message() {
+            Some(message) => end.messages.push(message)?,
             None => break,
         }
-        owner.received = owner.received.wrapping_add(1);
+    }
+    Ok(end.socket.poll_timeout())
+}
+
+/// Prints what the socket told and handed out.
+fn show<S>(rt: &HostRuntime, name: &str, end: &mut End<S>) -> Result<()> {
+    for event in end.told.drain(..) {
+        println!(rt; "{name} {event:?}")?;
+    }
+    for message in end.messages.drain(..) {
+        println!(rt; "{name} has {:?}", message.payload)?;
+        end.message_count = end.message_count.wrapping_add(1);
     }
     Ok(())
 }
 
-/// What is on its way from one socket comes to the other.
-fn deliver<S: DcSctpSocket>(
-    rt: &HostRuntime,
-    from: &mut Owner<S>,
-    to: &mut Owner<S>,
-) -> anyhow::Result<()> {
-    for bytes in mem::replace(&mut from.on_its_way, Vec::new(rt.alloc())) {
-        to.socket.handle_input(&bytes)?;
+/// What one socket sent comes to the other; every third packet is lost.
+fn carry<S>(from: &mut End<S>, to: &mut End<S>) -> Result<()> {
+    for bytes in from.sent.drain(..) {
+        from.sent_count = from.sent_count.wrapping_add(1);
+        if from.sent_count % 3 != 0 {
+            to.came.push(bytes)?;
+        }
     }
-    Ok(())
-}
-
-/// Time passes up to the moment at which the first of the sockets has something to do.
-fn pass_time<S: DcSctpSocket>(
-    rt: &HostRuntime,
-    a: &mut Owner<S>,
-    b: &mut Owner<S>,
-) -> anyhow::Result<()> {
-    let now = a.socket.poll_timeout().min(b.socket.poll_timeout());
-    println!(rt; "{} ms", (now - SocketTime::zero()).as_millis())?;
-    a.socket.advance_time(now)?;
-    b.socket.advance_time(now)?;
     Ok(())
 }
 
 /// Sends three bytes of this number.
-fn send<S: DcSctpSocket>(rt: &HostRuntime, owner: &mut Owner<S>, number: u8) -> anyhow::Result<()> {
+fn send<S: DcSctpSocket>(rt: &HostRuntime, end: &mut End<S>, number: u8) -> Result<()> {
     let payload = vec![in rt.alloc(); number; 3]?;
     let message = Message::new(StreamId(1), PpId(53), payload);
-    owner.socket.send(message, &SendOptions::default())?;
+    end.socket.send(message, &SendOptions::default())?;
     Ok(())
 }
 
-/// One turn: what was told is taken, and what was sent comes. Where nothing is on its way, time passes.
-fn turn<S: DcSctpSocket>(
-    rt: &HostRuntime,
-    a: &mut Owner<S>,
-    b: &mut Owner<S>,
-) -> anyhow::Result<()> {
-    take(rt, "a", a)?;
-    take(rt, "b", b)?;
-    if a.on_its_way.is_empty() && b.on_its_way.is_empty() {
-        return pass_time(rt, a, b);
-    }
-    deliver(rt, a, b)?;
-    deliver(rt, b, a)
-}
-
-/// `a` opens an association and sends; once `b` has all messages, `a` shuts it down, which ends at `b` last.
-fn talk<S: DcSctpSocket + Drop>(rt: &HostRuntime, a: S, b: S) -> anyhow::Result<()> {
-    let (mut a, mut b) = (owned(rt, a), owned(rt, b));
+/// `a` opens an association and sends; once `b` has all messages, `a` shuts it down, which ends at `b` last. Where nothing is on its
+/// way, time passes up to the moment at which the first of the sockets has something to do.
+fn talk<S: DcSctpSocket + Drop>(rt: &HostRuntime, a: S, b: S) -> Result<()> {
+    let (mut a, mut b) = (new_end(rt, a), new_end(rt, b));
+    let mut now = SocketTime::zero();
     a.socket.connect()?;
     for number in 1..4u8 {
         send(rt, &mut a, number)?;
     }
     for _ in 0..MANY {
-        turn(rt, &mut a, &mut b)?;
-        if b.received == 3 {
-            if a.socket.state() == SocketState::Connected {
-                a.socket.shutdown()?;
-            }
-            if b.socket.state() == SocketState::Closed {
-                return take(rt, "b", &mut b);
-            }
+        if b.message_count == 3 && a.socket.state() == SocketState::Connected {
+            a.socket.shutdown()?;
+        }
+        let due_a = turn(&mut a, now)?;
+        let due_b = turn(&mut b, now)?;
+        show(rt, "a", &mut a)?;
+        show(rt, "b", &mut b)?;
+        if b.message_count == 3 && b.socket.state() == SocketState::Closed {
+            break;
+        }
+        carry(&mut a, &mut b)?;
+        carry(&mut b, &mut a)?;
+        if a.came.is_empty() && b.came.is_empty() {
+            now = due_a.min(due_b);
+            println!(rt; "{} ms", (now - SocketTime::zero()).as_millis())?;
         }
     }
     Ok(())
 }
 
-fn main(rt: HostRuntime) -> anyhow::Result<()> {
+fn main(rt: HostRuntime) -> Result<()> {
     let options = Options::default();
     let a = Socket::new(rt.alloc(), "a", &options, Pcg32::new(1, 1), OneWord)?;
     let b = Socket::new(rt.alloc(), "b", &options, Pcg32::new(2, 2), OneWord)?;
