@@ -1,5 +1,6 @@
 pub mod AgainLemmas
 pub mod EntriesLemmas
+pub mod ExpiryLemmas
 pub mod ForwardLemmas
 pub mod KeepsLemmas
 pub mod LaidLemmas

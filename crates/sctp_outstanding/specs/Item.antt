@@ -1,5 +1,5 @@
 -- A fragment that has its TSN, until the peer's cumulative TSN passes it.
-use Rattle.std.specs.Prelude.{ℕ, suc, ◌+◌, ◌-◌, ◌*◌, ◌/◌, ◌==◌, ◌||◌, nat_lt, nat_le, min, Bool, true, false, if◌then◌else◌, Option, Some, None, length}
+use Rattle.std.specs.Prelude.{ℕ, suc, ◌+◌, ◌-◌, ◌*◌, ◌/◌, ◌==◌, ◌&&◌, ◌||◌, nat_lt, nat_le, min, Bool, true, false, if◌then◌else◌, Option, Some, None, length}
 use Rattle.sctp_chunk.specs.Chunk.{FragmentTree}
 use Rattle.sctp_outstanding.specs.declared.item.ItemState.{ItemState}
 use Rattle.sctp_outstanding.specs.declared.item.ItemState.TheVariants.{InFlight, Missing, Queued, QueuedFast, Acked, GivenUp}
@@ -100,6 +100,14 @@ is_due now (Some moment) = nat_le moment now
 
 abbrev pub has_expired : ℕ → Item → Bool
 has_expired now i = is_due now i.expires
+
+abbrev pub has_lifetime : Option ℕ → Bool
+has_lifetime None = false
+has_lifetime (Some moment) = true
+
+-- missing or lost, and not worth sending for ever
+abbrev pub may_expire : Item → Bool
+may_expire i = lacks i.state && has_lifetime i.expires
 
 -- it was sent again as often as it may be
 abbrev pub is_used_up : Item → Bool

@@ -180,7 +180,7 @@ impl Model for Item {
 
 impl Item {
     ghost use Rattle.std.specs.Prelude.{Option};
-    ghost use Rattle.sctp_outstanding.specs.Item.{is_outstanding, should_be_retransmitted, is_fast, is_nacked, is_acked, is_abandoned, is_open, has_been_retransmitted, has_expired, is_used_up, is_of, ack, uncover, is_lost, nack, mark_as_retransmitted, miss_fast, abandon, rtt_from};
+    ghost use Rattle.sctp_outstanding.specs.Item.{is_outstanding, should_be_retransmitted, is_fast, is_nacked, is_acked, is_abandoned, is_open, has_been_retransmitted, has_expired, may_expire, is_used_up, is_of, ack, uncover, is_lost, nack, mark_as_retransmitted, miss_fast, abandon, rtt_from};
 
     /// A fragment that is sent now for the first time.
     pub fn new(
@@ -299,6 +299,13 @@ impl Item {
         ensures { result ≡ has_expired now self.now }
     {
         is_due(self.expires_at, now)
+    }
+
+    /// Whether it is missing or lost, and has a lifetime.
+    pub fn may_expire(&self) -> bool
+        ensures { result ≡ may_expire self.now }
+    {
+        self.state.lacks() && self.expires_at.is_some()
     }
 
     /// Whether it was sent again as often as it may be.

@@ -2,7 +2,7 @@
 
 ghost use Rattle.std.specs.Prelude.{◌≡◌, ◌==◌, ℕ, Some, map, min, option_map, slice_get, not, nat_lt, sum_by, ◌<◌, ◌≤◌, ◌^◌, ◌∷◌, ◌++◌, [], length, drop, take, OnOk, OnErr, IfSome, IfNone};
 ghost use Rattle.sctp_outstanding.specs.Change.{changed};
-ghost use Rattle.sctp_outstanding.specs.Items.{change_at, lay_down, is_of_at, last_of, later_of, without_payload, packet_part, payload_part, flight_part, queued_part, fast_part, acked_part};
+ghost use Rattle.sctp_outstanding.specs.Items.{change_at, lay_down, is_of_at, last_of, later_of, without_payload, packet_part, payload_part, flight_part, queued_part, fast_part, acked_part, expiring_part};
 ghost use Rattle.sctp_outstanding.specs.Totals.{AreTotals, Exchanges};
 ghost use Rattle.sctp_outstanding.specs.Losses.{placeholder};
 ghost use Rattle.sctp_outstanding.specs.Views.{last_tree};
@@ -294,6 +294,13 @@ impl Kept {
         ensures { result ≡ sum_by acked_part self.now.items }
     {
         self.totals.acked
+    }
+
+    /// Whether an item that is missing or lost has a lifetime.
+    pub fn has_expiring(&self) -> bool
+        ensures { result ≡ nat_lt 0 (sum_by expiring_part self.now.items) }
+    {
+        self.totals.expiring > 0
     }
 
     /// Changes the item at the place, if there is one.

@@ -77,7 +77,7 @@ struct Loss {
 }
 
 impl OutstandingData {
-    ghost use Rattle.sctp_outstanding.specs.Items.{no_items, next_number, written, number_of, flight_bytes, flight_payload, flight_items, waiting_items, fast_items};
+    ghost use Rattle.sctp_outstanding.specs.Items.{no_items, next_number, written, number_of, flight_bytes, flight_payload, flight_items, waiting_items, fast_items, expiring_items};
     ghost use Rattle.sctp_outstanding.specs.Losses.{closed, abandon_message, first_step, nack_at, nack_below, nack_all, expired_at, expire_at, expire_outstanding};
 
     /// Nothing is outstanding, and the next TSN is `initial_tsn`. Takes no memory. Without partial reliability no message
@@ -379,6 +379,13 @@ impl OutstandingData {
         Ok(())
     }
 
+    // Whether a lifetime can end: with partial reliability, where an item that is missing or lost has one.
+    fn may_expire(&self) -> bool
+        ensures { result ≡ (self.now.items.is_partial && nat_lt 0 (expiring_items self.now.items)) }
+    {
+        self.is_partial && self.kept.has_expiring()
+    }
+
     // Whether the item at the place is missing or lost, and its message expired and may be given up.
     fn expired_at(&self, place: usize, now: SocketTime) -> Option<OutgoingMessageId>
         ensures { option_map (λ id. id.0) result ≡ expired_at now place self.now.items }
@@ -419,6 +426,9 @@ impl OutstandingData {
         ensures told { OnOk result (events.new ≡ (expire_outstanding now self.old.items events.old).told) }
         ensures err { OnErr result (SomeExpired now self.old events.old self.new events.new) }
     {
+        if !self.may_expire() {
+            return Ok(());
+        }
         for place in 0..self.kept.len() {
             self.expire_item(place, now, events)?;
         }

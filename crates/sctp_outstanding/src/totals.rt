@@ -7,7 +7,8 @@ ghost use Rattle.sctp_outstanding.specs.Totals.{parts, exchanged, nothing};
 use crate::item::Item;
 
 /// Sums over the items: of those in flight or missing the bytes of their chunks, of their payloads, and how many they are;
-/// and how many are to be sent again, in all and by the fast packet, and how many are acknowledged.
+/// how many are to be sent again, in all and by the fast packet, how many are acknowledged, and how many are missing or lost
+/// and have a lifetime.
 #[derive(Clone, Copy)]
 pub struct Totals {
     pub packet_bytes: u128,
@@ -16,6 +17,7 @@ pub struct Totals {
     pub queued: usize,
     pub fast: usize,
     pub acked: usize,
+    pub expiring: usize,
 }
 
 fn bytes_if(condition: bool, bytes: usize) -> u128
@@ -41,6 +43,7 @@ impl Totals {
             queued: 0,
             fast: 0,
             acked: 0,
+            expiring: 0,
         }
     }
 
@@ -56,6 +59,7 @@ impl Totals {
             queued: one_if(item.should_be_retransmitted()),
             fast: one_if(item.is_fast()),
             acked: one_if(item.is_acked()),
+            expiring: one_if(item.may_expire()),
         }
     }
 
@@ -70,6 +74,7 @@ impl Totals {
             queued: count(self.queued, old.queued, new.queued),
             fast: count(self.fast, old.fast, new.fast),
             acked: count(self.acked, old.acked, new.acked),
+            expiring: count(self.expiring, old.expiring, new.expiring),
         }
     }
 }
