@@ -6,19 +6,19 @@ use Rattle.sctp_tracker.specs.Seen.{Run, Seen, is_in, in_runs, AreRuns, contains
 use Rattle.sctp_tracker.proofs.SeenEdits.{run}
 use Rattle.sctp_tracker.proofs.SeenRunsLemmas.{in_runs-below}
 
-before_first : (p n : ℕ) (c : Run) (qs : List Run) → AreRuns p (c ∷ qs) → n < c.first → in_runs (c ∷ qs) n ≡ false
+pub before_first : (p n : ℕ) (c : Run) (qs : List Run) → AreRuns p (c ∷ qs) → n < c.first → in_runs (c ∷ qs) n ≡ false
 before_first p n c qs r h = grind (arith, nat_tests, in_runs-below c.last n qs r.2 (omega arith))
 
 at_first : (p : ℕ) (b : Run) (rs : List Run) → AreRuns p (b ∷ rs) → in_runs (b ∷ rs) b.first ≡ true
 at_first p b rs r = grind (arith, nat_tests)
 
-past_last : (p : ℕ) (b : Run) (rs : List Run) → AreRuns p (b ∷ rs) → in_runs (b ∷ rs) (b.last + 1) ≡ false
+pub past_last : (p : ℕ) (b : Run) (rs : List Run) → AreRuns p (b ∷ rs) → in_runs (b ∷ rs) (b.last + 1) ≡ false
 past_last p b rs r = grind (arith, nat_tests, in_runs-below b.last (b.last + 1) rs r.2 (omega arith))
 
-within : (n : ℕ) (b : Run) (rs : List Run) → b.first ≤ n → n ≤ b.last → in_runs (b ∷ rs) n ≡ true
+pub within : (n : ℕ) (b : Run) (rs : List Run) → b.first ≤ n → n ≤ b.last → in_runs (b ∷ rs) n ≡ true
 within n b rs h k = grind (arith, nat_tests)
 
-later : (n : ℕ) (b : Run) (rs : List Run) → b.last < n → in_runs (b ∷ rs) n ≡ in_runs rs n
+pub later : (n : ℕ) (b : Run) (rs : List Run) → b.last < n → in_runs (b ∷ rs) n ≡ in_runs rs n
 later n b rs h = grind (arith, nat_tests)
 
 same_run : (b c : Run) → b.first ≡ c.first → b.last ≡ c.last → b ≡ c
@@ -55,7 +55,7 @@ same_runs p (b ∷ rs) (c ∷ qs) r q same =
     let tails = same_runs b.last rs qs r.2 (subst (λ x. AreRuns x qs) (sym lasts) q.2) rest in
     ap (λ x. x ∷ rs) heads ∙ ap (λ z. c ∷ z) tails
 
-above_front : (c n : ℕ) (rs : List Run) → c < n → (leb n c || in_runs rs n) ≡ in_runs rs n
+pub above_front : (c n : ℕ) (rs : List Run) → c < n → (leb n c || in_runs rs n) ≡ in_runs rs n
 above_front c n rs h = grind (arith, nat_tests)
 
 up_to_front : (c n : ℕ) (rs : List Run) → n ≤ c → (leb n c || in_runs rs n) ≡ true

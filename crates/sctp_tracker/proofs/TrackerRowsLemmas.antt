@@ -1,11 +1,11 @@
 -- Worked rows, computed: what the definitions give for a few arrivals.
-use Rattle.std.proofs.Common.{◌≡◌, ℕ, true, false, List, [], ◌∷◌, refl}
+use Rattle.std.proofs.Common.{◌≡◌, ℕ, true, false, [], ◌∷◌, refl}
 use Rattle.sctp_serial.specs.Unwrapped.{origin}
 use Rattle.sctp_serial.specs.declared.types.tsn.Tsn.{Tsn}
 use Rattle.sctp_chunk.specs.declared.sack.GapAckBlock.{GapAckBlock}
 use Rattle.sctp_state.specs.Options.{defaults}
 use Rattle.sctp_tracker.specs.Tracker.{DataTracker, tracker, number_of, is_valid, written, observe, moves_on, forward}
-use Rattle.sctp_tracker.specs.Sack.{sack, reported}
+use Rattle.sctp_tracker.specs.Sack.{sack}
 
 -- a tracker whose peer begins with this TSN
 abbrev fresh : ℕ → DataTracker

@@ -1,6 +1,6 @@
 //! The tracker of the TSNs that came from the peer.
 
-ghost use Rattle.std.specs.Prelude.{◌≡◌, ◌==◌, ℕ, ◌+◌, ◌-◌, ◌^◌, ◌<◌, ◌≤◌, ◌||◌, ◌&&◌, not, nat_le, length, false, if◌then◌else◌, IsTrue, IfOk, OnOk, OnErr};
+ghost use Rattle.std.specs.Prelude.{◌≡◌, ◌==◌, ℕ, ◌+◌, ◌-◌, ◌^◌, ◌<◌, ◌≤◌, ◌||◌, ◌&&◌, not, nat_le, length, false, if◌then◌else◌, IsTrue, IfOk, OnOk, OnErr, nat_lt, All, Contains};
 ghost use Rattle.std.specs.Duration.{as_nanos};
 ghost use Rattle.sctp_state.specs.Options.{options_of};
 ghost use Rattle.sctp_state.specs.Timers.{is_due, next_expiry};
@@ -8,9 +8,13 @@ ghost use Rattle.sctp_state.specs.Handover.{receive_of, handover_state_of};
 ghost use Rattle.sctp_serial.specs.Unwrapped.{origin};
 ghost use Rattle.sctp_chunk.specs.Chunk.{sack_chunk};
 ghost use Rattle.sctp_chunk.specs.Views.{sack_chunk_tree};
+ghost use Rattle.sctp_chunk.specs.declared.sack.GapAckBlock.{GapAckBlock};
+ghost use Rattle.sctp_chunk.specs.Covered.{AreRuns};
 
+mod duplicates;
 mod seen;
 
+use duplicates::Duplicates;
 use sctp_chunk::SackChunk;
 use sctp_serial::{SerialNumber, SocketTime, Tsn};
 use sctp_state::{BackoffAlgorithm, HandoverReadiness, Options, SocketHandoverState, Timer};
@@ -18,9 +22,6 @@ use seen::Seen;
 use std::alloc::{AllocError, Global};
 use std::marker::Model;
 use std::time::Duration;
-
-/// How many duplicates are kept for the next SACK.
-const MAX_DUPLICATES: usize = 20;
 
 /// How soon an acknowledgement is sent.
 #[derive(Clone, Copy, Debug, PartialEq, Eq)]
@@ -74,7 +75,7 @@ pub struct DataTracker {
     first: Tsn,
     begin: u64,
     seen: Seen,
-    duplicates: Vec<u64>,
+    duplicates: Duplicates,
     seen_packet: bool,
     ack_state: AckState,
     delayed_ack_timer: Timer,
@@ -87,14 +88,15 @@ impl Model for DataTracker {
 
     ghost Value = { DataTracker };
 
-    ghost view = { λ d. record { first = d.first.0; tracker = record { begin = d.begin; seen = d.seen; duplicates = d.duplicates.items; seen_packet = d.seen_packet; ack = d.ack_state; delay = d.delayed_ack_timer; most_delay = as_nanos d.delayed_ack_max_timeout } } };
+    ghost view = { λ d. record { first = d.first.0; tracker = record { begin = d.begin; seen = d.seen; duplicates = d.duplicates; seen_packet = d.seen_packet; ack = d.ack_state; delay = d.delayed_ack_timer; most_delay = as_nanos d.delayed_ack_max_timeout } } };
 
-    ghost invariant = { λ d. IsTracker (record { begin = d.begin; seen = d.seen; duplicates = d.duplicates.items; seen_packet = d.seen_packet; ack = d.ack_state; delay = d.delayed_ack_timer; most_delay = as_nanos d.delayed_ack_max_timeout }) };
+    ghost invariant = { λ d. IsTracker (record { begin = d.begin; seen = d.seen; duplicates = d.duplicates; seen_packet = d.seen_packet; ack = d.ack_state; delay = d.delayed_ack_timer; most_delay = as_nanos d.delayed_ack_max_timeout }) };
 }
 
 impl DataTracker {
     ghost use Rattle.sctp_tracker.specs.Tracker.{tracker, update_rto, written, number_of, is_valid, has_seen, observe, moves_on, forward, acking, is_ack_due, take_ack, packet_end, ack_timeout, IsTracker};
     ghost use Rattle.sctp_tracker.specs.Sack.{sack, reported, is_covered};
+    ghost use Rattle.sctp_tracker.specs.Told.{IsTold, is_duplicate, Ascend};
     ghost use Rattle.sctp_tracker.specs.TrackerHandover.{readiness, receive, restore};
 
     /// A tracker whose least TSN that was not seen is `peer_initial_tsn`.
@@ -110,7 +112,7 @@ impl DataTracker {
             first: peer_initial_tsn,
             begin,
             seen: Seen::up_to(alloc, begin),
-            duplicates: Vec::new(alloc),
+            duplicates: Duplicates::new(alloc),
             seen_packet: false,
             ack_state: AckState::Idle,
             delayed_ack_timer: Timer::new(delay, BackoffAlgorithm::Fixed, Some(0), None),
@@ -163,6 +165,7 @@ impl DataTracker {
         ensures answer { let n = number_of self.old tsn.0 in IfOk result (λ is_new. is_new ≡ (is_valid self.old.tracker n && not (has_seen self.old.tracker n))) }
         ensures seen { let n = number_of self.old tsn.0 in IsTrue (is_valid self.old.tracker n) → OnOk result ((m : ℕ) → has_seen self.new.tracker m ≡ (m == n || has_seen self.old.tracker m)) }
         ensures value { let n = number_of self.old tsn.0 in IsTrue (is_valid self.old.tracker n) → OnOk result (self.new ≡ record self.old { tracker = observe n is_immediate self.old.tracker }) }
+        ensures again { let n = number_of self.old tsn.0 in IsTrue (is_valid self.old.tracker n) → OnOk result ((m : ℕ) → is_duplicate self.new.tracker m ≡ (is_duplicate self.old.tracker m || (m == n && (has_seen self.old.tracker n && nat_lt (length self.old.tracker.duplicates) 20)))) }
         ensures invalid { is_valid self.old.tracker (number_of self.old tsn.0) ≡ false → self.new ≡ self.old }
         ensures tracker { IsTracker self.new.tracker }
         ensures few_runs { length self.new.tracker.seen.runs ≤ 50000 }
@@ -174,7 +177,7 @@ impl DataTracker {
         let number = self.unwrapped(tsn);
         let is_new = self.seen.insert(number)?;
         if !is_new {
-            remember(&mut self.duplicates, number)?;
+            self.duplicates.add(number)?;
         }
         let is_urgent = is_urgent(is_new, self.seen.has_gap(), is_immediate, self.seen_packet);
         self.seen_packet = true;
@@ -204,12 +207,21 @@ impl DataTracker {
     pub fn create_selective_ack(&mut self, a_rwnd: u32) -> Result<SackChunk, AllocError>
         ensures chunk { IfOk result (λ c. sack_chunk_tree c ≡ sack_chunk (sack a_rwnd self.old)) }
         ensures seen { IfOk result (λ c. (offset : ℕ) → IsTrue (is_covered c.gap_ack_blocks.items offset) → IsTrue (has_seen self.old.tracker (self.old.tracker.seen.front + offset))) }
+
+        // The blocks are the maximal runs of what was seen above the cumulative TSN, ascending, but those behind the first
+        // twenty or with an end more than 65,535 above it; the duplicates came again (clause `again` of `observe`).
+        ensures maximal { IfOk result (λ c. All (IsTold self.old.tracker.seen) c.gap_ack_blocks.items) }
+        ensures ascending { IfOk result (λ c. AreRuns 2 c.gap_ack_blocks.items) }
+        ensures every { IfOk result (λ c. (run : GapAckBlock) → IsTold self.old.tracker.seen run → Contains c.gap_ack_blocks.items run) }
+        ensures once { OnOk result (Ascend 0 self.old.tracker.duplicates) }
+        ensures few { length self.old.tracker.duplicates ≤ 20 }
+
         ensures value { OnOk result (self.new ≡ record self.old { tracker = reported self.old.tracker }) }
         ensures tracker { IsTracker self.new.tracker }
         ensures err { OnErr result (self.new ≡ self.old) }
     {
         let gap_ack_blocks = self.seen.gap_ack_blocks(self.alloc)?;
-        let duplicate_tsns = tsns_of(self.alloc, self.first, &self.duplicates)?;
+        let duplicate_tsns = self.duplicates.tsns(self.alloc, self.first)?;
         self.duplicates.clear();
         Ok(SackChunk {
             cumulative_tsn_ack: self.last_cumulative_acked_tsn(),
@@ -318,8 +330,7 @@ impl DataTracker {
     }
 }
 
-ghost use Rattle.sctp_tracker.specs.Tracker.{ack_delay, is_urgent, with_duplicate};
-ghost use Rattle.sctp_tracker.specs.Sack.{tsns};
+ghost use Rattle.sctp_tracker.specs.Tracker.{ack_delay, is_urgent};
 
 // How long an acknowledgement waits at most.
 fn ack_delay(rto: Duration, most: Duration) -> Duration
@@ -338,34 +349,4 @@ fn is_urgent(is_new: bool, has_gap: bool, is_immediate: bool, seen_packet: bool)
     ensures { result ≡ is_urgent is_new has_gap is_immediate seen_packet }
 {
     !is_new || has_gap || is_immediate || !seen_packet
-}
-
-// How the numbers are written.
-fn tsns_of(alloc: Global, first: Tsn, numbers: &[u64]) -> Result<Vec<Tsn>, AllocError>
-    ensures { IfOk result (λ written. written.items ≡ tsns first.0 numbers.now) }
-{
-    numbers
-        .iter()
-        .map(|number| Tsn::wrapped(first, *number))
-        .collect(alloc)
-}
-
-// Adds a number to those that came again, unless it is there or twenty are.
-fn remember(duplicates: &mut Vec<u64>, number: u64) -> Result<(), AllocError>
-    ensures ok { OnOk result (duplicates.new.items ≡ with_duplicate number duplicates.old.items) }
-    ensures few { length duplicates.old.items ≤ 20 → length duplicates.new.items ≤ 20 }
-    ensures err { OnErr result (duplicates.new.items ≡ duplicates.old.items) }
-{
-    if duplicates.len() >= MAX_DUPLICATES {
-        return Ok(());
-    }
-    let mut place = 0;
-    while place < duplicates.len() && duplicates[place] < number {
-        place += 1;
-    }
-    if place < duplicates.len() && duplicates[place] == number {
-        return Ok(());
-    }
-    duplicates.insert(place, number)?;
-    Ok(())
 }

@@ -2,5 +2,7 @@
 #![tactic(auto)]
 
 pub mod data_tracker;
+pub mod set_laws;
 
 pub use data_tracker::DataTracker;
+pub use set_laws::a_set_has_one_form;

@@ -1,6 +1,6 @@
 use Rattle.std.proofs.Common.{length, drop, take, ◌++◌, ◌-◌, ◌≡◌, ◌≤◌}
 use Rattle.sctp_tracker.specs.Tracker.{insert_number}
-use Rattle.sctp_tracker.proofs.data_tracker.remember.Given as goal
+use Rattle.sctp_tracker.proofs.data_tracker.duplicates.remember.Given as goal
 
 abbrev pub invariant-loop-place : goal.invariant-loop-place
 invariant-loop-place l = record {
