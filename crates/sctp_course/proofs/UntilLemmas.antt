@@ -1,6 +1,8 @@
 -- What each act tells, and the frame up to the first end of an association.
-use Rattle.std.proofs.Common.{◌≡◌, ◌+◌, true, List, [], ◌∷◌, ◌++◌, refl, sym, ap, ◌∙◌, append_assoc, append-nil, arith}
-use Rattle.sctp_state.specs.Events.{Event, OnConnected, OnConnectionRestarted, OnClosed, OnIncomingStreamReset, OnStreamsResetPerformed, OnStreamsResetFailed, OnError, numbers_of}
+use Rattle.std.proofs.Common.{◌≡◌, ◌⊎◌, inl, inr, ◌+◌, true, List, [], ◌∷◌, ◌++◌, refl, sym, ap, ◌∙◌, append_assoc, append-nil, arith}
+use Rattle.std.specs.List.{list_all}
+use Rattle.std.proofs.lemmas.Bool.{and_parts}
+use Rattle.sctp_state.specs.Events.{Event, OnConnected, OnConnectionRestarted, OnClosed, OnAborted, OnIncomingStreamReset, OnStreamsResetPerformed, OnStreamsResetFailed, OnError, numbers_of}
 use Rattle.sctp_table.specs.Association.{Context, Endpoint}
 use Rattle.sctp_table.specs.Acknowledging.{cleaned}
 use Rattle.sctp_table.specs.Requests.{Outcome, Unsettled, Done, Denied, outcome}
@@ -8,7 +10,7 @@ use Rattle.sctp_table.specs.Packets.{room}
 use Rattle.sctp_table.specs.Resets.{on_outcome}
 use Rattle.sctp_table.specs.Laws.{Call, called, ending, endings}
 use Rattle.sctp_course.specs.Acts.{Making, calm, PacketAct, begins, adds_plain, emits, complains, counts, before_packets, after_packets, OpeningAct, connects, adds_init, answers_new, answers_waiting, answers_echoed, answers_again, echoes, adds_cookie, establishes, opens, restarts, opens_again, maintains, adds_cookie_ack, before_opening, after_opening, ClosingAct, closes, shuts, shuts_on, before_closing, after_closing, DataAct, takes_data, takes_idata, takes_forward, takes_iforward, before_data, after_data, SackAct, takes_sack, samples, counts_errors, point_of, before_sack, after_sack, SendingAct, asks, adds_ack, expires, adds_forward, forwards_later, asks_no_reset, asks_reset, adds_request, sends, sends_fast, before_sending, after_sending, TimeAct, advances, delay_ends, times_out, beats, times_init, times_cookie, times_request, wakes_request, before_time, after_time, CallAct, accepts, refuses, takes_message, sets_low_threshold, sets_priority, sets_max_message_size, before_call, after_call, ResetAct, prepares, defers, performs, processes, takes_response, adds_responses, before_reset, after_reset, HandoverAct, leaves, takes_up, before_handover, after_handover, InputAct, ends_packet, before_input, after_input, Keeps, HasNoEnd, KeepsUntilEnd}
-use Rattle.sctp_course.proofs.ToldLemmas.{TellsLightly, tells_same, tells_all, tells_nack_all, tells_expired, tells_sack, tells_threshold, tells_sent, tells_prepared, tells_refused}
+use Rattle.sctp_course.proofs.ToldLemmas.{is_light, TellsLightly, tells_same, tells_all, tells_nack_all, tells_expired, tells_sack, tells_threshold, tells_sent, tells_prepared, tells_refused}
 use Rattle.sctp_course.proofs.ActsLemmas.{keeps_call}
 
 -- ---- acts that tell nothing of how the association stands
@@ -198,3 +200,129 @@ grows_frame call = record {
 
 pub grows_call : {P : Type 0} (call : Call) (s : Endpoint P) → Grows (calm s) (calm (called call s))
 grows_call call s = keeps_call call (grows_frame call) s
+
+-- ---- where an end is told, up to there
+
+-- an end at work that has told no association over, and what is told then in the same call
+pub record FirstEnd {P : Type 0} (R : Making P → Making P → Type 0) (a b : Making P) : Type 0 where
+  pub here : Making P
+  pub none : HasNoEnd here
+  pub kept : R a here
+  pub event : Event P
+  pub ends : ending event ≡ 1
+  pub more : List (Event P)
+  pub told : b.context.told.events ≡ here.context.told.events ++ event ∷ more
+
+-- none is told, or there is a first one
+abbrev pub ToFirstEnd : {P : Type 0} → (Making P → Making P → Type 0) → Making P → Making P → Type 0
+ToFirstEnd R a b = (HasNoEnd b × R a b) ⊎ FirstEnd R a b
+
+light_ends : {P : Type 0} (es : List (Event P)) → list_all is_light es ≡ true → endings es ≡ 0
+light_ends [] h = refl
+light_ends (e ∷ es) h = let parts = and_parts (is_light e) (list_all is_light es) h in omega (arith, one e parts.0, light_ends es parts.1)
+  where
+    one : {P : Type 0} (e : Event P) → is_light e ≡ true → ending e ≡ 0
+    one OnClosed h = cc
+    one (OnAborted kind text) h = cc
+    one e h = refl
+
+module _ {P : Type 0} {call : Call} {R : Making P → Making P → Type 0} (k : KeepsUntilEnd call R) where
+  abbrev First : Making P → Making P → Type 0
+  First a b = HasNoEnd a → ToFirstEnd R a b
+
+  -- an act that tells these, none of them an end
+  still : (a b : Making P) (es : List (Event P)) → b.context.told.events ≡ a.context.told.events ++ es → endings es ≡ 0 → (HasNoEnd b → R a b) → First a b
+  still a b es e none f h = let n : HasNoEnd b = omega (arith, ap endings e, endings_both a.context.told.events es, none, h) in inl (n, f n)
+
+  lightly : (a b : Making P) → Light a b → (HasNoEnd b → R a b) → First a b
+  lightly a b l f = still a b l.events l.behind (light_ends l.events l.light) f
+
+  first_through : (a b c : Making P) → Grows b c → First a b → First b c → First a c
+  first_through a b c grows f h none = go (f none)
+    where
+      go : ToFirstEnd R a b → ToFirstEnd R a c
+      go (inl x) = later (h x.0)
+        where
+          later : ToFirstEnd R b c → ToFirstEnd R a c
+          later (inl y) = inl (y.0, k.through x.1 y.1)
+          later (inr y) = inr (record { here = y.here; none = y.none; kept = k.through x.1 y.kept; event = y.event; ends = y.ends; more = y.more; told = y.told })
+      go (inr x) = inr (record {
+        here = x.here;
+        none = x.none;
+        kept = x.kept;
+        event = x.event;
+        ends = x.ends;
+        more = x.more ++ grows.events;
+        told = grows.behind ∙ (ap (λ (es : List (Event P)). es ++ grows.events) x.told ∙ append_assoc x.here.context.told.events (x.event ∷ x.more) grows.events);
+      })
+
+  -- an act that ends it
+  over_by : (a b : Making P) (e : Event P) → b.context.told.events ≡ a.context.told.events ++ e ∷ [] → ending e ≡ 1 → First a b
+  over_by a b e told is none = inr (record { here = a; none = none; kept = k.same a; event = e; ends = is; more = []; told = told })
+
+  first_packets : (act : PacketAct P call) → First (before_packets act) (after_packets act)
+  unfolding grows_packets grows_same grows_one
+  first_packets act = still (before_packets act) (after_packets act) (grows_packets act).events (grows_packets act).behind (quiet act) (k.packets act)
+    where
+      quiet : (act : PacketAct P call) → endings (grows_packets act).events ≡ 0
+      quiet (begins p m new) = refl
+      quiet (adds_plain chunk m plain others) = refl
+      quiet (emits m some) = refl
+      quiet (complains kind text m) = refl
+      quiet (counts m) = refl
+
+  first_opening : (act : OpeningAct P call) → First (before_opening act) (after_opening act)
+  unfolding grows_opening
+  first_opening act = still (before_opening act) (after_opening act) (grows_opening act).events (grows_opening act).behind (quiet act) (k.opening act)
+    where
+      quiet : (act : OpeningAct P call) → endings (grows_opening act).events ≡ 0
+      quiet (connects m is) = refl
+      quiet (adds_init tag first t1 m to) = refl
+      quiet (answers_new tag i m heard to) = refl
+      quiet (answers_waiting tag i my_tag first t1 m heard to) = refl
+      quiet (answers_echoed tag i t1 cookie t m heard to) = refl
+      quiet (answers_again tag i phase t m heard late to) = refl
+      quiet (echoes tag i cookie my_tag first t1 m heard brought) = refl
+      quiet (adds_cookie t1 cookie t m to) = refl
+      quiet (establishes tag t1 cookie t m heard) = refl
+      quiet (opens tag c m echoed none own) = refl
+      quiet (restarts tag c phase t m echoed verdict) = refl
+      quiet (opens_again tag c phase t m echoed verdict) = refl
+      quiet (maintains tag c t1 cookie t m echoed verdict) = refl
+      quiet (adds_cookie_ack tag back phase t m echoed late) = refl
+
+  first_closing : (act : ClosingAct P call) → First (before_closing act) (after_closing act)
+  unfolding grows_closing
+  first_closing (closes e m there is) = over_by m (after_closing {call = call} (closes e m there is)) e refl is
+  first_closing (shuts phase t m is early) =
+      let act : ClosingAct P call = shuts phase t m is early in still (before_closing act) (after_closing act) [] (grows_closing act).behind refl (k.closing act)
+  first_closing (shuts_on phase next t m late later) =
+      let act : ClosingAct P call = shuts_on phase next t m late later in still (before_closing act) (after_closing act) [] (grows_closing act).behind refl (k.closing act)
+
+  first_handover : (act : HandoverAct P call) → First (before_handover act) (after_handover act)
+  first_handover (leaves phase t m is) =
+      let act : HandoverAct P call = leaves phase t m is in over_by (before_handover act) (after_handover act) OnClosed refl refl
+  first_handover (takes_up h m is valid) =
+      let act : HandoverAct P call = takes_up h m is valid in still (before_handover act) (after_handover act) (OnConnected ∷ []) refl refl (k.handover act)
+
+  first_frame : Keeps call (λ a b. Grows a b × First a b)
+  first_frame = record {
+    same = λ m. (grows_same m m refl, λ none. inl (none, k.same m));
+    through = λ {a} {b} {c} g h. (grows_through a b c g.0 h.0, first_through a b c h.0 g.1 h.1);
+    packets = λ act. (grows_packets act, first_packets act);
+    opening = λ act. (grows_opening act, first_opening act);
+    closing = λ act. (grows_closing act, first_closing act);
+    data_acts = λ act. (grows_light (before_data act) (after_data act) (light_data act), lightly (before_data act) (after_data act) (light_data act) (k.data_acts act));
+    acknowledging = λ act. (grows_light (before_sack act) (after_sack act) (light_sack act), lightly (before_sack act) (after_sack act) (light_sack act) (k.acknowledging act));
+    sending = λ act. (grows_light (before_sending act) (after_sending act) (light_sending act), lightly (before_sending act) (after_sending act) (light_sending act) (k.sending act));
+    time = λ act. (grows_light (before_time act) (after_time act) (light_time act), lightly (before_time act) (after_time act) (light_time act) (k.time act));
+    calls = λ act. (grows_light (before_call act) (after_call act) (light_call act), lightly (before_call act) (after_call act) (light_call act) (k.calls act));
+    resets = λ act. (grows_light (before_reset act) (after_reset act) (light_reset act), lightly (before_reset act) (after_reset act) (light_reset act) (k.resets act));
+    handover = λ act. (grows_handover act, first_handover act);
+    input = λ act. (grows_light (before_input act) (after_input act) (light_input act), lightly (before_input act) (after_input act) (light_input act) (k.input act));
+  }
+
+-- What each act keeps as long as no association has ended, each call keeps up to the first end that it tells.
+pub until_first_end : {P : Type 0} (call : Call) {R : Making P → Making P → Type 0} → KeepsUntilEnd call R → (s : Endpoint P) → HasNoEnd (calm s)
+    → ToFirstEnd R (calm s) (calm (called call s))
+until_first_end call k s none = (keeps_call call (first_frame k) s).1 none

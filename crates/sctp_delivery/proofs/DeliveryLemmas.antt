@@ -1,29 +1,38 @@
 -- Along a course each direction is a run of the rules, turn by turn, and at each point what became ready fits.
-use Rattle.std.proofs.Common.{◌≡◌, ℕ, ◌+◌, ◌^◌, ◌<◌, not, Bool, true, false, Option, Some, None, List, [], ◌∷◌, ◌++◌, length, map, slice_get, refl, sym, ap, subst, ◌∙◌, append-nil, append_assoc, length-append, arith}
+use Rattle.std.proofs.Common.{◌≡◌, ℕ, ◌+◌, ◌^◌, ◌<◌, not, Bool, true, false, Option, Some, None, List, [], ◌∷◌, ◌++◌, length, map, take, slice_get, refl, sym, ap, subst, ◌∙◌, append-nil, append_assoc, length-append, arith}
 use Rattle.std.specs.List.{list_any}
 use Rattle.std.proofs.lemmas.Bool.{or_parts}
 use Rattle.sctp_serial.specs.Messages as messages
 use Rattle.sctp_packet.specs.Packet.{PacketTree}
+use Rattle.sctp_state.specs.Events.{Event}
 use Rattle.sctp_state.specs.Options.{Options}
 use Rattle.sctp_state.specs.Capabilities.{agreed}
 use Rattle.sctp_state.proofs.CapabilitiesLemmas.{agreed-exchanged}
 use Rattle.sctp_rx_rules.specs.View.{ready_of}
-use Rattle.sctp_rules.specs.State.{Message, Transfer}
+use Rattle.sctp_rules.specs.State.{Message, Transfer, has}
+use Rattle.sctp_rules.specs.Kept.{Kept}
+use Rattle.sctp_rules.proofs.ToolsLemmas.{has_keeps}
+use Rattle.sctp_tx_rules.specs.Led.{delivered}
+use Rattle.sctp_tx_rules.proofs.SackLemmas.{delivered_more}
 use Rattle.sctp_rules.specs.Claims.{Grows}
 use Rattle.sctp_table_laws.specs.Mapped.{Carried}
 use Rattle.sctp_table.specs.Input.{refusal}
+use Rattle.sctp_table.specs.Laws.{endings}
 use Rattle.sctp_course.specs.Course.{Side, Pair, emitted, Turn, Calls, Gives, Refuses, given, foreign_if, turned, goes, run, MayTurn, side_of, FollowsTheRules, HasNotEnded, AreGiven, state_of}
 use Rattle.sctp_course.specs.Handing.{ready_at, handed_by, handed_at, new_behind, readied}
 use Rattle.sctp_course.proofs.CourseLemmas.{Halves, swapped, before_run, goes_joined}
 use Rattle.sctp_course.proofs.HandingLemmas.{Hands, hands_at}
 use Rattle.sctp_delivery.specs.Accepted.{Offer, accepted_in, accepted_at, accepted}
 use Rattle.sctp_delivery.specs.Windows.{Stamp, stamp, Stamps, stamps_after, stamps_for, IsTimely, AreWithin, KeepsWindows, resets, KeepsStreams}
-use Rattle.sctp_delivery.specs.GivenUp.{given_up_at, given_up}
+use Rattle.sctp_delivery.specs.GivenUp.{told_by, given_up_at, given_up}
+use Rattle.sctp_delivery.specs.Delivery.{ReportsAreTrue}
+use Rattle.sctp_delivery.specs.Ending.{stamps_along}
+use Rattle.sctp_delivery.proofs.ClaimLemmas.{ReceivesIn}
 use Rattle.sctp_delivery.proofs.DirectionLemmas.{Flows, IsSilent}
 use Rattle.sctp_delivery.proofs.AccountLemmas.{Accounted}
-use Rattle.sctp_delivery.proofs.GoingLemmas.{AreOffered, Parts, turn_out}
+use Rattle.sctp_delivery.proofs.GoingLemmas.{AreOffered, Parts, Turned, turn_out, turn_until}
 use Rattle.sctp_delivery.proofs.ComingLemmas.{turn_in}
-use Rattle.sctp_delivery.proofs.FitsLemmas.{message_of, lifecycle_of, offered_from, accepted_there, lifecycle_accepted, ready_is}
+use Rattle.sctp_delivery.proofs.FitsLemmas.{message_of, lifecycle_of, offered_from, accepted_there, lifecycle_accepted, ready_is, first_places}
 use Rattle.sctp_delivery.proofs.DoneLemmas.{Point, point}
 
 -- ---- what was told is taken after each turn
@@ -45,7 +54,7 @@ silent_turn (Calls call) x y h = record { told = refl }
 silent_turn (Gives which checksum) x y h = silent_given (slice_get (emitted y) which) checksum x h
 silent_turn (Refuses p) x y h = silent_foreign (refusal p.header.verification_tag p.chunks (state_of x)) p x h
 
-silent_goes : (at_a : Bool) (t : Turn) (w : Pair) → AreSilent w → AreSilent (goes at_a t w)
+pub silent_goes : (at_a : Bool) (t : Turn) (w : Pair) → AreSilent w → AreSilent (goes at_a t w)
 silent_goes true t w h = record { a = silent_turn t w.a w.b h.a; b = h.b }
 silent_goes false t w h = record { a = h.a; b = silent_turn t w.b w.a h.b }
 
@@ -128,14 +137,6 @@ module _ (message : ℕ → Message) (lifecycle : ℕ → Option ℕ) (mixed : B
 
 -- ---- courses
 
--- where this was accepted, became ready and was given up before, one list of places serves all along
-pub record DeliversOn (from_a : Bool) (es : List (Bool × Turn)) (w : Pair) (done : List Offer) (ready : List messages.Message) (gone : List ℕ) (x : Transfer) : Type 0 where
-  pub places : List ℕ
-  pub more : List ℕ
-  pub grown : places ≡ x.receiver.places ++ more
-  pub points : (early late : List (Bool × Turn)) → es ≡ early ++ late
-      → Point (side_of from_a (run early w)) (done ++ accepted from_a early w) (ready ++ readied (not from_a) early w) (gone ++ given_up from_a early w) places
-
 abbrev first_turn : List (Bool × Turn) → (Bool × Turn) → Bool × Turn
 first_turn [] d = d
 first_turn (e ∷ es) d = e
@@ -148,6 +149,24 @@ module _ (all : List Offer) (mixed : Bool) (parts : Parts (message_of all) (life
     (mode : mixed ≡ (agreed a b).message_interleaving) (few : length all < 2 ^ 32) (from_a : Bool) where
   abbrev From : Pair → Stamps → ℕ → List messages.Message → Transfer → Type 0
   From w stamps n handed x = FlowsFrom (message_of all) (lifecycle_of all) mixed from_a w stamps n handed x
+
+  -- where such a course leads, whose places are all that became ready
+  pub record Leads (w : Pair) (stamps : Stamps) (done : List Offer) (ready : List messages.Message) (gone places : List ℕ) : Type 0 where
+    pub handed : List messages.Message
+    pub ready_are : ready ≡ handed ++ ready_at (side_of (not from_a) w)
+    pub last : Transfer
+    pub flows : From w stamps (length done) handed last
+    pub accounts : Accounted (lifecycle_of all) (side_of from_a w) gone last
+    pub places_are : places ≡ last.receiver.places
+
+  -- where this was accepted, became ready and was given up before, one list of places serves all along
+  pub record DeliversOn (es : List (Bool × Turn)) (w : Pair) (stamps : Stamps) (done : List Offer) (ready : List messages.Message) (gone : List ℕ) (x : Transfer) : Type 0 where
+    pub places : List ℕ
+    pub more : List ℕ
+    pub grown : places ≡ x.receiver.places ++ more
+    pub points : (early late : List (Bool × Turn)) → es ≡ early ++ late
+        → Point (side_of from_a (run early w)) (done ++ accepted from_a early w) (ready ++ readied (not from_a) early w) (gone ++ given_up from_a early w) places
+    pub leads : Leads (run es w) (stamps_along es w stamps) (done ++ accepted from_a es w) (ready ++ readied (not from_a) es w) (gone ++ given_up from_a es w) places
 
   -- now
   point_now : (w : Pair) (stamps : Stamps) (done later : List Offer) → all ≡ done ++ later → (handed ready : List messages.Message)
@@ -167,16 +186,18 @@ module _ (all : List Offer) (mixed : Bool) (parts : Parts (message_of all) (life
       (subst (λ (ps : List ℕ). Point (side_of from_a w) done ready ps places) (sym (append-nil gone)) p))
 
   -- one turn, then the others
-  on_then : (e : Bool × Turn) (es : List (Bool × Turn)) (w : Pair) (done : List Offer) (ready : List messages.Message) (gone : List ℕ) (x y : Transfer) → Grows x y
+  on_then : (e : Bool × Turn) (es : List (Bool × Turn)) (w : Pair) (stamps : Stamps) (done : List Offer) (ready : List messages.Message) (gone : List ℕ) (x y : Transfer) → Grows x y
       → ((places more : List ℕ) → places ≡ x.receiver.places ++ more → Point (side_of from_a w) done ready gone places)
-      → DeliversOn from_a es (goes e.0 e.1 w) (done ++ accepted_at from_a e.0 e.1 w)
+      → DeliversOn es (goes e.0 e.1 w) (stamps_after e.0 e.1 w stamps) (done ++ accepted_at from_a e.0 e.1 w)
       (ready ++ new_behind (ready_at (side_of (not from_a) w)) (ready_at (side_of (not from_a) (goes e.0 e.1 w)))) (gone ++ given_up_at from_a e.0 e.1 w) y
-      → DeliversOn from_a (e ∷ es) w done ready gone x
-  on_then e es w done ready gone x y g now d = record {
+      → DeliversOn (e ∷ es) w stamps done ready gone x
+  on_then e es w stamps done ready gone x y g now d = record {
     places = d.places;
     more = g.0 ++ d.more;
     grown = grown;
     points = points;
+    leads =
+        regrouped (run es v) (stamps_along es v (stamps_after e.0 e.1 w stamps)) (accepted from_a es v) (readied (not from_a) es v) (given_up from_a es v) d.leads;
   }
     where
       v : Pair
@@ -201,6 +222,13 @@ module _ (all : List Offer) (mixed : Bool) (parts : Parts (message_of all) (life
           (subst (λ (m : List messages.Message). Point s ((done ++ os) ++ os2) m (gone ++ (left ++ ps2)) d.places) (append_assoc ready new ms2)
           (subst (λ (l : List ℕ). Point s ((done ++ os) ++ os2) ((ready ++ new) ++ ms2) l d.places) (append_assoc gone left ps2) p))
 
+      regrouped : (u : Pair) (z : Stamps) (os2 : List Offer) (ms2 : List messages.Message) (ps2 : List ℕ)
+          → Leads u z ((done ++ os) ++ os2) ((ready ++ new) ++ ms2) ((gone ++ left) ++ ps2) d.places → Leads u z (done ++ (os ++ os2)) (ready ++ (new ++ ms2)) (gone ++ (left ++ ps2)) d.places
+      regrouped u z os2 ms2 ps2 l =
+          subst (λ (o : List Offer). Leads u z o (ready ++ (new ++ ms2)) (gone ++ (left ++ ps2)) d.places) (append_assoc done os os2)
+          (subst (λ (m : List messages.Message). Leads u z ((done ++ os) ++ os2) m (gone ++ (left ++ ps2)) d.places) (append_assoc ready new ms2)
+          (subst (λ (p : List ℕ). Leads u z ((done ++ os) ++ os2) ((ready ++ new) ++ ms2) p d.places) (append_assoc gone left ps2) l))
+
       points : (early late : List (Bool × Turn)) → (e ∷ es) ≡ early ++ late
           → Point (side_of from_a (run early w)) (done ++ accepted from_a early w) (ready ++ readied (not from_a) early w) (gone ++ given_up from_a early w) d.places
       points [] late is = here w done ready gone d.places (now d.places (g.0 ++ d.more) grown)
@@ -210,39 +238,48 @@ module _ (all : List Offer) (mixed : Bool) (parts : Parts (message_of all) (life
           (later (side_of from_a (run early v)) (accepted from_a early v) (readied (not from_a) early v) (given_up from_a early v) (d.points early late (ap other_turns is)))
 
   pub delivers_on : (es : List (Bool × Turn)) (w : Pair) (stamps : Stamps) → FollowsTheRules es w → HasNotEnded (run es w) → KeepsWindows es w stamps → KeepsStreams es
-      → Halves a b w.a w.b → AreSilent w → (done : List Offer) → all ≡ done ++ accepted from_a es w → (handed ready : List messages.Message)
+      → Halves a b w.a w.b → AreSilent w → (done more : List Offer) → all ≡ done ++ (accepted from_a es w ++ more) → (handed ready : List messages.Message)
       → ready ≡ handed ++ ready_at (side_of (not from_a) w) → (gone : List ℕ) (x : Transfer) → From w stamps (length done) handed x
-      → Accounted (lifecycle_of all) (side_of from_a w) gone x → DeliversOn from_a es w done ready gone x
-  delivers_on [] w stamps follows none windows streams h quiet done is handed ready r gone x f told = record {
+      → Accounted (lifecycle_of all) (side_of from_a w) gone x → DeliversOn es w stamps done ready gone x
+  delivers_on [] w stamps follows none windows streams h quiet done more is handed ready r gone x f told = record {
     places = x.receiver.places;
     more = [];
     grown = sym (append-nil x.receiver.places);
     points = points;
+    leads =
+        subst (λ (os : List Offer). Leads w stamps os (ready ++ []) (gone ++ []) x.receiver.places) (sym (append-nil done))
+        (subst (λ (ms : List messages.Message). Leads w stamps done ms (gone ++ []) x.receiver.places) (sym (append-nil ready))
+        (subst (λ (ps : List ℕ). Leads w stamps done ready ps x.receiver.places) (sym (append-nil gone)) now));
   }
     where
+      now : Leads w stamps done ready gone x.receiver.places
+      now = record { handed = handed; ready_are = r; last = x; flows = f; accounts = told; places_are = refl }
+
       points : (early late : List (Bool × Turn)) → [] ≡ early ++ late
           → Point (side_of from_a (run early w)) (done ++ accepted from_a early w) (ready ++ readied (not from_a) early w) (gone ++ given_up from_a early w) x.receiver.places
       points [] late e =
           here w done ready gone x.receiver.places
-          (point_now w stamps done [] is handed ready r gone x f told x.receiver.places [] (sym (append-nil x.receiver.places)))
+          (point_now w stamps done more is handed ready r gone x f told x.receiver.places [] (sym (append-nil x.receiver.places)))
       points (e ∷ early) late is = cc
-  delivers_on (e ∷ es) w stamps follows none windows streams h quiet done is handed ready r gone x f told =
+  delivers_on (e ∷ es) w stamps follows none windows streams h quiet done more is handed ready r gone x f told =
       let v : Pair = goes e.0 e.1 w in
       let os : List Offer = accepted_at from_a e.0 e.1 w in
+      let later : List Offer = accepted from_a es v ++ more in
+      let split : all ≡ done ++ (os ++ later) = is ∙ ap (λ (l : List Offer). done ++ l) (append_assoc os (accepted from_a es v) more) in
       let new : List messages.Message = new_behind (ready_at (side_of (not from_a) w)) (ready_at (side_of (not from_a) v)) in
       let not_yet : HasNotEnded v = before_run es v none in
       let no_resets = or_parts (resets e.1) (list_any (λ (e : Bool × Turn). resets e.1) es) streams in
       let s = stepped (message_of all) (lifecycle_of all) mixed parts a b own other mode from_a e.0 e.1 w stamps h quiet windows.0 follows.0 no_resets.0 windows.1 not_yet (length done) handed
-      (offered_from all done os (accepted from_a es v) is) (below done os (accepted from_a es v) is) x f in
+      (offered_from all done os later split) (below done os later split) x f in
       let hand : Hands (handed_at (not from_a) e.0 e.1 w) (state_of (side_of (not from_a) w)) (state_of (side_of (not from_a) v)) =
       hands_at a b own other (not from_a) e.0 e.1 w follows.0 not_yet h in
       let now_ready : ready ++ new ≡ (handed ++ handed_at (not from_a) e.0 e.1 w) ++ ready_at (side_of (not from_a) v) =
       ap (λ (ms : List messages.Message). ms ++ new) r
       ∙ (append_assoc handed (ready_at (side_of (not from_a) w)) new
       ∙ (ap (λ (ms : List messages.Message). handed ++ ms) hand.all ∙ sym (append_assoc handed (handed_at (not from_a) e.0 e.1 w) (ready_at (side_of (not from_a) v))))) in
-      on_then e es w done ready gone x s.to s.grows (point_now w stamps done (accepted from_a (e ∷ es) w) is handed ready r gone x f told)
+      on_then e es w stamps done ready gone x s.to s.grows (point_now w stamps done (accepted from_a (e ∷ es) w ++ more) is handed ready r gone x f told)
       (delivers_on es v (stamps_after e.0 e.1 w stamps) follows.1 none windows.2 no_resets.1 (goes_joined a b own other e.0 e.1 w follows.0 not_yet h)
-      (silent_goes e.0 e.1 w quiet) (done ++ os) (is ∙ sym (append_assoc done os (accepted from_a es v))) (handed ++ handed_at (not from_a) e.0 e.1 w) (ready ++ new) now_ready
+      (silent_goes e.0 e.1 w quiet) (done ++ os) more (split ∙ sym (append_assoc done os later)) (handed ++ handed_at (not from_a) e.0 e.1 w) (ready ++ new) now_ready
       (gone ++ given_up_at from_a e.0 e.1 w) s.to
       (subst (λ (n : ℕ). From v (stamps_after e.0 e.1 w stamps) n (handed ++ handed_at (not from_a) e.0 e.1 w) s.to) (sym (length-append done os)) s.flows) (s.accounts gone told))
     where
@@ -252,3 +289,64 @@ module _ (all : List Offer) (mixed : Bool) (parts : Parts (message_of all) (life
           let m = length-append done (os ++ later) in
           let k = length-append os later in
           omega (arith, few, n, m, k)
+
+  -- ---- at one more turn of the sender, up to the first end of an association
+
+  -- what it tells is told behind what was told before
+  told_both : (side : Side) (past early rest : List (Event Carried)) → side.told ≡ past ++ (early ++ rest) → (offers : List Offer) (places : List ℕ)
+      → ReportsAreTrue offers side.told places → ReportsAreTrue offers (past ++ early) places
+  told_both side past early rest e offers places true_of id is =
+      let all_told : delivered side.told ≡ delivered (past ++ early) ++ delivered rest =
+      ap (λ (es : List (Event Carried)). delivered es) (e ∙ sym (append_assoc past early rest)) ∙ delivered_more (past ++ early) rest in
+      true_of id (ap (λ (ids : List ℕ). has id ids) all_told ∙ has_keeps id (delivered (past ++ early)) (delivered rest) is)
+
+  until_then : (s r side : Side) (of : Stamp → ℕ) (stamps_s stamps_r : List Stamp) (done os : List Offer) → all ≡ done ++ os → (handed ready : List messages.Message)
+      → ready ≡ handed ++ ready_at r → (x : Transfer) → Kept (message_of all) mixed x → ReceivesIn (message_of all) mixed (state_of r) handed x
+      → (gone by : List ℕ) → Accounted (lifecycle_of all) s gone x
+      → Turned (message_of all) (lifecycle_of all) mixed of side r (length done + length os) handed stamps_s stamps_r x s by
+      → ReportsAreTrue (done ++ os) side.told (take (length ready) x.receiver.places)
+  until_then s r side of stamps_s stamps_r done os is handed ready ready_are x kept receives gone by told t =
+      let whole : all ≡ (done ++ os) ++ [] = is ∙ sym (append-nil (done ++ os)) in
+      let shown = λ (y : Transfer) (h : ReceivesIn (message_of all) mixed (state_of r) handed y).
+      subst (λ (ms : List messages.Message). y.receiver.ready ≡ map ready_of ms) (sym ready_are) (ready_is (message_of all) mixed (state_of r) handed y h) in
+      let p : Point side (done ++ os) ready (gone ++ by) t.to.receiver.places =
+      point (message_of all) (lifecycle_of all) mixed (done ++ os) (accepted_there all (done ++ os) [] whole) (lifecycle_accepted all (done ++ os) [] whole) side t.to t.flows.kept
+      (t.flows.accepted_is ∙ sym (length-append done os)) (gone ++ by) (t.accounts gone told) t.flows.sends ready (shown t.to t.flows.receives) t.to.receiver.places []
+      (sym (append-nil t.to.receiver.places)) in
+      let there = accepted_there all (done ++ os) [] whole in
+      let now : take (length ready) t.to.receiver.places ≡ x.receiver.places =
+      first_places (message_of all) (done ++ os) there mixed x ready kept (shown x receives) t.to.receiver.places t.grows.0 t.grows.1 in
+      let before : take (length ready) x.receiver.places ≡ x.receiver.places =
+      first_places (message_of all) (done ++ os) there mixed x ready kept (shown x receives) x.receiver.places [] (sym (append-nil x.receiver.places)) in
+      subst (λ (ps : List ℕ). ReportsAreTrue (done ++ os) side.told ps) (now ∙ sym before) p.reports
+
+module _ (all : List Offer) (mixed : Bool) (parts : Parts (message_of all) (lifecycle_of all) mixed) (few : length all < 2 ^ 32) where
+  below_all : (done os : List Offer) → all ≡ done ++ os → length done + length os < 2 ^ 32
+  below_all done os e =
+      let n = ap (λ (z : List Offer). length z) e in
+      let m = length-append done os in
+      omega (arith, few, n, m)
+
+  pub reports_then : (from_a : Bool) (a b : Options) (own : AreGiven a) (other : AreGiven b) (mode : mixed ≡ (agreed a b).message_interleaving) (w : Pair) (stamps : Stamps)
+      → Halves a b w.a w.b → AreSilent w → AreWithin w → HasNotEnded w → (t : Turn) → MayTurn t (side_of from_a w) → resets t ≡ false
+      → IsTimely t (stamp w) (stamps_for from_a stamps) → (done : List Offer) → all ≡ done ++ accepted_in t (side_of from_a w) → (ready : List messages.Message) (gone places : List ℕ)
+      → Leads all mixed parts a b own other mode few from_a w stamps done ready gone places
+      → (early late : List (Event Carried)) → (told_by t (side_of from_a w) (side_of (not from_a) w)).events ≡ early ++ late → endings early ≡ 0
+      → ReportsAreTrue (done ++ accepted_in t (side_of from_a w)) ((side_of from_a w).told ++ early) (take (length ready) places)
+  reports_then true a b own other mode w stamps h quiet within none t may no_reset timely done is ready gone places l early late told before =
+      let offered = offered_from all done (accepted_in t w.a) [] (is ∙ ap (λ (os : List Offer). done ++ os) (sym (append-nil (accepted_in t w.a)))) in
+      let u = turn_until (message_of all) (lifecycle_of all) mixed (of_end true) parts a b own other mode w.a w.b h quiet.a quiet.b within.a (length done) l.handed stamps.of_a stamps.of_b
+      l.last l.flows (stamp w) refl (λ old y. y.a) t may no_reset timely none.a offered (below_all done (accepted_in t w.a) is) early late told before in
+      told_both all mixed parts a b own other mode few true u.side w.a.told early u.rest u.told (done ++ accepted_in t w.a) (take (length ready) places)
+      (subst (λ (ps : List ℕ). ReportsAreTrue (done ++ accepted_in t w.a) u.side.told (take (length ready) ps)) (sym l.places_are)
+      (until_then all mixed parts a b own other mode few true w.a w.b u.side (of_end true) _ _ done (accepted_in t w.a) is l.handed ready l.ready_are l.last l.flows.kept l.flows.receives
+      gone u.by l.accounts u.out))
+  reports_then false a b own other mode w stamps h quiet within none t may no_reset timely done is ready gone places l early late told before =
+      let offered = offered_from all done (accepted_in t w.b) [] (is ∙ ap (λ (os : List Offer). done ++ os) (sym (append-nil (accepted_in t w.b)))) in
+      let u = turn_until (message_of all) (lifecycle_of all) mixed (of_end false) parts b a other own (mode_back (message_of all) (lifecycle_of all) mixed parts a b own other mode) w.b w.a (swapped a b w.a w.b h)
+      quiet.b quiet.a within.b (length done) l.handed stamps.of_b stamps.of_a
+      l.last l.flows (stamp w) refl (λ old y. y.b) t may no_reset timely none.b offered (below_all done (accepted_in t w.b) is) early late told before in
+      told_both all mixed parts a b own other mode few false u.side w.b.told early u.rest u.told (done ++ accepted_in t w.b) (take (length ready) places)
+      (subst (λ (ps : List ℕ). ReportsAreTrue (done ++ accepted_in t w.b) u.side.told (take (length ready) ps)) (sym l.places_are)
+      (until_then all mixed parts a b own other mode few false w.b w.a u.side (of_end false) _ _ done (accepted_in t w.b) is l.handed ready l.ready_are l.last l.flows.kept l.flows.receives
+      gone u.by l.accounts u.out))

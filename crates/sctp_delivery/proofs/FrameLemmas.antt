@@ -72,7 +72,7 @@ pub record KeepsJoined (g : Setting) (call : Call) (R : Making Carried → Makin
 abbrev pub Joined : Setting → (Making Carried → Making Carried → Type 0) → Making Carried → Making Carried → Type 0
 Joined g R a b = InvAt g a → InvAt g b × R a b
 
-not_other : (call c : Call) → is_other call ≡ true → call ≡ c → is_other c ≡ false → ⊥
+pub not_other : (call c : Call) → is_other call ≡ true → call ≡ c → is_other c ≡ false → ⊥
 not_other call c other e f = (both_ways (is_other call) (ap is_other e ∙ f) other)
 
 module _ (g : Setting) (call : Call) (r : Rules g call) (other : is_other call ≡ true) {R : Making Carried → Making Carried → Type 0} (k : KeepsJoined g call R) where

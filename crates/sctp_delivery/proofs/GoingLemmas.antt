@@ -1,5 +1,5 @@
 -- Each turn of a course leaves one direction at a later state of the rules.
-use Rattle.std.proofs.Common.{◌≡◌, ℕ, ◌+◌, ◌-◌, ◌^◌, ◌<◌, ◌≤◌, ◌==◌, ◌||◌, not, Bool, true, false, Option, Some, None, List, [], ◌∷◌, ◌++◌, length, replicate, take, slice_get, All, refl, sym, ap, subst, ◌∙◌, append-nil, append_assoc, arith}
+use Rattle.std.proofs.Common.{◌≡◌, inl, inr, ℕ, ◌+◌, ◌-◌, ◌^◌, ◌<◌, ◌≤◌, ◌==◌, ◌||◌, not, Bool, true, false, Option, Some, None, List, [], ◌∷◌, ◌++◌, length, replicate, take, slice_get, All, refl, sym, ap, subst, ◌∙◌, append-nil, append_assoc, arith}
 use Rattle.std.specs.Prelude.{⊤}
 use Rattle.std.proofs.lemmas.List.Elements.{All-nil}
 use Rattle.std.proofs.lemmas.Bool.{or_left}
@@ -9,7 +9,8 @@ use Rattle.sctp_packet.specs.Packet.{PacketTree}
 use Rattle.sctp_state.specs.declared.api.ErrorKind.TheVariants.{ParseFailed}
 use Rattle.sctp_state.specs.Options.{Options}
 use Rattle.sctp_state.specs.Capabilities.{agreed}
-use Rattle.sctp_state.specs.Events.{Told, OnError}
+use Rattle.sctp_state.specs.declared.api.errors.SendError.{SendError}
+use Rattle.sctp_state.specs.Events.{Event, Told, OnError}
 use Rattle.sctp_state.proofs.CapabilitiesLemmas.{agreed-exchanged}
 use Rattle.sctp_send_queue.specs.Queue.{Queue}
 use Rattle.sctp_rules.specs.State.{Message, Transfer, count}
@@ -17,23 +18,27 @@ use Rattle.sctp_rules.specs.Rules as rules
 use Rattle.sctp_rules.specs.Claims.{Grows}
 use Rattle.sctp_rules.proofs.GrowsLemmas.{one}
 use Rattle.sctp_tx_rules.specs.Led.{recorded, is_sending, delivered}
-use Rattle.sctp_table.specs.Association.{State, Endpoint}
-use Rattle.sctp_table.specs.Calls.{ready_in, taken_in}
+use Rattle.sctp_table.specs.Association.{State, Closed, CookieWait, Open, Context, Endpoint, where_open}
+use Rattle.sctp_table.specs.Calls.{ready_in, taken_in, refusal_of, sent_if}
 use Rattle.sctp_table.specs.Opening.{complains}
 use Rattle.sctp_table.specs.Input.{refusal, counts, taken_if}
-use Rattle.sctp_table.specs.Laws.{Call, Connect, Close, Shutdown, Send, SendMany, ResetStreams, TakeMessage, SetLowThreshold, SetPriority, SetMaxMessageSize, Advance, HandOver, Restore, Packet, NoPacket, called, endings}
+use Rattle.sctp_table.specs.Laws.{Call, Connect, Close, Shutdown, Send, SendMany, ResetStreams, TakeMessage, SetLowThreshold, SetPriority, SetMaxMessageSize, Advance, HandOver, Restore, Packet, NoPacket, called, ending, endings, ends, ended_in_call}
+use Rattle.sctp_table.specs.Sending.{send_in}
 use Rattle.sctp_table_laws.specs.Mapped.{Carried}
-use Rattle.sctp_course.specs.Acts.{Making, calm, HasNoEnd}
+use Rattle.sctp_table_laws.proofs.LawsLemmas.{tells_endings}
+use Rattle.sctp_course.specs.Acts.{Making, calm, end_of, HasNoEnd, KeepsUntilEnd}
 use Rattle.sctp_course.specs.Course.{Side, packets_in, emitted, Turn, Calls, Gives, Refuses, as_heard, given, foreign_if, turned, MayCall, MayTurn, AreGiven, state_of}
+use Rattle.sctp_course.proofs.UntilLemmas.{endings_both, until_first_end}
 use Rattle.sctp_course.proofs.JoinActsLemmas.{Setting, InvAt}
 use Rattle.sctp_course.proofs.JoinKeepsLemmas.{Rules}
 use Rattle.sctp_course.proofs.CourseLemmas.{setting, begins, rules_call, rules_given, Halves, none_of}
+use Rattle.sctp_course.proofs.HandingActsLemmas.{Readies, readies}
 use Rattle.sctp_course.proofs.HandingLemmas.{hands}
 use Rattle.sctp_delivery.specs.Accepted.{Offer, accepted_by, accepted_in}
-use Rattle.sctp_delivery.specs.GivenUp.{told_of, told_given, told_foreign, given_up_by}
+use Rattle.sctp_delivery.specs.GivenUp.{told_of, told_given, told_foreign, told_by, given_up_by}
 use Rattle.sctp_delivery.specs.Windows.{Stamp, IsYoung, IsTimely, IsWithin, queue_of, numbered, stamped, resets}
 use Rattle.sctp_delivery.proofs.ClaimLemmas.{GoesOn, IsFlowing, SaysOut, first_out, first_in, SendsIn, ReceivesIn, SenderClaim, HearsSacks, SenderGoes, SenderPremises, ReceiverGoes, ReceiverPremises}
-use Rattle.sctp_delivery.proofs.FrameLemmas.{is_other, KeepsJoined, joined_call}
+use Rattle.sctp_delivery.proofs.FrameLemmas.{is_other, KeepsJoined, Joined, not_other, frame, joined_call}
 use Rattle.sctp_delivery.proofs.SenderToolLemmas.{reports_none}
 use Rattle.sctp_delivery.proofs.WithinLemmas.{numbered_is, Holds}
 use Rattle.sctp_delivery.proofs.DirectionLemmas.{AtStamp, each_at, IsUnderWay, says_in, Stands, Flows, IsSilent}
@@ -119,6 +124,78 @@ none_more ps now ss = ap (λ (n : ℕ). ss ++ replicate n now) (zero_less (lengt
   where
     zero_less : (n : ℕ) → n - n ≡ 0
     zero_less n = omega arith
+
+-- ---- what a call tells up to an end
+
+same_first : (e f : Event Carried) (es fs : List (Event Carried)) → e ∷ es ≡ f ∷ fs → e ≡ f
+same_first e f es fs h = ap (λ (l : List (Event Carried)). elim l [ [] ↦ e | z ∷ zs ↦ z ]) h
+
+same_rest : (e f : Event Carried) (es fs : List (Event Carried)) → e ∷ es ≡ f ∷ fs → es ≡ fs
+same_rest e f es fs h = ap (λ (l : List (Event Carried)). elim l [ [] ↦ es | z ∷ zs ↦ zs ]) h
+
+-- in front of the first end of an association stands what the end at work had told
+up_to : (a : List (Event Carried)) (e : Event Carried) (more early late : List (Event Carried)) → a ++ e ∷ more ≡ early ++ late → ending e ≡ 1 → endings early ≡ 0
+    → (rest : List (Event Carried)) × (a ≡ early ++ rest)
+up_to a e more [] late h is none = (a, refl)
+up_to [] e more (f ∷ early) late h is none =
+    let same : ending e ≡ ending f = ap (λ (z : Event Carried). ending z) (same_first e f more (early ++ late) h) in absurd (omega (arith, none, same, is))
+up_to (g ∷ a) e more (f ∷ early) late h is none =
+    let r = up_to a e more early late (same_rest g f (a ++ e ∷ more) (early ++ late) h) is (omega (arith, none)) in
+    (r.0, ap (λ (z : Event Carried). z ∷ a) (same_first g f (a ++ e ∷ more) (early ++ late) h) ∙ ap (λ (es : List (Event Carried)). f ∷ es) r.1)
+
+-- two relations at once
+both_kept : {call : Call} {R S : Making Carried → Making Carried → Type 0} → KeepsUntilEnd call R → KeepsUntilEnd call S → KeepsUntilEnd call (λ a b. R a b × S a b)
+both_kept k l = record {
+  same = λ m. (k.same m, l.same m);
+  through = λ {a} {b} {c} f g. (k.through f.0 g.0, l.through f.1 g.1);
+  packets = λ act none. (k.packets act none, l.packets act none);
+  opening = λ act none. (k.opening act none, l.opening act none);
+  closing = λ act none. (k.closing act none, l.closing act none);
+  data_acts = λ act none. (k.data_acts act none, l.data_acts act none);
+  acknowledging = λ act none. (k.acknowledging act none, l.acknowledging act none);
+  sending = λ act none. (k.sending act none, l.sending act none);
+  time = λ act none. (k.time act none, l.time act none);
+  calls = λ act none. (k.calls act none, l.calls act none);
+  resets = λ act none. (k.resets act none, l.resets act none);
+  handover = λ act none. (k.handover act none, l.handover act none);
+  input = λ act none. (k.input act none, l.input act none);
+}
+
+-- what a turn tells stands behind what was told
+pub told_turned : (t : Turn) (x y : Side) → (turned t x y).told ≡ x.told ++ (told_by t x y).events
+told_turned (Calls call) x y = refl
+told_turned (Gives which checksum) x y = go (slice_get (emitted y) which)
+  where
+    go : (p : Option Carried) → (given p checksum x).told ≡ x.told ++ (told_given p checksum x).events
+    go None = sym (append-nil x.told)
+    go (Some p) = refl
+told_turned (Refuses p) x y = go (refusal p.header.verification_tag p.chunks (state_of x))
+  where
+    go : (text : Option (List ℕ)) → (foreign_if text p x).told ≡ x.told ++ (told_foreign text p x).events
+    go None = sym (append-nil x.told)
+    go (Some text) = refl
+
+-- a call that leaves an end open, or closed as it was, ends nothing
+none_told : (call : Call) (x : Side) → IsSilent x → ended_in_call call x.end ≡ 0 → endings (told_of (called call x.end)).events ≡ 0
+none_told call x quiet none =
+    let t = tells_endings call x.end in
+    ap (λ (es : List (Event Carried)). endings es) (t.behind ∙ ap (λ (z : Told Carried). z.events ++ t.events) quiet.told) ∙ (t.counted ∙ none)
+
+open_stays : (s : State) (c : Context Carried) → ends s (where_open send_in (record { state = s; context = c })).state ≡ 0
+open_stays Closed c = refl
+open_stays (CookieWait tag first t1) c = refl
+open_stays (Open phase t) c = refl
+
+sent_stays : (o : Option SendError) (s : State) (c : Context Carried) → ends s (sent_if o (record { state = s; context = c })).state ≡ 0
+sent_stays None s c = open_stays s c
+sent_stays (Some e) Closed c = refl
+sent_stays (Some e) (CookieWait tag first t1) c = refl
+sent_stays (Some e) (Open phase t) c = refl
+
+taken_stays : (s : State) → ends s (taken_in s) ≡ 0
+taken_stays Closed = refl
+taken_stays (CookieWait tag first t1) = refl
+taken_stays (Open phase t) = refl
 
 module _ (message : ℕ → Message) (lifecycle : ℕ → Option ℕ) (mixed : Bool) (of : Stamp → ℕ) (parts : Parts message lifecycle mixed) (o q : Options) (own : AreGiven o)
     (other : AreGiven q) (mode : mixed ≡ (agreed o q).message_interleaving) (s r : Side) (h : Halves o q s r) (quiet_s : IsSilent s) (quiet_r : IsSilent r)
@@ -285,3 +362,132 @@ module _ (message : ℕ → Message) (lifecycle : ℕ → Option ℕ) (mixed : B
       given_out (slice_get (emitted r) which) checksum which refl timely none (hands o q s r own other h (Gives which checksum) may none).stands
   turn_out (Refuses p) may none_reset timely none are few =
       foreign_out (refusal p.header.verification_tag p.chunks (state_of s)) p refl (hands o q s r own other h (Refuses p) may none).stands
+
+  -- ---- where it ends an association, up to there
+
+  -- a side that told what the turn tells in front of an end, and maybe more
+  pub record IsUntil (early : List (Event Carried)) (n : ℕ) : Type 0 where
+    pub side : Side
+    pub by : List ℕ
+    pub out : Out side n by
+    pub rest : List (Event Carried)
+    pub told : side.told ≡ s.told ++ (early ++ rest)
+
+  -- the packet that is put together isn't told
+  set_aside : (m : Making Carried) (y : Transfer) → SenderClaim message lifecycle mixed x m y → SenderClaim message lifecycle mixed x (calm (end_of m)) y
+  set_aside m y c = record {
+    kept = c.kept;
+    goes = c.goes;
+    shown = c.shown;
+    flows = c.flows;
+    gone = c.gone;
+    reported = c.reported;
+    told = c.told;
+    made = All-nil _;
+  }
+
+  joined_until : (asked : Bool) (call : Call) → Rules (setting o q s r asked) call → is_other call ≡ true → (s.is_asked ≡ true → asked ≡ true)
+      → HearsSacks call (first_in (state_of r)) x → (early late : List (Event Carried)) → (told_of (called call s.end)).events ≡ early ++ late → endings early ≡ 0
+      → IsUntil early 0
+  joined_until asked call rules other_call le hears early late is none =
+      elim (until_first_end call both s.end (ap (λ (t : Told Carried). endings t.events) quiet_s.told)) [
+        | inl whole ↦ here (calm (called call s.end)) whole.1 late is
+        | inr first ↦ let rest = up_to first.here.context.told.events first.event first.more early late (sym first.told ∙ is) first.ends none in here first.here first.kept rest.0 rest.1
+      ]
+    where
+      g : Setting
+      g = setting o q s r asked
+
+      premises : SenderPremises message lifecycle mixed g call x
+      premises = sender_premises message lifecycle mixed of o q s r accepted handed stamps_s stamps_r x f asked call own mode hears
+
+      takes_none : call ≡ TakeMessage → ⊥
+      takes_none e = not_other call TakeMessage other_call e refl
+
+      both : KeepsUntilEnd call (λ m n. Joined g (SenderGoes message lifecycle mixed x) m n × Readies g call rules takes_none m n)
+      both = both_kept (frame g call rules other_call (parts.sender_keeps g call x premises)) (readies g call rules takes_none)
+
+      here : (m : Making Carried) → Joined g (SenderGoes message lifecycle mixed x) (calm s.end) m × Readies g call rules takes_none (calm s.end) m
+          → (rest : List (Event Carried)) → m.context.told.events ≡ early ++ rest → IsUntil early 0
+      here m kept rest told =
+          let inv : InvAt g (calm s.end) = begins o q s r asked le h.own h.other in
+          let c = (kept.0 inv).1 x (begins_out message lifecycle mixed of o q s r accepted handed stamps_s stamps_r x f quiet_s) in
+          record {
+            side = after_turn asked (end_of m) s;
+            by = recorded m.context.told;
+            out = claim_out asked (end_of m) c.0 (set_aside m c.0 c.1) (kept.1 inv).1.stands;
+            rest = rest;
+            told = ap (λ (es : List (Event Carried)). s.told ++ es) told;
+          }
+
+  pub turn_until : (t : Turn) → MayTurn t s → resets t ≡ false → IsTimely t now stamps_r → endings s.told ≡ 0
+      → AreOffered message lifecycle accepted (accepted_in t s) → accepted + length (accepted_in t s) < 2 ^ 32
+      → (early late : List (Event Carried)) → (told_by t s r).events ≡ early ++ late → endings early ≡ 0 → IsUntil early (length (accepted_in t s))
+  turn_until t may none_reset timely so_far are few early late is none = by_turn t may none_reset timely are few is
+    where
+      -- a turn that ends nothing
+      whole : (t : Turn) → MayTurn t s → resets t ≡ false → IsTimely t now stamps_r → AreOffered message lifecycle accepted (accepted_in t s)
+          → accepted + length (accepted_in t s) < 2 ^ 32 → (told_by t s r).events ≡ early ++ late → endings (told_by t s r).events ≡ 0
+          → IsUntil early (length (accepted_in t s))
+      whole t may none_reset timely are few is quiet =
+          let told : (turned t s r).told ≡ s.told ++ (told_by t s r).events = told_turned t s r in
+          let both = endings_both s.told (told_by t s r).events in
+          let sum = ap (λ (es : List (Event Carried)). endings es) told in
+          record {
+            side = turned t s r;
+            by = given_up_by t s r;
+            out = turn_out t may none_reset timely (omega (arith, sum, both, so_far, quiet)) are few;
+            rest = late;
+            told = told ∙ ap (λ (es : List (Event Carried)). s.told ++ es) is;
+          }
+
+      other_call : (call : Call) → is_other call ≡ true → IsNoPacket call → MayCall call s → (told_of (called call s.end)).events ≡ early ++ late → IsUntil early 0
+      other_call call kind plain may is =
+          joined_until s.is_asked call (rules_call o q s r own other call may) kind (λ z. z)
+          (hears_no_sacks message mixed (first_in (state_of r)) x call plain holds.windows) early late is none
+
+      by_packet : (p : Option Carried) (checksum n : ℕ) → slice_get (emitted r) n ≡ p → ((old : Stamp) → slice_get stamps_r n ≡ Some old → IsYoung now old)
+          → (told_given p checksum s).events ≡ early ++ late → IsUntil early 0
+      by_packet None checksum n there timely is = record {
+        side = s;
+        by = [];
+        out = still_out;
+        rest = late;
+        told = sym (append-nil s.told) ∙ ap (λ (es : List (Event Carried)). s.told ++ es) is;
+      }
+      by_packet (Some p) checksum n there timely is =
+          let a : AtStamp (λ stamp p. IsUnderWay (says_in message mixed (first_in (state_of r))) x (of stamp) p) stamps_r n p =
+          each_at (λ stamp p. IsUnderWay (says_in message mixed (first_in (state_of r))) x (of stamp) p) (emitted r) stamps_r n p there f.answers in
+          joined_until (s.is_asked || (p.header.verification_tag == 0)) (Packet (as_heard p checksum)) (rules_given o q s r own other p checksum n there) refl
+          (or_left s.is_asked (p.header.verification_tag == 0))
+          (hears_sacks message mixed (first_in (state_of r)) x (of a.stamp) p checksum a.holds (young_now a.stamp (timely a.stamp a.there))) early late is none
+
+      by_foreign : (text : Option (List ℕ)) (p : PacketTree) → refusal p.header.verification_tag p.chunks (state_of s) ≡ text → endings (told_foreign text p s).events ≡ 0
+      by_foreign None p is = refl
+      by_foreign (Some text) p is =
+          ap (λ (e : Endpoint Carried). endings (told_of e).events) (ap (λ (r : Option (List ℕ)). taken_if r p.header.verification_tag p.chunks (counts s.end)) is)
+          ∙ ap (λ (t : Told Carried). endings (t.events ++ OnError ParseFailed text ∷ [])) quiet_s.told
+
+      by_turn : (t : Turn) → MayTurn t s → resets t ≡ false → IsTimely t now stamps_r → AreOffered message lifecycle accepted (accepted_in t s)
+          → accepted + length (accepted_in t s) < 2 ^ 32 → (told_by t s r).events ≡ early ++ late → IsUntil early (length (accepted_in t s))
+      by_turn (Gives which checksum) may none_reset timely are few is = by_packet (slice_get (emitted r) which) checksum which refl timely is
+      by_turn (Refuses p) may none_reset timely are few is =
+          whole (Refuses p) may none_reset timely are few is (by_foreign (refusal p.header.verification_tag p.chunks (state_of s)) p refl)
+      by_turn (Calls (Send m how)) may none_reset timely are few is =
+          whole (Calls (Send m how)) may none_reset timely are few is (none_told (Send m how) s quiet_s (sent_stays (refusal_of m s.end.standing) (state_of s) _))
+      by_turn (Calls (SendMany ms how)) may none_reset timely are few is =
+          whole (Calls (SendMany ms how)) may none_reset timely are few is (none_told (SendMany ms how) s quiet_s (open_stays (state_of s) _))
+      by_turn (Calls TakeMessage) may none_reset timely are few is =
+          whole (Calls TakeMessage) may none_reset timely are few is (none_told TakeMessage s quiet_s (taken_stays (state_of s)))
+      by_turn (Calls (ResetStreams streams)) may none_reset timely are few is = cc
+      by_turn (Calls (Restore k)) may none_reset timely are few is = absurd may
+      by_turn (Calls (Packet p)) may none_reset timely are few is = absurd may
+      by_turn (Calls Connect) may none_reset timely are few is = other_call Connect refl (λ p e. cc) may is
+      by_turn (Calls Close) may none_reset timely are few is = other_call Close refl (λ p e. cc) may is
+      by_turn (Calls Shutdown) may none_reset timely are few is = other_call Shutdown refl (λ p e. cc) may is
+      by_turn (Calls (SetLowThreshold stream bytes)) may none_reset timely are few is = other_call (SetLowThreshold stream bytes) refl (λ p e. cc) may is
+      by_turn (Calls (SetPriority stream priority)) may none_reset timely are few is = other_call (SetPriority stream priority) refl (λ p e. cc) may is
+      by_turn (Calls (SetMaxMessageSize bytes)) may none_reset timely are few is = other_call (SetMaxMessageSize bytes) refl (λ p e. cc) may is
+      by_turn (Calls (Advance n)) may none_reset timely are few is = other_call (Advance n) refl (λ p e. cc) may is
+      by_turn (Calls HandOver) may none_reset timely are few is = other_call HandOver refl (λ p e. cc) may is
+      by_turn (Calls NoPacket) may none_reset timely are few is = other_call NoPacket refl (λ p e. cc) may is

@@ -4,3 +4,4 @@ pub mod GivenUp
 pub mod Delivery
 pub mod Proper
 pub mod Skipping
+pub mod Ending

@@ -2,6 +2,7 @@
 #![tactic(auto)]
 
 ghost use Rattle.sctp_delivery.specs.Delivery.{MessagesAreDelivered, TwoAreDelivered};
+ghost use Rattle.sctp_delivery.specs.Ending.{MessagesAreDeliveredThen};
 ghost use Rattle.sctp_delivery.specs.Proper.{AcceptancesAreAccepted, RecordsAreProper, TwoAreGivenUp};
 ghost use Rattle.sctp_delivery.specs.Skipping.{OneIsSkipped};
 
@@ -24,12 +25,16 @@ ghost use Rattle.sctp_delivery.specs.Skipping.{OneIsSkipped};
 /// - each end accepts fewer than 2^32 messages, and a limit on their size is set below 2^32, as `set_max_message_size` asks;
 /// - no stream is reset.
 ///
+/// A turn behind such a course may end an association. What its end tells before that is true too: a lifecycle id that it tells as
+/// delivered is that of a message that is ready (`ends`).
+///
 /// In one such course, computed, two messages are accepted and become ready (`goes`).
 ///
 /// It doesn't say that anything arrives, that a message is given up for a good reason, or anything of a peer that breaks the
 /// rules.
 pub fn messages_are_delivered()
     ensures delivered { MessagesAreDelivered }
+    ensures ends { MessagesAreDeliveredThen }
     ensures goes { TwoAreDelivered }
 {}
 

@@ -1,5 +1,5 @@
 -- What is delivered before and behind a block of the log, is delivered within it.
-use Rattle.std.proofs.Common.{◌≡◌, ◌⊎◌, inl, inr, ℕ, zero, suc, ◌<◌, ◌≤◌, ◌==◌, ◌||◌, Bool, true, false, Option, Some, None, List, [], ◌∷◌, ◌++◌, length, map, take, refl, sym, ap, subst, ◌∙◌, arith}
+use Rattle.std.proofs.Common.{◌≡◌, ◌⊎◌, inl, inr, ℕ, zero, suc, ◌<◌, ◌≤◌, ◌==◌, ◌||◌, Bool, true, false, Option, Some, None, List, [], ◌∷◌, ◌++◌, length, map, take, refl, sym, ap, subst, ◌∙◌, append-nil, arith}
 use Rattle.std.specs.Prelude.{slice_index, option_map, slice_get}
 use Rattle.std.proofs.lemmas.Bool.{cases_lt, eqb-true, or_right}
 use Rattle.std.proofs.lemmas.Option.{slice_get_within}
@@ -9,7 +9,7 @@ use Rattle.sctp_rules.proofs.ToolsLemmas.{has_at, has_keeps}
 use Rattle.sctp_delivery.specs.Accepted.{Offer}
 use Rattle.sctp_delivery.specs.Delivery.{message_at, Fits, SkippedAreGivenUp, IsReady}
 use Rattle.sctp_course.proofs.JoinLemmas.{not_both}
-use Rattle.sctp_network_laws.proofs.PrefixLemmas.{length_front, index_front, fits_front}
+use Rattle.sctp_network_laws.proofs.PrefixLemmas.{split_head, split_tail, length_front, index_front, fits_front}
 
 -- so far: what is offered, ready, given up and reported, by the beginning of these places
 pub record IsDelivered (offers : List Offer) (ready : List Message) (gone reported places : List ℕ) : Type 0 where
@@ -140,4 +140,39 @@ told_between offers more after ready gone new last reported later told places e 
   fits = k.fits;
   skipped = subst (λ (o : List Offer). SkippedAreGivenUp o (gone ++ new) (take (length ready) places)) (sym e) (skipped_more offers more ready gone new (take (length ready) places) h.fits h.skipped);
   reports = λ id is. k.reports id (ap (has id) f ∙ has_keeps id reported later is);
+}
+
+-- ---- more is offered, and nothing becomes ready
+
+alike_more : (offers more : List Offer) (places : List ℕ) (ready : List Message) → map (message_at offers) places ≡ map (λ (m : Message). Some m) ready
+    → map (message_at (offers ++ more)) places ≡ map (λ (m : Message). Some m) ready
+alike_more offers more [] ready e = e
+alike_more offers more (p ∷ places) [] e = cc
+alike_more offers more (p ∷ places) (m ∷ ready) e =
+    let here : message_at offers p ≡ Some m = split_head (message_at offers p) (Some m) (map (message_at offers) places) (map (λ (m : Message). Some m) ready) e in
+    let l = offered_at offers p m (slice_get offers p) refl here in
+    ap (λ (o : Option Offer). option_map (λ (z : Offer). z.message) o ∷ map (message_at (offers ++ more)) places) (get_front offers more p l)
+    ∙ (ap (λ (z : Option Message). z ∷ map (message_at (offers ++ more)) places) here
+    ∙ ap (λ (l : List (Option Message)). Some m ∷ l)
+    (alike_more offers more places ready (split_tail (message_at offers p) (Some m) (map (message_at offers) places) (map (λ (m : Message). Some m) ready) e)))
+
+fits_more : (offers more : List Offer) (ready : List Message) (places : List ℕ) → Fits offers ready places → Fits (offers ++ more) ready places
+fits_more offers more ready places f = record {
+  alike = alike_more offers more places ready f.alike;
+  distinct = f.distinct;
+  rising = λ j k l h o p first second line.
+      f.rising j k l h o p (sym (same j (omega (arith, l, h))) ∙ first) (sym (same k h) ∙ second) line;
+}
+  where
+    same : (k : ℕ) → k < length places → slice_get (offers ++ more) (slice_index places k) ≡ slice_get offers (slice_index places k)
+    same k h = get_front offers more (slice_index places k) (placed offers places ready f.alike (slice_index places k) (has_at places k h))
+
+pub offered_between : (offers more : List Offer) (ready : List Message) (gone reported told places : List ℕ) → IsDelivered offers ready gone reported places
+    → ((id : ℕ) → has id told ≡ true → IsReady (offers ++ more) (take (length ready) places) id) → IsDelivered (offers ++ more) ready gone told places
+offered_between offers more ready gone reported told places h reports = record {
+  fits = fits_more offers more ready (take (length ready) places) h.fits;
+  skipped =
+      subst (λ (g : List ℕ). SkippedAreGivenUp (offers ++ more) g (take (length ready) places)) (append-nil gone)
+      (skipped_more offers more ready gone [] (take (length ready) places) h.fits h.skipped);
+  reports = reports;
 }

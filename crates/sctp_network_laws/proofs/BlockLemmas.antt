@@ -13,6 +13,7 @@ use Rattle.sctp_table.specs.Shown.{Association, association_in}
 use Rattle.sctp_course.specs.Course.{Side, Pair, Turn, Calls, Gives, Refuses, turned, goes, run, side_of, state_of}
 use Rattle.sctp_course.specs.Handing.{ready_at, new_behind, handed_by, handed_at, handed, readied}
 use Rattle.sctp_delivery.specs.Accepted.{Offer, accepted_at, accepted}
+use Rattle.sctp_delivery.proofs.LawLemmas.{accepted_more}
 use Rattle.sctp_delivery.specs.GivenUp.{given_up_at, given_up}
 use Rattle.sctp_tx_rules.specs.Led.{delivered}
 use Rattle.sctp_table_laws.specs.Mapped.{Carried}
@@ -26,12 +27,6 @@ use Rattle.sctp_network_laws.proofs.TellingLemmas.{IsTold, none_new}
 use Rattle.sctp_network_laws.proofs.PrefixLemmas.{one_is_longer, no_front}
 
 -- ---- courses, by one turn more
-
-pub accepted_more : (x : Bool) (es : List (Bool × Turn)) (e : Bool × Turn) (w : Pair) → accepted x (es ++ e ∷ []) w ≡ accepted x es w ++ accepted_at x e.0 e.1 (run es w)
-accepted_more x [] e w = append-nil (accepted_at x e.0 e.1 w)
-accepted_more x (d ∷ es) e w =
-    ap (λ (l : List Offer). accepted_at x d.0 d.1 w ++ l) (accepted_more x es e (goes d.0 d.1 w))
-    ∙ sym (append_assoc (accepted_at x d.0 d.1 w) (accepted x es (goes d.0 d.1 w)) (accepted_at x e.0 e.1 (run es (goes d.0 d.1 w))))
 
 abbrev pub readied_at : Bool → (Bool × Turn) → Pair → List Message
 readied_at x e w = new_behind (ready_at (side_of x w)) (ready_at (side_of x (goes e.0 e.1 w)))
@@ -250,7 +245,7 @@ none_behind : {X : Type 0} (xs ys : List X) → xs ++ ys ≡ [] → ys ≡ []
 none_behind [] ys h = h
 none_behind (z ∷ xs) ys h = cc
 
-none_before : {X : Type 0} (xs ys : List X) → xs ++ ys ≡ [] → xs ≡ []
+pub none_before : {X : Type 0} (xs ys : List X) → xs ++ ys ≡ [] → xs ≡ []
 none_before [] ys h = refl
 none_before (z ∷ xs) ys h = cc
 

@@ -1,14 +1,30 @@
 -- A world that a new one was led to is led on by each run, and composes.
-use Rattle.std.proofs.Common.{OnOk, Result, Ok, Err, List, [], ◌∷◌, ◌++◌, refl, subst}
+use Rattle.std.proofs.Common.{◌≡◌, ◌⊎◌, inl, inr, ◌^◌, ◌<◌, ℕ, Bool, true, false, OnOk, Result, Ok, Err, List, [], ◌∷◌, ◌++◌, length, refl, sym, ap, subst, ◌∙◌, append-nil, append_assoc}
 use Rattle.std.specs.Prelude.{All}
-use Rattle.std.proofs.lemmas.List.Elements.{All-nil, All-cons, All-append}
+use Rattle.std.specs.List.{list_any}
+use Rattle.std.proofs.lemmas.List.Elements.{All-nil, All-cons, All-head, All-tail, All-append}
+use Rattle.sctp_rx.specs.Delivery as orders
+use Rattle.sctp_course.proofs.JoinLemmas.{not_both}
 use Rattle.sctp_course.proofs.CourseLemmas.{ends_joined}
-use Rattle.sctp_delivery.specs.Delivery.{MessagesAreDelivered}
-use Rattle.sctp_network_table.specs.World.{World, Action, Happens, Runs}
-use Rattle.sctp_network_laws.specs.Courses.{ActionFits, IsLed}
+use Rattle.sctp_delivery.specs.Windows.{no_stamps}
+use Rattle.sctp_delivery.specs.Delivery as courses
+use Rattle.sctp_delivery.specs.Delivery.{AllAreDone, MessagesAreDelivered}
+use Rattle.sctp_delivery.specs.Ending.{MessagesAreDeliveredThen}
+use Rattle.sctp_network_table.specs.Judge.{End, A, B, Connect, Shutdown, Entry, Called, ready, handed_out}
+use Rattle.sctp_network_table.specs.World.{World, Action, Happens, Runs, other, is_at_rest}
+use Rattle.sctp_network_laws.specs.Courses.{ActionFits, IsInBytes, IsLed, origin, is_a, end_of}
+use Rattle.sctp_network_laws.specs.Joined.{asks, was_asked, Stands, MayFollow, FollowsTheRules, AreJoined}
+use Rattle.sctp_network_laws.specs.Delivered.{AlongRun, resets, sets_more, offers, gone, ready_places, Delivers, IsInBounds}
 use Rattle.sctp_network_laws.specs.Composed.{WorldsCompose}
+use Rattle.sctp_network_laws.proofs.SidesLemmas.{any_more}
+use Rattle.sctp_network_laws.proofs.StandingLemmas.{stands_front}
+use Rattle.sctp_network_laws.proofs.WorldLemmas.{Extends, extends_same, in_bytes_before}
+use Rattle.sctp_network_laws.proofs.RunsLemmas.{runs_extends}
 use Rattle.sctp_network_laws.proofs.JoinedLemmas.{are_joined}
-use Rattle.sctp_network_laws.proofs.DeliveredLemmas.{worlds_deliver, handed_is_a_prefix}
+use Rattle.sctp_network_laws.proofs.UpToEndLemmas.{IsOver, UpToEnd, up_to_end}
+use Rattle.sctp_network_laws.proofs.PrefixLemmas.{one_is_longer}
+use Rattle.sctp_network_laws.proofs.PointsLemmas.{IsDeliveredAt}
+use Rattle.sctp_network_laws.proofs.LastingLemmas.{first_pair, r, IsKept, course_delivers, delivered_front, rests, prefix, prefix_then, delivered_beside, delivered_own, ends_delivering, b_parted, stands_first, behind_first, logged_first}
 use Rattle.sctp_network_laws.proofs.ProperLemmas.{worlds_proper}
 
 pub on_ok : {A E P Q : Type 0} (r : Result A E) → (P → Q) → OnOk r P → OnOk r Q
@@ -23,8 +39,8 @@ runs_on : (early late : List Action) (w u v : World) → Runs early w u → Runs
 runs_on [] late w u v r s = subst (λ (z : World). Runs late z v) r s
 runs_on (action ∷ early) late w u v r s = (r.0, r.1, runs_on early late r.0 u v r.2 s)
 
-pub led_on : (w v : World) (actions : List Action) → IsLed w → All ActionFits actions → Runs actions w v → IsLed v
-led_on w v actions l fit r = record {
+pub led_on : (w v : World) (actions : List Action) → IsLed w → All ActionFits actions → Runs actions w v → IsInBytes v → IsLed v
+led_on w v actions l fit r small = record {
   a = l.a;
   b = l.b;
   words_a = l.words_a;
@@ -38,18 +54,201 @@ led_on w v actions l fit r = record {
   actions = l.actions ++ actions;
   fit = All-append ActionFits l.actions actions l.fit fit;
   runs = runs_on l.actions actions _ w v l.runs r;
+  bytes = small;
 }
 
-pub led_by_one : (w v : World) (action : Action) → IsLed w → ActionFits action → Happens action w v → IsLed v
-led_by_one w v action l fit h = led_on w v (action ∷ []) l (one ActionFits action fit) (v, h, refl)
-  where
-    one : (P : Action → Type 0) (x : Action) → P x → All P (x ∷ [])
-    one P x h = All-cons P x [] h (All-nil P)
+one : {X : Type 0} (P : X → Type 0) (x : X) → P x → All P (x ∷ [])
+one P x h = All-cons P x [] h (All-nil P)
 
-pub compose : MessagesAreDelivered → WorldsCompose
-compose law w l u = record {
-  joined = are_joined ends_joined w l u;
-  handed = handed_is_a_prefix w l u;
-  proper = worlds_proper l.a l.b l.words_a l.words_b l.word_of_a l.word_of_b l.actions w l.fits_a l.fits_b l.fit l.runs u.bytes;
-  delivers = worlds_deliver law w l u;
+pub led_by_one : (w v : World) (action : Action) → IsLed w → ActionFits action → Happens action w v → IsInBytes v → IsLed v
+led_by_one w v action l fit h small = led_on w v (action ∷ []) l (one ActionFits action fit) (v, h, refl) small
+
+-- ---- worlds on the way
+
+-- an earlier world, by the first actions
+abbrev led_before : (w u : World) (l : IsLed w) (front : List Action) → All ActionFits front → Runs front (origin l) u → Extends u w → IsLed u
+led_before w u l front fit r e = record {
+  a = l.a;
+  b = l.b;
+  words_a = l.words_a;
+  words_b = l.words_b;
+  word_of_a = l.word_of_a;
+  word_of_b = l.word_of_b;
+  valid_a = l.valid_a;
+  valid_b = l.valid_b;
+  fits_a = l.fits_a;
+  fits_b = l.fits_b;
+  actions = front;
+  fit = fit;
+  runs = r;
+  bytes = in_bytes_before u w e l.bytes;
+}
+
+not_true : (b : Bool) → (b ≡ true → ⊥) → b ≡ false
+not_true true f = absurd (f refl)
+not_true false f = refl
+
+-- which kept the rules, where the later one does
+rules_before : (u v : World) → Extends u v → FollowsTheRules v → FollowsTheRules u
+rules_before u v e rules before entry behind is stands =
+    may_before entry
+    (rules before entry (behind ++ e.more) (e.logged ∙ (ap (λ (l : List Entry). l ++ e.more) is ∙ append_assoc before (entry ∷ behind) e.more)) stands)
+  where
+    not_asked : (x : End) → was_asked x v before ≡ false → was_asked x u before ≡ false
+    not_asked A h =
+        not_true (was_asked A u before)
+        (λ t. not_both (was_asked A v before)
+        (subst (λ (ps : List (List ℕ)). list_any (asks A ps) before ≡ true) (sym e.b) (any_more A u.b.packets e.sent_b before t)) h)
+    not_asked B h =
+        not_true (was_asked B u before)
+        (λ t. not_both (was_asked B v before)
+        (subst (λ (ps : List (List ℕ)). list_any (asks B ps) before ≡ true) (sym e.a) (any_more B u.a.packets e.sent_a before t)) h)
+
+    may_before : (entry : Entry) → MayFollow v before entry → MayFollow u before entry
+    may_before (Called x clock Shutdown answer) h = h
+    may_before (Called x clock Connect answer) (inl h) = inl h
+    may_before (Called x clock Connect answer) (inr h) = inr (not_asked x h)
+    may_before entry h = tt
+
+-- at each world along a run
+along_led : (P : World → Type 0) (from : World) (done actions : List Action) (z v : World) → Runs done from z → (r : Runs actions z v) → All ActionFits done → All ActionFits actions
+    → ((front : List Action) (y : World) → All ActionFits front → Runs front from y → Extends y v → P y) → AlongRun P actions z v r
+along_led P from done [] z v before r fit_done fit f = f done z fit_done before (subst (Extends z) (sym r) (extends_same z))
+along_led P from done (action ∷ actions) z v before r fit_done fit f = (
+  f done z fit_done before (runs_extends (action ∷ actions) z v r),
+  along_led P from (done ++ action ∷ []) actions r.0 v (runs_on done (action ∷ []) from z r.0 before (r.0, r.1, refl)) r.2
+      (All-append ActionFits done (action ∷ []) fit_done (one ActionFits action (All-head ActionFits action actions fit))) (All-tail ActionFits action actions fit) f,
+)
+
+same_or_other : (x y : End) → (x ≡ y) ⊎ (x ≡ other y)
+same_or_other A A = inl refl
+same_or_other B B = inl refl
+same_or_other A B = inr refl
+same_or_other B A = inr refl
+
+-- ---- until an association is over
+
+module _ (w : World) (l : IsLed w) (rules : FollowsTheRules w) where
+  up : UpToEnd l.actions (origin l) w l.runs
+  up = up_to_end l.actions (origin l) w l.fit l.runs (λ x. refl)
+
+  abbrev u : World
+  u = up.world
+
+  abbrev led : IsLed u
+  led = led_before w u l up.front up.fit up.before up.later
+
+  u_rules : FollowsTheRules u
+  u_rules = rules_before u w up.later rules
+
+  abbrev Over : Type 0
+  Over = IsOver l.actions (origin l) w l.runs up.front u up.before
+
+  -- each beginning that stands is one of that world, or ends in the event behind it
+  at_early : (P : List Entry → Type 0) (o : Over) → ((early late : List Entry) → u.log ≡ early ++ late → P early)
+      → ((more late : List Entry) → o.next.log ≡ (u.log ++ more) ++ late → Stands (u.log ++ more) → P (u.log ++ more))
+      → (early late : List Entry) → w.log ≡ early ++ late → Stands early → P early
+  at_early P o before within early late is stands =
+      elim (one_is_longer early late u.log up.later.more (sym is ∙ up.later.logged)) [
+        | inl m ↦ before early m.between m.made
+        | inr m ↦ beyond m.between m.made
+      ]
+    where
+      beyond : (more : List Entry) → early ≡ u.log ++ more → P early
+      beyond more made =
+          elim (one_is_longer early late o.next.log o.later.more (sym is ∙ o.later.logged)) [
+            | inl m ↦
+                subst P (sym made)
+                (within more m.between (m.made ∙ ap (λ (l : List Entry). l ++ m.between) made) (subst Stands made stands))
+            | inr m ↦ absurd (o.ends (stands_front o.next.log m.between early m.made stands))
+          ]
+
+  pub handed_then : (x : End) (early late : List Entry) → w.log ≡ early ++ late → Stands early → orders.Extends (handed_out x early) (ready x early)
+  handed_then x early late is stands =
+      elim up.over [
+        | inl same ↦ prefix u led u_rules up.stands x early late (ap (λ (z : World). z.log) (sym same) ∙ is)
+        | inr o ↦
+            at_early (λ (log : List Entry). orders.Extends (handed_out x log) (ready x log)) o (prefix u led u_rules up.stands x)
+            (λ more behind e st. prefix_then u led u_rules up.stands o.action o.next w o.fits o.happens o.ends o.later rules more behind e st x)
+            early late is stands
+      ]
+  -- ---- what is delivered
+
+  module _ (k : IsInBounds l.actions (origin l) w l.runs) where
+    kept : IsKept u led u_rules up.stands
+    kept = record {
+      windows = up.windows no_stamps k.windows;
+      streams = up.none_such resets k.streams;
+      few = λ x. k.few x u.log up.later.more up.later.logged up.stands;
+      limits = up.none_such sets_more k.limits;
+    }
+
+    abbrev Given : End → Type 0
+    Given x = courses.Delivers (is_a x) (r u led u_rules up.stands).turns (first_pair u led u_rules up.stands)
+
+    given : (x : End) (from : Given x) → ((early late : List Entry) → w.log ≡ early ++ late → Stands early → IsDeliveredAt x from.places early)
+        → Delivers x l.actions (origin l) w l.runs
+    given x from each = record {
+      places = from.places;
+      fits = λ early late e st. (each early late e st).fits;
+      skipped = λ early late e st. (each early late e st).skipped;
+      reports = λ early late e st. (each early late e st).reports;
+      rest =
+          up.along_run (λ z. is_at_rest x z ≡ true → AllAreDone (offers x z.log) (gone x z.log) (ready_places x z.log from.places))
+          (rests u led u_rules up.stands x from);
+    }
+
+    abbrev whole_front : (x : End) (from : Given x) → IsDeliveredAt x from.places u.log
+    whole_front x from = delivered_front u led u_rules up.stands x from u.log [] (sym (append-nil u.log))
+
+    few_then : (o : Over) → length (offers (end_of o.action) (u.log ++ (b_parted u led u_rules up.stands o.action o.next w o.fits o.happens o.ends o.later rules).first ∷ [])) < 2 ^ 32
+    few_then o =
+        let first : Entry = (b_parted u led u_rules up.stands o.action o.next w o.fits o.happens o.ends o.later rules).first in
+        let behind : List Entry = behind_first u led u_rules up.stands o.action o.next w o.fits o.happens o.ends o.later rules in
+        k.few (end_of o.action) (u.log ++ first ∷ []) (behind ++ o.later.more)
+        (o.later.logged
+        ∙ (ap (λ (l : List Entry). l ++ o.later.more) (logged_first u led u_rules up.stands o.action o.next w o.fits o.happens o.ends o.later rules)
+        ∙ append_assoc (u.log ++ first ∷ []) behind o.later.more))
+        (stands_first u led u_rules up.stands o.action o.next w o.fits o.happens o.ends o.later rules)
+
+    -- by the end whose event it is
+    by_own : MessagesAreDeliveredThen → (o : Over) → Delivers (end_of o.action) l.actions (origin l) w l.runs
+    by_own then o =
+        let from = ends_delivering u led u_rules up.stands o.action o.next w o.fits o.happens o.ends o.later rules then kept
+        (o.timely no_stamps k.windows) (o.none_such resets k.streams) (o.none_such sets_more k.limits) (few_then o) in
+        given (end_of o.action) from.delivers
+        (at_early (IsDeliveredAt (end_of o.action) from.delivers.places) o (delivered_front u led u_rules up.stands (end_of o.action) from.delivers)
+        (λ more behind e st.
+        delivered_own u led u_rules up.stands o.action o.next w o.fits o.happens o.ends o.later rules more behind e st from (whole_front (end_of o.action) from.delivers)))
+
+    by_other : MessagesAreDelivered → (o : Over) → Delivers (other (end_of o.action)) l.actions (origin l) w l.runs
+    by_other law o =
+        let from : Given (other (end_of o.action)) = course_delivers u led u_rules up.stands law kept (other (end_of o.action)) in
+        given (other (end_of o.action)) from
+        (at_early (IsDeliveredAt (other (end_of o.action)) from.places) o (delivered_front u led u_rules up.stands (other (end_of o.action)) from)
+        (λ more behind e st.
+        delivered_beside u led u_rules up.stands o.action o.next w o.fits o.happens o.ends o.later rules more behind e st from.places (whole_front (other (end_of o.action)) from)))
+
+    pub delivers_then : MessagesAreDelivered → MessagesAreDeliveredThen → (x : End) → Delivers x l.actions (origin l) w l.runs
+    delivers_then law then x =
+        elim up.over [
+          | inl same ↦
+              let from : Given x = course_delivers u led u_rules up.stands law kept x in
+              given x from (λ early late e st. delivered_front u led u_rules up.stands x from early late (ap (λ (z : World). z.log) (sym same) ∙ e))
+          | inr o ↦
+              elim (same_or_other x (end_of o.action)) [
+                | inl own ↦ subst (λ (y : End). Delivers y l.actions (origin l) w l.runs) (sym own) (by_own then o)
+                | inr beside ↦ subst (λ (y : End). Delivers y l.actions (origin l) w l.runs) (sym beside) (by_other law o)
+              ]
+        ]
+
+pub compose : MessagesAreDelivered → MessagesAreDeliveredThen → WorldsCompose
+compose law then w l = record {
+  joined = λ rules.
+      along_led (λ z. Stands z.log → AreJoined l.a l.b z) (origin l) [] l.actions (origin l) w refl l.runs (All-nil ActionFits) l.fit
+      (λ front y fit before later stands.
+      are_joined ends_joined y (led_before w y l front fit before later) (record { follows = rules_before y w later rules; stands = stands }));
+  handed = λ rules. handed_then w l rules;
+  delivers = λ rules k. delivers_then w l rules k law then;
+  proper = worlds_proper l.a l.b l.words_a l.words_b l.word_of_a l.word_of_b l.actions w l.fits_a l.fits_b l.fit l.runs l.bytes;
 }

@@ -25,18 +25,21 @@ use Rattle.sctp_delivery.specs.Windows.{numbered, IsWithin, Stamp, Stamps, IsYou
 use Rattle.sctp_delivery.specs.Delivery.{AllAreDone}
 use Rattle.sctp_delivery.specs.GivenUp.{given_up_by, given_up_at}
 use Rattle.sctp_tx_rules.specs.Led.{delivered}
-use Rattle.sctp_delivery.specs.Delivery as courses
+use Rattle.sctp_delivery.specs.Ending as ending
 use Rattle.sctp_network_table.specs.Judge as judge
 use Rattle.sctp_network_table.specs.Judge.{End, A, B, same_end, all_unless, unrefused, Entry, Called, Given, Foreign, Answer, Sent, SentMany, accepted_in, accepted_by, Call, Connect, Shutdown, Close, Send, SendMany, Receive, Reset, SetPriority, SetMaxMessageSize, SetLowThreshold, HandOver, ready, handed_out}
 use Rattle.sctp_network_table.specs.World.{Side, World, Action, CallOf, Give, GiveForeign, TellTime, ComesTo, told, skipped, Gives, Happens, Runs, side_of, settled, news_of, clock, calls, call_entry, after_call, tells_time, time_entry, after_time, step_of, fresh_world, is_at_rest}
 use Rattle.sctp_network_laws.specs.Courses.{ActionFits, IsInBytes, is_a, end_of, hearing, IsTurnOf}
-use Rattle.sctp_network_laws.specs.Delivered.{gone, reported, AlongRun, ready_places, SideIsWithin, AreWithin, stamp, stamped, stamps_after, IsTimely, KeepsWindows, resets, asks_more, sets_more, offers_in, offers_by, offers, Delivers, IsInBounds, WorldsDeliver, HandedOutIsAPrefix, OffersAreAccepted}
-use Rattle.sctp_network_laws.specs.Joined.{FollowsTheRules, times_ended}
+use Rattle.sctp_network_laws.specs.Delivered.{gone, reported, AlongRun, ready_places, SideIsWithin, AreWithin, stamp, stamped, stamps_after, IsTimely, KeepsWindows, resets, asks_more, sets_more, offers_in, offers_by, offers, OffersAreAccepted}
+use Rattle.sctp_network_laws.specs.Joined.{Stands}
+use Rattle.sctp_network_laws.proofs.StandingLemmas.{stands_front}
+use Rattle.sctp_network_laws.proofs.UpToEndLemmas.{stamps_along}
 use Rattle.sctp_network_laws.proofs.WorldLemmas.{Both, Extends, extends_then, in_bytes_before, Stepped, steps}
 use Rattle.sctp_network_laws.proofs.RunsLemmas.{runs_extends, happens_extends, Ran, ran, fresh_both}
 use Rattle.sctp_network_laws.proofs.JoinedLemmas.{given_of, none_ended}
 use Rattle.sctp_network_laws.proofs.TellingLemmas.{BeginsWith, IsTold, goes_on_told, skipped_told, call_begins, time_begins, give_begins, foreign_begins, given_accepts, given_hands, foreign_accepts, foreign_hands}
-use Rattle.sctp_network_laws.proofs.BlockLemmas.{IsBlock, AreBlocks, StandsAt, Stands, run_more, offers_run, IsReached, nothing_yet, reached_more, prefix_each}
+use Rattle.sctp_network_laws.proofs.BlockLemmas as block
+use Rattle.sctp_network_laws.proofs.BlockLemmas.{IsBlock, AreBlocks, StandsAt, run_more, IsReached, reached_more}
 use Rattle.sctp_network_laws.proofs.PointsLemmas.{delivered_each, at_rest}
 use Rattle.sctp_network_laws.proofs.ReportedLemmas.{reported_is}
 
@@ -173,7 +176,7 @@ module _ (word_of_a word_of_b : List ℕ → ℕ) where
   hearing_timely true n sum now stamps h = h
   hearing_timely false n sum now stamps h = tt
 
-  timely : (action : Action) (w : World) (c : Pair) (turn : Turn) (s : Stamps) → Both word_of_a word_of_b w c → IsTurnOf word_of_a word_of_b action turn c → IsTimely action (stamp w) s
+  pub timely : (action : Action) (w : World) (c : Pair) (turn : Turn) (s : Stamps) → Both word_of_a word_of_b w c → IsTurnOf word_of_a word_of_b action turn c → IsTimely action (stamp w) s
       → windows.IsTimely turn (windows.stamp c) (windows.stamps_for (is_a (end_of action)) s)
   timely (CallOf x call) w c turn s h is t = subst (λ (z : Turn). windows.IsTimely z (windows.stamp c) (windows.stamps_for (is_a x) s)) (sym is) tt
   timely (Give n A) w c turn s h is t =
@@ -219,7 +222,7 @@ module _ (word_of_a word_of_b : List ℕ → ℕ) where
   hearing_resets true n sum = refl
   hearing_resets false n sum = refl
 
-  turn_resets : (action : Action) (turn : Turn) (c : Pair) → IsTurnOf word_of_a word_of_b action turn c → windows.resets turn ≡ resets action
+  pub turn_resets : (action : Action) (turn : Turn) (c : Pair) → IsTurnOf word_of_a word_of_b action turn c → windows.resets turn ≡ resets action
   turn_resets (CallOf x call) turn c is = ap windows.resets is ∙ (call_resets call ∙ same_resets x call)
   turn_resets (Give n A) turn c is = ap windows.resets is.heard ∙ hearing_resets _ n _
   turn_resets (Give n B) turn c is = ap windows.resets is.heard ∙ hearing_resets _ n _
@@ -246,7 +249,7 @@ module _ (word_of_a word_of_b : List ℕ → ℕ) where
   hearing_more true n sum = refl
   hearing_more false n sum = refl
 
-  turn_more : (action : Action) (turn : Turn) (c : Pair) → IsTurnOf word_of_a word_of_b action turn c → windows.sets_more turn ≡ sets_more action
+  pub turn_more : (action : Action) (turn : Turn) (c : Pair) → IsTurnOf word_of_a word_of_b action turn c → windows.sets_more turn ≡ sets_more action
   turn_more (CallOf x call) turn c is = ap windows.sets_more is ∙ call_more call
   turn_more (Give n A) turn c is = ap windows.sets_more is.heard ∙ hearing_more _ n _
   turn_more (Give n B) turn c is = ap windows.sets_more is.heard ∙ hearing_more _ n _
@@ -265,11 +268,12 @@ module _ (word_of_a word_of_b : List ℕ → ℕ) where
     pub both : Both word_of_a word_of_b u (run early first)
 
   pub record Delivering (actions : List Action) (w v : World) (c : Pair) (runs : Runs actions w v) (turns : List (Bool × Turn)) : Type 0 where
-    pub blocks : Stands turns c → AreBlocks turns c w.log v.log
-    pub windows_kept : (s : Stamps) → KeepsWindows actions w v runs s → windows.KeepsWindows turns c s
+    pub blocks : block.Stands turns c → AreBlocks turns c w.log v.log
+    pub windows_kept : (s : Stamps) → Stands v.log → KeepsWindows actions w v runs s → windows.KeepsWindows turns c s
+    pub stamps : (s : Stamps) → stamps_along actions w v runs s ≡ ending.stamps_along turns c s
     pub streams : list_any (λ (e : Bool × Turn). windows.resets e.1) turns ≡ list_any resets actions
     pub limits : list_any (λ (e : Bool × Turn). windows.sets_more e.1) turns ≡ list_any sets_more actions
-    pub points : (all done : List (Bool × Turn)) (first : Pair) → all ≡ done ++ turns → run done first ≡ c → Stands turns c → IsReached first done w.log
+    pub points : (all done : List (Bool × Turn)) (first : Pair) → all ≡ done ++ turns → run done first ≡ c → block.Stands turns c → IsReached first done w.log
         → AlongRun (IsPoint all first) actions w v runs
 
   pub delivering : (actions : List Action) (w v : World) (c : Pair) (fit : All ActionFits actions) (r : Runs actions w v) (small : IsInBytes v) (h : Both word_of_a word_of_b w c)
@@ -277,7 +281,8 @@ module _ (word_of_a word_of_b : List ℕ → ℕ) where
   unfolding ran
   delivering [] w v c fit r small h = record {
     blocks = λ s. ap (λ (z : World). z.log) r;
-    windows_kept = λ s k. are_within w c h k;
+    windows_kept = λ s st k. are_within w c h (k (subst (λ (z : World). Stands z.log) r st));
+    stamps = λ s. refl;
     streams = refl;
     limits = refl;
     points = λ all done first split is s reached.
@@ -295,12 +300,13 @@ module _ (word_of_a word_of_b : List ℕ → ℕ) where
       let rest = delivering actions u v d (All-tail ActionFits action actions fit) r.2 small step.both in
       record {
         blocks = λ s. (u.log, block_of action w u c step.turn r.1 step.is h step.both s.0 step.gone, rest.blocks s.1);
-        windows_kept = λ s k. (
-          are_within w c h k.0,
-          timely action w c step.turn s h step.is k.1,
-          rest.windows_kept (windows.stamps_after at_end step.turn c s)
-              (subst (λ (z : Stamps). KeepsWindows actions u v r.2 z) (stamps_same at_end step.turn w u c s h step.both) k.2),
+        windows_kept = λ s st k. let here = k.0 (stands_front w.log (extends_then w u v first later).more v.log (extends_then w u v first later).logged st) in (
+          are_within w c h here.0,
+          timely action w c step.turn s h step.is here.1,
+          rest.windows_kept (windows.stamps_after at_end step.turn c s) st
+              (subst (λ (z : Stamps). KeepsWindows actions u v r.2 z) (stamps_same at_end step.turn w u c s h step.both) k.1),
         );
+        stamps = λ s. rest.stamps (stamps_after w u s) ∙ ap (λ (z : Stamps). ending.stamps_along rest_turns d z) (stamps_same at_end step.turn w u c s h step.both);
         streams = both_any (turn_resets action step.turn c step.is) rest.streams;
         limits = both_any (turn_more action step.turn c step.is) rest.limits;
         points = λ all done first split is s reached.
@@ -315,14 +321,14 @@ module _ (word_of_a word_of_b : List ℕ → ℕ) where
       both_any : {p q x y : Bool} → p ≡ q → x ≡ y → (p || x) ≡ (q || y)
       both_any {p} {q} {x} {y} e f = ap (λ (z : Bool). z || x) e ∙ ap (λ (z : Bool). q || z) f
 
-along_each : (P Q : World → Type 0) → ((u : World) → P u → Q u) → (actions : List Action) (w v : World) (r : Runs actions w v) → AlongRun P actions w v r → AlongRun Q actions w v r
+pub along_each : (P Q : World → Type 0) → ((u : World) → P u → Q u) → (actions : List Action) (w v : World) (r : Runs actions w v) → AlongRun P actions w v r → AlongRun Q actions w v r
 along_each P Q f [] w v r h = f w h
 along_each P Q f (action ∷ actions) w v r h = (f w h.0, along_each P Q f actions r.0 v r.2 h.1)
 
 -- ---- an association that stands is not replaced
 
 module _ (o q : Options) (own : AreGiven o) (other : AreGiven q) where
-  pub stands_along : (es : List (Bool × Turn)) (c : Pair) → course.FollowsTheRules es c → HasNotEnded (run es c) → Halves o q c.a c.b → Stands es c
+  pub stands_along : (es : List (Bool × Turn)) (c : Pair) → course.FollowsTheRules es c → HasNotEnded (run es c) → Halves o q c.a c.b → block.Stands es c
   stands_along [] c follows none h = tt
   stands_along (e ∷ es) c follows none h =
       let d : Pair = goes e.0 e.1 c in
@@ -330,108 +336,6 @@ module _ (o q : Options) (own : AreGiven o) (other : AreGiven q) where
         (hands_at o q own other e.0 e.0 e.1 c follows.0 not_yet h).stands,
         stands_along es d follows.1 none (goes_joined o q own other e.0 e.1 c follows.0 not_yet h),
       )
-
--- ---- beginnings of courses
-
-follows_front : (es fs : List (Bool × Turn)) (c : Pair) → course.FollowsTheRules (es ++ fs) c → course.FollowsTheRules es c
-follows_front [] fs c h = tt
-follows_front (e ∷ es) fs c h = (h.0, follows_front es fs (goes e.0 e.1 c) h.1)
-
-run_both : (es fs : List (Bool × Turn)) (c : Pair) → run (es ++ fs) c ≡ run fs (run es c)
-run_both [] fs c = refl
-run_both (e ∷ es) fs c = run_both es fs (goes e.0 e.1 c)
-
-not_ended_front : (es fs : List (Bool × Turn)) (c : Pair) → HasNotEnded (run (es ++ fs) c) → HasNotEnded (run es c)
-not_ended_front es fs c h = before_run fs (run es c) (subst HasNotEnded (run_both es fs c) h)
-
--- ---- the laws
-
-module _ (a b : Options) (words_a words_b : Stream) (word_of_a word_of_b : List ℕ → ℕ) (actions : List Action) (w : World)
-    (valid_a : IsValid a) (valid_b : IsValid b) (fits_a : OptionsFit a) (fits_b : OptionsFit b) (fit : All ActionFits actions)
-    (runs : Runs actions (fresh_world a b words_a words_b word_of_a word_of_b) w) (small : IsInBytes w) (rules : FollowsTheRules w) (none : (x : End) → times_ended x w.log ≡ 0) where
-  abbrev first_world : World
-  first_world = fresh_world a b words_a words_b word_of_a word_of_b
-
-  abbrev first_pair : Pair
-  first_pair = start a b words_a words_b
-
-  abbrev r : Ran word_of_a word_of_b actions first_world w first_pair
-  r = ran word_of_a word_of_b actions first_world w first_pair fit runs small (fresh_both a b words_a words_b word_of_a word_of_b fits_a fits_b)
-
-  d : Delivering word_of_a word_of_b actions first_world w first_pair runs r.turns
-  d = delivering word_of_a word_of_b actions first_world w first_pair fit runs small (fresh_both a b words_a words_b word_of_a word_of_b fits_a fits_b)
-
-  own : AreGiven a
-  own = given_of a valid_a fits_a
-
-  theirs : AreGiven b
-  theirs = given_of b valid_b fits_b
-
-  not_ended : HasNotEnded (run r.turns first_pair)
-  not_ended = record {
-    a = none_ended word_of_a A w.log w.b.packets w.a (run r.turns first_pair).a r.both.a (none A);
-    b = none_ended word_of_b B w.log w.a.packets w.b (run r.turns first_pair).b r.both.b (none B);
-  }
-
-  stand : Stands r.turns first_pair
-  stand = stands_along a b own theirs r.turns first_pair (r.follows rules) not_ended (first_halves a b words_a words_b)
-
-  blocks : AreBlocks r.turns first_pair [] w.log
-  blocks = d.blocks stand
-
-  offered : (x : End) → offers x w.log ≡ accepted (is_a x) r.turns first_pair
-  offered x = offers_run x r.turns first_pair [] w.log blocks
-
-  bounds : IsInBounds actions first_world w runs → courses.IsInBounds r.turns first_pair
-  bounds k = record {
-    windows = d.windows_kept windows.no_stamps k.windows;
-    streams = d.streams ∙ k.streams;
-    few = λ from_a. few_at from_a;
-    limits = d.limits ∙ k.limits;
-  }
-    where
-      few_at : (from_a : Bool) → length (accepted from_a r.turns first_pair) < 2 ^ 32
-      few_at true = subst (λ (l : List Offer). length l < 2 ^ 32) (offered A) (k.few A)
-      few_at false = subst (λ (l : List Offer). length l < 2 ^ 32) (offered B) (k.few B)
-
-  reached : IsReached first_pair [] []
-  reached = nothing_yet first_pair nothing
-    where
-      nothing : (x : Bool) → (course.side_of x first_pair).told ≡ []
-      nothing true = refl
-      nothing false = refl
-
-  pub delivers : courses.MessagesAreDelivered → IsInBounds actions first_world w runs → (x : End) → Delivers x actions first_world w runs
-  delivers law k x =
-      let from : courses.Delivers (is_a x) r.turns first_pair = law a b words_a words_b r.turns own theirs (r.follows rules) not_ended (bounds k) (is_a x) in
-      record {
-        places = from.places;
-        fits = λ early late e. (delivered_each x r.turns first_pair from w.log early late reached blocks e).fits;
-        skipped = λ early late e. (delivered_each x r.turns first_pair from w.log early late reached blocks e).skipped;
-        reports = λ early late e. (delivered_each x r.turns first_pair from w.log early late reached blocks e).reports;
-        rest =
-            along_each (IsPoint word_of_a word_of_b r.turns first_pair)
-            (λ u. is_at_rest x u ≡ true → AllAreDone (offers x u.log) (gone x u.log) (ready_places x u.log from.places))
-            (λ u p. at_rest word_of_a word_of_b x r.turns first_pair from p.early p.late u p.split p.reached p.both)
-            actions first_world w runs (d.points r.turns [] first_pair refl refl stand reached);
-      }
-
-  pub prefix : (x : End) (early late : List Entry) → w.log ≡ early ++ late → orders.Extends (handed_out x early) (ready x early)
-  prefix x early late is =
-      prefix_each x r.turns first_pair
-      (λ before behind s.
-      let follows : course.FollowsTheRules (before ++ behind) first_pair = subst (λ (l : List (Bool × Turn)). course.FollowsTheRules l first_pair) s (r.follows rules) in
-      let none_yet : HasNotEnded (run (before ++ behind) first_pair) = subst (λ (l : List (Bool × Turn)). HasNotEnded (run l first_pair)) s not_ended in
-      handed_prefix a b words_a words_b before own theirs (follows_front before behind first_pair follows) (not_ended_front before behind first_pair none_yet) (is_a x))
-      w.log early late reached blocks is
-
-pub worlds_deliver : courses.MessagesAreDelivered → WorldsDeliver
-worlds_deliver law w l u k =
-    delivers l.a l.b l.words_a l.words_b l.word_of_a l.word_of_b l.actions w l.valid_a l.valid_b l.fits_a l.fits_b l.fit l.runs u.bytes u.follows u.stands law k
-
-pub handed_is_a_prefix : HandedOutIsAPrefix
-handed_is_a_prefix w l u x early late is =
-    prefix l.a l.b l.words_a l.words_b l.word_of_a l.word_of_b l.actions w l.valid_a l.valid_b l.fits_a l.fits_b l.fit l.runs u.bytes u.follows u.stands x early late is
 
 -- ---- offers and accepted messages
 

@@ -29,7 +29,7 @@ at_each w before (d ∷ log) (f ∷ front) e behind h is =
     (at_each w (before ++ d ∷ []) log front e behind h.1 (tail_same d f log (front ++ e ∷ behind) is))
 
 pub follows_by : (w : World) → Each w [] w.log → FollowsTheRules w
-follows_by w h before entry behind is = at_each w [] w.log before entry behind h is
+follows_by w h before entry behind is stands = at_each w [] w.log before entry behind h is
 
 -- ---- the first run
 

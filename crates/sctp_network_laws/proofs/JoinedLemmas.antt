@@ -48,13 +48,13 @@ module _ (word_of : List ℕ → ℕ) (x : End) (log : List Entry) (others : Lis
 pub are_joined : EndsAreJoined → WorldsAreJoined
 are_joined law w l u =
     let r : Ran l.word_of_a l.word_of_b l.actions (origin l) w (start l.a l.b l.words_a l.words_b) =
-    ran l.word_of_a l.word_of_b l.actions (origin l) w (start l.a l.b l.words_a l.words_b) l.fit l.runs u.bytes
+    ran l.word_of_a l.word_of_b l.actions (origin l) w (start l.a l.b l.words_a l.words_b) l.fit l.runs l.bytes
     (fresh_both l.a l.b l.words_a l.words_b l.word_of_a l.word_of_b l.fits_a l.fits_b) in
     let c : Pair = run r.turns (start l.a l.b l.words_a l.words_b) in
     let good_a : Good l.word_of_a A w.log w.b.packets w.a c.a = r.both.a in
     let good_b : Good l.word_of_b B w.log w.a.packets w.b c.b = r.both.b in
     let joined : course.AreJoined l.a l.b c =
-    law l.a l.b l.words_a l.words_b r.turns (given_of l.a l.valid_a l.fits_a) (given_of l.b l.valid_b l.fits_b) (r.follows u.follows)
+    law l.a l.b l.words_a l.words_b r.turns (given_of l.a l.valid_a l.fits_a) (given_of l.b l.valid_b l.fits_b) (r.follows u.follows u.stands)
     (record { a = none_ended l.word_of_a A w.log w.b.packets w.a c.a good_a (u.stands A); b = none_ended l.word_of_b B w.log w.a.packets w.b c.b good_b (u.stands B) }) in
     record {
       a_negotiated = λ phase t e. joined.a_negotiated phase t (sym (state_of l.word_of_a A w.log w.b.packets w.a c.a good_a) ∙ e);

@@ -5,7 +5,9 @@ pub mod NewsLemmas
 pub mod SidesLemmas
 pub mod TurnsLemmas
 pub mod WorldLemmas
+pub mod StandingLemmas
 pub mod RunsLemmas
+pub mod UpToEndLemmas
 pub mod JoinedLemmas
 pub mod FollowsLemmas
 pub mod LoggedLemmas
@@ -16,6 +18,8 @@ pub mod BetweenLemmas
 pub mod BlockLemmas
 pub mod PointsLemmas
 pub mod DeliveredLemmas
+pub mod ClosingLemmas
+pub mod LastingLemmas
 pub mod ClockLemmas
 pub mod ProperLemmas
 pub mod ComposedLemmas

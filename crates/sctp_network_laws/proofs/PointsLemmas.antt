@@ -45,7 +45,7 @@ own_or_beside A (false, t) d log mid b =
 own_or_beside B (true, t) d log mid b =
     inr (record { offers = ap (λ (l : List Offer). l ++ offers B b.more) b.no_offers ∙ b.quiet B; gone = b.none_gone; reported = b.none_reported })
 
-abbrev IsDeliveredAt : End → (places : List ℕ) → List Entry → Type 0
+abbrev pub IsDeliveredAt : End → (places : List ℕ) → List Entry → Type 0
 IsDeliveredAt x places log = IsDelivered (offers x log) (ready (other x) log) (gone x log) (reported x log) places
 
 module _ (x : End) (places : List ℕ) (e : Bool × Turn) (d : Pair) (log mid front behind : List Entry) (b : IsBlock e d log mid) (split : b.more ≡ front ++ behind)
@@ -91,7 +91,7 @@ module _ (x : End) (places : List ℕ) (e : Bool × Turn) (d : Pair) (log mid fr
 
 -- ---- at each point
 
-is_a_other : (x : End) → is_a (other x) ≡ not (is_a x)
+pub is_a_other : (x : End) → is_a (other x) ≡ not (is_a x)
 is_a_other A = refl
 is_a_other B = refl
 

@@ -18,7 +18,7 @@ own_more : (x : End) (ids more rest : List ℕ) → more ≡ rest → all_unless
 own_more A ids more rest e = ap (λ (l : List ℕ). ids ++ l) e
 own_more B ids more rest e = ap (λ (l : List ℕ). ids ++ l) e
 
-reported_told : (f : Carried → List ℕ) (x : End) (n : ℕ) (es : List (Event Carried)) → reported x (told_entries x n (mapped f es)) ≡ delivered es
+pub reported_told : (f : Carried → List ℕ) (x : End) (n : ℕ) (es : List (Event Carried)) → reported x (told_entries x n (mapped f es)) ≡ delivered es
 reported_told f x n [] = refl
 reported_told f x n (SendPacket p ∷ es) = reported_told f x (n + 1) es
 reported_told f x n (OnConnected ∷ es) = own_more x [] _ _ (reported_told f x n es)
@@ -56,7 +56,7 @@ reported_step A (Happened B event) = refl
 reported_step B (Happened A event) = refl
 reported_step B (Happened B event) = append-nil (delivered_by event)
 
-reported_by_told : (x : End) (log : List Entry) → reported x log ≡ reported x (told_in x log)
+pub reported_by_told : (x : End) (log : List Entry) → reported x log ≡ reported x (told_in x log)
 reported_by_told x [] = refl
 reported_by_told x (e ∷ log) =
     ap (λ (l : List ℕ). reported_by x e ++ l) (reported_by_told x log)

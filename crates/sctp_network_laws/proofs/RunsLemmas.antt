@@ -15,11 +15,12 @@ use Rattle.sctp_course.specs.Course.{Pair, Turn, Calls, Refuses, has_connected, 
 use Rattle.sctp_network_table.specs.Judge.{End, A, B, Entry, Answer, Called, Call, Connect, Shutdown, Close, Send, SendMany, Receive, Reset, SetPriority, SetMaxMessageSize, SetLowThreshold, HandOver, connected_by, times_connected}
 use Rattle.sctp_network_table.specs.World.{Side, World, Action, CallOf, Give, GiveForeign, TellTime, ComesTo, told, skipped, Happens, Runs, settled, side_of, news_of, calls, call_entry, after_call, after_time, clock, answer_to, step_of, fresh_side, fresh_world}
 use Rattle.sctp_network_laws.specs.Courses.{ActionFits, IsInBytes, is_a, end_of, hearing, IsHearing, IsForeign, IsTurnOf, AreTurnsOf, WorldsHaveCourses}
-use Rattle.sctp_network_laws.specs.Joined.{asks, MayFollow, FollowsTheRules}
+use Rattle.sctp_network_laws.specs.Joined.{asks, Stands, MayFollow, FollowsTheRules}
 use Rattle.sctp_course.proofs.JoinLemmas.{not_both}
 use Rattle.sctp_network_laws.proofs.EventLemmas.{Readable, connected_told}
 use Rattle.sctp_network_laws.proofs.NewsLemmas.{connected_by_told}
 use Rattle.sctp_network_laws.proofs.SidesLemmas.{Good, any_more}
+use Rattle.sctp_network_laws.proofs.StandingLemmas.{stands_front}
 use Rattle.sctp_network_laws.proofs.WorldLemmas.{Both, Extends, extends_same, extends_then, in_bytes_before, Stepped, steps}
 
 -- ---- worlds grow
@@ -116,14 +117,14 @@ module _ (word_of_a word_of_b : List ℕ → ℕ) where
   logged_then : (before rest more log longer : List Entry) (entry : Entry) → log ≡ before ++ entry ∷ rest → longer ≡ log ++ more → longer ≡ before ++ entry ∷ (rest ++ more)
   logged_then before rest more log longer entry e f = f ∙ ap (λ (l : List Entry). l ++ more) e ∙ append_assoc before (entry ∷ rest) more
 
-  may_follow : (x : End) (call : Call) (w u v : World) → u ≡ calls x call w → Extends u v → FollowsTheRules v
+  may_follow : (x : End) (call : Call) (w u v : World) → u ≡ calls x call w → Extends u v → FollowsTheRules v → Stands w.log
       → MayFollow v w.log (call_entry x call (side_of x w).socket)
-  may_follow A call w u v e f rules =
+  may_follow A call w u v e f rules stands =
       rules w.log (call_entry A call w.a.socket) _ (logged_then w.log (news_of A w.a (after_call call w.a.socket)) f.more u.log v.log (call_entry A call w.a.socket)
-      (ap (λ (z : World). z.log) e) f.logged)
-  may_follow B call w u v e f rules =
+      (ap (λ (z : World). z.log) e) f.logged) stands
+  may_follow B call w u v e f rules stands =
       rules w.log (call_entry B call w.b.socket) _ (logged_then w.log (news_of B w.b (after_call call w.b.socket)) f.more u.log v.log (call_entry B call w.b.socket)
-      (ap (λ (z : World). z.log) e) f.logged)
+      (ap (λ (z : World). z.log) e) f.logged) stands
 
   may_hearing : (b : Bool) (n checksum : ℕ) (end : course.Side) → MayTurn (hearing b n checksum) end
   may_hearing true n checksum end = tt
@@ -136,15 +137,15 @@ module _ (word_of_a word_of_b : List ℕ → ℕ) where
   may_refuse turn bytes end (inl x) = subst (λ (t : Turn). MayTurn t end) (sym x.2) tt
   may_refuse turn bytes end (inr e) = subst (λ (t : Turn). MayTurn t end) (sym e) tt
 
-  pub may_turn : (action : Action) (w u v : World) (c : Pair) (turn : Turn) → Happens action w u → Extends w u → Extends u v → Both word_of_a word_of_b w c → IsTurnOf word_of_a word_of_b action turn c → FollowsTheRules v
+  pub may_turn : (action : Action) (w u v : World) (c : Pair) (turn : Turn) → Happens action w u → Extends w u → Extends u v → Both word_of_a word_of_b w c → IsTurnOf word_of_a word_of_b action turn c → FollowsTheRules v → Stands w.log
       → MayTurn turn (course.side_of (is_a (end_of action)) c)
-  may_turn (CallOf x call) w u v c turn happens e f h is rules =
+  may_turn (CallOf x call) w u v c turn happens e f h is rules stands =
       subst (λ (t : Turn). MayTurn t (course.side_of (is_a x) c)) (sym is)
-      (may_call x call (clock (side_of x w).socket) (answer_to call (side_of x w).socket) w v c h (extends_then w u v e f) (may_follow x call w u v happens f rules))
-  may_turn (Give n A) w u v c turn happens e f h is rules = may_give word_of_a word_of_b turn n c.a c.b c.a is
-  may_turn (Give n B) w u v c turn happens e f h is rules = may_give word_of_b word_of_a turn n c.b c.a c.b is
-  may_turn (GiveForeign x bytes) w u v c turn happens e f h is rules = may_refuse turn bytes (course.side_of (is_a x) c) is
-  may_turn (TellTime x now) w u v c turn happens e f h is rules = subst (λ (t : Turn). MayTurn t (course.side_of (is_a x) c)) (sym is) tt
+      (may_call x call (clock (side_of x w).socket) (answer_to call (side_of x w).socket) w v c h (extends_then w u v e f) (may_follow x call w u v happens f rules stands))
+  may_turn (Give n A) w u v c turn happens e f h is rules stands = may_give word_of_a word_of_b turn n c.a c.b c.a is
+  may_turn (Give n B) w u v c turn happens e f h is rules stands = may_give word_of_b word_of_a turn n c.b c.a c.b is
+  may_turn (GiveForeign x bytes) w u v c turn happens e f h is rules stands = may_refuse turn bytes (course.side_of (is_a x) c) is
+  may_turn (TellTime x now) w u v c turn happens e f h is rules stands = subst (λ (t : Turn). MayTurn t (course.side_of (is_a x) c)) (sym is) tt
 
   -- ---- runs
 
@@ -152,14 +153,14 @@ module _ (word_of_a word_of_b : List ℕ → ℕ) where
     pub turns : List (Bool × Turn)
     pub are : AreTurnsOf word_of_a word_of_b actions turns c
     pub both : Both word_of_a word_of_b v (run turns c)
-    pub follows : FollowsTheRules v → course.FollowsTheRules turns c
+    pub follows : FollowsTheRules v → Stands v.log → course.FollowsTheRules turns c
 
   unfoldable pub ran : (actions : List Action) (w v : World) (c : Pair) → All ActionFits actions → Runs actions w v → IsInBytes v → Both word_of_a word_of_b w c → Ran actions w v c
   ran [] w v c fit e small h = record {
     turns = [];
     are = tt;
     both = subst (λ (z : World). Both word_of_a word_of_b z c) (sym e) h;
-    follows = λ rules. tt;
+    follows = λ rules stands. tt;
   }
   ran (action ∷ actions) w v c fit r small h =
       let u : World = r.0 in
@@ -173,7 +174,8 @@ module _ (word_of_a word_of_b : List ℕ → ℕ) where
         turns = (is_a (end_of action), step.turn) ∷ rest.turns;
         are = (refl, step.is, rest.are);
         both = rest.both;
-        follows = λ rules. (may_turn action w u v c step.turn r.1 first later h step.is rules, rest.follows rules);
+        follows = λ rules stands.
+            (may_turn action w u v c step.turn r.1 first later h step.is rules (stands_front w.log (extends_then w u v first later).more v.log (extends_then w u v first later).logged stands), rest.follows rules stands);
       }
 
 -- ---- new worlds

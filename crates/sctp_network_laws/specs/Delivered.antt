@@ -1,19 +1,17 @@
 -- Messages that become ready at an end of a world are those that the other end accepted, and what became of the others: premises
 -- and claim are read off the log, the actions and the values that the sockets hold between them.
 use Rattle.std.specs.Prelude.{◌≡◌, ℕ, ◌-◌, ◌^◌, ◌<◌, Bool, true, false, Some, None, List, [], ◌∷◌, ◌++◌, length, map, take, replicate, slice_get, nat_le, ⊤}
-use Rattle.std.specs.List.{flat_map, list_any}
+use Rattle.std.specs.List.{flat_map}
 use Rattle.sctp_serial.specs.Messages.{Message}
 use Rattle.sctp_state.specs.Events.{GivenUp}
 use Rattle.sctp_rules.specs.State.{has}
 use Rattle.sctp_tx_rules.specs.Led.{delivered_by}
-use Rattle.sctp_rx.specs.Delivery.{Extends}
 use Rattle.sctp_delivery.specs.Accepted.{Offer}
 use Rattle.sctp_delivery.specs.Windows.{numbered, IsWithin, Stamp, Stamps, no_stamps, IsYoung}
 use Rattle.sctp_delivery.specs.Delivery.{Fits, SkippedAreGivenUp, IsReady, AllAreDone}
-use Rattle.sctp_network_table.specs.Judge.{End, A, B, same_end, all_unless, Call, Send, SendMany, Reset, SetMaxMessageSize, Answer, Sent, SentMany, unrefused, Entry, Called, Happened, accepted, ready, handed_out, given_up}
+use Rattle.sctp_network_table.specs.Judge.{End, A, B, same_end, all_unless, Call, Send, SendMany, Reset, SetMaxMessageSize, Answer, Sent, SentMany, unrefused, Entry, Called, Happened, accepted, ready, given_up}
 use Rattle.sctp_network_table.specs.World.{Side, World, Action, CallOf, Give, GiveForeign, TellTime, Runs, other, is_at_rest}
-use Rattle.sctp_network_laws.specs.Courses.{IsLed, origin}
-use Rattle.sctp_network_laws.specs.Joined.{IsUndisturbed}
+use Rattle.sctp_network_laws.specs.Joined.{Stands}
 
 -- ---- what was accepted, with the options of its sending
 
@@ -71,29 +69,29 @@ IsTimely (CallOf x call) now s = ⊤
 IsTimely (GiveForeign x bytes) now s = ⊤
 IsTimely (TellTime x time) now s = ⊤
 
+-- at each world that stands
 abbrev pub KeepsWindows : (actions : List Action) (w v : World) → Runs actions w v → Stamps → Type 0
-KeepsWindows [] w v r s = AreWithin w
-KeepsWindows (action ∷ actions) w v r s = AreWithin w × IsTimely action (stamp w) s × KeepsWindows actions r.0 v r.2 (stamps_after w r.0 s)
+KeepsWindows [] w v r s = Stands w.log → AreWithin w
+KeepsWindows (action ∷ actions) w v r s =
+    (Stands w.log → AreWithin w × IsTimely action (stamp w) s) × KeepsWindows actions r.0 v r.2 (stamps_after w r.0 s)
+
+-- no such action from a world that stands
+abbrev pub KeepsFrom : (Action → Bool) → (actions : List Action) (w v : World) → Runs actions w v → Type 0
+KeepsFrom is_such [] w v r = ⊤
+KeepsFrom is_such (action ∷ actions) w v r = (Stands w.log → is_such action ≡ false) × KeepsFrom is_such actions r.0 v r.2
 
 abbrev pub resets : Action → Bool
 resets (CallOf x (Reset streams)) = true
 resets action = false
 
--- no stream is reset
-abbrev pub KeepsStreams : List Action → Type 0
-KeepsStreams actions = list_any resets actions ≡ false
-
 abbrev pub asks_more : Call → Bool
 asks_more (SetMaxMessageSize bytes) = nat_le (2 ^ 32) bytes
 asks_more call = false
 
+-- a limit of messages' sizes that doesn't fit 32 bits
 abbrev pub sets_more : Action → Bool
 sets_more (CallOf x call) = asks_more call
 sets_more action = false
-
--- no limit of messages' sizes is set that doesn't fit 32 bits
-abbrev pub KeepsLimits : List Action → Type 0
-KeepsLimits actions = list_any sets_more actions ≡ false
 
 -- ---- the law
 
@@ -106,33 +104,24 @@ AlongRun P (action ∷ actions) w v r = P w × AlongRun P actions r.0 v r.2
 abbrev pub ready_places : End → List Entry → (places : List ℕ) → List ℕ
 ready_places x log places = take (length (ready (other x) log)) places
 
--- Of what end x accepted: one list of places serves all along the log. At each point its beginning fits; an ordered message that
--- isn't ready, while a later one of its stream is, was given up; and each id that x told as delivered is that of a ready message.
--- Between events, where nothing is queued at x and no item kept, each message is ready or was given up.
+-- Of what end x accepted: one list of places serves all along the log, until an end first tells that an association is over. At each
+-- point its beginning fits; an ordered message that isn't ready, while a later one of its stream is, was given up; and each id that
+-- x told as delivered is that of a ready message. Between events, where nothing is queued at x and no item kept, each message is
+-- ready or was given up.
 pub record Delivers (x : End) (actions : List Action) (w v : World) (runs : Runs actions w v) : Type 0 where
   pub places : List ℕ
-  pub fits : (early late : List Entry) → v.log ≡ early ++ late → Fits (offers x early) (ready (other x) early) (ready_places x early places)
-  pub skipped : (early late : List Entry) → v.log ≡ early ++ late → SkippedAreGivenUp (offers x early) (gone x early) (ready_places x early places)
-  pub reports : (early late : List Entry) → v.log ≡ early ++ late → (id : ℕ) → has id (reported x early) ≡ true
+  pub fits : (early late : List Entry) → v.log ≡ early ++ late → Stands early → Fits (offers x early) (ready (other x) early) (ready_places x early places)
+  pub skipped : (early late : List Entry) → v.log ≡ early ++ late → Stands early → SkippedAreGivenUp (offers x early) (gone x early) (ready_places x early places)
+  pub reports : (early late : List Entry) → v.log ≡ early ++ late → Stands early → (id : ℕ) → has id (reported x early) ≡ true
       → IsReady (offers x early) (ready_places x early places) id
-  pub rest : AlongRun (λ u. is_at_rest x u ≡ true → AllAreDone (offers x u.log) (gone x u.log) (ready_places x u.log places)) actions w v runs
+  pub rest : AlongRun (λ u. Stands u.log → is_at_rest x u ≡ true → AllAreDone (offers x u.log) (gone x u.log) (ready_places x u.log places)) actions w v runs
 
--- what a run has to keep
+-- what a run has to keep until then
 pub record IsInBounds (actions : List Action) (w v : World) (runs : Runs actions w v) : Type 0 where
   pub windows : KeepsWindows actions w v runs no_stamps
-  pub streams : KeepsStreams actions
-  pub few : (x : End) → length (offers x v.log) < 2 ^ 32
-  pub limits : KeepsLimits actions
-
--- Of each world that a new one was led to, undisturbed and within the bounds.
-abbrev pub WorldsDeliver : Type 0
-WorldsDeliver =
-    (w : World) (l : IsLed w) → IsUndisturbed w → IsInBounds l.actions (origin l) w l.runs → (x : End) → Delivers x l.actions (origin l) w l.runs
-
--- what was handed out, in order, is a prefix of what became ready, at each point of the log
-abbrev pub HandedOutIsAPrefix : Type 0
-HandedOutIsAPrefix =
-    (w : World) → IsLed w → IsUndisturbed w → (x : End) (early late : List Entry) → w.log ≡ early ++ late → Extends (handed_out x early) (ready x early)
+  pub streams : KeepsFrom resets actions w v runs
+  pub few : (x : End) (early late : List Entry) → v.log ≡ early ++ late → Stands early → length (offers x early) < 2 ^ 32
+  pub limits : KeepsFrom sets_more actions w v runs
 
 -- the messages of the offers are those accepted
 abbrev pub OffersAreAccepted : Type 0

@@ -10,7 +10,7 @@ use Rattle.sctp_table.specs.Shown.{Association}
 use Rattle.sctp_network_table.specs.Judge.{End, A, B, same_end, none_unless, crossed, held, times_connected, Connect, Shutdown, Entry, Called, Given, Happened}
 use Rattle.sctp_network_table.specs.World.{World, Runs, side_of, other}
 use Rattle.sctp_network_table.specs.FirstRun.{opening, IsFresh}
-use Rattle.sctp_network_laws.specs.Courses.{IsInBytes, IsLed}
+use Rattle.sctp_network_laws.specs.Courses.{IsLed}
 
 -- ---- what was given
 
@@ -31,17 +31,7 @@ asks x packets entry = false
 abbrev pub was_asked : End → World → List Entry → Bool
 was_asked x w log = list_any (asks x (side_of (other x) w).packets) log
 
--- ---- the rules
-
--- Before its own OnConnected an end calls neither shutdown, nor connect once an INIT was given to it.
-abbrev pub MayFollow : World → (before : List Entry) → Entry → Type 0
-MayFollow w before (Called x clock Shutdown answer) = 1 ≤ times_connected x before
-MayFollow w before (Called x clock Connect answer) = (1 ≤ times_connected x before) ⊎ (was_asked x w before ≡ false)
-MayFollow w before entry = ⊤
-
--- each entry, by those before it
-abbrev pub FollowsTheRules : World → Type 0
-FollowsTheRules w = (before : List Entry) (entry : Entry) (behind : List Entry) → w.log ≡ before ++ entry ∷ behind → MayFollow w before entry
+-- ---- until an association is over
 
 abbrev pub ended_by : End → Entry → List End
 ended_by x (Happened y OnClosed) = none_unless (same_end x y) y
@@ -52,11 +42,26 @@ ended_by x entry = []
 abbrev pub times_ended : End → List Entry → ℕ
 times_ended x log = length (flat_map (ended_by x) log)
 
--- Its packets are bytes, the rules were followed, and no end told that an association is over.
+-- none told so yet
+abbrev pub Stands : List Entry → Type 0
+Stands log = (x : End) → times_ended x log ≡ 0
+
+-- ---- the rules
+
+-- Before its own OnConnected an end calls neither shutdown, nor connect once an INIT was given to it.
+abbrev pub MayFollow : World → (before : List Entry) → Entry → Type 0
+MayFollow w before (Called x clock Shutdown answer) = 1 ≤ times_connected x before
+MayFollow w before (Called x clock Connect answer) = (1 ≤ times_connected x before) ⊎ (was_asked x w before ≡ false)
+MayFollow w before entry = ⊤
+
+-- each entry, by those before it, until an end first tells that an association is over
+abbrev pub FollowsTheRules : World → Type 0
+FollowsTheRules w = (before : List Entry) (entry : Entry) (behind : List Entry) → w.log ≡ before ++ entry ∷ behind → Stands before → MayFollow w before entry
+
+-- The rules were followed, and no end told that an association is over.
 pub record IsUndisturbed (w : World) : Type 0 where
-  pub bytes : IsInBytes w
   pub follows : FollowsTheRules w
-  pub stands : (x : End) → times_ended x w.log ≡ 0
+  pub stands : Stands w.log
 
 -- ---- the law
 
@@ -74,4 +79,4 @@ WorldsAreJoined = (w : World) (l : IsLed w) → IsUndisturbed w → AreJoined l.
 
 -- The rules can be kept: the opening of the first run keeps them, and leaves no association over.
 abbrev pub OpeningFollows : Type 0
-OpeningFollows = (w v : World) → IsFresh w → Runs opening w v → FollowsTheRules v × ((x : End) → times_ended x v.log ≡ 0)
+OpeningFollows = (w v : World) → IsFresh w → Runs opening w v → FollowsTheRules v × Stands v.log

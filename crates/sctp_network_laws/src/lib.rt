@@ -1,8 +1,9 @@
 //! Laws of two ends and all packets between them: each run of a new world is a course of two ends, which the theorem is read off.
 #![tactic(auto)]
 
+ghost use Rattle.sctp_network_laws.specs.Composed.{WorldsCompose};
 ghost use Rattle.sctp_network_laws.specs.Courses.{WorldsHaveCourses};
-ghost use Rattle.sctp_network_laws.specs.Delivered.{HandedOutIsAPrefix, OffersAreAccepted, WorldsDeliver};
+ghost use Rattle.sctp_network_laws.specs.Delivered.{OffersAreAccepted};
 ghost use Rattle.sctp_network_laws.specs.Ended.{EndedAreHandedIn, NoLifecycleEndsTwiceHere};
 ghost use Rattle.sctp_network_laws.specs.Joined.{OpeningFollows, WorldsAreJoined};
 ghost use Rattle.sctp_network_laws.specs.Proper.{AcceptancesAreOffers, WorldsAreProper};
@@ -43,13 +44,10 @@ pub fn worlds_are_joined()
     ensures can_be_kept { OpeningFollows }
 {}
 
-/// Until an end tells that an association is over, what was handed out at an end, in order, is a prefix of what became ready there,
-/// at each point of the log. The messages of the offers are those that were accepted.
-pub fn messages_are_handed_out_in_order()
-    ensures prefix { HandedOutIsAPrefix }
-    ensures offers { OffersAreAccepted }
-{}
-
+/// Of each run of a new world, whatever it goes on with, until an end first tells that an association is over, in the middle of an
+/// event as well: the rules and the bounds are asked of the part up to there alone. Between events both ends are joined. What was
+/// handed out at an end, in order, is a prefix of what became ready there, at each point of the log.
+///
 /// And as long as the run keeps its bounds, in either direction and at each point of the log, the messages that became ready at one
 /// end are messages that the other one accepted, byte for byte, each at most once, and on each stream ordered ones in the order of
 /// acceptance (RFC 9260 sections 6.5, 6.6; RFC 8260 section 2.2; RFC 3758 section 3.6). One list of places says which, and grows
@@ -57,8 +55,11 @@ pub fn messages_are_handed_out_in_order()
 /// it (RFC 3758 section 3.5). A lifecycle id that the log tells as delivered is that of a message that is ready. And between events,
 /// where nothing is queued at the sender and it keeps no item, each message that it accepted is ready or was given up. The bounds
 /// are read off the log and the values of the sockets between events: those of `messages_are_delivered` of `sctp_delivery`.
-pub fn worlds_deliver()
-    ensures delivered { WorldsDeliver }
+///
+/// The messages of the offers are those that were accepted.
+pub fn worlds_compose()
+    ensures composes { WorldsCompose }
+    ensures offers { OffersAreAccepted }
 {}
 
 /// Each record of a message given up is proper, by what stands before it in the log, whatever rules the run follows, and behind the

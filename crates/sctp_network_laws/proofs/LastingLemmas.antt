@@ -1,0 +1,401 @@
+-- A world that stands delivers what its course delivers, and so does the log of the next event up to the first end that it tells.
+use Rattle.std.proofs.Common.{◌≡◌, ◌⊎◌, inl, inr, ℕ, ◌+◌, ◌^◌, ◌<◌, ◌||◌, not, Bool, true, false, List, [], ◌∷◌, ◌++◌, length, take, map, refl, sym, ap, subst, ◌∙◌, append-nil, append_assoc, arith}
+use Rattle.std.specs.Prelude.{All}
+use Rattle.std.specs.List.{flat_map, list_any}
+use Rattle.std.proofs.lemmas.Grind.{flat_map-append}
+use Rattle.std.proofs.lemmas.List.{map-append}
+use Rattle.std.proofs.lemmas.List.Folds.{list_any-append}
+use Rattle.rand_core.specs.Stream.{Stream}
+use Rattle.sctp_serial.specs.Messages.{Message}
+use Rattle.sctp_state.specs.Events.{Event, GivenUp}
+use Rattle.sctp_state.specs.Options.{Options, IsValid}
+use Rattle.sctp_table.specs.Laws.{endings}
+use Rattle.sctp_table_laws.specs.Mapped.{Carried, map_event, as_written}
+use Rattle.sctp_table_laws.specs.Sound.{OptionsFit}
+use Rattle.sctp_rx.specs.Delivery as orders
+use Rattle.sctp_rules.specs.State.{has}
+use Rattle.sctp_tx_rules.specs.Led.{delivered}
+use Rattle.sctp_tx_rules.proofs.SackLemmas.{delivered_more}
+use Rattle.sctp_course.specs.Course as course
+use Rattle.sctp_course.specs.Course.{Pair, Turn, goes, run, start, HasNotEnded, AreGiven, MayTurn}
+use Rattle.sctp_course.specs.Handing.{ready_at, handed_at, handed, readied}
+use Rattle.sctp_course.proofs.CourseLemmas.{before_run}
+use Rattle.sctp_course.proofs.HandingLemmas.{handed_in_order, handed_prefix, first_halves}
+use Rattle.sctp_delivery.specs.Accepted.{Offer, accepted_at, accepted}
+use Rattle.sctp_delivery.specs.GivenUp.{told_by}
+use Rattle.sctp_delivery.specs.Windows as windows
+use Rattle.sctp_delivery.specs.Windows.{no_stamps}
+use Rattle.sctp_delivery.specs.Delivery as courses
+use Rattle.sctp_delivery.specs.Delivery.{AllAreDone, IsReady}
+use Rattle.sctp_delivery.specs.Ending as ending
+use Rattle.sctp_delivery.proofs.LawLemmas.{follows_front, accepted_more}
+use Rattle.sctp_delivery.proofs.GoingLemmas.{told_turned}
+use Rattle.sctp_network_table.specs.Judge.{End, A, B, Entry, ready, handed_out, handed_out_by, ready_by, given_up_by}
+use Rattle.sctp_network_table.specs.World.{World, Action, Happens, Runs, other, fresh_world, is_at_rest, packets_in, told_entries}
+use Rattle.sctp_network_laws.specs.Courses.{ActionFits, IsLed, origin, is_a, end_of, told_in}
+use Rattle.sctp_network_laws.specs.Delivered.{gone, reported_by, reported, AlongRun, ready_places, stamp, IsTimely, KeepsWindows, resets, sets_more, offers_by, offers}
+use Rattle.sctp_network_laws.specs.Joined.{ended_by, times_ended, Stands, FollowsTheRules}
+use Rattle.sctp_network_laws.proofs.EventLemmas.{mapped, entries_both, ended_told}
+use Rattle.sctp_network_laws.proofs.NewsLemmas.{told_both, ended_by_told}
+use Rattle.sctp_network_laws.proofs.StandingLemmas.{times_more}
+use Rattle.sctp_network_laws.proofs.WorldLemmas.{Both, Extends, Stepped, steps, numbers_of}
+use Rattle.sctp_network_laws.proofs.RunsLemmas.{may_turn, Ran, ran, fresh_both}
+use Rattle.sctp_network_laws.proofs.JoinedLemmas.{given_of, none_ended}
+use Rattle.sctp_network_laws.proofs.UpToEndLemmas.{stamps_along}
+use Rattle.sctp_network_laws.proofs.ReportedLemmas.{reported_told, reported_by_told}
+use Rattle.sctp_network_laws.proofs.BetweenLemmas.{IsDelivered, same_delivered, offered_between}
+use Rattle.sctp_network_laws.proofs.BlockLemmas as block
+use Rattle.sctp_network_laws.proofs.BlockLemmas.{AreBlocks, offers_run, ready_run, handed_run, IsReached, nothing_yet, prefix_each, same_front}
+use Rattle.sctp_network_laws.proofs.PointsLemmas.{IsDeliveredAt, is_a_other, delivered_each, at_rest}
+use Rattle.sctp_network_laws.proofs.DeliveredLemmas.{timely, turn_resets, turn_more, IsPoint, Delivering, delivering, along_each, stands_along}
+use Rattle.sctp_network_laws.proofs.ClosingLemmas.{IsParted, parted_of, IsFront, in_front, read_front, first_offers, first_hands, still_prefix, IsTelling, told_front}
+
+-- ---- beginnings of courses
+
+run_both : (es fs : List (Bool × Turn)) (c : Pair) → run (es ++ fs) c ≡ run fs (run es c)
+run_both [] fs c = refl
+run_both (e ∷ es) fs c = run_both es fs (goes e.0 e.1 c)
+
+not_ended_front : (es fs : List (Bool × Turn)) (c : Pair) → HasNotEnded (run (es ++ fs) c) → HasNotEnded (run es c)
+not_ended_front es fs c h = before_run fs (run es c) (subst HasNotEnded (run_both es fs c) h)
+
+follows_more : (es : List (Bool × Turn)) (e : Bool × Turn) (c : Pair) → course.FollowsTheRules es c → MayTurn e.1 (course.side_of e.0 (run es c))
+    → course.FollowsTheRules (es ++ e ∷ []) c
+follows_more [] e c h may = (may, tt)
+follows_more (d ∷ es) e c h may = (h.0, follows_more es e (goes d.0 d.1 c) h.1 may)
+
+any_more : (test : (Bool × Turn) → Bool) (es : List (Bool × Turn)) (e : Bool × Turn) → list_any test es ≡ false → test e ≡ false → list_any test (es ++ e ∷ []) ≡ false
+any_more test [] e h k = ap (λ (b : Bool). b || false) k
+any_more test (d ∷ es) e h k = go (test d) h (any_more test es e)
+  where
+    go : (b : Bool) → (b || list_any test es) ≡ false → (list_any test es ≡ false → test e ≡ false → list_any test (es ++ e ∷ []) ≡ false) → (b || list_any test (es ++ e ∷ [])) ≡ false
+    go true h f = cc
+    go false h f = f h k
+
+-- ---- what an end told
+
+own_told : (at_a : Bool) (t : Turn) (c : Pair) → (course.side_of at_a (goes at_a t c)).told
+    ≡ (course.side_of at_a c).told ++ (told_by t (course.side_of at_a c) (course.side_of (not at_a) c)).events
+own_told true t c = told_turned t c.a c.b
+own_told false t c = told_turned t c.b c.a
+
+module _ (word_of_a word_of_b : List ℕ → ℕ) where
+  abbrev word_of : End → List ℕ → ℕ
+  word_of A = word_of_a
+  word_of B = word_of_b
+
+  told_image : (x : End) (w : World) (c : Pair) → Both word_of_a word_of_b w c → told_in x w.log ≡ told_entries x 0 (mapped (as_written (word_of x)) (course.side_of (is_a x) c).told)
+  told_image A w c h = h.a.image.told
+  told_image B w c h = h.b.image.told
+
+-- in entries that follow
+module _ (f : Carried → List ℕ) (x : End) (log early late : List Entry) (past events : List (Event Carried)) (before : told_in x log ≡ told_entries x 0 (mapped f past))
+    (whole : told_in x (log ++ (early ++ late)) ≡ told_entries x 0 (mapped f (past ++ events))) where
+  abbrev n : ℕ
+  n = 0 + length (packets_in (mapped f past))
+
+  both : told_entries x n (mapped f events) ≡ told_in x early ++ told_in x late
+  both =
+      same_front (told_entries x 0 (mapped f past)) (told_entries x n (mapped f events)) (told_in x early ++ told_in x late)
+      (sym (entries_both x 0 (mapped f past) (mapped f events))
+      ∙ (ap (told_entries x 0) (sym (map-append (map_event f) past events))
+      ∙ (sym whole
+      ∙ (told_both x log (early ++ late)
+      ∙ (ap (λ (l : List Entry). l ++ told_in x (early ++ late)) before
+      ∙ ap (λ (l : List Entry). told_entries x 0 (mapped f past) ++ l) (told_both x early late))))))
+
+  pub tells : IsTelling f x n events (told_in x early)
+  tells = told_front f x n events (told_in x early) (told_in x late) both
+
+  -- no end, where the log has none
+  pub tells_none : times_ended x early ≡ 0 → endings tells.some ≡ 0
+  tells_none h =
+      ended_told f x n tells.some
+      (ap (λ (l : List Entry). length (flat_map (ended_by x) l)) (sym tells.are) ∙ (ap (λ (l : List End). length l) (sym (ended_by_told x early)) ∙ h))
+
+  pub tells_reports : reported x (log ++ early) ≡ delivered (past ++ tells.some)
+  tells_reports =
+      reported_by_told x (log ++ early)
+      ∙ (ap (reported x) (told_both x log early)
+      ∙ (flat_map-append (reported_by x) (told_in x log) (told_in x early)
+      ∙ (ap (λ (l : List ℕ). l ++ reported x (told_in x early)) (ap (reported x) before ∙ reported_told f x 0 past)
+      ∙ (ap (λ (l : List ℕ). delivered past ++ l) (ap (reported x) tells.are ∙ reported_told f x n tells.some)
+      ∙ sym (delivered_more past tells.some)))))
+
+-- ---- a world that stands
+
+module _ (w : World) (l : IsLed w) (rules : FollowsTheRules w) (none : Stands w.log) where
+  abbrev a : Options
+  a = l.a
+
+  abbrev b : Options
+  b = l.b
+
+  abbrev words_a : Stream
+  words_a = l.words_a
+
+  abbrev words_b : Stream
+  words_b = l.words_b
+
+  abbrev word_of_a : List ℕ → ℕ
+  word_of_a = l.word_of_a
+
+  abbrev word_of_b : List ℕ → ℕ
+  word_of_b = l.word_of_b
+
+  abbrev actions : List Action
+  actions = l.actions
+
+  abbrev first_world : World
+  first_world = origin l
+
+  abbrev pub first_pair : Pair
+  first_pair = start a b words_a words_b
+
+  abbrev pub r : Ran word_of_a word_of_b actions first_world w first_pair
+  r = ran word_of_a word_of_b actions first_world w first_pair l.fit l.runs l.bytes (fresh_both a b words_a words_b word_of_a word_of_b l.fits_a l.fits_b)
+
+  -- after its course
+  abbrev c : Pair
+  c = run r.turns first_pair
+
+  d : Delivering word_of_a word_of_b actions first_world w first_pair l.runs r.turns
+  d = delivering word_of_a word_of_b actions first_world w first_pair l.fit l.runs l.bytes (fresh_both a b words_a words_b word_of_a word_of_b l.fits_a l.fits_b)
+
+  own : AreGiven a
+  own = given_of a l.valid_a l.fits_a
+
+  theirs : AreGiven b
+  theirs = given_of b l.valid_b l.fits_b
+
+  not_ended : HasNotEnded c
+  not_ended = record {
+    a = none_ended word_of_a A w.log w.b.packets w.a c.a r.both.a (none A);
+    b = none_ended word_of_b B w.log w.a.packets w.b c.b r.both.b (none B);
+  }
+
+  follows : course.FollowsTheRules r.turns first_pair
+  follows = r.follows rules none
+
+  stand : block.Stands r.turns first_pair
+  stand = stands_along a b own theirs r.turns first_pair follows not_ended (first_halves a b words_a words_b)
+
+  blocks : AreBlocks r.turns first_pair [] w.log
+  blocks = d.blocks stand
+
+  offered : (x : End) → offers x w.log ≡ accepted (is_a x) r.turns first_pair
+  offered x = offers_run x r.turns first_pair [] w.log blocks
+
+  became_ready : (x : End) → ready x w.log ≡ readied (is_a x) r.turns first_pair
+  became_ready x = ready_run x r.turns first_pair [] w.log blocks
+
+  reached : IsReached first_pair [] []
+  reached = nothing_yet first_pair nothing
+    where
+      nothing : (x : Bool) → (course.side_of x first_pair).told ≡ []
+      nothing true = refl
+      nothing false = refl
+
+  -- the bounds, until here
+  pub record IsKept : Type 0 where
+    pub windows : KeepsWindows actions first_world w l.runs no_stamps
+    pub streams : list_any resets actions ≡ false
+    pub few : (x : End) → length (offers x w.log) < 2 ^ 32
+    pub limits : list_any sets_more actions ≡ false
+
+  bounds : IsKept → courses.IsInBounds r.turns first_pair
+  bounds k = record {
+    windows = d.windows_kept windows.no_stamps none k.windows;
+    streams = d.streams ∙ k.streams;
+    few = λ from_a. few_at from_a;
+    limits = d.limits ∙ k.limits;
+  }
+    where
+      few_at : (from_a : Bool) → length (accepted from_a r.turns first_pair) < 2 ^ 32
+      few_at true = subst (λ (l : List Offer). length l < 2 ^ 32) (offered A) (k.few A)
+      few_at false = subst (λ (l : List Offer). length l < 2 ^ 32) (offered B) (k.few B)
+
+  pub course_delivers : courses.MessagesAreDelivered → IsKept → (x : End) → courses.Delivers (is_a x) r.turns first_pair
+  course_delivers law k x = law a b words_a words_b r.turns own theirs follows not_ended (bounds k) (is_a x)
+
+  pub delivered_front : (x : End) (from : courses.Delivers (is_a x) r.turns first_pair) (early late : List Entry) → w.log ≡ early ++ late → IsDeliveredAt x from.places early
+  delivered_front x from early late e = delivered_each x r.turns first_pair from w.log early late reached blocks e
+
+  pub rests : (x : End) (from : courses.Delivers (is_a x) r.turns first_pair)
+      → AlongRun (λ u. is_at_rest x u ≡ true → AllAreDone (offers x u.log) (gone x u.log) (ready_places x u.log from.places)) actions first_world w l.runs
+  rests x from =
+      along_each (IsPoint word_of_a word_of_b r.turns first_pair)
+      (λ u. is_at_rest x u ≡ true → AllAreDone (offers x u.log) (gone x u.log) (ready_places x u.log from.places))
+      (λ u p. at_rest word_of_a word_of_b x r.turns first_pair from p.early p.late u p.split p.reached p.both)
+      actions first_world w l.runs (d.points r.turns [] first_pair refl refl stand reached)
+
+  pub prefix : (x : End) (early late : List Entry) → w.log ≡ early ++ late → orders.Extends (handed_out x early) (ready x early)
+  prefix x early late is =
+      prefix_each x r.turns first_pair
+      (λ before behind s.
+      let front_follows : course.FollowsTheRules (before ++ behind) first_pair = subst (λ (l : List (Bool × Turn)). course.FollowsTheRules l first_pair) s follows in
+      let none_yet : HasNotEnded (run (before ++ behind) first_pair) = subst (λ (l : List (Bool × Turn)). HasNotEnded (run l first_pair)) s not_ended in
+      handed_prefix a b words_a words_b before own theirs (follows_front before behind first_pair front_follows) (not_ended_front before behind first_pair none_yet) (is_a x))
+      w.log early late reached blocks is
+
+  -- ---- the event that ends an association, of a run that goes on to v
+
+  module _ (action : Action) (next v : World) (fits : ActionFits action) (happens : Happens action w next) (over : Stands next.log → ⊥) (later : Extends next v)
+      (v_rules : FollowsTheRules v) where
+    abbrev pub x : End
+    x = end_of action
+
+    abbrev pub step : Stepped word_of_a word_of_b action w next c
+    step = steps word_of_a word_of_b action w next c fits l.bytes happens r.both
+
+    abbrev own_side : course.Side
+    own_side = course.side_of (is_a x) c
+
+    abbrev pub b_parted : IsParted x step.turn own_side w.log next.log
+    b_parted = parted_of word_of_a word_of_b action w next c step.turn happens step.is r.both
+
+    may : MayTurn step.turn own_side
+    may = may_turn word_of_a word_of_b action w next v c step.turn happens step.extends later r.both step.is v_rules none
+
+    module _ (early late : List Entry) (e : next.log ≡ (w.log ++ early) ++ late) (stands : Stands (w.log ++ early)) where
+      front : (early ≡ []) ⊎ IsFront b_parted.first b_parted.rest early
+      front = in_front x step.turn own_side w.log next.log b_parted early late e stands over
+
+      abbrev here : List Entry
+      here = w.log ++ early
+
+      reads : IsFront b_parted.first b_parted.rest early → {X : Type 0} (f : Entry → List X) → flat_map f b_parted.rest ≡ [] → flat_map f here ≡ flat_map f w.log ++ f b_parted.first
+      reads h f none_in = read_front x step.turn own_side w.log next.log b_parted early h f none_in
+
+      ready_same : IsFront b_parted.first b_parted.rest early → (y : End) → ready y here ≡ ready y w.log
+      ready_same h y =
+          reads h (ready_by y) (b_parted.ready y) ∙ (ap (λ (l : List Message). ready y w.log ++ l) (b_parted.begins.ready y) ∙ append-nil (ready y w.log))
+
+      gone_same : IsFront b_parted.first b_parted.rest early → (y : End) → gone y here ≡ gone y w.log
+      gone_same h y = numbers_of (flat_map (given_up_by y) here) (flat_map (given_up_by y) w.log)
+          (reads h (given_up_by y) (b_parted.gone y) ∙ (ap (λ (l : List GivenUp). flat_map (given_up_by y) w.log ++ l) (b_parted.begins.gone y) ∙ append-nil (flat_map (given_up_by y) w.log)))
+
+      -- ---- what was handed out
+
+      pub prefix_then : (y : End) → orders.Extends (handed_out y here) (ready y here)
+      prefix_then y = elim front [
+        | inl none_there ↦ subst (λ (l : List Entry). orders.Extends (handed_out y (w.log ++ l)) (ready y (w.log ++ l))) (sym none_there)
+            (prefix y (w.log ++ []) [] (sym (append-nil w.log) ∙ sym (append-nil (w.log ++ []))))
+        | inr h ↦ goes h
+      ]
+        where
+          goes : IsFront b_parted.first b_parted.rest early → orders.Extends (handed_out y here) (ready y here)
+          goes h =
+              let order : ready y w.log ≡ handed_out y w.log ++ ready_at (course.side_of (is_a y) c) =
+              became_ready y ∙ (handed_in_order a b words_a words_b r.turns own theirs follows not_ended (is_a y)
+              ∙ ap (λ (l : List Message). l ++ ready_at (course.side_of (is_a y) c)) (sym (handed_run y r.turns first_pair [] w.log blocks))) in
+              let handed_is : handed_out y here ≡ handed_out y w.log ++ handed_at (is_a y) (is_a x) step.turn c =
+              reads h (handed_out_by y) (b_parted.hands y)
+              ∙ ap (λ (l : List Message). handed_out y w.log ++ l) (first_hands y x step.turn c b_parted.first b_parted.begins) in
+              subst (λ (l : List Message). orders.Extends (handed_out y here) l) (sym (ready_same h y))
+              (subst (λ (l : List Message). orders.Extends l (ready y w.log)) (sym handed_is)
+              (still_prefix (is_a y) (is_a x) step.turn c (handed_out y w.log) (ready y w.log) order))
+
+      -- ---- what is delivered, from the other end
+
+      same_there : (y : End) (places : List ℕ) → early ≡ [] → IsDeliveredAt y places w.log → IsDeliveredAt y places here
+      same_there y places none_there h = subst (λ (l : List Entry). IsDeliveredAt y places l) (sym (append-nil w.log) ∙ ap (λ (l : List Entry). w.log ++ l) (sym none_there)) h
+
+      pub delivered_beside : (places : List ℕ) → IsDeliveredAt (other x) places w.log → IsDeliveredAt (other x) places here
+      delivered_beside places h = elim front [
+        | inl none_there ↦ same_there (other x) places none_there h
+        | inr k ↦
+            same_delivered (offers (other x) w.log) (offers (other x) here) (ready (other (other x)) w.log) (ready (other (other x)) here) (gone (other x) w.log) (gone (other x) here)
+            (reported (other x) w.log) (reported (other x) here) places
+            (reads k (offers_by (other x)) (b_parted.offers (other x))
+            ∙ (ap (λ (l : List Offer). offers (other x) w.log ++ l) b_parted.begins.no_offers ∙ append-nil (offers (other x) w.log)))
+            (ready_same k (other (other x))) (gone_same k (other x))
+            (reads k (reported_by (other x)) b_parted.reported
+            ∙ (ap (λ (l : List ℕ). reported (other x) w.log ++ l) (b_parted.begins.reported (other x)) ∙ append-nil (reported (other x) w.log))) h
+      ]
+
+      -- ---- and from the end that acts
+
+      abbrev told_now : List (Event Carried)
+      told_now = (told_by step.turn own_side (course.side_of (not (is_a x)) c)).events
+
+      abbrev f : Carried → List ℕ
+      f = as_written (word_of word_of_a word_of_b x)
+
+      before_told : told_in x w.log ≡ told_entries x 0 (mapped f own_side.told)
+      before_told = told_image word_of_a word_of_b x w c r.both
+
+      after_told : told_in x (w.log ++ (early ++ late)) ≡ told_entries x 0 (mapped f (own_side.told ++ told_now))
+      after_told =
+          ap (told_in x) (sym (append_assoc w.log early late) ∙ sym e)
+          ∙ (told_image word_of_a word_of_b x next (goes (is_a x) step.turn c) step.both
+          ∙ ap (λ (es : List (Event Carried)). told_entries x 0 (mapped f es)) (own_told (is_a x) step.turn c))
+
+      none_early : times_ended x early ≡ 0
+      none_early = let whole = stands x in let sum = times_more x w.log early in omega (arith, whole, sum)
+
+      pub delivered_own : (from : ending.DeliversThen (is_a x) r.turns step.turn first_pair) → IsDeliveredAt x from.delivers.places w.log
+          → IsDeliveredAt x from.delivers.places here
+      delivered_own from h = elim front [ inl none_there ↦ same_there x from.delivers.places none_there h | inr k ↦ goes k ]
+        where
+          goes : IsFront b_parted.first b_parted.rest early → IsDeliveredAt x from.delivers.places here
+          goes k =
+              let t : IsTelling f x (0 + length (packets_in (mapped f own_side.told))) told_now (told_in x early) =
+              tells f x w.log early late own_side.told told_now before_told after_told in
+              let offers_are : offers x here ≡ offers x w.log ++ offers_by x b_parted.first = reads k (offers_by x) (b_parted.offers x) in
+              let accepted_are : accepted (is_a x) (r.turns ++ (is_a x, step.turn) ∷ []) first_pair ≡ offers x w.log ++ offers_by x b_parted.first =
+              accepted_more (is_a x) r.turns (is_a x, step.turn) first_pair
+              ∙ (ap (λ (l : List Offer). l ++ accepted_at (is_a x) (is_a x) step.turn c) (sym (offered x))
+              ∙ ap (λ (l : List Offer). offers x w.log ++ l) (sym (first_offers x x step.turn c b_parted.first b_parted.begins))) in
+              let ready_are : readied (not (is_a x)) r.turns first_pair ≡ ready (other x) w.log =
+              ap (λ (z : Bool). readied z r.turns first_pair) (sym (is_a_other x)) ∙ sym (became_ready (other x)) in
+              let reports : (id : ℕ) → has id (reported x here) ≡ true
+                  → IsReady (offers x w.log ++ offers_by x b_parted.first) (take (length (ready (other x) w.log)) from.delivers.places) id =
+              λ id is.
+              subst (λ (l : List Offer). IsReady l (take (length (ready (other x) w.log)) from.delivers.places) id) accepted_are
+              (subst (λ (l : List Message). IsReady (accepted (is_a x) (r.turns ++ (is_a x, step.turn) ∷ []) first_pair) (take (length l) from.delivers.places) id) ready_are
+              (from.reports t.some t.more t.split (tells_none f x w.log early late own_side.told told_now before_told after_told none_early) id
+              (sym (ap (has id) (tells_reports f x w.log early late own_side.told told_now before_told after_told)) ∙ is))) in
+              let longer : IsDelivered (offers x w.log ++ offers_by x b_parted.first) (ready (other x) w.log) (gone x w.log) (reported x here) from.delivers.places =
+              offered_between (offers x w.log) (offers_by x b_parted.first) (ready (other x) w.log) (gone x w.log) (reported x w.log) (reported x here) from.delivers.places h reports in
+              same_delivered (offers x w.log ++ offers_by x b_parted.first) (offers x here) (ready (other x) w.log) (ready (other x) here) (gone x w.log) (gone x here)
+              (reported x here) (reported x here) from.delivers.places offers_are (ready_same k (other x)) (gone_same k x) refl longer
+
+    -- ---- the bounds, with that event
+
+    pub ends_delivering : ending.MessagesAreDeliveredThen → IsKept → IsTimely action (stamp w) (stamps_along actions first_world w l.runs windows.no_stamps)
+        → resets action ≡ false → sets_more action ≡ false → length (offers x (w.log ++ b_parted.first ∷ [])) < 2 ^ 32
+        → ending.DeliversThen (is_a x) r.turns step.turn first_pair
+    ends_delivering law k t no_reset no_more few =
+        law a b words_a words_b r.turns (is_a x) step.turn own theirs (follows_more r.turns (is_a x, step.turn) first_pair follows may) not_ended (record {
+          windows = d.windows_kept windows.no_stamps none k.windows;
+          timely =
+              subst (λ (s : windows.Stamps). windows.IsTimely step.turn (windows.stamp c) (windows.stamps_for (is_a x) s)) (d.stamps windows.no_stamps)
+              (timely word_of_a word_of_b action w c step.turn (stamps_along actions first_world w l.runs windows.no_stamps) r.both step.is t);
+          streams =
+              any_more (λ (e : Bool × Turn). windows.resets e.1) r.turns (is_a x, step.turn) (d.streams ∙ k.streams) (turn_resets word_of_a word_of_b action step.turn c step.is ∙ no_reset);
+          few = subst (λ (l : List Offer). length l < 2 ^ 32) accepted_are few;
+          limits =
+              any_more (λ (e : Bool × Turn). windows.sets_more e.1) r.turns (is_a x, step.turn) (d.limits ∙ k.limits) (turn_more word_of_a word_of_b action step.turn c step.is ∙ no_more);
+        })
+      where
+        accepted_are : offers x (w.log ++ b_parted.first ∷ []) ≡ accepted (is_a x) (r.turns ++ (is_a x, step.turn) ∷ []) first_pair
+        accepted_are =
+            flat_map-append (offers_by x) w.log (b_parted.first ∷ [])
+            ∙ (ap (λ (l : List Offer). offers x w.log ++ l) (append-nil (offers_by x b_parted.first) ∙ first_offers x x step.turn c b_parted.first b_parted.begins)
+            ∙ (ap (λ (l : List Offer). l ++ accepted_at (is_a x) (is_a x) step.turn c) (offered x) ∙ sym (accepted_more (is_a x) r.turns (is_a x, step.turn) first_pair)))
+
+    -- its first entry ends nothing
+    pub stands_first : Stands (w.log ++ b_parted.first ∷ [])
+    stands_first y =
+        let sum = times_more y w.log (b_parted.first ∷ []) in
+        let before = none y in
+        let one = ap (λ (l : List End). length (l ++ [])) (b_parted.no_end y) in
+        omega (arith, sum, before, one)
+
+    -- behind which the others stand
+    abbrev pub behind_first : List Entry
+    behind_first = b_parted.rest ++ b_parted.behind
+
+    pub logged_first : next.log ≡ (w.log ++ b_parted.first ∷ []) ++ behind_first
+    logged_first = b_parted.logged ∙ sym (append_assoc w.log (b_parted.first ∷ []) behind_first)
