@@ -19,3 +19,4 @@ pub mod DeliveredLemmas
 pub mod ClockLemmas
 pub mod ProperLemmas
 pub mod ComposedLemmas
+pub mod AgreedLemmas
