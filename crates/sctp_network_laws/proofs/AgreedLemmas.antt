@@ -1,5 +1,5 @@
 -- Worlds agree, since their courses do.
-use Rattle.std.proofs.Common.{◌≡◌, ◌⊎◌, inl, inr, ℕ, ◌+◌, ◌≤◌, Bool, true, false, Option, Some, None, List, [], ◌∷◌, ◌++◌, length, map, drop, slice_get, refl, sym, ap, subst, ◌∙◌, append-nil, append_assoc, arith}
+use Rattle.std.proofs.Common.{◌≡◌, inl, inr, ℕ, ◌+◌, ◌≤◌, Bool, true, false, Option, Some, None, List, [], ◌∷◌, ◌++◌, length, map, drop, slice_get, refl, sym, ap, subst, ◌∙◌, append-nil, append_assoc, arith}
 use Rattle.std.specs.Prelude.{All}
 use Rattle.std.specs.List.{flat_map}
 use Rattle.std.proofs.lemmas.Grind.{flat_map-append}
@@ -7,7 +7,6 @@ use Rattle.std.proofs.lemmas.Bool.{both_ways}
 use Rattle.std.proofs.lemmas.List.{map-append}
 use Rattle.std.proofs.lemmas.List.Elements.{All-nil, All-cons, All-head, All-tail, All-append}
 use Rattle.sctp_serial.specs.Messages.{Message}
-use Rattle.sctp_packet.specs.Packet.{PacketTree}
 use Rattle.sctp_state.specs.Events.{Event, GivenUp, SendPacket, OnConnected}
 use Rattle.sctp_table.specs.Association.{State, Closed, CookieWait, Open, Endpoint}
 use Rattle.sctp_table.specs.Input.{refusal}
@@ -20,15 +19,15 @@ use Rattle.sctp_course.specs.Agreement.{Has, Notes, held_in, noted_by, Book, bla
 use Rattle.sctp_course.proofs.AgreeCourseLemmas.{drop_told}
 use Rattle.sctp_course.proofs.AgreeWithinLemmas.{has_either}
 use Rattle.sctp_course.proofs.AgreeTurnsLemmas.{ends_agree}
-use Rattle.sctp_network_table.specs.Judge.{End, A, B, same_end, none_unless, same_association, crossed, Entry, Called, Given, Foreign, Timed, Associated, Emitted, Happened, GaveUp, BecameReady, Call, Connect, Shutdown, Close, Send, SendMany, Receive, Reset, SetPriority, SetMaxMessageSize, SetLowThreshold, HandOver, connected_by, times_connected, held_after, held_from, held}
+use Rattle.sctp_network_table.specs.Judge.{End, A, B, same_end, none_unless, same_association, Entry, Associated, Emitted, Happened, GaveUp, BecameReady, Call, Connect, Shutdown, Close, Send, SendMany, Receive, Reset, SetPriority, SetMaxMessageSize, SetLowThreshold, HandOver, connected_by, times_connected, held_after, held_from, held}
 use Rattle.sctp_network_table.specs.World.{Side, World, Action, CallOf, Give, GiveForeign, TellTime, ComesTo, told, skipped, Happens, Runs, side_of, other, packets_in, news_of, told_entries, gone_entries, ready_entries, ready_before, ready_at, association, associated_if, association_entries, call_entry, after_call, time_entry, after_time, step_of}
-use Rattle.sctp_network_laws.specs.Courses.{ActionFits, IsInBytes, is_a, end_of, hearing, IsHearing, IsForeign, IsTurnOf, AreTurnsOf, told_in, origin}
+use Rattle.sctp_network_laws.specs.Courses.{ActionFits, IsInBytes, is_a, end_of, hearing, IsForeign, IsTurnOf, AreTurnsOf, told_in, origin}
 use Rattle.sctp_network_laws.specs.Agreed.{IsAgreed, Agrees, WorldsAgree}
 use Rattle.sctp_network_laws.proofs.EventLemmas.{mapped, entries_both, same_itself, connected_told}
 use Rattle.sctp_network_laws.proofs.NewsLemmas.{told_both, held_both, connected_by_told}
-use Rattle.sctp_network_laws.proofs.PrefixLemmas.{Longer, one_is_longer}
+use Rattle.sctp_network_laws.proofs.PrefixLemmas.{one_is_longer}
 use Rattle.sctp_network_laws.proofs.BlockLemmas.{same_front}
-use Rattle.sctp_network_laws.proofs.SidesLemmas.{IsFirst, IsSilentOf, silent_first, silent_news, Good}
+use Rattle.sctp_network_laws.proofs.SidesLemmas.{IsFirst, silent_first, silent_news, Good}
 use Rattle.sctp_network_laws.proofs.WorldLemmas.{Both, Extends, extends_then, in_bytes_before, Stepped, steps}
 use Rattle.sctp_network_laws.proofs.RunsLemmas.{happens_extends, runs_extends, fresh_both}
 use Rattle.sctp_network_laws.proofs.JoinedLemmas.{given_of}
