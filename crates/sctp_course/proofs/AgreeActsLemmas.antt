@@ -14,7 +14,7 @@ use Rattle.sctp_course.specs.Acts.{Making, is_plain}
 use Rattle.sctp_course.specs.Course.{as_carried, packets_in, has_connected}
 use Rattle.sctp_course.proofs.ToldLemmas.{is_light}
 use Rattle.sctp_course.proofs.JoinActsLemmas.{packets_both, light_packets, light_connected, connected_both, or_false}
-use Rattle.sctp_course.proofs.AgreeLemmas.{Past, View, view_of, Says, says_later, Shape, is_mild, is_no_answer, shape_with, shape_plain, Stands, stands_later, Agreed, Bound, Tagged, Later, later_same, Said, said_later}
+use Rattle.sctp_course.proofs.AgreeLemmas.{Past, View, view_of, Says, says_later, Shape, is_load, shape_with, shape_plain, Stands, stands_later, Agreed, Bound, Tagged, Later, later_same, Said, said_later}
 
 -- the options of the end that acts, what it told before this turn, and under which tag its packet came
 pub record Setting : Type 0 where
@@ -163,15 +163,14 @@ module _ (g : Setting) (x y : Past) (v : View) (o : Options) (pack : Packing Car
   -- of no weight here, and taken along by packets of all kinds
   pub record IsLoad (c : ChunkTree) : Type 0 where
     pub says : (tag : ℕ) → Says x y tag c
-    pub mild : is_mild c ≡ true
-    pub answers : is_no_answer c ≡ true
+    pub load : is_load c ≡ true
 
   pub adds_load : (p : Packet) (c : ChunkTree) → Inv g x y v o pack es p.tag p.chunks → IsLoad c → Inv g x y v o pack es (add c p).tag (add c p).chunks
-  adds_load p c i l = adds p c i (l.says p.tag) (shape_with p.chunks c i.shape l.mild l.answers)
+  adds_load p c i l = adds p c i (l.says p.tag) (shape_with p.chunks c i.shape l.load)
 
   data_load : (is_interleaved is_immediate : Bool) (c : ℕ × FragmentTree) → IsLoad (data_chunk_of is_interleaved is_immediate c)
-  data_load true is_immediate c = record { says = λ tag. tt; mild = refl; answers = refl }
-  data_load false is_immediate c = record { says = λ tag. tt; mild = refl; answers = refl }
+  data_load true is_immediate c = record { says = λ tag. tt; load = refl }
+  data_load false is_immediate c = record { says = λ tag. tt; load = refl }
 
   adds_data_by : (is_interleaved is_immediate : Bool) (cs : List (ℕ × FragmentTree)) (p : Packet) → Inv g x y v o pack es p.tag p.chunks
       → Inv g x y v o pack es (add_all (map (data_chunk_of is_interleaved is_immediate) cs) p).tag (add_all (map (data_chunk_of is_interleaved is_immediate) cs) p).chunks

@@ -17,11 +17,12 @@ use Rattle.sctp_table.specs.Laws.{NoPacket}
 use Rattle.sctp_table_laws.specs.Mapped.{Carried}
 use Rattle.sctp_course.specs.Acts.{at, nothing, idle, calm, is_opened, is_plain, adds_plain, Keeps}
 use Rattle.sctp_course.specs.Course.{AreGiven}
-use Rattle.sctp_course.specs.Agreement.{Draw, Association, crossed, Has, Notes, association_of, held_in, noted, AreDistinct}
+use Rattle.sctp_course.specs.Agreement.{Draw, Association, crossed, Has, Notes, association_of, held_in, AreDistinct}
 use Rattle.sctp_course.proofs.PacketActsLemmas.{does_begin, does_out, does_complain, does_send_with}
 use Rattle.sctp_course.proofs.OpeningActsLemmas.{accepting, end_in}
 use Rattle.sctp_course.proofs.AgreeLemmas.{Past, View, holds, view_of, own_in, peer_in, SaysEcho, SaysAck, Holds, Tagged, Later, later_same, one_draw}
 use Rattle.sctp_course.proofs.AgreeActsLemmas.{Setting, Inv, InvAt, inv_view, inv_silent, inv_later, inv_grown, inv_bound, adds}
+use Rattle.sctp_course.proofs.AgreeNotesLemmas.{noted}
 use Rattle.sctp_course.proofs.AgreeOpeningLemmas.{Known, kept_quiet}
 
 abbrev pub past_of : Notes → List Association → Past
@@ -103,7 +104,7 @@ module _ (o : Options) (past : List (Event Carried)) (y : Past) (fine : AreGiven
       let p : Packet = accepting c.options k.peer_tag t in
       let begun : InvAt h z y (at (Open phase t) c w p) = does_begin q (Open phase t) c w p refl inv in
       does_send_with q phase w false (add cookie_ack_chunk p) t c
-      (adds h z y (view_of (Open phase t)) c.options c.pack c.told.events p cookie_ack_chunk begun (acks z here) (inl refl))
+      (adds h z y (view_of (Open phase t)) c.options c.pack c.told.events p cookie_ack_chunk begun (acks z here) (inr (refl, refl)))
 
   -- ---- a control block is made
 

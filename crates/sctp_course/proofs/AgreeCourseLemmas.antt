@@ -1,4 +1,4 @@
--- Along each course in which no end draws a tag twice: an end that is told of a connection holds what the other holds or held.
+-- A turn of a course in which no end draws a tag twice: an end that is told of a connection holds what the other holds or held.
 use Rattle.std.proofs.Common.{◌≡◌, ℕ, ◌==◌, ◌||◌, Bool, true, false, Option, Some, None, List, [], ◌∷◌, ◌++◌, map, slice_get, length, drop, All, inl, inr, refl, sym, ap, subst, ◌∙◌, append-nil}
 use Rattle.std.specs.Prelude.{⊤}
 use Rattle.std.proofs.lemmas.List.Elements.{All-nil, All-cons, All-head, All-tail, All-weaker}
@@ -12,12 +12,12 @@ use Rattle.sctp_state.specs.Options.{Options}
 use Rattle.sctp_state.specs.Events.{Event}
 use Rattle.sctp_table.specs.Association.{State, Closed, CookieWait, Open, Context, Endpoint}
 use Rattle.sctp_table.specs.Opening.{connect, complains}
-use Rattle.sctp_table.specs.Input.{refusal, counts, taken_if, handled, on_standing, repeats_if, has_data}
+use Rattle.sctp_table.specs.Input.{refusal, counts, taken_if, handled}
 use Rattle.sctp_table.specs.Laws.{Call, Connect, Restore, Packet, called}
 use Rattle.sctp_table_laws.specs.Mapped.{Carried}
 use Rattle.sctp_course.specs.Acts.{calm, nothing}
-use Rattle.sctp_course.specs.Course.{Side, Pair, as_carried, new_side, packets_in, emitted, has_connected, Turn, Calls, Gives, Refuses, took, as_heard, given, foreign_if, turned, goes, AreGiven, start, state_of}
-use Rattle.sctp_course.specs.Agreement.{Association, crossed, Has, Notes, held_in, drawn_to_connect, noted, noted_taking, noted_given, noted_by, Book, blank, new_book, writes, written, AreDistinct, NoneTwice, IsAllowed, AreAllowed, told_since, AgreesAlong, EndsAgree}
+use Rattle.sctp_course.specs.Course.{Side, as_carried, new_side, packets_in, emitted, has_connected, Turn, Calls, Gives, Refuses, took, as_heard, given, foreign_if, turned, AreGiven, state_of}
+use Rattle.sctp_course.specs.Agreement.{Association, crossed, Has, Notes, held_in, drawn_to_connect, blank, AreDistinct, IsAllowed, told_since}
 use Rattle.sctp_course.proofs.PacketActsLemmas.{does_complain}
 use Rattle.sctp_course.proofs.OpeningActsLemmas.{end_in}
 use Rattle.sctp_course.proofs.ActsLemmas.{keeps_call}
@@ -25,9 +25,10 @@ use Rattle.sctp_course.proofs.AddedLemmas.{all_get}
 use Rattle.sctp_course.proofs.AgreeLemmas.{Past, view_of, IsUnder, Says, says_carried, Stands, stands_later, Agreed, Later, later_same, Said, said_later}
 use Rattle.sctp_course.proofs.AgreeActsLemmas.{Setting, Inv, InvAt}
 use Rattle.sctp_course.proofs.AgreeQuietLemmas.{Quiet, quiet}
+use Rattle.sctp_course.proofs.AgreeNotesLemmas.{noted, noted_taking, noted_given, noted_all}
 use Rattle.sctp_course.proofs.AgreeOpeningLemmas.{Known, kept_quiet, does_connect}
 use Rattle.sctp_course.proofs.AgreeCookieLemmas.{past_of, bounded, Goes, has_behind, goes_held}
-use Rattle.sctp_course.proofs.AgreePacketLemmas.{Admitted, admitted, shape_carried, distinct_behind, distinct_hearing, takes_packet}
+use Rattle.sctp_course.proofs.AgreePacketLemmas.{Admitted, admitted, shape_carried, takes_packet}
 
 -- ---- between turns
 
@@ -47,7 +48,7 @@ pub record Turned (o : Options) (x z : Side) (n : Notes) (echoed : List Associat
   pub knows : Knows o z (past_of m more) theirs
   pub agrees : has_connected (told_since x z) ≡ true → (a : Association) → Has a (held_in (state_of z)) → Has (crossed a) theirs.held
 
-drop_told : (xs ys : List (Event Carried)) → drop (length xs) (xs ++ ys) ≡ ys
+pub drop_told : (xs ys : List (Event Carried)) → drop (length xs) (xs ++ ys) ≡ ys
 drop_told [] ys = refl
 drop_told (x ∷ xs) ys = drop_told xs ys
 
@@ -114,7 +115,7 @@ module _ (o : Options) (x : Side) (y : Past) where
       }
 
 -- the other end's half stays, as this end goes on
-knows_other : (o : Options) (y : Side) (mine theirs now : Past) → Later theirs now → Knows o y mine theirs → Knows o y mine now
+pub knows_other : (o : Options) (y : Side) (mine theirs now : Past) → Later theirs now → Knows o y mine theirs → Knows o y mine now
 knows_other o y mine theirs now l k = record {
   stands = stands_later mine theirs mine now (later_same mine) l refl (view_of (state_of y)) k.stands;
   size = k.size;
@@ -222,7 +223,7 @@ module _ (o : Options) (x : Side) (y : Past) (fine : AreGiven o) (n : Notes) (e1
 
 module _ (o q : Options) (x y : Side) (fine : AreGiven o) (n r : Notes) (e1 e2 : List Association) (k : Knows o x (past_of n e1) (past_of r e2))
     (l : Knows q y (past_of r e2) (past_of n e1)) (theirs : AreDistinct r.drawn) where
-  pub turns : (t : Turn) → IsAllowed t → AreDistinct (noted_by t x y n).drawn → Turned o x (turned t x y) n e1 (noted_by t x y n) (past_of r e2)
+  pub turns : (t : Turn) → IsAllowed t → AreDistinct (noted_all t x y n).drawn → Turned o x (turned t x y) n e1 (noted_all t x y n) (past_of r e2)
   turns (Calls Connect) may mine = user_connects o x (past_of r e2) fine n e1 k mine
   turns (Calls (Restore h)) may mine = absurd may
   turns (Calls (Packet p)) may mine = absurd may
@@ -231,60 +232,9 @@ module _ (o q : Options) (x y : Side) (fine : AreGiven o) (n r : Notes) (e1 e2 :
       given_by o x (past_of r e2) fine n e1 k theirs (emitted y) (slice_get (emitted y) which) checksum which l.said refl mine
   turns (Refuses p) may mine = foreign o x (past_of r e2) fine n e1 k (refusal p.header.verification_tag p.chunks (state_of x)) p refl
 
--- ---- draws before
+-- ---- at the start
 
-distinct_taking : (r : Option (List ℕ)) (p : PacketTree) (e : Endpoint Carried) (n : Notes) → AreDistinct (noted_taking r p e n).drawn → AreDistinct n.drawn
-distinct_taking None p e n h = distinct_hearing p.header.verification_tag p.chunks (on_standing (repeats_if (has_data p.chunks)) (counts e)) n h
-distinct_taking (Some text) p e n h = h
-
-distinct_given : (p : Option Carried) (checksum : ℕ) (x : Side) (n : Notes) → AreDistinct (noted_given p checksum x n).drawn → AreDistinct n.drawn
-distinct_given None checksum x n h = h
-distinct_given (Some p) checksum x n h =
-    distinct_taking (refusal (as_heard p checksum).header.verification_tag (as_heard p checksum).chunks (state_of x)) (as_heard p checksum) x.end n h
-
-distinct_turn : (t : Turn) (x y : Side) (n : Notes) → AreDistinct (noted_by t x y n).drawn → AreDistinct n.drawn
-distinct_turn (Calls Connect) x y n h = distinct_behind (drawn_to_connect (state_of x) x.end) n.drawn h
-distinct_turn (Calls call) x y n h = h
-distinct_turn (Gives which checksum) x y n h = distinct_given (slice_get (emitted y) which) checksum x n h
-distinct_turn (Refuses p) x y n h = h
-
-none_before : (at_a : Bool) (t : Turn) (w : Pair) (k : Book) → NoneTwice (writes at_a t w k) → NoneTwice k
-none_before true t w k h = (distinct_turn t w.a w.b k.a h.0, h.1)
-none_before false t w k h = (h.0, distinct_turn t w.b w.a k.b h.1)
-
-none_at_first : (es : List (Bool × Turn)) (w : Pair) (k : Book) → NoneTwice (written es w k) → NoneTwice k
-none_at_first [] w k h = h
-none_at_first (e ∷ es) w k h = none_before e.0 e.1 w k (none_at_first es (goes e.0 e.1 w) (writes e.0 e.1 w k) h)
-
--- ---- courses
-
-record Halves (o q : Options) (w : Pair) (k : Book) : Type 0 where
-  e1 : List Association
-  e2 : List Association
-  a : Knows o w.a (past_of k.a e1) (past_of k.b e2)
-  b : Knows q w.b (past_of k.b e2) (past_of k.a e1)
-
-module _ (o q : Options) (fine : AreGiven o) (fine_too : AreGiven q) where
-  along : (es : List (Bool × Turn)) (w : Pair) (k : Book) → Halves o q w k → AreAllowed es → NoneTwice (written es w k) → AgreesAlong es w k
-  along [] w k h may none = tt
-  along ((true, t) ∷ es) w k h may none =
-      let next : Book = writes true t w k in
-      let distinct : NoneTwice next = none_at_first es (goes true t w) next none in
-      let d : Turned o w.a (turned t w.a w.b) k.a h.e1 next.a (past_of k.b h.e2) = turns o q w.a w.b fine k.a k.b h.e1 h.e2 h.a h.b distinct.1 t may.0 distinct.0 in (
-        d.agrees,
-        along es (goes true t w) next
-            (record { e1 = d.more; e2 = h.e2; a = d.knows; b = knows_other q w.b (past_of k.b h.e2) (past_of k.a h.e1) (past_of next.a d.more) d.later h.b }) may.1 none,
-      )
-  along ((false, t) ∷ es) w k h may none =
-      let next : Book = writes false t w k in
-      let distinct : NoneTwice next = none_at_first es (goes false t w) next none in
-      let d : Turned q w.b (turned t w.b w.a) k.b h.e2 next.b (past_of k.a h.e1) = turns q o w.b w.a fine_too k.b k.a h.e2 h.e1 h.b h.a distinct.0 t may.0 distinct.1 in (
-        d.agrees,
-        along es (goes false t w) next
-            (record { e1 = h.e1; e2 = d.more; a = knows_other o w.a (past_of k.a h.e1) (past_of k.b h.e2) (past_of next.b d.more) d.later h.a; b = d.knows }) may.1 none,
-      )
-
-knows_start : (o : Options) (x : Stream) → Knows o (new_side o x) (past_of blank []) (past_of blank [])
+pub knows_start : (o : Options) (x : Stream) → Knows o (new_side o x) (past_of blank []) (past_of blank [])
 knows_start o x = record {
   stands = tt;
   size = o.max_message_size;
@@ -294,7 +244,3 @@ knows_start o x = record {
   said = All-nil (Said (past_of blank []) (past_of blank []));
   known = λ b h. absurd h;
 }
-
-pub ends_agree : EndsAgree
-ends_agree a b words_a words_b es fine_a fine_b may none =
-    along a b fine_a fine_b es (start a b words_a words_b) new_book (record { e1 = []; e2 = []; a = knows_start a words_a; b = knows_start b words_b }) may none

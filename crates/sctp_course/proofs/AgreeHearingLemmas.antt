@@ -1,5 +1,5 @@
 -- A packet is heard chunk by chunk, over every course: what holds of an end is kept, and its notes grow.
-use Rattle.std.proofs.Common.{◌≡◌, ℕ, true, false, Option, Some, None, Result, Ok, Err, List, [], ◌∷◌, ◌++◌, All, codes, inl, inr, refl, sym, ap, subst, ◌∙◌}
+use Rattle.std.proofs.Common.{◌≡◌, ℕ, true, false, Option, Some, None, Result, Ok, Err, List, [], ◌∷◌, ◌++◌, All, codes, inl, inr, refl, sym, ap, subst, ◌∙◌, Bool}
 use Rattle.std.proofs.lemmas.List.Elements.{All-nil, All-cons}
 use Rattle.rand_core.specs.Stream.{Stream}
 use Rattle.sctp_wire.specs.Cause.{missing_mandatory_parameter}
@@ -20,16 +20,17 @@ use Rattle.sctp_table.specs.Laws.{Call, Packet as Given, NoPacket}
 use Rattle.sctp_table_laws.specs.Mapped.{Carried}
 use Rattle.sctp_course.specs.Acts.{Making, idle, calm, nothing, echoing, IsHeard, Keeps}
 use Rattle.sctp_course.specs.Course.{AreGiven}
-use Rattle.sctp_course.specs.Agreement.{Draw, Association, Has, Notes, association_of, held_in, two_drawn, one_drawn, drawn_for, noted, AreDistinct}
+use Rattle.sctp_course.specs.Agreement.{Draw, Association, Has, Notes, association_of, held_in, two_drawn, one_drawn, drawn_for, AreDistinct}
 use Rattle.sctp_course.proofs.PacketActsLemmas.{does_plain, does_complain, does_send_buffered, does_send_cookie}
 use Rattle.sctp_course.proofs.RowActsLemmas.{does_closed, does_send_shutdown_ack}
 use Rattle.sctp_course.proofs.OpeningActsLemmas.{end_in}
 use Rattle.sctp_course.proofs.ActsLemmas.{does_hear}
 use Rattle.sctp_course.proofs.JoinLemmas.{some_same}
 use Rattle.sctp_course.proofs.AddedLemmas.{all_at}
-use Rattle.sctp_course.proofs.AgreeLemmas.{Past, View, view_of, holds, draw_in, SaysInit, SaysInitAck, SaysEcho, SaysAck, Says, is_mild, is_no_answer, waits, Waits, Holds, IsUnder, Tagged, Later}
+use Rattle.sctp_course.proofs.AgreeLemmas.{Past, View, view_of, holds, draw_in, SaysInit, SaysInitAck, SaysEcho, SaysAck, Says, waits, Waits, Holds, IsUnder, Tagged, Later}
 use Rattle.sctp_course.proofs.AgreeActsLemmas.{Setting, Inv, InvAt, inv_grown, inv_bound}
 use Rattle.sctp_course.proofs.AgreeQuietLemmas.{opens_nothing, Quiet, quiet}
+use Rattle.sctp_course.proofs.AgreeNotesLemmas.{noted}
 use Rattle.sctp_course.proofs.AgreeOpeningLemmas.{Known, kept_quiet, drawn_fits, again_fits, does_answer, does_echo, does_establish}
 use Rattle.sctp_course.proofs.AgreeCookieLemmas.{past_of, bounded, Goes, has_behind, goes_held, does_judged}
 
@@ -48,6 +49,19 @@ quiet_packet p all = record {
   connects = λ e. cc;
   restores = λ h e. cc;
 }
+
+-- a packet with one of these is taken under other tags than the own one
+abbrev pub is_mild : ChunkTree → Bool
+is_mild (abort_chunk reflected causes) = false
+is_mild (shutdown_complete_chunk reflected) = false
+is_mild shutdown_ack_chunk = false
+is_mild (cookie_echo_chunk c) = false
+is_mild chunk = true
+
+abbrev pub is_no_answer : ChunkTree → Bool
+is_no_answer (init_ack_chunk i) = false
+is_no_answer cookie_ack_chunk = false
+is_no_answer chunk = true
 
 -- how a packet came that has this chunk
 pub record Comes (under : Option ℕ) (tag : ℕ) (c : ChunkTree) : Type 0 where

@@ -1,10 +1,10 @@
 -- What an end's state and what it said tell of both ends, over every course: by what each drew, held and echoed.
-use Rattle.std.proofs.Common.{◌≡◌, ◌≢◌, ℕ, ◌^◌, ◌<◌, ◌&&◌, Bool, true, false, Option, Some, None, List, [], ◌∷◌, ◌++◌, ◌⊎◌, inl, inr, refl, sym, ap, subst, ◌∙◌, Ok, All}
+use Rattle.std.proofs.Common.{◌≡◌, ◌≢◌, ℕ, ◌^◌, ◌<◌, ◌&&◌, not, Bool, true, false, Option, Some, None, List, [], ◌∷◌, ◌++◌, ◌⊎◌, inl, inr, refl, sym, ap, subst, ◌∙◌, Ok, All}
 use Rattle.std.specs.Prelude.{⊤}
 use Rattle.std.specs.List.{list_all}
 use Rattle.std.proofs.lemmas.List.Elements.{All-weaker}
 use Rattle.std.proofs.lemmas.List.Folds.{list_all-append}
-use Rattle.sctp_packet.specs.Chunk.{ChunkTree, InitTree, init_chunk, init_ack_chunk, cookie_echo_chunk, cookie_ack_chunk, abort_chunk, shutdown_complete_chunk, shutdown_ack_chunk}
+use Rattle.sctp_packet.specs.Chunk.{ChunkTree, InitTree, data_chunk, init_chunk, init_ack_chunk, sack_chunk, cookie_echo_chunk, cookie_ack_chunk, idata_chunk, re_config_chunk, forward_tsn_chunk, i_forward_tsn_chunk}
 use Rattle.sctp_packet.specs.Grammar.{carried}
 use Rattle.sctp_state.specs.Capabilities.{told_by}
 use Rattle.sctp_state.specs.Cookie.{Cookie, CapabilitiesFit, read_cookie}
@@ -109,45 +109,65 @@ says_carried x y tag c h = h
 
 -- ---- how packets are made
 
--- a packet with one of these is taken under other tags than the own one
-abbrev pub is_mild : ChunkTree → Bool
-is_mild (abort_chunk reflected causes) = false
-is_mild (shutdown_complete_chunk reflected) = false
-is_mild shutdown_ack_chunk = false
-is_mild (cookie_echo_chunk c) = false
-is_mild chunk = true
+-- chunks by which an association is opened
+abbrev pub is_opening : ChunkTree → Bool
+is_opening (init_ack_chunk i) = true
+is_opening (cookie_echo_chunk c) = true
+is_opening cookie_ack_chunk = true
+is_opening chunk = false
 
-abbrev pub is_no_answer : ChunkTree → Bool
-is_no_answer (init_ack_chunk i) = false
-is_no_answer cookie_ack_chunk = false
-is_no_answer chunk = true
+abbrev pub is_silent : ChunkTree → Bool
+is_silent chunk = not (is_opening chunk)
+
+-- what may stand behind one
+abbrev pub is_load : ChunkTree → Bool
+is_load (data_chunk tsn is_immediate f) = true
+is_load (idata_chunk tsn is_immediate f) = true
+is_load (sack_chunk k) = true
+is_load (re_config_chunk parameters) = true
+is_load (forward_tsn_chunk tsn skipped) = true
+is_load (i_forward_tsn_chunk tsn skipped) = true
+is_load chunk = false
+
+-- the first chunk opens an association, and none behind it opens or ends one
+abbrev pub Opens : List ChunkTree → Type 0
+Opens [] = ⊥
+Opens (c ∷ cs) = (is_opening c ≡ true) × (list_all is_load cs ≡ true)
 
 abbrev pub Shape : List ChunkTree → Type 0
-Shape cs = (list_all is_mild cs ≡ true) ⊎ (list_all is_no_answer cs ≡ true)
+Shape cs = (list_all is_silent cs ≡ true) ⊎ Opens cs
 
 pub all_with : (test : ChunkTree → Bool) (cs : List ChunkTree) (c : ChunkTree) → list_all test cs ≡ true → test c ≡ true → list_all test (cs ++ c ∷ []) ≡ true
 all_with test cs c h e = list_all-append test cs (c ∷ []) ∙ (ap (λ (b : Bool). b && (test c && true)) h ∙ ap (λ (b : Bool). b && true) e)
 
-pub shape_with : (cs : List ChunkTree) (c : ChunkTree) → Shape cs → is_mild c ≡ true → is_no_answer c ≡ true → Shape (cs ++ c ∷ [])
-shape_with cs c (inl h) e f = inl (all_with is_mild cs c h e)
-shape_with cs c (inr h) e f = inr (all_with is_no_answer cs c h f)
+pub load_is_silent : (c : ChunkTree) → is_load c ≡ true → is_silent c ≡ true
+load_is_silent (init_ack_chunk i) e = cc
+load_is_silent (cookie_echo_chunk c) e = cc
+load_is_silent cookie_ack_chunk e = cc
+load_is_silent c e = refl
 
-plain_answers_nothing : (c : ChunkTree) → is_plain c ≡ true → is_no_answer c ≡ true
-plain_answers_nothing (init_ack_chunk i) e = cc
-plain_answers_nothing cookie_ack_chunk e = cc
-plain_answers_nothing c e = refl
+pub shape_with : (cs : List ChunkTree) (c : ChunkTree) → Shape cs → is_load c ≡ true → Shape (cs ++ c ∷ [])
+shape_with cs c (inl h) e = inl (all_with is_silent cs c h (load_is_silent c e))
+shape_with [] c (inr h) e = absurd h
+shape_with (d ∷ ds) c (inr h) e = inr (h.0, all_with is_load ds c h.1 e)
+
+plain_is_silent : (c : ChunkTree) → is_plain c ≡ true → is_silent c ≡ true
+plain_is_silent (init_ack_chunk i) e = cc
+plain_is_silent (cookie_echo_chunk c) e = cc
+plain_is_silent cookie_ack_chunk e = cc
+plain_is_silent c e = refl
 
 and_both : (a b c d : Bool) → (a ≡ true → b ≡ true) → (c ≡ true → d ≡ true) → (a && c) ≡ true → (b && d) ≡ true
 and_both true b c d f g h = ap (λ (z : Bool). z && d) (f refl) ∙ g h
 and_both false b c d f g h = cc
 
-all_plain : (cs : List ChunkTree) → list_all is_plain cs ≡ true → list_all is_no_answer cs ≡ true
-all_plain [] h = refl
-all_plain (c ∷ cs) h =
-    and_both (is_plain c) (is_no_answer c) (list_all is_plain cs) (list_all is_no_answer cs) (plain_answers_nothing c) (λ e. all_plain cs e) h
+-- where each chunk passes one test, it passes the other
+pub all_pass : (p q : ChunkTree → Bool) → ((c : ChunkTree) → p c ≡ true → q c ≡ true) → (cs : List ChunkTree) → list_all p cs ≡ true → list_all q cs ≡ true
+all_pass p q f [] h = refl
+all_pass p q f (c ∷ cs) h = and_both (p c) (q c) (list_all p cs) (list_all q cs) (f c) (λ e. all_pass p q f cs e) h
 
 pub shape_plain : (cs : List ChunkTree) (c : ChunkTree) → list_all is_plain cs ≡ true → is_plain c ≡ true → Shape (cs ++ c ∷ [])
-shape_plain cs c h e = inr (all_with is_no_answer cs c (all_plain cs h) (plain_answers_nothing c e))
+shape_plain cs c h e = inl (all_with is_silent cs c (all_pass is_plain is_silent plain_is_silent cs h) (plain_is_silent c e))
 
 -- ---- what holds of a state
 

@@ -115,7 +115,7 @@ module _ (g : Setting) (y : Past) (own : AreGiven g.own) where
       let j : InitTree = init_ack_of c.options i tag first tie in
       let begun : InvAt g x y (at s c w p) = does_begin k s c w p refl inv in
       does_out k s c w (add (init_ack_chunk j) p)
-      (adds g x y (view_of s) c.options c.pack c.told.events p (init_ack_chunk j) begun (says_answer x c.options i tag first tie said.fits mine here said.own) (inl refl))
+      (adds g x y (view_of s) c.options c.pack c.told.events p (init_ack_chunk j) begun (says_answer x c.options i tag first tie said.fits mine here said.own) (inr (refl, refl)))
 
   -- ---- `connect`
 

@@ -1,10 +1,10 @@
 -- A packet that an end takes, over every course: under which tag it came, and what it leaves.
-use Rattle.std.proofs.Common.{◌≡◌, ℕ, ◌==◌, ◌&&◌, Bool, true, false, Option, Some, None, List, [], ◌∷◌, ◌++◌, map, All, inl, inr, refl, sym, ap, ◌∙◌, arith}
+use Rattle.std.proofs.Common.{◌≡◌, ℕ, ◌==◌, ◌&&◌, not, Bool, true, false, Option, Some, None, List, [], ◌∷◌, ◌++◌, map, All, ◌⊎◌, inl, inr, refl, sym, ap, ◌∙◌, arith}
 use Rattle.std.specs.List.{list_all}
 use Rattle.std.proofs.lemmas.Bool.Decides.{nat_tests}
 use Rattle.std.proofs.lemmas.List.Elements.{All-nil, All-cons, All-head, All-tail, All-weaker}
 use Rattle.std.proofs.lemmas.Bool.{and_parts, both_ways}
-use Rattle.sctp_packet.specs.Chunk.{ChunkTree, init_chunk, cookie_echo_chunk, abort_chunk, shutdown_complete_chunk, shutdown_ack_chunk}
+use Rattle.sctp_packet.specs.Chunk.{ChunkTree, init_chunk, init_ack_chunk, cookie_echo_chunk, cookie_ack_chunk, abort_chunk, shutdown_complete_chunk, shutdown_ack_chunk}
 use Rattle.sctp_packet.specs.Grammar.{carried}
 use Rattle.sctp_packet.specs.Packet.{PacketTree}
 use Rattle.sctp_state.specs.Events.{Event}
@@ -15,20 +15,17 @@ use Rattle.sctp_table.specs.Laws.{NoPacket}
 use Rattle.sctp_table_laws.specs.Mapped.{Carried}
 use Rattle.sctp_course.specs.Acts.{calm, Keeps}
 use Rattle.sctp_course.specs.Course.{AreGiven}
-use Rattle.sctp_course.specs.Agreement.{Draw, Association, Notes, drawn_for, noted, noted_after, noted_hearing, noted_taking, AreDistinct}
+use Rattle.sctp_course.specs.Agreement.{Draw, Association, Notes, drawn_for, AreDistinct}
 use Rattle.sctp_course.proofs.RowActsLemmas.{does_where_open}
 use Rattle.sctp_course.proofs.ActsLemmas.{does_repeats_if, does_ended}
-use Rattle.sctp_course.proofs.AgreeLemmas.{Past, view_of, IsUnder, is_mild, is_no_answer, Shape, Says, says_later, Later, later_same}
+use Rattle.sctp_course.proofs.AgreeLemmas.{Past, view_of, IsUnder, is_opening, is_silent, is_load, all_pass, Shape, Says, says_later, Later, later_same}
 use Rattle.sctp_course.proofs.AgreeActsLemmas.{Setting, InvAt}
+use Rattle.sctp_course.proofs.AgreeNotesLemmas.{noted, noted_after, noted_hearing, noted_taking}
 use Rattle.sctp_course.proofs.AgreeOpeningLemmas.{Known, kept_quiet}
 use Rattle.sctp_course.proofs.AgreeCookieLemmas.{past_of, bounded, Goes, goes_held}
-use Rattle.sctp_course.proofs.AgreeHearingLemmas.{Comes, goes_through, hears}
+use Rattle.sctp_course.proofs.AgreeHearingLemmas.{is_mild, is_no_answer, Comes, goes_through, hears}
 
 -- ---- under which tag a packet is taken
-
-mild_carried : (c : ChunkTree) → is_mild (carried c) ≡ is_mild c
-mild_carried (init_chunk i) = refl
-mild_carried c = refl
 
 no_abort : (cs : List ChunkTree) → list_all is_mild cs ≡ true → abort_flag cs ≡ None
 no_abort [] h = refl
@@ -92,9 +89,38 @@ by_tag true false is_own tag own cs s h f e refused = cc
 by_tag false is_init true tag own cs s h f e refused = record { under = Some tag; comes = comes_mild tag cs h; fits = under_own s tag (e refl) }
 by_tag false is_init false tag own cs s h f e refused = cc
 
-pub admitted : (tag : ℕ) (cs : List ChunkTree) (s : State) → Shape cs → refusal tag cs s ≡ None → Admitted tag cs s
-admitted tag cs s (inr h) refused = record { under = None; comes = comes_silent tag cs h; fits = tt }
-admitted tag cs s (inl h) refused =
+-- the own tag is asked for, or no answer comes
+abbrev Comes_by : List ChunkTree → Type 0
+Comes_by cs = (list_all is_mild cs ≡ true) ⊎ (list_all is_no_answer cs ≡ true)
+
+silent_answers_nothing : (c : ChunkTree) → is_silent c ≡ true → is_no_answer c ≡ true
+silent_answers_nothing (init_ack_chunk i) e = cc
+silent_answers_nothing cookie_ack_chunk e = cc
+silent_answers_nothing c e = refl
+
+load_is_mild : (c : ChunkTree) → is_load c ≡ true → is_mild c ≡ true
+load_is_mild (abort_chunk reflected causes) e = cc
+load_is_mild (shutdown_complete_chunk reflected) e = cc
+load_is_mild shutdown_ack_chunk e = cc
+load_is_mild (cookie_echo_chunk c) e = cc
+load_is_mild c e = refl
+
+load_answers_nothing : (c : ChunkTree) → is_load c ≡ true → is_no_answer c ≡ true
+load_answers_nothing (init_ack_chunk i) e = cc
+load_answers_nothing cookie_ack_chunk e = cc
+load_answers_nothing c e = refl
+
+comes_by : (cs : List ChunkTree) → Shape cs → Comes_by cs
+comes_by cs (inl h) = inr (all_pass is_silent is_no_answer silent_answers_nothing cs h)
+comes_by [] (inr h) = absurd h
+comes_by (init_ack_chunk i ∷ cs) (inr h) = inl (all_pass is_load is_mild load_is_mild cs h.1)
+comes_by (cookie_ack_chunk ∷ cs) (inr h) = inl (all_pass is_load is_mild load_is_mild cs h.1)
+comes_by (cookie_echo_chunk c ∷ cs) (inr h) = inr (all_pass is_load is_no_answer load_answers_nothing cs h.1)
+comes_by (c ∷ cs) (inr h) = let no : is_opening c ≡ true = h.0 in cc
+
+admitted_by : (tag : ℕ) (cs : List ChunkTree) (s : State) → Comes_by cs → refusal tag cs s ≡ None → Admitted tag cs s
+admitted_by tag cs s (inr h) refused = record { under = None; comes = comes_silent tag cs h; fits = tt }
+admitted_by tag cs s (inl h) refused =
     by_tag (tag == 0) (is_single_init cs) (tag == my_tag s) tag (my_tag s) cs s h (λ e. e) (λ e. same_tags tag (my_tag s) e)
     (sym (ap (λ (a : Option Bool). refusal_by a (complete_flag cs) (has_shutdown_ack cs) tag cs s) (no_abort cs h)
     ∙ (ap (λ (a : Option Bool). refusal_by None a (has_shutdown_ack cs) tag cs s) (no_complete cs h)
@@ -102,17 +128,28 @@ admitted tag cs s (inl h) refused =
     ∙ ap (λ (a : Bool). plain_refusal a (tag == 0) (is_single_init cs) (tag == my_tag s) tag (my_tag s)) (no_cookie cs h))))
     ∙ refused)
 
+pub admitted : (tag : ℕ) (cs : List ChunkTree) (s : State) → Shape cs → refusal tag cs s ≡ None → Admitted tag cs s
+admitted tag cs s h refused = admitted_by tag cs s (comes_by cs h) refused
+
 all_carried : (test : ChunkTree → Bool) → ((c : ChunkTree) → test (carried c) ≡ test c) → (cs : List ChunkTree) → list_all test (map carried cs) ≡ list_all test cs
 all_carried test f [] = refl
 all_carried test f (c ∷ cs) = ap (λ (b : Bool). b && list_all test (map carried cs)) (f c) ∙ ap (λ (b : Bool). test c && b) (all_carried test f cs)
 
-no_answer_carried : (c : ChunkTree) → is_no_answer (carried c) ≡ is_no_answer c
-no_answer_carried (init_chunk i) = refl
-no_answer_carried c = refl
+opening_carried : (c : ChunkTree) → is_opening (carried c) ≡ is_opening c
+opening_carried (init_chunk i) = refl
+opening_carried c = refl
+
+silent_carried : (c : ChunkTree) → is_silent (carried c) ≡ is_silent c
+silent_carried c = ap not (opening_carried c)
+
+load_carried : (c : ChunkTree) → is_load (carried c) ≡ is_load c
+load_carried (init_chunk i) = refl
+load_carried c = refl
 
 pub shape_carried : (cs : List ChunkTree) → Shape cs → Shape (map carried cs)
-shape_carried cs (inl h) = inl (all_carried is_mild mild_carried cs ∙ h)
-shape_carried cs (inr h) = inr (all_carried is_no_answer no_answer_carried cs ∙ h)
+shape_carried cs (inl h) = inl (all_carried is_silent silent_carried cs ∙ h)
+shape_carried [] (inr h) = absurd h
+shape_carried (c ∷ cs) (inr h) = inr (opening_carried c ∙ h.0, all_carried is_load load_carried cs ∙ h.1)
 
 -- ---- draws before
 

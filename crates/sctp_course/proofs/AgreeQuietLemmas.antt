@@ -122,7 +122,7 @@ module _ (g : Setting) (x y : Past) (call : Call) (own : AreGiven g.own) (q : Qu
         other = h.other;
         under = ap (λ (p : Packet). p.tag) to;
       })
-      (one_alone m.packet (packet_to t.identity.peer_tag o.mtu) (cookie_echo_chunk cookie) to (inr refl))
+      (one_alone m.packet (packet_to t.identity.peer_tag o.mtu) (cookie_echo_chunk cookie) to (inr (refl, refl)))
   keeps_opening (establishes tag t1 cookie t m h) inv = absurd (both_ways false refl (q.hears tag cookie_ack_chunk h))
   keeps_opening (opens tag k m h none is) inv = no_echo tag k h
   keeps_opening (restarts tag k phase t m h verdict) inv = no_echo tag k h
@@ -174,13 +174,13 @@ module _ (g : Setting) (x y : Past) (call : Call) (own : AreGiven g.own) (q : Qu
   -- ---- sending
 
   forward_load : (b : Bool) (v : View) (m : Making Carried) (s : Sender) → IsLoad g x y v m.context.options m.context.pack m.context.told.events (chunk_if b s)
-  forward_load true v m s = record { says = λ tag. tt; mild = refl; answers = refl }
-  forward_load false v m s = record { says = λ tag. tt; mild = refl; answers = refl }
+  forward_load true v m s = record { says = λ tag. tt; load = refl }
+  forward_load false v m s = record { says = λ tag. tt; load = refl }
 
   keeps_sending : (act : SendingAct Carried call) → InvAt g x y (before_sending act) → InvAt g x y (after_sending act)
   keeps_sending (asks also_if_delayed phase t m) inv = inv
   keeps_sending (adds_ack phase t m) inv =
-      loads (view_of (Open phase t)) m (selective_ack t) inv (record { says = λ tag. tt; mild = refl; answers = refl })
+      loads (view_of (Open phase t)) m (selective_ack t) inv (record { says = λ tag. tt; load = refl })
   keeps_sending (expires phase t m) inv =
       let act : SendingAct Carried call = expires phase t m in
       tells (view_of (Open phase t)) m (after_sending act) m.packet.tag m.packet.chunks (light_sending act) inv
@@ -190,7 +190,7 @@ module _ (g : Setting) (x y : Past) (call : Call) (own : AreGiven g.own) (q : Qu
   keeps_sending (asks_no_reset most m none) inv = inv
   keeps_sending (asks_reset most stream streams phase t m some free) inv = inv
   keeps_sending (adds_request k phase t m is) inv =
-      loads (view_of (Open phase t)) m (request_chunk k) inv (record { says = λ tag. tt; mild = refl; answers = refl })
+      loads (view_of (Open phase t)) m (request_chunk k) inv (record { says = λ tag. tt; load = refl })
   keeps_sending (sends phase t m) inv =
       let act : SendingAct Carried call = sends phase t m in
       let v : View = view_of (Open phase t) in
@@ -249,7 +249,7 @@ module _ (g : Setting) (x y : Past) (call : Call) (own : AreGiven g.own) (q : Qu
   keeps_resets (takes_response rto number result sender receiver phase t m asked) inv =
       with_outcome (outcome number result t.requests.current) (view_of (Open phase t)) m.context m.packet.tag m.packet.chunks inv
   keeps_resets (adds_responses responses phase t m are) inv =
-      loads (view_of (Open phase t)) m (re_config_chunk responses) inv (record { says = λ tag. tt; mild = refl; answers = refl })
+      loads (view_of (Open phase t)) m (re_config_chunk responses) inv (record { says = λ tag. tt; load = refl })
 
   -- ---- handover, and the end of a packet
 

@@ -49,7 +49,7 @@ forward_with [] c = refl
 forward_with (p ∷ ps) c = ap (λ (b : Bool). is_forward_tsn_supported p || b) (forward_with ps c)
 
 -- the cookie says nothing of what its sender can do
-told_with_cookie : (outbound inbound : ℕ) (ps : List ParameterTree) (c : List ℕ) → told_by outbound inbound (ps ++ state_cookie c ∷ []) ≡ told_by outbound inbound ps
+pub told_with_cookie : (outbound inbound : ℕ) (ps : List ParameterTree) (c : List ℕ) → told_by outbound inbound (ps ++ state_cookie c ∷ []) ≡ told_by outbound inbound ps
 told_with_cookie outbound inbound ps c =
     let types = extensions_with ps c in
     let method = method_with ps c in

@@ -10,7 +10,7 @@ use Rattle.sctp_state.specs.declared.api.GivenUpCause.TheVariants.{Retransmissio
 use Rattle.sctp_state.specs.Events.{Told}
 use Rattle.sctp_rx.specs.Held.{Held}
 use Rattle.sctp_rx.specs.Delivery.{fresh_ordered, fresh_unordered, ordered_arrival, ordered_forward, unordered_arrival, unordered_forward}
-use Rattle.sctp_rx.specs.Streams.{Streams, Outcome, stream_at, changed, is_far, unchanged, with_ordered, with_unordered, add_in_order, ordered_number, unordered_number, held_as, skip_ordered, skip_unordered, skip_of, skip, skip_each, by_stream, dropped_to}
+use Rattle.sctp_rx.specs.Streams.{Streams, stream_at, changed, is_far, unchanged, with_ordered, with_unordered, add_in_order, ordered_number, unordered_number, held_as, skip_ordered, skip_unordered, skip_of, skip, skip_each, by_stream, dropped_to}
 use Rattle.sctp_rx.specs.Streams as streams
 use Rattle.sctp_rx.specs.ReassemblyQueue.{Waiting, Added, Forwarded, Reassembly, add_now, forward_now, waits, came, fragment_waits, add_or_wait, point_waits, forward_or_wait, apply, apply_each, waiting_in}
 use Rattle.sctp_rx.specs.ReassemblyQueue as reassembly

@@ -74,36 +74,33 @@ abbrev pub drawn_to_connect : {P : Type 0} → State → Endpoint P → List Dra
 drawn_to_connect Closed e = two_drawn e
 drawn_to_connect s e = []
 
-abbrev pub noted : (drew : List Draw) → State → Notes → Notes
-noted drew s n = record { drawn = drew ++ n.drawn; held = held_in s ++ n.held }
-
 -- chunk by chunk
-abbrev pub noted_after : {P : Type 0} → (Endpoint P → Notes → Notes) → Heard P → Notes → Notes
-noted_after rest h n = elim h.goes_on [ true ↦ rest h.end n | false ↦ n ]
+abbrev pub drawn_behind : {P : Type 0} → (Endpoint P → List Draw) → Heard P → List Draw
+drawn_behind rest h = elim h.goes_on [ true ↦ rest h.end | false ↦ [] ]
 
-abbrev pub noted_hearing : {P : Type 0} → (tag : ℕ) → List ChunkTree → Endpoint P → Notes → Notes
-noted_hearing tag [] e n = n
-noted_hearing tag (c ∷ cs) e n = noted_after (noted_hearing tag cs) (hear tag c e) (noted (drawn_for c e) (hear tag c e).end.standing.state n)
+abbrev pub drawn_hearing : {P : Type 0} → (tag : ℕ) → List ChunkTree → Endpoint P → List Draw
+drawn_hearing tag [] e = []
+drawn_hearing tag (c ∷ cs) e = drawn_behind (drawn_hearing tag cs) (hear tag c e) ++ drawn_for c e
 
-abbrev pub noted_taking : {P : Type 0} → Option (List ℕ) → PacketTree → Endpoint P → Notes → Notes
-noted_taking None p e n = noted_hearing p.header.verification_tag p.chunks (on_standing (repeats_if (has_data p.chunks)) (counts e)) n
-noted_taking (Some text) p e n = n
+abbrev pub drawn_taking : {P : Type 0} → Option (List ℕ) → PacketTree → Endpoint P → List Draw
+drawn_taking None p e = drawn_hearing p.header.verification_tag p.chunks (on_standing (repeats_if (has_data p.chunks)) (counts e))
+drawn_taking (Some text) p e = []
 
-abbrev pub noted_given : Option Carried → (checksum : ℕ) → Side → Notes → Notes
-noted_given None checksum x n = n
-noted_given (Some p) checksum x n =
+abbrev pub drawn_given : Option Carried → (checksum : ℕ) → Side → List Draw
+drawn_given None checksum x = []
+drawn_given (Some p) checksum x =
     let q : PacketTree = as_heard p checksum in
-    noted_taking (refusal q.header.verification_tag q.chunks (state_of x)) q x.end n
+    drawn_taking (refusal q.header.verification_tag q.chunks (state_of x)) q x.end
 
--- of one turn: within it, and after it
-abbrev pub noted_in : Turn → (x y : Side) → Notes → Notes
-noted_in (Calls Connect) x y n = noted (drawn_to_connect (state_of x) x.end) Closed n
-noted_in (Calls call) x y n = n
-noted_in (Gives which checksum) x y n = noted_given (slice_get (emitted y) which) checksum x n
-noted_in (Refuses p) x y n = n
+abbrev pub drawn_in : Turn → (x y : Side) → List Draw
+drawn_in (Calls Connect) x y = drawn_to_connect (state_of x) x.end
+drawn_in (Calls call) x y = []
+drawn_in (Gives which checksum) x y = drawn_given (slice_get (emitted y) which) checksum x
+drawn_in (Refuses p) x y = []
 
+-- of one turn: what was drawn in it, and what is held after it
 abbrev pub noted_by : Turn → (x y : Side) → Notes → Notes
-noted_by turn x y n = noted [] (state_of (turned turn x y)) (noted_in turn x y n)
+noted_by turn x y n = record { drawn = drawn_in turn x y ++ n.drawn; held = held_in (state_of (turned turn x y)) ++ n.held }
 
 -- ---- of both ends, along a course
 
@@ -154,10 +151,10 @@ AreAllowed (e ∷ es) = IsAllowed e.1 × AreAllowed es
 abbrev pub told_since : (before after : Side) → List (Event Carried)
 told_since before after = drop (length before.told) after.told
 
--- where an end was told in a turn that it is connected, the other end holds or held crossed what it holds then
+-- an end that was told in a turn that it is connected holds an association after it, which the other end holds or held crossed
 abbrev pub Agrees : (before after : Side) → (other : Notes) → Type 0
 Agrees before after other =
-    has_connected (told_since before after) ≡ true → (a : Association) → Has a (held_in (state_of after)) → Has (crossed a) other.held
+    has_connected (told_since before after) ≡ true → (a : Association) × Has a (held_in (state_of after)) × Has (crossed a) other.held
 
 abbrev pub AgreesAt : Bool → Turn → Pair → Book → Type 0
 AgreesAt true turn w k = Agrees w.a (turned turn w.a w.b) k.b

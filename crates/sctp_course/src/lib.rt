@@ -66,9 +66,8 @@ pub fn each_end_can_be_handed_over()
 
 /// Over every course of two new ends, without the rules of `ends_are_joined`: collisions, restarts, old cookies and repeated
 /// ones, closes, shutdowns and new openings (RFC 9260 section 5.2). Where no end draws a tag twice, and no record of a handover
-/// is taken up: an end that was told in a turn that it is connected, and still holds an association after it, holds one that
-/// the other end holds or held, crossed in tags and first TSNs. What an end held is what it held after one of its turns, or
-/// between two chunks of a packet that it took.
+/// is taken up: an end that was told in a turn that it is connected holds an association after it, and the other end holds or
+/// held it, crossed in tags and first TSNs. What an end held is what it held after one of its turns.
 ///
 /// Two such courses, computed: after both ends closed, an old cookie opens one of them again; and an end that closed and
 /// connects anew opens the other one, that still held the old association.

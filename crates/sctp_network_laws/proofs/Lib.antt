@@ -23,3 +23,4 @@ pub mod LastingLemmas
 pub mod ClockLemmas
 pub mod ProperLemmas
 pub mod ComposedLemmas
+pub mod AgreedLemmas

@@ -5,3 +5,4 @@ pub mod Joined
 pub mod Delivered
 pub mod Composed
 pub mod Proper
+pub mod Agreed

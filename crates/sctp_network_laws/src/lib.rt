@@ -1,6 +1,7 @@
 //! Laws of two ends and all packets between them: each run of a new world is a course of two ends, which the theorem is read off.
 #![tactic(auto)]
 
+ghost use Rattle.sctp_network_laws.specs.Agreed.{WorldsAgree};
 ghost use Rattle.sctp_network_laws.specs.Composed.{WorldsCompose};
 ghost use Rattle.sctp_network_laws.specs.Courses.{WorldsHaveCourses};
 ghost use Rattle.sctp_network_laws.specs.Delivered.{OffersAreAccepted};
@@ -71,4 +72,13 @@ pub fn worlds_compose()
 pub fn records_are_proper()
     ensures proper { WorldsAreProper }
     ensures offers { AcceptancesAreOffers }
+{}
+
+/// At each OnConnected of a world's log the end holds an association, and the other end holds or has held the crossed one, by
+/// the association entries of the log: along any run of a new world, through collisions, restarts, old and repeated cookies,
+/// closes and new openings (RFC 9260 section 5.2), as long as no verification tag is drawn twice, by either end.
+///
+/// It doesn't say that two ends ever connect, or anything of a sender that knows the tags.
+pub fn worlds_agree()
+    ensures agree { WorldsAgree }
 {}

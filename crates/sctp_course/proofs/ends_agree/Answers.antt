@@ -1,4 +1,4 @@
-use Rattle.sctp_course.proofs.AgreeCourseLemmas.{ends_agree}
+use Rattle.sctp_course.proofs.AgreeTurnsLemmas.{ends_agree}
 use Rattle.sctp_course.proofs.ReopensLemmas.{old_cookie_opens, restart_opens}
 use Rattle.sctp_course.proofs.ends_agree.Goals as goal
 

@@ -1,0 +1,424 @@
+-- Worlds agree, since their courses do.
+use Rattle.std.proofs.Common.{◌≡◌, inl, inr, ℕ, ◌+◌, ◌≤◌, Bool, true, false, Option, Some, None, List, [], ◌∷◌, ◌++◌, length, map, drop, slice_get, refl, sym, ap, subst, ◌∙◌, append-nil, append_assoc, arith}
+use Rattle.std.specs.Prelude.{All}
+use Rattle.std.specs.List.{flat_map}
+use Rattle.std.proofs.lemmas.Grind.{flat_map-append}
+use Rattle.std.proofs.lemmas.Bool.{both_ways}
+use Rattle.std.proofs.lemmas.List.{map-append}
+use Rattle.std.proofs.lemmas.List.Elements.{All-nil, All-cons, All-head, All-tail, All-append}
+use Rattle.sctp_serial.specs.Messages.{Message}
+use Rattle.sctp_state.specs.Events.{Event, GivenUp, SendPacket, OnConnected}
+use Rattle.sctp_table.specs.Association.{State, Closed, CookieWait, Open, Endpoint}
+use Rattle.sctp_table.specs.Input.{refusal}
+use Rattle.sctp_table.specs.Shown.{Association, association_in}
+use Rattle.sctp_table_laws.specs.Mapped.{Carried, as_written}
+use Rattle.sctp_course.specs.Course as course
+use Rattle.sctp_course.specs.Course.{Pair, Turn, Calls, Gives, Refuses, has_connected, emitted, given, foreign_if, turned, goes, start, state_of}
+use Rattle.sctp_course.specs.Agreement as agreement
+use Rattle.sctp_course.specs.Agreement.{Has, Notes, held_in, noted_by, Book, blank, new_book, writes, IsPlainCall, IsAllowed, AreAllowed, told_since, AgreesAlong}
+use Rattle.sctp_course.proofs.AgreeCourseLemmas.{drop_told}
+use Rattle.sctp_course.proofs.AgreeWithinLemmas.{has_either}
+use Rattle.sctp_course.proofs.AgreeTurnsLemmas.{ends_agree}
+use Rattle.sctp_network_table.specs.Judge.{End, A, B, same_end, none_unless, same_association, Entry, Associated, Emitted, Happened, GaveUp, BecameReady, Call, Connect, Shutdown, Close, Send, SendMany, Receive, Reset, SetPriority, SetMaxMessageSize, SetLowThreshold, HandOver, connected_by, times_connected, held_after, held_from, held}
+use Rattle.sctp_network_table.specs.World.{Side, World, Action, CallOf, Give, GiveForeign, TellTime, ComesTo, told, skipped, Happens, Runs, side_of, other, packets_in, news_of, told_entries, gone_entries, ready_entries, ready_before, ready_at, association, associated_if, association_entries, call_entry, after_call, time_entry, after_time, step_of}
+use Rattle.sctp_network_laws.specs.Courses.{ActionFits, IsInBytes, is_a, end_of, hearing, IsForeign, IsTurnOf, AreTurnsOf, told_in, origin}
+use Rattle.sctp_network_laws.specs.Agreed.{IsAgreed, Agrees, WorldsAgree}
+use Rattle.sctp_network_laws.proofs.EventLemmas.{mapped, entries_both, same_itself, connected_told}
+use Rattle.sctp_network_laws.proofs.NewsLemmas.{told_both, held_both, connected_by_told}
+use Rattle.sctp_network_laws.proofs.PrefixLemmas.{one_is_longer}
+use Rattle.sctp_network_laws.proofs.BlockLemmas.{same_front}
+use Rattle.sctp_network_laws.proofs.SidesLemmas.{IsFirst, silent_first, silent_news, Good}
+use Rattle.sctp_network_laws.proofs.WorldLemmas.{Both, Extends, extends_then, in_bytes_before, Stepped, steps}
+use Rattle.sctp_network_laws.proofs.RunsLemmas.{happens_extends, runs_extends, fresh_both}
+use Rattle.sctp_network_laws.proofs.JoinedLemmas.{given_of}
+
+-- ---- entries
+
+abbrev is_happened : Entry → Bool
+is_happened (Happened y e) = true
+is_happened entry = false
+
+abbrev is_associated : Entry → Bool
+is_associated (Associated y a) = true
+is_associated entry = false
+
+-- no end takes up an association
+abbrev Plain : Entry → Type 0
+Plain e = is_associated e ≡ false
+
+-- nothing is told
+abbrev Mute : Entry → Type 0
+Mute e = is_happened e ≡ false
+
+all_back : {X : Type 0} (P : X → Type 0) (xs ys : List X) → All P (xs ++ ys) → All P ys
+all_back P [] ys h = h
+all_back P (x ∷ xs) ys h = all_back P xs ys (All-tail P x (xs ++ ys) h)
+
+plain_told : (y : End) (n : ℕ) (es : List (Event (List ℕ))) → All Plain (told_entries y n es)
+plain_told y n [] = All-nil Plain
+plain_told y n (SendPacket p ∷ es) = All-cons Plain (Emitted y n) (told_entries y (n + 1) es) refl (plain_told y (n + 1) es)
+plain_told y n (e ∷ es) = All-cons Plain (Happened y e) (told_entries y n es) refl (plain_told y n es)
+
+plain_gone : (y : End) (gs : List GivenUp) → All Plain (gone_entries y gs)
+plain_gone y [] = All-nil Plain
+plain_gone y (g ∷ gs) = All-cons Plain (GaveUp y g) (gone_entries y gs) refl (plain_gone y gs)
+
+plain_ready : (y : End) (ms : List Message) → All Plain (map (BecameReady y) ms)
+plain_ready y [] = All-nil Plain
+plain_ready y (m ∷ ms) = All-cons Plain (BecameReady y m) (map (BecameReady y) ms) refl (plain_ready y ms)
+
+plain_after : (x : End) (h : Option Association) (e : Entry) → Plain e → held_after x h e ≡ h
+plain_after x h (Associated y a) p = cc
+plain_after x h e p = refl
+
+plain_from : (x : End) (h : Option Association) (l : List Entry) → All Plain l → held_from x h l ≡ h
+plain_from x h [] p = refl
+plain_from x h (e ∷ l) p =
+    ap (λ (o : Option Association). held_from x o l) (plain_after x h e (All-head Plain e l p)) ∙ plain_from x h l (All-tail Plain e l p)
+
+mute_associated : (b : Bool) (y : End) (a : Option Association) → All Mute (associated_if b y a)
+mute_associated true y a = All-nil Mute
+mute_associated false y a = All-cons Mute (Associated y a) [] refl (All-nil Mute)
+
+-- ---- what an event adds: an entry that tells nothing, and news of its end, or none
+
+data Adds (x : End) (old : Side) (log longer : List Entry) : Type 0 where
+  news : (first : Entry) (after : Endpoint (List ℕ)) → IsFirst first → Mute first → longer ≡ log ++ first ∷ news_of x old after → Adds x old log longer
+  none : (first : Entry) → IsFirst first → Mute first → longer ≡ log ++ first ∷ [] → Adds x old log longer
+
+comes_adds : (x : End) (bytes : List ℕ) (old new : Side) (log longer : List Entry) → ComesTo x bytes old new log longer → Adds x old log longer
+comes_adds x bytes old new log longer (told t judged) = news _ t.after (record { told = λ y. refl; quiet = λ y o. refl; gone = λ y. refl }) refl t.logged
+comes_adds x bytes old new log longer (skipped by own judged stays logged) = none _ (record { told = λ y. refl; quiet = λ y o. refl; gone = λ y. refl }) refl logged
+
+event_adds : (action : Action) (w u : World) → Happens action w u → Adds (end_of action) (side_of (end_of action) w) w.log u.log
+event_adds (CallOf A call) w u e =
+    news (call_entry A call w.a.socket) (after_call call w.a.socket) (record { told = λ y. refl; quiet = λ y o. refl; gone = λ y. refl }) refl (ap (λ (z : World). z.log) e)
+event_adds (CallOf B call) w u e =
+    news (call_entry B call w.b.socket) (after_call call w.b.socket) (record { told = λ y. refl; quiet = λ y o. refl; gone = λ y. refl }) refl (ap (λ (z : World). z.log) e)
+event_adds (Give n x) w u g = news _ g.told.after (record { told = λ y. refl; quiet = λ y o. refl; gone = λ y. refl }) refl g.told.logged
+event_adds (GiveForeign x bytes) w u g = comes_adds x bytes (side_of x w) (side_of x u) w.log u.log g.comes
+event_adds (TellTime A now) w u e =
+    news (time_entry A now w.a.socket) (after_time now w.a.socket) (record { told = λ y. refl; quiet = λ y o. refl; gone = λ y. refl }) refl (ap (λ (z : World). z.log) e)
+event_adds (TellTime B now) w u e =
+    news (time_entry B now w.b.socket) (after_time now w.b.socket) (record { told = λ y. refl; quiet = λ y o. refl; gone = λ y. refl }) refl (ap (λ (z : World). z.log) e)
+
+-- ---- an OnConnected of it
+
+abbrev connection : End → Entry
+connection y = Happened y OnConnected
+
+-- it is old, or among what was added
+data Stands (y : End) (log more before behind : List Entry) : Type 0 where
+  old : (rest : List Entry) → log ≡ before ++ connection y ∷ rest → Stands y log more before behind
+  added : (front : List Entry) → before ≡ log ++ front → more ≡ front ++ connection y ∷ behind → Stands y log more before behind
+
+stands_in : (y : End) (log more before behind : List Entry) → log ++ more ≡ before ++ connection y ∷ behind → Stands y log more before behind
+stands_in y log more before behind e = elim (one_is_longer log more before (connection y ∷ behind) e) [
+  | inl l ↦ added l.between l.made l.behind
+  | inr l ↦ split l.between l.made l.behind
+]
+  where
+    split : (between : List Entry) → log ≡ before ++ between → connection y ∷ behind ≡ between ++ more → Stands y log more before behind
+    split [] made is = added [] (sym (append-nil before) ∙ (sym made ∙ sym (append-nil log))) (sym is)
+    split (b ∷ bs) made is =
+        let same : b ≡ connection y = ap (λ (l : List Entry). elim l [ [] ↦ b | z ∷ zs ↦ z ]) (sym is) in
+        old bs (made ∙ ap (λ (z : Entry). before ++ z ∷ bs) same)
+
+-- it is told once at least
+some_connected : (y : End) (front behind : List Entry) → 1 ≤ times_connected y (front ++ connection y ∷ behind)
+some_connected y front behind =
+    longer (flat_map (connected_by y) front) (flat_map (connected_by y) behind) (same_end y y) (same_itself y) (flat_map (connected_by y) (front ++ connection y ∷ behind))
+    (flat_map-append (connected_by y) front (connection y ∷ behind))
+  where
+    behind_some : (xs zs : List End) → 1 ≤ length (xs ++ y ∷ zs)
+    behind_some [] zs = omega arith
+    behind_some (x ∷ xs) zs = omega arith
+
+    longer : (xs zs : List End) (b : Bool) → b ≡ true → (all : List End) → all ≡ xs ++ (none_unless b y ++ zs) → 1 ≤ length all
+    longer xs zs true is all e = subst (λ (l : List End). 1 ≤ length l) (sym e) (behind_some xs zs)
+    longer xs zs false is all e = cc
+
+-- by the end that acted
+not_silent : {X : Type 0} (y : End) (more front behind : List Entry) → told_in y more ≡ [] → more ≡ front ++ connection y ∷ behind → X
+not_silent y more front behind silent is =
+    let h : 1 ≤ times_connected y more = subst (λ (l : List Entry). 1 ≤ times_connected y l) (sym is) (some_connected y front behind) in
+    let none : times_connected y more ≡ 0 = ap (λ (l : List End). length l) (connected_by_told y more ∙ ap (flat_map (connected_by y)) silent) in
+    absurd (omega (arith, h, none))
+
+-- behind it no association is taken up
+plain_behind : (y : End) (head rest front behind : List Entry) → All Mute head → All Plain rest → head ++ rest ≡ front ++ connection y ∷ behind
+    → All Plain (connection y ∷ behind)
+plain_behind y head rest front behind mute plain e = elim (one_is_longer head rest front (connection y ∷ behind) e) [
+  | inl l ↦ all_back Plain l.between (connection y ∷ behind) (subst (All Plain) l.behind plain)
+  | inr l ↦ split l.between l.made l.behind
+]
+  where
+    split : (between : List Entry) → head ≡ front ++ between → connection y ∷ behind ≡ between ++ rest → All Plain (connection y ∷ behind)
+    split [] made is = subst (All Plain) (sym is) plain
+    split (b ∷ bs) made is =
+        let same : b ≡ connection y = ap (λ (l : List Entry). elim l [ [] ↦ b | z ∷ zs ↦ z ]) (sym is) in
+        let there : All Mute (b ∷ bs) = all_back Mute front (b ∷ bs) (subst (All Mute) made mute) in
+        let told : is_happened (connection y) ≡ false = subst Mute same (All-head Mute b bs there) in
+        absurd (both_ways true told refl)
+
+-- ---- one end, and its turn
+
+told_grows : (t : Turn) (x y : course.Side) → (turned t x y).told ≡ x.told ++ told_since x (turned t x y)
+told_grows (Calls call) x y = ap (λ (es : List (Event Carried)). x.told ++ es) (sym (drop_told x.told _))
+told_grows (Gives which checksum) x y = by (slice_get (emitted y) which)
+  where
+    by : (p : Option Carried) → (given p checksum x).told ≡ x.told ++ told_since x (given p checksum x)
+    by None = sym (ap (λ (es : List (Event Carried)). x.told ++ es) (ap (drop (length x.told)) (sym (append-nil x.told)) ∙ drop_told x.told []) ∙ append-nil x.told)
+    by (Some p) = ap (λ (es : List (Event Carried)). x.told ++ es) (sym (drop_told x.told _))
+told_grows (Refuses p) x y = by (refusal p.header.verification_tag p.chunks (state_of x))
+  where
+    by : (r : Option (List ℕ)) → (foreign_if r p x).told ≡ x.told ++ told_since x (foreign_if r p x)
+    by None = sym (ap (λ (es : List (Event Carried)). x.told ++ es) (ap (drop (length x.told)) (sym (append-nil x.told)) ∙ drop_told x.told []) ∙ append-nil x.told)
+    by (Some text) = ap (λ (es : List (Event Carried)). x.told ++ es) (sym (drop_told x.told _))
+
+module _ (word_of : List ℕ → ℕ) (x : End) (log longer more : List Entry) (others others_now : List (List ℕ)) (side new : Side) (end beside : course.Side) (t : Turn)
+    (logged : longer ≡ log ++ more) (g : Good word_of x log others side end) (h : Good word_of x longer others_now new (turned t end beside)) where
+  abbrev f : Carried → List ℕ
+  f = as_written word_of
+
+  abbrev since : List (Event Carried)
+  since = told_since end (turned t end beside)
+
+  -- so many packets were told before
+  abbrev sent : ℕ
+  sent = 0 + length (packets_in (mapped f end.told))
+
+  told_more : told_in x more ≡ told_entries x sent (mapped f since)
+  told_more =
+      same_front (told_in x log) (told_in x more) (told_entries x sent (mapped f since))
+      (sym (told_both x log more)
+      ∙ (ap (told_in x) (sym logged)
+      ∙ (h.image.told
+      ∙ (ap (λ (es : List (Event Carried)). told_entries x 0 (mapped f es)) (told_grows t end beside)
+      ∙ (ap (told_entries x 0) (map-append _ end.told since)
+      ∙ (entries_both x 0 (mapped f end.told) (mapped f since) ∙ ap (λ (l : List Entry). l ++ told_entries x sent (mapped f since)) (sym g.image.told)))))))
+
+  is_told : (front behind : List Entry) → more ≡ front ++ connection x ∷ behind → has_connected since ≡ true
+  is_told front behind is =
+      let some : 1 ≤ times_connected x more = subst (λ (l : List Entry). 1 ≤ times_connected x l) (sym is) (some_connected x front behind) in
+      connected_told f x sent since
+      (subst (λ (l : List Entry). 1 ≤ length (flat_map (connected_by x) l)) told_more (subst (λ (l : List End). 1 ≤ length l) (connected_by_told x more) some))
+
+  state_now : new.socket.standing.state ≡ state_of (turned t end beside)
+  state_now = ap (λ (z : Endpoint (List ℕ)). z.standing.state) h.image.socket
+
+  -- what it holds then it holds after the turn
+  holds_then : (front behind : List Entry) → more ≡ front ++ connection x ∷ behind → All Plain (connection x ∷ behind)
+      → held x (log ++ front) ≡ association_in (state_of (turned t end beside))
+  holds_then front behind is plain =
+      let at : List Entry = log ++ front in
+      let whole : longer ≡ at ++ connection x ∷ behind =
+      logged ∙ (ap (λ (l : List Entry). log ++ l) is ∙ sym (append_assoc log front (connection x ∷ behind))) in
+      sym (plain_from x (held x at) (connection x ∷ behind) plain)
+      ∙ (sym (held_both x None at (connection x ∷ behind))
+      ∙ (ap (held x) (sym whole) ∙ (h.held ∙ ap association_in state_now)))
+
+-- ---- associations
+
+abbrev shown : agreement.Association → Association
+shown a = record { my_tag = a.mine.tag; my_initial_tsn = a.mine.first; peer_tag = a.peer.tag; peer_initial_tsn = a.peer.first }
+
+shown_in : (s : State) (a : agreement.Association) → Has a (held_in s) → association_in s ≡ Some (shown a)
+shown_in Closed a h = absurd h
+shown_in (CookieWait tag first t1) a h = absurd h
+shown_in (Open phase t) a h = elim h [ inl e ↦ ap (λ (z : agreement.Association). Some (shown z)) (sym e) | inr e ↦ absurd e ]
+
+-- at a beginning of the log the end held it
+record WasHeld (y : End) (log : List Entry) (a : agreement.Association) : Type 0 where
+  early : List Entry
+  late : List Entry
+  split : log ≡ early ++ late
+  held_then : held y early ≡ Some (shown a)
+
+abbrev WereHeld : End → List Entry → Notes → Type 0
+WereHeld y log n = (a : agreement.Association) → Has a n.held → WasHeld y log a
+
+was_longer : (y : End) (log longer more : List Entry) (a : agreement.Association) → longer ≡ log ++ more → WasHeld y log a → WasHeld y longer a
+was_longer y log longer more a e h = record {
+  early = h.early;
+  late = h.late ++ more;
+  split = e ∙ (ap (λ (l : List Entry). l ++ more) h.split ∙ append_assoc h.early h.late more);
+  held_then = h.held_then;
+}
+
+were_longer : (y : End) (log longer more : List Entry) (n : Notes) → longer ≡ log ++ more → WereHeld y log n → WereHeld y longer n
+were_longer y log longer more n e h = λ a k. was_longer y log longer more a e (h a k)
+
+-- the end that went on
+were_turned : (word_of : List ℕ → ℕ) (y : End) (log longer more : List Entry) (others : List (List ℕ)) (new : Side) (end beside : course.Side) (t : Turn) (n : Notes) → longer ≡ log ++ more
+    → Good word_of y longer others new (turned t end beside) → WereHeld y log n → WereHeld y longer (noted_by t end beside n)
+were_turned word_of y log longer more others new end beside t n e g h =
+    let s : State = state_of (turned t end beside) in
+    λ a k. elim (has_either a (held_in s) n.held k) [
+      | inl now ↦ record {
+        early = longer;
+        late = [];
+        split = sym (append-nil longer);
+        held_then = g.held ∙ (ap association_in (ap (λ (z : Endpoint (List ℕ)). z.standing.state) g.image.socket) ∙ shown_in s a now);
+      }
+      | inr was ↦ was_longer y log longer more a e (h a was)
+    ]
+
+-- ---- one event
+
+-- by the law of its turn
+module _ (word_of : List ℕ → ℕ) (x : End) (log longer more : List Entry) (others others_now : List (List ℕ)) (side new : Side) (end beside : course.Side) (t : Turn)
+    (logged : longer ≡ log ++ more) (g : Good word_of x log others side end) (h : Good word_of x longer others_now new (turned t end beside))
+    (theirs : Notes) (were : WereHeld (other x) log theirs) (law : agreement.Agrees end (turned t end beside) theirs) where
+  agreed_at : (front behind : List Entry) → more ≡ front ++ connection x ∷ behind → All Plain (connection x ∷ behind) → IsAgreed x (log ++ front)
+  agreed_at front behind is plain =
+      let a = law (is_told word_of x log longer more others others_now side new end beside t logged g h front behind is) in
+      let was : WasHeld (other x) log (agreement.crossed a.0) = were (agreement.crossed a.0) a.2 in
+      record {
+        association = shown a.0;
+        holds = holds_then word_of x log longer more others others_now side new end beside t logged g h front behind is plain
+            ∙ shown_in (state_of (turned t end beside)) a.0 a.1;
+        early = was.early;
+        late = was.late ++ front;
+        split = ap (λ (l : List Entry). l ++ front) was.split ∙ append_assoc was.early was.late front;
+        other_held = was.held_then;
+      }
+
+  -- of what was added by this end
+  by_own : (front behind : List Entry) → more ≡ front ++ connection x ∷ behind → Adds x side log longer → IsAgreed x (log ++ front)
+  by_own front behind is (none first k mute e) =
+      let here : first ∷ [] ≡ front ++ connection x ∷ behind = same_front log (first ∷ []) more (sym e ∙ logged) ∙ is in
+      agreed_at front behind is (plain_behind x (first ∷ []) [] front behind (All-cons Mute first [] mute (All-nil Mute)) (All-nil Plain) here)
+  by_own front behind is (news first after k mute e) =
+      let same : Bool = same_association (association side.socket) (association after) in
+      let gone : List Entry = gone_entries x after.standing.context.told.gone in
+      let ready : List Entry = ready_entries x (ready_before same (length (ready_at side.socket))) (ready_at after) in
+      let told : List Entry = told_entries x (length side.packets) after.standing.context.told.events in
+      let here : (first ∷ association_entries x (association side.socket) (association after)) ++ (told ++ (gone ++ ready)) ≡ front ++ connection x ∷ behind =
+      same_front log (first ∷ news_of x side after) more (sym e ∙ logged) ∙ is in
+      agreed_at front behind is
+      (plain_behind x (first ∷ association_entries x (association side.socket) (association after)) (told ++ (gone ++ ready)) front behind
+      (All-cons Mute first _ mute (mute_associated same x (association after)))
+      (All-append Plain told (gone ++ ready) (plain_told x (length side.packets) after.standing.context.told.events)
+      (All-append Plain gone ready (plain_gone x after.standing.context.told.gone) (plain_ready x (drop (ready_before same (length (ready_at side.socket))) (ready_at after)))))
+      here)
+
+  silent_more : (y : End) → same_end y x ≡ false → Adds x side log longer → told_in y more ≡ []
+  silent_more y d (none first k mute e) = ap (told_in y) (sym (same_front log (first ∷ []) more (sym e ∙ logged))) ∙ (silent_first y first k).told
+  silent_more y d (news first after k mute e) =
+      ap (told_in y) (sym (same_front log (first ∷ news_of x side after) more (sym e ∙ logged))) ∙ (silent_news y x d first k side after).told
+
+  -- of any end
+  by_any : (y : End) (b : Bool) → same_end y x ≡ b → (front behind : List Entry) → more ≡ front ++ connection y ∷ behind → Adds x side log longer → IsAgreed y (log ++ front)
+  by_any y false d front behind is adds = not_silent y more front behind (silent_more y d adds) is
+  by_any y true d front behind is adds =
+      let same : x ≡ y = one_end y x d in
+      subst (λ (z : End). IsAgreed z (log ++ front)) same
+      (by_own front behind (subst (λ (z : End). more ≡ front ++ connection z ∷ behind) (sym same) is) adds)
+    where
+      one_end : (y x : End) → same_end y x ≡ true → x ≡ y
+      one_end A A e = refl
+      one_end A B e = cc
+      one_end B A e = cc
+      one_end B B e = refl
+
+  agrees_on : Adds x side log longer → Agrees log → Agrees longer
+  agrees_on adds before_it y before behind e = elim (stands_in y log more before behind (sym logged ∙ e)) [
+    | old rest is ↦ before_it y before rest is
+    | added front is new_is ↦ subst (IsAgreed y) (sym is) (by_any y (same_end y x) refl front behind new_is adds)
+  ]
+
+-- ---- runs
+
+module _ (word_of_a word_of_b : List ℕ → ℕ) where
+  record Ran (actions : List Action) (w v : World) (c : Pair) (k : Book) : Type 0 where
+    turns : List (Bool × Turn)
+    are : AreTurnsOf word_of_a word_of_b actions turns c
+    agrees : AgreesAlong turns c k → Agrees w.log → WereHeld A w.log k.a → WereHeld B w.log k.b → Agrees v.log
+
+  step_on : (x : End) (t : Turn) (w u : World) (c : Pair) (k : Book) (more : List Entry) → u.log ≡ w.log ++ more → Both word_of_a word_of_b w c
+      → Both word_of_a word_of_b u (goes (is_a x) t c) → Adds x (side_of x w) w.log u.log → agreement.AgreesAt (is_a x) t c k → Agrees w.log
+      → WereHeld A w.log k.a → WereHeld B w.log k.b
+      → Agrees u.log × WereHeld A u.log (writes (is_a x) t c k).a × WereHeld B u.log (writes (is_a x) t c k).b
+  step_on A t w u c k more logged h g adds law agrees in_a in_b = (
+    agrees_on word_of_a A w.log u.log more w.b.packets u.b.packets w.a u.a c.a c.b t logged h.a g.a k.b in_b law adds agrees,
+    were_turned word_of_a A w.log u.log more u.b.packets u.a c.a c.b t k.a logged g.a in_a,
+    were_longer B w.log u.log more k.b logged in_b,
+  )
+  step_on B t w u c k more logged h g adds law agrees in_a in_b = (
+    agrees_on word_of_b B w.log u.log more w.a.packets u.a.packets w.b u.b c.b c.a t logged h.b g.b k.a in_a law adds agrees,
+    were_longer A w.log u.log more k.a logged in_a,
+    were_turned word_of_b B w.log u.log more u.a.packets u.b c.b c.a t k.b logged g.b in_b,
+  )
+
+  unfoldable ran : (actions : List Action) (w v : World) (c : Pair) (k : Book) → All ActionFits actions → Runs actions w v → IsInBytes v → Both word_of_a word_of_b w c
+      → Ran actions w v c k
+  ran [] w v c k fit e small h = record { turns = []; are = tt; agrees = λ law agrees in_a in_b. subst (λ (z : World). Agrees z.log) (sym e) agrees }
+  ran (action ∷ actions) w v c k fit r small h =
+      let u : World = r.0 in
+      let x : End = end_of action in
+      let later : Extends u v = runs_extends actions u v r.2 in
+      let first : Extends w u = happens_extends action w u r.1 in
+      let step : Stepped word_of_a word_of_b action w u c =
+      steps word_of_a word_of_b action w u c (All-head ActionFits action actions fit) (in_bytes_before w v (extends_then w u v first later) small) r.1 h in
+      let rest : Ran actions u v (goes (is_a x) step.turn c) (writes (is_a x) step.turn c k) =
+      ran actions u v (goes (is_a x) step.turn c) (writes (is_a x) step.turn c k) (All-tail ActionFits action actions fit) r.2 small step.both in
+      record {
+        turns = (is_a x, step.turn) ∷ rest.turns;
+        are = (refl, step.is, rest.are);
+        agrees = λ law agrees in_a in_b.
+            let on = step_on x step.turn w u c k step.extends.more step.extends.logged h step.both (event_adds action w u r.1) law.0 agrees in_a in_b in
+            rest.agrees law.1 on.0 on.1 on.2;
+      }
+
+-- ---- what courses are asked
+
+plain_call : (call : Call) → IsPlainCall (step_of call)
+plain_call Connect = tt
+plain_call Shutdown = tt
+plain_call Close = tt
+plain_call (Send m o) = tt
+plain_call (SendMany ms o) = tt
+plain_call Receive = tt
+plain_call (Reset streams) = tt
+plain_call (SetPriority stream priority) = tt
+plain_call (SetMaxMessageSize bytes) = tt
+plain_call (SetLowThreshold stream bytes) = tt
+plain_call HandOver = tt
+
+allowed_hearing : (b : Bool) (n checksum : ℕ) → IsAllowed (hearing b n checksum)
+allowed_hearing true n checksum = tt
+allowed_hearing false n checksum = tt
+
+allowed_foreign : (bytes : List ℕ) (turn : Turn) → IsForeign bytes turn → IsAllowed turn
+allowed_foreign bytes turn (inl p) = subst IsAllowed (sym p.2) tt
+allowed_foreign bytes turn (inr e) = subst IsAllowed (sym e) tt
+
+allowed_turn : (f g : List ℕ → ℕ) (action : Action) (turn : Turn) (c : Pair) → IsTurnOf f g action turn c → IsAllowed turn
+allowed_turn f g (CallOf x call) turn c is = subst IsAllowed (sym is) (plain_call call)
+allowed_turn f g (Give n A) turn c is = subst IsAllowed (sym is.heard) (allowed_hearing _ n _)
+allowed_turn f g (Give n B) turn c is = subst IsAllowed (sym is.heard) (allowed_hearing _ n _)
+allowed_turn f g (GiveForeign x bytes) turn c is = allowed_foreign bytes turn is
+allowed_turn f g (TellTime x now) turn c is = subst IsAllowed (sym is) tt
+
+allowed_all : (f g : List ℕ → ℕ) (actions : List Action) (turns : List (Bool × Turn)) (c : Pair) → AreTurnsOf f g actions turns c → AreAllowed turns
+allowed_all f g [] [] c are = tt
+allowed_all f g [] (e ∷ es) c are = absurd are
+allowed_all f g (action ∷ actions) [] c are = absurd are
+allowed_all f g (action ∷ actions) (e ∷ es) c are = (allowed_turn f g action e.1 c are.1, allowed_all f g actions es (goes e.0 e.1 c) are.2)
+
+-- ---- the law
+
+none_yet : (before behind : List Entry) (e : Entry) {X : Type 0} → [] ≡ before ++ e ∷ behind → X
+none_yet [] behind e h = cc
+none_yet (b ∷ before) behind e h = cc
+
+pub worlds_agree : WorldsAgree
+worlds_agree w l distinct =
+    let c : Pair = start l.a l.b l.words_a l.words_b in
+    let r : Ran l.word_of_a l.word_of_b l.actions (origin l) w c new_book =
+    ran l.word_of_a l.word_of_b l.actions (origin l) w c new_book l.fit l.runs l.bytes (fresh_both l.a l.b l.words_a l.words_b l.word_of_a l.word_of_b l.fits_a l.fits_b) in
+    r.agrees
+    (ends_agree l.a l.b l.words_a l.words_b r.turns (given_of l.a l.valid_a l.fits_a) (given_of l.b l.valid_b l.fits_b)
+    (allowed_all l.word_of_a l.word_of_b l.actions r.turns c r.are) (distinct r.turns r.are))
+    (λ x before behind e. none_yet before behind (connection x) e) (λ a h. absurd h) (λ a h. absurd h)
