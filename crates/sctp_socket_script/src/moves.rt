@@ -198,6 +198,17 @@ fn call_with<S: Driven>(
     }
 }
 
+/// `HEX`: gives the socket these bytes.
+fn take<S: Driven>(rt: &HostRuntime, side: &mut Side<S>, words: &[&str]) -> anyhow::Result<bool> {
+    match words.first() {
+        Some(word) => {
+            let bytes = payload(rt.alloc(), word)?;
+            tell_refusal(rt, side.name, side.socket.handle_input(&bytes))
+        }
+        None => Ok(false),
+    }
+}
+
 /// `HEX`
 fn judge<S: Driven>(rt: &HostRuntime, side: &Side<S>, words: &[&str]) -> anyhow::Result<bool> {
     match words.first() {
@@ -218,6 +229,7 @@ fn act_with<S: Driven>(
     match verb {
         "send" => send(rt, side, words),
         "send-many" => send_many(rt, side, words),
+        "take" => take(rt, side, words),
         "judge" => judge(rt, side, words),
         _ if are_numbers(words) => call_with(rt, side, verb, words),
         _ => Ok(false),
