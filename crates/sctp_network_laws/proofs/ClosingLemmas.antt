@@ -1,8 +1,8 @@
 -- The event that ends an association: what the log has of it before that.
-use Rattle.std.proofs.Common.{◌≡◌, ◌⊎◌, inl, inr, ℕ, zero, suc, ◌+◌, Bool, true, false, Option, Some, None, List, [], ◌∷◌, ◌++◌, length, take, drop, map, refl, sym, ap, subst, ◌∙◌, append-nil, append_assoc, arith}
-use Rattle.std.specs.List.{flat_map, list_any}
+use Rattle.std.proofs.Common.{◌≡◌, ◌⊎◌, inl, inr, ℕ, ◌+◌, Bool, true, false, Option, Some, None, List, [], ◌∷◌, ◌++◌, length, take, drop, refl, sym, ap, subst, ◌∙◌, append-nil, append_assoc, arith}
+use Rattle.std.specs.List.{flat_map}
 use Rattle.std.proofs.lemmas.Grind.{flat_map-append}
-use Rattle.std.proofs.lemmas.List.{map-append, take-append-drop}
+use Rattle.std.proofs.lemmas.List.{take-append-drop}
 use Rattle.sctp_serial.specs.Messages.{Message}
 use Rattle.sctp_state.specs.Events.{Event, SendPacket, GivenUp}
 use Rattle.sctp_rx.specs.Delivery as orders
@@ -12,7 +12,6 @@ use Rattle.sctp_table.specs.Shown.{Association}
 use Rattle.sctp_table.specs.Laws as table
 use Rattle.sctp_table.specs.Laws.{TakeMessage, endings}
 use Rattle.sctp_table_laws.specs.Mapped.{Carried, map_event, map_end, as_written}
-use Rattle.sctp_tx_rules.specs.Led.{delivered}
 use Rattle.sctp_course.specs.Course as course
 use Rattle.sctp_course.specs.Course.{Pair, Turn, Calls, Gives, Refuses}
 use Rattle.sctp_course.specs.Handing.{handed_by, handed_at}
@@ -24,16 +23,14 @@ use Rattle.sctp_network_table.specs.Judge.{End, A, B, Entry, Called, Given, Fore
 use Rattle.sctp_network_table.specs.World as worlds
 use Rattle.sctp_network_table.specs.World.{Side, World, Action, CallOf, Give, GiveForeign, TellTime, ComesTo, told, skipped, Happens, Runs, side_of, other, news_of, association, associated_if, association_entries, told_entries, gone_entries, ready_entries, ready_before, calls, call_entry, after_call, tells_time, time_entry, after_time, clock, step_of}
 use Rattle.sctp_network_laws.specs.Courses.{is_a, end_of, IsTurnOf}
-use Rattle.sctp_network_laws.specs.Delivered.{offers_by, reported_by, reported}
-use Rattle.sctp_network_laws.specs.Joined.{ended_by, times_ended, Stands, was_asked, MayFollow, FollowsTheRules}
-use Rattle.sctp_network_laws.proofs.EventLemmas.{mapped, entries_both, ended_told}
-use Rattle.sctp_network_laws.proofs.NewsLemmas.{told_both, ended_by_told}
+use Rattle.sctp_network_laws.specs.Delivered.{offers_by, reported_by}
+use Rattle.sctp_network_laws.specs.Joined.{ended_by, times_ended, Stands}
+use Rattle.sctp_network_laws.proofs.EventLemmas.{mapped}
 use Rattle.sctp_network_laws.proofs.LoggedLemmas.{IsQuietOnTold, behind_none, none_ready, none_associated, none_told, quiet_offers, quiet_ready, quiet_handed, quiet_reported}
-use Rattle.sctp_network_laws.proofs.StandingLemmas.{times_more, stands_front}
-use Rattle.sctp_network_laws.proofs.WorldLemmas.{Both, Extends}
-use Rattle.sctp_network_laws.proofs.ReportedLemmas.{reported_told, reported_by_told}
+use Rattle.sctp_network_laws.proofs.StandingLemmas.{times_more}
+use Rattle.sctp_network_laws.proofs.WorldLemmas.{Both}
 use Rattle.sctp_network_laws.proofs.TellingLemmas.{not_other, BeginsWith, call_begins, time_begins, give_begins, foreign_begins, given_accepts, given_hands, foreign_accepts, foreign_hands}
-use Rattle.sctp_network_laws.proofs.PrefixLemmas.{Longer, one_is_longer, split_head, split_tail, no_front}
+use Rattle.sctp_network_laws.proofs.PrefixLemmas.{Longer, one_is_longer, split_head, split_tail}
 use Rattle.sctp_network_laws.proofs.BlockLemmas.{same_front, none_before}
 use Rattle.sctp_network_laws.proofs.DeliveredLemmas.{calls_log, time_log}
 

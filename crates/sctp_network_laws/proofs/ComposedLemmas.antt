@@ -172,6 +172,7 @@ module _ (w : World) (l : IsLed w) (rules : FollowsTheRules w) where
             (λ more behind e st. prefix_then u led u_rules up.stands o.action o.next w o.fits o.happens o.ends o.later rules more behind e st x)
             early late is stands
       ]
+
   -- ---- what is delivered
 
   module _ (k : IsInBounds l.actions (origin l) w l.runs) where

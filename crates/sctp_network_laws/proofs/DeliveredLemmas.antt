@@ -1,46 +1,40 @@
 -- Each run of a world is made of blocks, keeps its course's windows, and delivers what its course delivers.
-use Rattle.std.proofs.Common.{◌≡◌, inl, inr, ℕ, ◌-◌, ◌<◌, ◌^◌, ◌||◌, Bool, true, false, Some, None, List, [], ◌∷◌, ◌++◌, length, map, replicate, slice_get, refl, sym, ap, subst, ◌∙◌, append-nil, append_assoc, arith}
+use Rattle.std.proofs.Common.{◌≡◌, inl, inr, ℕ, ◌-◌, ◌||◌, Bool, true, false, Some, None, List, [], ◌∷◌, ◌++◌, length, map, replicate, slice_get, refl, sym, ap, subst, ◌∙◌, append-nil, append_assoc, arith}
 use Rattle.std.specs.Prelude.{All}
 use Rattle.std.specs.List.{list_any}
 use Rattle.std.proofs.lemmas.List.{length-map, map-append}
 use Rattle.std.proofs.lemmas.List.Elements.{All-head, All-tail}
-use Rattle.rand_core.specs.Stream.{Stream}
 use Rattle.sctp_serial.specs.Messages.{Message}
-use Rattle.sctp_state.specs.Options.{Options, SendOptions, IsValid}
+use Rattle.sctp_state.specs.Options.{Options, SendOptions}
 use Rattle.sctp_table.specs.Association.{State, Endpoint}
 use Rattle.sctp_table.specs.Laws as table
 use Rattle.sctp_table.specs.Shown.{Association, association_in}
 use Rattle.sctp_table_laws.specs.Mapped.{Carried, map_end, as_written}
-use Rattle.sctp_table_laws.specs.Sound.{OptionsFit}
-use Rattle.sctp_rx.specs.Delivery as orders
 use Rattle.sctp_course.specs.Course as course
 use Rattle.sctp_course.specs.Course.{Pair, Turn, Calls, emitted, turned, goes, run, state_of, start, HasNotEnded, AreGiven}
 use Rattle.sctp_course.specs.Handing.{handed_by}
 use Rattle.sctp_course.proofs.CourseLemmas.{Halves, before_run, goes_joined}
-use Rattle.sctp_course.proofs.HandingLemmas.{hands_at, handed_prefix, first_halves}
+use Rattle.sctp_course.proofs.HandingLemmas.{hands_at}
 use Rattle.sctp_delivery.specs.Accepted.{Offer, accepted}
 use Rattle.sctp_delivery.specs.Accepted as turns
 use Rattle.sctp_delivery.specs.Windows as windows
 use Rattle.sctp_delivery.specs.Windows.{numbered, IsWithin, Stamp, Stamps, IsYoung}
-use Rattle.sctp_delivery.specs.Delivery.{AllAreDone}
 use Rattle.sctp_delivery.specs.GivenUp.{given_up_by, given_up_at}
 use Rattle.sctp_tx_rules.specs.Led.{delivered}
 use Rattle.sctp_delivery.specs.Ending as ending
 use Rattle.sctp_network_table.specs.Judge as judge
 use Rattle.sctp_network_table.specs.Judge.{End, A, B, same_end, all_unless, unrefused, Entry, Called, Given, Foreign, Answer, Sent, SentMany, accepted_in, accepted_by, Call, Connect, Shutdown, Close, Send, SendMany, Receive, Reset, SetPriority, SetMaxMessageSize, SetLowThreshold, HandOver, ready, handed_out}
-use Rattle.sctp_network_table.specs.World.{Side, World, Action, CallOf, Give, GiveForeign, TellTime, ComesTo, told, skipped, Gives, Happens, Runs, side_of, settled, news_of, clock, calls, call_entry, after_call, tells_time, time_entry, after_time, step_of, fresh_world, is_at_rest}
+use Rattle.sctp_network_table.specs.World.{Side, World, Action, CallOf, Give, GiveForeign, TellTime, ComesTo, told, skipped, Gives, Happens, Runs, side_of, settled, news_of, clock, calls, call_entry, after_call, tells_time, time_entry, after_time, step_of}
 use Rattle.sctp_network_laws.specs.Courses.{ActionFits, IsInBytes, is_a, end_of, hearing, IsTurnOf}
-use Rattle.sctp_network_laws.specs.Delivered.{gone, reported, AlongRun, ready_places, SideIsWithin, AreWithin, stamp, stamped, stamps_after, IsTimely, KeepsWindows, resets, asks_more, sets_more, offers_in, offers_by, offers, OffersAreAccepted}
+use Rattle.sctp_network_laws.specs.Delivered.{gone, reported, AlongRun, SideIsWithin, AreWithin, stamp, stamped, stamps_after, IsTimely, KeepsWindows, resets, asks_more, sets_more, offers_in, offers_by, offers, OffersAreAccepted}
 use Rattle.sctp_network_laws.specs.Joined.{Stands}
 use Rattle.sctp_network_laws.proofs.StandingLemmas.{stands_front}
 use Rattle.sctp_network_laws.proofs.UpToEndLemmas.{stamps_along}
 use Rattle.sctp_network_laws.proofs.WorldLemmas.{Both, Extends, extends_then, in_bytes_before, Stepped, steps}
-use Rattle.sctp_network_laws.proofs.RunsLemmas.{runs_extends, happens_extends, Ran, ran, fresh_both}
-use Rattle.sctp_network_laws.proofs.JoinedLemmas.{given_of, none_ended}
+use Rattle.sctp_network_laws.proofs.RunsLemmas.{runs_extends, happens_extends, ran}
 use Rattle.sctp_network_laws.proofs.TellingLemmas.{BeginsWith, IsTold, goes_on_told, skipped_told, call_begins, time_begins, give_begins, foreign_begins, given_accepts, given_hands, foreign_accepts, foreign_hands}
 use Rattle.sctp_network_laws.proofs.BlockLemmas as block
 use Rattle.sctp_network_laws.proofs.BlockLemmas.{IsBlock, AreBlocks, StandsAt, run_more, IsReached, reached_more}
-use Rattle.sctp_network_laws.proofs.PointsLemmas.{delivered_each, at_rest}
 use Rattle.sctp_network_laws.proofs.ReportedLemmas.{reported_is}
 
 -- ---- one event is one block

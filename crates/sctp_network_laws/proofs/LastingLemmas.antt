@@ -1,24 +1,21 @@
 -- A world that stands delivers what its course delivers, and so does the log of the next event up to the first end that it tells.
-use Rattle.std.proofs.Common.{◌≡◌, ◌⊎◌, inl, inr, ℕ, ◌+◌, ◌^◌, ◌<◌, ◌||◌, not, Bool, true, false, List, [], ◌∷◌, ◌++◌, length, take, map, refl, sym, ap, subst, ◌∙◌, append-nil, append_assoc, arith}
-use Rattle.std.specs.Prelude.{All}
+use Rattle.std.proofs.Common.{◌≡◌, ◌⊎◌, inl, inr, ℕ, ◌+◌, ◌^◌, ◌<◌, ◌||◌, not, Bool, true, false, List, [], ◌∷◌, ◌++◌, length, take, refl, sym, ap, subst, ◌∙◌, append-nil, append_assoc, arith}
 use Rattle.std.specs.List.{flat_map, list_any}
 use Rattle.std.proofs.lemmas.Grind.{flat_map-append}
 use Rattle.std.proofs.lemmas.List.{map-append}
-use Rattle.std.proofs.lemmas.List.Folds.{list_any-append}
 use Rattle.rand_core.specs.Stream.{Stream}
 use Rattle.sctp_serial.specs.Messages.{Message}
 use Rattle.sctp_state.specs.Events.{Event, GivenUp}
-use Rattle.sctp_state.specs.Options.{Options, IsValid}
+use Rattle.sctp_state.specs.Options.{Options}
 use Rattle.sctp_table.specs.Laws.{endings}
 use Rattle.sctp_table_laws.specs.Mapped.{Carried, map_event, as_written}
-use Rattle.sctp_table_laws.specs.Sound.{OptionsFit}
 use Rattle.sctp_rx.specs.Delivery as orders
 use Rattle.sctp_rules.specs.State.{has}
 use Rattle.sctp_tx_rules.specs.Led.{delivered}
 use Rattle.sctp_tx_rules.proofs.SackLemmas.{delivered_more}
 use Rattle.sctp_course.specs.Course as course
 use Rattle.sctp_course.specs.Course.{Pair, Turn, goes, run, start, HasNotEnded, AreGiven, MayTurn}
-use Rattle.sctp_course.specs.Handing.{ready_at, handed_at, handed, readied}
+use Rattle.sctp_course.specs.Handing.{ready_at, handed_at, readied}
 use Rattle.sctp_course.proofs.CourseLemmas.{before_run}
 use Rattle.sctp_course.proofs.HandingLemmas.{handed_in_order, handed_prefix, first_halves}
 use Rattle.sctp_delivery.specs.Accepted.{Offer, accepted_at, accepted}
@@ -31,7 +28,7 @@ use Rattle.sctp_delivery.specs.Ending as ending
 use Rattle.sctp_delivery.proofs.LawLemmas.{follows_front, accepted_more}
 use Rattle.sctp_delivery.proofs.GoingLemmas.{told_turned}
 use Rattle.sctp_network_table.specs.Judge.{End, A, B, Entry, ready, handed_out, handed_out_by, ready_by, given_up_by}
-use Rattle.sctp_network_table.specs.World.{World, Action, Happens, Runs, other, fresh_world, is_at_rest, packets_in, told_entries}
+use Rattle.sctp_network_table.specs.World.{World, Action, Happens, other, is_at_rest, packets_in, told_entries}
 use Rattle.sctp_network_laws.specs.Courses.{ActionFits, IsLed, origin, is_a, end_of, told_in}
 use Rattle.sctp_network_laws.specs.Delivered.{gone, reported_by, reported, AlongRun, ready_places, stamp, IsTimely, KeepsWindows, resets, sets_more, offers_by, offers}
 use Rattle.sctp_network_laws.specs.Joined.{ended_by, times_ended, Stands, FollowsTheRules}
@@ -350,7 +347,7 @@ module _ (w : World) (l : IsLed w) (rules : FollowsTheRules w) (none : Stands w.
               let ready_are : readied (not (is_a x)) r.turns first_pair ≡ ready (other x) w.log =
               ap (λ (z : Bool). readied z r.turns first_pair) (sym (is_a_other x)) ∙ sym (became_ready (other x)) in
               let reports : (id : ℕ) → has id (reported x here) ≡ true
-                  → IsReady (offers x w.log ++ offers_by x b_parted.first) (take (length (ready (other x) w.log)) from.delivers.places) id =
+              → IsReady (offers x w.log ++ offers_by x b_parted.first) (take (length (ready (other x) w.log)) from.delivers.places) id =
               λ id is.
               subst (λ (l : List Offer). IsReady l (take (length (ready (other x) w.log)) from.delivers.places) id) accepted_are
               (subst (λ (l : List Message). IsReady (accepted (is_a x) (r.turns ++ (is_a x, step.turn) ∷ []) first_pair) (take (length l) from.delivers.places) id) ready_are

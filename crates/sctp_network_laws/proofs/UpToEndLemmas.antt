@@ -1,5 +1,5 @@
 -- The part of a run up to the first event that ends an association.
-use Rattle.std.proofs.Common.{◌≡◌, ◌⊎◌, inl, inr, ◌||◌, Bool, false, List, [], ◌∷◌, ◌++◌, refl, sym, ap, subst, ◌∙◌}
+use Rattle.std.proofs.Common.{◌≡◌, ◌⊎◌, inl, inr, ◌||◌, Bool, false, List, [], ◌∷◌, refl, sym, ap, subst, ◌∙◌}
 use Rattle.std.specs.Prelude.{All}
 use Rattle.std.specs.List.{list_any}
 use Rattle.std.proofs.lemmas.List.Elements.{All-nil, All-cons, All-head, All-tail}
@@ -83,15 +83,15 @@ up_to_end (action ∷ actions) w v fit r stands =
           over = elim rest.over [
             | inl e ↦ inl e
             | inr o ↦ inr (record {
-                action = o.action;
-                next = o.next;
-                fits = o.fits;
-                happens = o.happens;
-                ends = o.ends;
-                later = o.later;
-                timely = λ s k. o.timely (stamps_after w r.0 s) k.1;
-                none_such = λ test k. o.none_such test k.1;
-              })
+              action = o.action;
+              next = o.next;
+              fits = o.fits;
+              happens = o.happens;
+              ends = o.ends;
+              later = o.later;
+              timely = λ s k. o.timely (stamps_after w r.0 s) k.1;
+              none_such = λ test k. o.none_such test k.1;
+            })
           ];
         }
 
