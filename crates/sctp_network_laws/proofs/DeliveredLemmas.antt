@@ -427,11 +427,11 @@ module _ (a b : Options) (words_a words_b : Stream) (word_of_a word_of_b : List 
 
 pub worlds_deliver : courses.MessagesAreDelivered → WorldsDeliver
 worlds_deliver law w l u k =
-    delivers l.a l.b l.words_a l.words_b l.word_of_a l.word_of_b l.actions w l.valid_a l.valid_b l.fits_a l.fits_b l.fit l.runs u.bytes u.follows u.stands law k
+    delivers l.a l.b l.words_a l.words_b l.word_of_a l.word_of_b l.actions w l.valid_a l.valid_b l.fits_a l.fits_b l.fit l.runs l.bytes u.follows u.stands law k
 
 pub handed_is_a_prefix : HandedOutIsAPrefix
 handed_is_a_prefix w l u x early late is =
-    prefix l.a l.b l.words_a l.words_b l.word_of_a l.word_of_b l.actions w l.valid_a l.valid_b l.fits_a l.fits_b l.fit l.runs u.bytes u.follows u.stands x early late is
+    prefix l.a l.b l.words_a l.words_b l.word_of_a l.word_of_b l.actions w l.valid_a l.valid_b l.fits_a l.fits_b l.fit l.runs l.bytes u.follows u.stands x early late is
 
 -- ---- offers and accepted messages
 

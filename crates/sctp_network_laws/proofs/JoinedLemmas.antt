@@ -48,7 +48,7 @@ module _ (word_of : List ℕ → ℕ) (x : End) (log : List Entry) (others : Lis
 pub are_joined : EndsAreJoined → WorldsAreJoined
 are_joined law w l u =
     let r : Ran l.word_of_a l.word_of_b l.actions (origin l) w (start l.a l.b l.words_a l.words_b) =
-    ran l.word_of_a l.word_of_b l.actions (origin l) w (start l.a l.b l.words_a l.words_b) l.fit l.runs u.bytes
+    ran l.word_of_a l.word_of_b l.actions (origin l) w (start l.a l.b l.words_a l.words_b) l.fit l.runs l.bytes
     (fresh_both l.a l.b l.words_a l.words_b l.word_of_a l.word_of_b l.fits_a l.fits_b) in
     let c : Pair = run r.turns (start l.a l.b l.words_a l.words_b) in
     let good_a : Good l.word_of_a A w.log w.b.packets w.a c.a = r.both.a in

@@ -30,7 +30,8 @@ pub record IsInBytes (w : World) : Type 0 where
   pub a : All AreBytes w.a.packets
   pub b : All AreBytes w.b.packets
 
--- A new world, with any options that a socket can be made with, any words and checksum functions, was led to it by actions that fit.
+-- A new world, with any options that a socket can be made with, any words and checksum functions, was led to it by actions that
+-- fit; its packets are bytes.
 pub record IsLed (w : World) : Type 0 where
   pub a : Options
   pub b : Options
@@ -45,6 +46,7 @@ pub record IsLed (w : World) : Type 0 where
   pub actions : List Action
   pub fit : All ActionFits actions
   pub runs : Runs actions (fresh_world a b words_a words_b word_of_a word_of_b) w
+  pub bytes : IsInBytes w
 
 -- that new world
 abbrev pub origin : {w : World} → IsLed w → World

@@ -10,7 +10,7 @@ use Rattle.sctp_table.specs.Shown.{Association}
 use Rattle.sctp_network_table.specs.Judge.{End, A, B, same_end, none_unless, crossed, held, times_connected, Connect, Shutdown, Entry, Called, Given, Happened}
 use Rattle.sctp_network_table.specs.World.{World, Runs, side_of, other}
 use Rattle.sctp_network_table.specs.FirstRun.{opening, IsFresh}
-use Rattle.sctp_network_laws.specs.Courses.{IsInBytes, IsLed}
+use Rattle.sctp_network_laws.specs.Courses.{IsLed}
 
 -- ---- what was given
 
@@ -52,9 +52,8 @@ ended_by x entry = []
 abbrev pub times_ended : End → List Entry → ℕ
 times_ended x log = length (flat_map (ended_by x) log)
 
--- Its packets are bytes, the rules were followed, and no end told that an association is over.
+-- The rules were followed, and no end told that an association is over.
 pub record IsUndisturbed (w : World) : Type 0 where
-  pub bytes : IsInBytes w
   pub follows : FollowsTheRules w
   pub stands : (x : End) → times_ended x w.log ≡ 0
 
