@@ -1,5 +1,5 @@
--- In the first run no event names a packet that isn't there. And its claims, for a list of events that is one of its.
-use Rattle.std.proofs.Common.{◌≡◌, ℕ, true, Some, None, List, [], ◌∷◌, ◌++◌, refl, sym, ap, subst, ◌∙◌}
+-- In the first run no event names a packet that isn't there. And its claims, for events that continue it.
+use Rattle.std.proofs.Common.{◌≡◌, ℕ, true, Some, None, List, [], ◌∷◌, ◌++◌, refl, sym, ap, subst, ◌∙◌, append_assoc}
 use Rattle.std.specs.Prelude.{slice_get}
 use Rattle.rand_core.specs.Stream.{Stream}
 use Rattle.sctp_serial.specs.Messages.{Message}
@@ -8,8 +8,9 @@ use Rattle.sctp_table_laws.specs.FirstRun.{IsSmall}
 use Rattle.sctp_network.specs.declared.world.WorldError.{WorldError}
 use Rattle.sctp_network.specs.declared.world.WorldError.TheVariants as errors
 use Rattle.sctp_network_table.specs.Judge.{A, B, Connect, Send}
-use Rattle.sctp_network_table.specs.World.{Action, CallOf, Give, World, Happens, Runs, Lacks, RunsUpToLack, is_at_rest, fresh_world}
-use Rattle.sctp_network_table.specs.FirstRun.{opening, crossing, acknowledging, IsFresh, IsOpen, HasCrossed}
+use Rattle.sctp_network_table.specs.World.{Action, CallOf, Give, World, Happens, Runs, Lacks, RunsUpToLack, fresh_world}
+use Rattle.sctp_network_table.specs.FirstRun.{opening, crossing, acknowledging, first_run, CameBy, LeadsFirstRun, ContinuesFirstRun}
+use Rattle.sctp_network_table.proofs.RunLemmas.{Runs-append}
 use Rattle.sctp_network_table.proofs.FirstRunLemmas.{it_opens, first, second, third, fourth, opened, to_first, to_second, to_third, to_fourth, to_opened}
 use Rattle.sctp_network_table.proofs.CrossingLemmas.{it_crosses, comes_to_rest, packets_sent, packet, sent_world, taken_world, to_sent, to_taken}
 
@@ -31,7 +32,7 @@ lastly action w there = (there, λ u happens. tt)
 there : (p : List ℕ) → Some p ≡ None → ⊥
 there p e = cc
 
-goes_all : (a b : Stream) (f : List ℕ → ℕ) (m : Message) (o : SendOptions) → IsSmall m → Goes (opening ++ (crossing m o ++ acknowledging)) (fresh_world defaults defaults a b f f)
+goes_all : (a b : Stream) (f : List ℕ → ℕ) (m : Message) (o : SendOptions) → IsSmall m → Goes (first_run m o) (fresh_world defaults defaults a b f f)
 goes_all a b f m o small =
     let sent = sent_world a b f m o None true in
     let taken = taken_world a b f m o true in
@@ -51,21 +52,27 @@ goes_all a b f m o small =
     (λ u g. to_taken a b f m o small u g)
     (lastly (Give 2 A) taken (there _))))))))
 
-pub only_memory : (all : List Action) (w v : World) (e : WorldError) → (e ≡ errors.NoSuchPacket → RunsUpToLack all w v)
-    → (m : Message) (o : SendOptions) → IsSmall m → IsFresh w → all ≡ opening ++ (crossing m o ++ acknowledging) → e ≡ errors.Memory
-only_memory all w v errors.Memory lacks m o small fresh is = refl
-only_memory all w v errors.NoSuchPacket lacks m o small fresh is =
+pub only_memory : (actions : List Action) (w v : World) (e : WorldError) → (e ≡ errors.NoSuchPacket → RunsUpToLack actions w v) → ContinuesFirstRun actions w → e ≡ errors.Memory
+only_memory actions w v errors.Memory lacks c = refl
+only_memory actions w v errors.NoSuchPacket lacks c =
     let l = lacks refl in
-    absurd (never_lacks l.before l.action l.rest w v
-    (subst (λ (actions : List Action). Goes actions w) (sym is ∙ l.split) (subst (Goes (opening ++ (crossing m o ++ acknowledging))) (sym fresh.is) (goes_all fresh.a fresh.b fresh.word_of m o small)))
-    l.runs l.lacks)
+    let at_action : actions ++ c.rest ≡ l.before ++ l.action ∷ (l.rest ++ c.rest) =
+    ap (λ (all : List Action). all ++ c.rest) l.split ∙ append_assoc l.before (l.action ∷ l.rest) c.rest in
+    let whole : first_run c.message c.options ≡ (c.before ++ l.before) ++ l.action ∷ (l.rest ++ c.rest) =
+    sym c.is ∙ (ap (λ (all : List Action). c.before ++ all) at_action ∙ sym (append_assoc c.before l.before (l.action ∷ (l.rest ++ c.rest)))) in
+    let fresh = c.came.fresh in
+    let goes : Goes (first_run c.message c.options) c.came.origin =
+    subst (Goes (first_run c.message c.options)) (sym fresh.is) (goes_all fresh.a fresh.b fresh.word_of c.message c.options c.small) in
+    absurd (never_lacks (c.before ++ l.before) l.action (l.rest ++ c.rest) c.came.origin v
+    (subst (λ (all : List Action). Goes all c.came.origin) whole goes)
+    (Runs-append c.before l.before c.came.origin w v c.came.runs l.runs) l.lacks)
 
-pub opens_by : (all : List Action) (w v : World) → Runs all w v → IsFresh w → all ≡ opening → IsOpen v
-opens_by all w v runs fresh is = it_opens w v fresh (subst (λ (actions : List Action). Runs actions w v) is runs)
-
-pub crosses_by : (all : List Action) (w v : World) → Runs all w v → (m : Message) (o : SendOptions) → IsSmall m → IsFresh w → all ≡ opening ++ crossing m o → HasCrossed m v
-crosses_by all w v runs m o small fresh is = it_crosses m o w v small fresh (subst (λ (actions : List Action). Runs actions w v) is runs)
-
-pub rests_by : (all : List Action) (w v : World) → Runs all w v → (m : Message) (o : SendOptions) → IsSmall m → IsFresh w
-    → all ≡ opening ++ (crossing m o ++ acknowledging) → is_at_rest A v ≡ true
-rests_by all w v runs m o small fresh is = comes_to_rest m o w v small fresh (subst (λ (actions : List Action). Runs actions w v) is runs)
+pub leads_on : (actions : List Action) (w v : World) → Runs actions w v → LeadsFirstRun actions w v
+leads_on actions w v runs = record {
+  opens = λ before came is. it_opens came.origin v came.fresh (along before came opening is);
+  crosses = λ m o small before came is. it_crosses m o came.origin v small came.fresh (along before came (opening ++ crossing m o) is);
+  rests = λ m o small before came is. comes_to_rest m o came.origin v small came.fresh (along before came (first_run m o) is);
+}
+  where
+    along : (before : List Action) (came : CameBy before w) (all : List Action) → before ++ actions ≡ all → Runs all came.origin v
+    along before came all is = subst (λ (z : List Action). Runs z came.origin v) is (Runs-append before actions came.origin w v came.runs runs)

@@ -2,3 +2,4 @@ pub mod ToldLemmas
 pub mod SideLemmas
 pub mod HandingLemmas
 pub mod GoesLemmas
+pub mod LedLemmas

@@ -1,11 +1,14 @@
 //! What real events hand in fits: the fields of the values that a program has are no larger than their types let them be.
 
-ghost use Rattle.std.specs.Prelude.{map};
+ghost use Rattle.std.specs.Prelude.{map, All};
 ghost use Rattle.sctp_packet.specs.Grammar.{Each};
 ghost use Rattle.sctp_table_laws.specs.Sound.{ArgumentFits};
+ghost use Rattle.sctp_table_laws.specs.ReadBack.{AreBytes};
 ghost use Rattle.sctp_network_table.specs.World.{step_of};
 ghost use Rattle.sctp_network.specs.WorldView.{action_of, call_tree, world_of};
-ghost use Rattle.sctp_network_laws.specs.Readable.{ActionFits, GivesBytes};
+ghost use Rattle.sctp_network_laws.specs.Courses.{ActionFits};
+ghost use Rattle.sctp_network_laws.specs.Readable as readable;
+ghost use Rattle.sctp_network_laws.specs.Readable.{GivesBytes};
 
 use crate::world::{Call, End, Event, World};
 use rand_core::Rng;
@@ -33,24 +36,34 @@ pub fn a_call_fits(call: &Call)
     }
 }
 
-/// An event fits.
+/// An event fits; bytes from elsewhere are bytes.
 pub fn an_event_fits(event: &Event)
     ensures fits { ActionFits (action_of event.now) }
 {
     match event {
         Event::Call(_, call) => a_call_fits(call),
         Event::Give(_, _) => {}
-        Event::Foreign(_, _) => {}
+        Event::Foreign(_, bytes) => bytes_fit(bytes),
         Event::Time(_, _) => {}
     }
 }
 
 /// Each of these events fits.
 pub fn events_fit(events: &[Event])
-    ensures fit { Each ActionFits (map action_of events.now) }
+    ensures fit { All ActionFits (map action_of events.now) }
+    ensures readable { Each readable.ActionFits (map action_of events.now) }
 {
     for event in events {
         an_event_fits(event);
+    }
+}
+
+/// Packets are bytes.
+pub fn packets_fit(packets: &[Vec<u8>])
+    ensures fit { Each AreBytes (map (λ bytes. bytes.items) packets.now) }
+{
+    for bytes in packets {
+        bytes_fit(bytes);
     }
 }
 

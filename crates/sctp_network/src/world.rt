@@ -1,26 +1,27 @@
 //! Two ends and all packets between them.
 
-ghost use Rattle.std.specs.Prelude.{◌≡◌, List, ℕ, Bool, true, false, Some, None, [], ◌∷◌, ◌++◌, length, map, option_map, slice_get, All, IfOk, IfErr, OnOk, Ok, Err};
-ghost use Rattle.sctp_serial.specs.Messages.{Message};
-ghost use Rattle.sctp_state.specs.Options.{IsValid, SendOptions, options_of, defaults};
-ghost use Rattle.sctp_association.specs.Socket.{endpoint};
+ghost use Rattle.std.specs.Prelude.{◌≡◌, List, ℕ, true, false, Some, None, [], ◌∷◌, drop, length, map, option_map, slice_get, IfOk, IfErr, OnOk, Ok, Err};
+ghost use Rattle.sctp_packet.specs.Grammar.{Each};
+ghost use Rattle.sctp_state.specs.Options.{IsValid, options_of};
 ghost use Rattle.sctp_network.specs.declared.world.WorldError.TheVariants.{Memory as no_memory};
-ghost use Rattle.sctp_network_table.specs.World.{Comes, Happens, Runs, Lacks, RunsUpToLack, AreShort, fresh_world, side_of, is_at_rest, Told, ComesTo, after_call, after_time, call_entry, time_entry, clock, settled, news_of};
-ghost use Rattle.sctp_table_laws.specs.FirstRun.{IsSmall};
-ghost use Rattle.sctp_network_table.specs.FirstRun.{opening, crossing, acknowledging, IsFresh, IsOpen, HasCrossed};
-ghost use Rattle.sctp_network_table.specs.Judge.{A, Given};
+ghost use Rattle.sctp_table_laws.specs.ReadBack.{AreBytes};
+ghost use Rattle.sctp_network_table.specs.World.{Comes, Happens, Runs, Lacks, RunsUpToLack, AreShort, fresh_world, side_of, is_at_rest, Told, clock};
+ghost use Rattle.sctp_network_table.specs.FirstRun.{LeadsFirstRun, ContinuesFirstRun};
+ghost use Rattle.sctp_network_table.specs.Judge.{Given};
+ghost use Rattle.sctp_network_laws.specs.Agreed.{Agrees, DrawsNoTagTwice};
 ghost use Rattle.sctp_network_laws.specs.Composed.{Composes};
-ghost use Rattle.sctp_network_laws.specs.Courses.{ActionFits, IsLed};
-ghost use Rattle.sctp_network_laws.specs.Joined.{IsUndisturbed};
-ghost use Rattle.sctp_network.specs.WorldView.{action_of, call_tree, end_tree, entry_tree, side_in, world_of};
+ghost use Rattle.sctp_network_laws.specs.Courses.{IsLed};
+ghost use Rattle.sctp_network.specs.WorldView.{action_of, end_tree, entry_tree, side_in, world_of};
 
 mod calling;
 mod log;
 mod side;
 
+use crate::arguments::{an_event_fits, events_fit};
 pub use log::{Answer, Call, End, Entry, Event};
 use rand_core::Rng;
 use sctp_state::{CallError, Options};
+use sctp_table_laws::arguments::options_fit;
 use sctp_wire::Checksum;
 use side::Side;
 use std::alloc::{AllocError, Global};
@@ -90,7 +91,11 @@ impl<R: Rng + Drop, C: Checksum + Drop> World<R, C> {
             ≡ fresh_world (options_of options_a.now) (options_of options_b.now) (R.stream rng_a) (R.stream rng_b) (C.word_of checksum_a) (C.word_of checksum_b)) }
         ensures works { IfOk result (λ w. w.has_failed ≡ false) }
         ensures short { IfOk result (λ w. AreShort (options_of options_a.now).mtu (options_of options_b.now).mtu (world_of R.stream C.word_of w)) }
+        ensures leads { IfOk result (λ w. IsLed (world_of R.stream C.word_of w)) }
+        ensures memory { IfErr result (λ e. e ≡ CallError.Memory) }
     {
+        options_fit(options_a);
+        options_fit(options_b);
         World::made(
             alloc, options_a, options_b, rng_a, rng_b, checksum_a, checksum_b,
         )
@@ -110,6 +115,7 @@ impl<R: Rng + Drop, C: Checksum + Drop> World<R, C> {
         ensures world { IfOk result (λ w. world_of R.stream C.word_of w
             ≡ fresh_world (options_of options_a.now) (options_of options_b.now) (R.stream rng_a) (R.stream rng_b) (C.word_of checksum_a) (C.word_of checksum_b)) }
         ensures works { IfOk result (λ w. w.has_failed ≡ false) }
+        ensures memory { IfErr result (λ e. e ≡ CallError.Memory) }
     {
         let a = Side::new(alloc, "a", options_a, rng_a, checksum_a)?;
         let b = match Side::new(alloc, "b", options_b, rng_b, checksum_b) {
@@ -158,21 +164,24 @@ impl<R: Rng, C: Checksum> World<R, C> {
         }
     }
 
-    /// Makes one event happen. Each packet that it makes an end send has at most the bytes of its `mtu`. A world that has failed answers `Memory`.
-    pub fn step(&mut self, event: &Event) -> Result<(), WorldError>
-        ensures ok { OnOk result (Happens (action_of event.now) (world_of R.stream C.word_of self.old) (world_of R.stream C.word_of self.new)) }
-        ensures works { OnOk result ((self.old.has_failed ≡ false) × (self.new.has_failed ≡ false)) }
-        ensures lacks { IfErr result (λ e. e ≡ WorldError.NoSuchPacket → Lacks (action_of event.now) (world_of R.stream C.word_of self.old)) }
-        ensures missing { self.old.has_failed ≡ false → Lacks (action_of event.now) (world_of R.stream C.word_of self.old) → result ≡ Err WorldError.NoSuchPacket }
-        ensures same { IfErr result (λ e. e ≡ WorldError.NoSuchPacket → self.new ≡ self.old) }
-        ensures memory { IfErr result (λ e. e ≡ WorldError.Memory → self.new.has_failed ≡ true) }
-        ensures failed { self.old.has_failed ≡ true → result ≡ Err WorldError.Memory }
-        ensures short { OnOk result ((mtu_a mtu_b : ℕ) → AreShort mtu_a mtu_b (world_of R.stream C.word_of self.old)
-            → AreShort mtu_a mtu_b (world_of R.stream C.word_of self.new)) }
-        ensures leads { OnOk result (IsLed (world_of R.stream C.word_of self.old) → ActionFits (action_of event.now) → IsLed (world_of R.stream C.word_of self.new)) }
-        ensures composes { OnOk result ((l : IsLed (world_of R.stream C.word_of self.new)) → IsUndisturbed (world_of R.stream C.word_of self.new) → Composes (world_of R.stream C.word_of self.new) l) }
+    /// How many packets the end sent.
+    fn sent(&self, end: End) -> usize
+        ensures { result ≡ length (side_of (end_tree end) (world_of R.stream C.word_of self.now)).packets }
     {
-        self.happen(event)
+        match end {
+            End::A => self.a.packets.len(),
+            End::B => self.b.packets.len(),
+        }
+    }
+
+    /// The packets that the end sent, from this number on, are bytes.
+    fn sent_bytes(&self, end: End, first: usize)
+        ensures bytes { Each AreBytes (drop first (side_of (end_tree end) (world_of R.stream C.word_of self.now)).packets) }
+    {
+        match end {
+            End::A => self.a.are_bytes(first),
+            End::B => self.b.are_bytes(first),
+        }
     }
 
     fn happen(&mut self, event: &Event) -> Result<(), WorldError>
@@ -181,10 +190,9 @@ impl<R: Rng, C: Checksum> World<R, C> {
         ensures lacks { IfErr result (λ e. e ≡ WorldError.NoSuchPacket → Lacks (action_of event.now) (world_of R.stream C.word_of self.old)) }
         ensures missing { self.old.has_failed ≡ false → Lacks (action_of event.now) (world_of R.stream C.word_of self.old) → result ≡ Err WorldError.NoSuchPacket }
         ensures same { IfErr result (λ e. e ≡ WorldError.NoSuchPacket → self.new ≡ self.old) }
+        ensures stands { IfErr result (λ e. e ≡ WorldError.NoSuchPacket → self.new.has_failed ≡ false) }
         ensures memory { IfErr result (λ e. e ≡ WorldError.Memory → self.new.has_failed ≡ true) }
         ensures failed { self.old.has_failed ≡ true → result ≡ Err WorldError.Memory }
-        ensures short { OnOk result ((mtu_a mtu_b : ℕ) → AreShort mtu_a mtu_b (world_of R.stream C.word_of self.old)
-            → AreShort mtu_a mtu_b (world_of R.stream C.word_of self.new)) }
     {
         if self.has_failed {
             return Err(WorldError::Memory);
@@ -247,47 +255,14 @@ impl<R: Rng, C: Checksum> World<R, C> {
         }
     }
 
-    /// Makes events happen, one after the other, up to the first that doesn't. A world that has failed answers `Memory`.
-    pub fn run(&mut self, events: &[Event]) -> Result<(), WorldError>
-        ensures ok { OnOk result (Runs (map action_of events.now) (world_of R.stream C.word_of self.old) (world_of R.stream C.word_of self.new)) }
-        ensures lacks { IfErr result (λ e. e ≡ WorldError.NoSuchPacket
-            → RunsUpToLack (map action_of events.now) (world_of R.stream C.word_of self.old) (world_of R.stream C.word_of self.new)) }
-        ensures memory { IfErr result (λ e. e ≡ WorldError.Memory → self.new.has_failed ≡ true) }
-        ensures failed { self.old.has_failed ≡ true → result ≡ Err WorldError.Memory }
-        ensures short { OnOk result ((mtu_a mtu_b : ℕ) → AreShort mtu_a mtu_b (world_of R.stream C.word_of self.old)
-            → AreShort mtu_a mtu_b (world_of R.stream C.word_of self.new)) }
-
-        ensures opens { OnOk result (IsFresh (world_of R.stream C.word_of self.old) → map action_of events.now ≡ opening
-            → IsOpen (world_of R.stream C.word_of self.new)) }
-        ensures crosses { OnOk result ((m : Message) (options : SendOptions) → IsSmall m → IsFresh (world_of R.stream C.word_of self.old)
-            → map action_of events.now ≡ opening ++ crossing m options → HasCrossed m (world_of R.stream C.word_of self.new)) }
-        ensures rests { OnOk result ((m : Message) (options : SendOptions) → IsSmall m → IsFresh (world_of R.stream C.word_of self.old)
-            → map action_of events.now ≡ opening ++ (crossing m options ++ acknowledging) → is_at_rest A (world_of R.stream C.word_of self.new) ≡ true) }
-        ensures nothing_lacks { IfErr result (λ e. (m : Message) (options : SendOptions) → IsSmall m → IsFresh (world_of R.stream C.word_of self.old)
-            → map action_of events.now ≡ opening ++ (crossing m options ++ acknowledging) → e ≡ WorldError.Memory) }
-        ensures leads { OnOk result (IsLed (world_of R.stream C.word_of self.old) → All ActionFits (map action_of events.now) → IsLed (world_of R.stream C.word_of self.new)) }
-        ensures composes { OnOk result ((l : IsLed (world_of R.stream C.word_of self.new)) → IsUndisturbed (world_of R.stream C.word_of self.new) → Composes (world_of R.stream C.word_of self.new) l) }
-    {
-        self.proceed(events)
-    }
-
     fn proceed(&mut self, events: &[Event]) -> Result<(), WorldError>
         ensures ok { OnOk result (Runs (map action_of events.now) (world_of R.stream C.word_of self.old) (world_of R.stream C.word_of self.new)) }
+        ensures works { OnOk result ((self.old.has_failed ≡ false) × (self.new.has_failed ≡ false)) }
         ensures lacks { IfErr result (λ e. e ≡ WorldError.NoSuchPacket
             → RunsUpToLack (map action_of events.now) (world_of R.stream C.word_of self.old) (world_of R.stream C.word_of self.new)) }
+        ensures stands { IfErr result (λ e. e ≡ WorldError.NoSuchPacket → self.new.has_failed ≡ false) }
         ensures memory { IfErr result (λ e. e ≡ WorldError.Memory → self.new.has_failed ≡ true) }
         ensures failed { self.old.has_failed ≡ true → result ≡ Err WorldError.Memory }
-        ensures short { OnOk result ((mtu_a mtu_b : ℕ) → AreShort mtu_a mtu_b (world_of R.stream C.word_of self.old)
-            → AreShort mtu_a mtu_b (world_of R.stream C.word_of self.new)) }
-
-        ensures opens { OnOk result (IsFresh (world_of R.stream C.word_of self.old) → map action_of events.now ≡ opening
-            → IsOpen (world_of R.stream C.word_of self.new)) }
-        ensures crosses { OnOk result ((m : Message) (options : SendOptions) → IsSmall m → IsFresh (world_of R.stream C.word_of self.old)
-            → map action_of events.now ≡ opening ++ crossing m options → HasCrossed m (world_of R.stream C.word_of self.new)) }
-        ensures rests { OnOk result ((m : Message) (options : SendOptions) → IsSmall m → IsFresh (world_of R.stream C.word_of self.old)
-            → map action_of events.now ≡ opening ++ (crossing m options ++ acknowledging) → is_at_rest A (world_of R.stream C.word_of self.new) ≡ true) }
-        ensures nothing_lacks { IfErr result (λ e. (m : Message) (options : SendOptions) → IsSmall m → IsFresh (world_of R.stream C.word_of self.old)
-            → map action_of events.now ≡ opening ++ (crossing m options ++ acknowledging) → e ≡ WorldError.Memory) }
     {
         if self.has_failed {
             return Err(WorldError::Memory);
@@ -299,6 +274,8 @@ impl<R: Rng, C: Checksum> World<R, C> {
         ensures ok { OnOk result (Runs (map action_of events.now) (world_of R.stream C.word_of self.old) (world_of R.stream C.word_of self.new)) }
         ensures lacks { IfErr result (λ e. e ≡ WorldError.NoSuchPacket
             → RunsUpToLack (map action_of events.now) (world_of R.stream C.word_of self.old) (world_of R.stream C.word_of self.new)) }
+        ensures works { self.old.has_failed ≡ false → OnOk result (self.new.has_failed ≡ false) }
+        ensures stands { IfErr result (λ e. e ≡ WorldError.NoSuchPacket → self.new.has_failed ≡ false) }
         ensures memory { IfErr result (λ e. e ≡ WorldError.Memory → self.new.has_failed ≡ true) }
     {
         for event in events {
@@ -306,6 +283,60 @@ impl<R: Rng, C: Checksum> World<R, C> {
         }
         Ok(())
     }
+}
+
+/// Makes one event happen. Where the packet that it names isn't there, the world stands as before. Once memory ran out, it has
+/// failed, and answers so from then on. Each packet that an end sends has at most the bytes of its `mtu`.
+pub fn step<R: Rng, C: Checksum>(world: &mut World<R, C>, event: &Event) -> Result<(), WorldError>
+    ensures ok { OnOk result (Happens (action_of event.now) (world_of R.stream C.word_of world.old) (world_of R.stream C.word_of world.new)) }
+    ensures works { OnOk result ((world.old.has_failed ≡ false) × (world.new.has_failed ≡ false)) }
+    ensures lacks { IfErr result (λ e. e ≡ WorldError.NoSuchPacket → Lacks (action_of event.now) (world_of R.stream C.word_of world.old)) }
+    ensures missing { world.old.has_failed ≡ false → Lacks (action_of event.now) (world_of R.stream C.word_of world.old) → result ≡ Err WorldError.NoSuchPacket }
+    ensures same { IfErr result (λ e. e ≡ WorldError.NoSuchPacket → world.new ≡ world.old) }
+    ensures stands { IfErr result (λ e. e ≡ WorldError.NoSuchPacket → world.new.has_failed ≡ false) }
+    ensures memory { IfErr result (λ e. e ≡ WorldError.Memory → world.new.has_failed ≡ true) }
+    ensures failed { world.old.has_failed ≡ true → result ≡ Err WorldError.Memory }
+    ensures short { OnOk result ((mtu_a mtu_b : ℕ) → AreShort mtu_a mtu_b (world_of R.stream C.word_of world.old)
+        → AreShort mtu_a mtu_b (world_of R.stream C.word_of world.new)) }
+    ensures first_run { OnOk result (LeadsFirstRun (action_of event.now ∷ []) (world_of R.stream C.word_of world.old) (world_of R.stream C.word_of world.new)) }
+    ensures nothing_lacks { IfErr result (λ e. ContinuesFirstRun (action_of event.now ∷ []) (world_of R.stream C.word_of world.old) → e ≡ WorldError.Memory) }
+    ensures leads { world.new.has_failed ≡ false → IsLed (world_of R.stream C.word_of world.old) → IsLed (world_of R.stream C.word_of world.new) }
+    ensures composes { (l : IsLed (world_of R.stream C.word_of world.new)) → Composes (world_of R.stream C.word_of world.new) l }
+    ensures agrees { (l : IsLed (world_of R.stream C.word_of world.new)) → DrawsNoTagTwice l → Agrees (world_of R.stream C.word_of world.new).log }
+{
+    let a = world.sent(End::A);
+    let b = world.sent(End::B);
+    let answer = world.happen(event);
+    an_event_fits(event);
+    world.sent_bytes(End::A, a);
+    world.sent_bytes(End::B, b);
+    answer
+}
+
+/// Makes events happen, one after the other, up to the first that doesn't; `step` says how it then stands.
+pub fn run<R: Rng, C: Checksum>(world: &mut World<R, C>, events: &[Event]) -> Result<(), WorldError>
+    ensures ok { OnOk result (Runs (map action_of events.now) (world_of R.stream C.word_of world.old) (world_of R.stream C.word_of world.new)) }
+    ensures works { OnOk result ((world.old.has_failed ≡ false) × (world.new.has_failed ≡ false)) }
+    ensures lacks { IfErr result (λ e. e ≡ WorldError.NoSuchPacket
+        → RunsUpToLack (map action_of events.now) (world_of R.stream C.word_of world.old) (world_of R.stream C.word_of world.new)) }
+    ensures stands { IfErr result (λ e. e ≡ WorldError.NoSuchPacket → world.new.has_failed ≡ false) }
+    ensures memory { IfErr result (λ e. e ≡ WorldError.Memory → world.new.has_failed ≡ true) }
+    ensures failed { world.old.has_failed ≡ true → result ≡ Err WorldError.Memory }
+    ensures short { OnOk result ((mtu_a mtu_b : ℕ) → AreShort mtu_a mtu_b (world_of R.stream C.word_of world.old)
+        → AreShort mtu_a mtu_b (world_of R.stream C.word_of world.new)) }
+    ensures first_run { OnOk result (LeadsFirstRun (map action_of events.now) (world_of R.stream C.word_of world.old) (world_of R.stream C.word_of world.new)) }
+    ensures nothing_lacks { IfErr result (λ e. ContinuesFirstRun (map action_of events.now) (world_of R.stream C.word_of world.old) → e ≡ WorldError.Memory) }
+    ensures leads { world.new.has_failed ≡ false → IsLed (world_of R.stream C.word_of world.old) → IsLed (world_of R.stream C.word_of world.new) }
+    ensures composes { (l : IsLed (world_of R.stream C.word_of world.new)) → Composes (world_of R.stream C.word_of world.new) l }
+    ensures agrees { (l : IsLed (world_of R.stream C.word_of world.new)) → DrawsNoTagTwice l → Agrees (world_of R.stream C.word_of world.new).log }
+{
+    let a = world.sent(End::A);
+    let b = world.sent(End::B);
+    let answer = world.proceed(events);
+    events_fit(events);
+    world.sent_bytes(End::A, a);
+    world.sent_bytes(End::B, b);
+    answer
 }
 
 /// Gives an end the packet of this number of the other one.

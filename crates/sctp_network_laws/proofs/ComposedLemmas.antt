@@ -1,5 +1,5 @@
 -- A world that a new one was led to is led on by each run, and composes.
-use Rattle.std.proofs.Common.{◌≡◌, ◌⊎◌, inl, inr, ◌^◌, ◌<◌, ℕ, Bool, true, false, OnOk, Result, Ok, Err, List, [], ◌∷◌, ◌++◌, length, refl, sym, ap, subst, ◌∙◌, append-nil, append_assoc}
+use Rattle.std.proofs.Common.{◌≡◌, ◌⊎◌, inl, inr, ◌^◌, ◌<◌, ℕ, Bool, true, false, List, [], ◌∷◌, ◌++◌, length, refl, sym, ap, subst, ◌∙◌, append-nil, append_assoc}
 use Rattle.std.specs.Prelude.{All}
 use Rattle.std.specs.List.{list_any}
 use Rattle.std.proofs.lemmas.List.Elements.{All-nil, All-cons, All-head, All-tail, All-append}
@@ -12,6 +12,7 @@ use Rattle.sctp_delivery.specs.Delivery.{AllAreDone, MessagesAreDelivered}
 use Rattle.sctp_delivery.specs.Ending.{MessagesAreDeliveredThen}
 use Rattle.sctp_network_table.specs.Judge.{End, A, B, Connect, Shutdown, Entry, Called, ready, handed_out}
 use Rattle.sctp_network_table.specs.World.{World, Action, Happens, Runs, other, is_at_rest}
+use Rattle.sctp_network_table.proofs.RunLemmas.{Runs-append}
 use Rattle.sctp_network_laws.specs.Courses.{ActionFits, IsInBytes, IsLed, origin, is_a, end_of}
 use Rattle.sctp_network_laws.specs.Joined.{asks, was_asked, Stands, MayFollow, FollowsTheRules, AreJoined}
 use Rattle.sctp_network_laws.specs.Delivered.{AlongRun, resets, sets_more, offers, gone, ready_places, Delivers, IsInBounds}
@@ -27,18 +28,6 @@ use Rattle.sctp_network_laws.proofs.PointsLemmas.{IsDeliveredAt}
 use Rattle.sctp_network_laws.proofs.LastingLemmas.{first_pair, r, IsKept, course_delivers, delivered_front, rests, prefix, prefix_then, delivered_beside, delivered_own, ends_delivering, b_parted, stands_first, behind_first, logged_first}
 use Rattle.sctp_network_laws.proofs.ProperLemmas.{worlds_proper}
 
-pub on_ok : {A E P Q : Type 0} (r : Result A E) → (P → Q) → OnOk r P → OnOk r Q
-on_ok (Ok x) f h = f h
-on_ok (Err e) f h = h
-
-pub on_each : {A E P : Type 0} (r : Result A E) → P → OnOk r P
-on_each (Ok x) h = h
-on_each (Err e) h = tt
-
-runs_on : (early late : List Action) (w u v : World) → Runs early w u → Runs late u v → Runs (early ++ late) w v
-runs_on [] late w u v r s = subst (λ (z : World). Runs late z v) r s
-runs_on (action ∷ early) late w u v r s = (r.0, r.1, runs_on early late r.0 u v r.2 s)
-
 pub led_on : (w v : World) (actions : List Action) → IsLed w → All ActionFits actions → Runs actions w v → IsInBytes v → IsLed v
 led_on w v actions l fit r small = record {
   a = l.a;
@@ -53,15 +42,12 @@ led_on w v actions l fit r small = record {
   fits_b = l.fits_b;
   actions = l.actions ++ actions;
   fit = All-append ActionFits l.actions actions l.fit fit;
-  runs = runs_on l.actions actions _ w v l.runs r;
+  runs = Runs-append l.actions actions _ w v l.runs r;
   bytes = small;
 }
 
 one : {X : Type 0} (P : X → Type 0) (x : X) → P x → All P (x ∷ [])
 one P x h = All-cons P x [] h (All-nil P)
-
-pub led_by_one : (w v : World) (action : Action) → IsLed w → ActionFits action → Happens action w v → IsInBytes v → IsLed v
-led_by_one w v action l fit h small = led_on w v (action ∷ []) l (one ActionFits action fit) (v, h, refl) small
 
 -- ---- worlds on the way
 
@@ -116,7 +102,7 @@ along_led : (P : World → Type 0) (from : World) (done actions : List Action) (
 along_led P from done [] z v before r fit_done fit f = f done z fit_done before (subst (Extends z) (sym r) (extends_same z))
 along_led P from done (action ∷ actions) z v before r fit_done fit f = (
   f done z fit_done before (runs_extends (action ∷ actions) z v r),
-  along_led P from (done ++ action ∷ []) actions r.0 v (runs_on done (action ∷ []) from z r.0 before (r.0, r.1, refl)) r.2
+  along_led P from (done ++ action ∷ []) actions r.0 v (Runs-append done (action ∷ []) from z r.0 before (r.0, r.1, refl)) r.2
       (All-append ActionFits done (action ∷ []) fit_done (one ActionFits action (All-head ActionFits action actions fit))) (All-tail ActionFits action actions fit) f,
 )
 

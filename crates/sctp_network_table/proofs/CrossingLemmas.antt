@@ -1,5 +1,5 @@
 -- A message that crosses an open association, and its acknowledgement.
-use Rattle.std.proofs.Common.{◌≡◌, ℕ, Bool, true, false, Option, Some, None, List, [], ◌∷◌, ◌++◌, refl, sym, ap, subst, ◌∙◌}
+use Rattle.std.proofs.Common.{◌≡◌, ℕ, Bool, true, Option, Some, None, List, [], ◌∷◌, ◌++◌, refl, sym, ap, subst, ◌∙◌}
 use Rattle.std.specs.Prelude.{slice_get}
 use Rattle.rand_core.specs.Stream.{Stream}
 use Rattle.sctp_serial.specs.Messages.{Message}
@@ -13,7 +13,6 @@ use Rattle.sctp_table_laws.specs.FirstRun.{init_packet, init_ack_packet, cookie_
 use Rattle.sctp_table_laws.proofs.OpeningRunLemmas.{telling, opened_a, opened_b, opens, accepts}
 use Rattle.sctp_table_laws.proofs.SendRunLemmas.{sent_end, sends, accepts_message}
 use Rattle.sctp_table_laws.proofs.TakeRunLemmas.{taken_end, takes_it}
-use Rattle.sctp_table_laws.proofs.RestRunLemmas.{rested_end, rests}
 use Rattle.sctp_table_laws.proofs.RunPacketsLemmas.{leads_on}
 use Rattle.sctp_table_laws.proofs.FirstRunLemmas.{it_rests}
 use Rattle.sctp_network_table.specs.Judge.{A, B, Send, Sent, Entry, Called, Given, Emitted, accepted, ready}

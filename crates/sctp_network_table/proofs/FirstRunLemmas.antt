@@ -3,7 +3,7 @@ use Rattle.std.proofs.Common.{◌≡◌, ℕ, Bool, true, ◌&&◌, ◌==◌, So
 use Rattle.std.specs.Prelude.{slice_get}
 use Rattle.rand_core.specs.Stream.{Stream}
 use Rattle.sctp_serial.specs.Messages.{Message}
-use Rattle.sctp_state.specs.Options.{SendOptions, defaults, plainly}
+use Rattle.sctp_state.specs.Options.{defaults, plainly}
 use Rattle.sctp_state.specs.Events.{OnConnected}
 use Rattle.sctp_table.specs.Association.{Endpoint, fresh}
 use Rattle.sctp_table.specs.Laws.{Packing}
@@ -11,9 +11,8 @@ use Rattle.sctp_table.specs.Shown.{Association}
 use Rattle.sctp_table.specs.Hearing.{Hears}
 use Rattle.sctp_table.specs.Wire.{written}
 use Rattle.sctp_table_laws.specs.Mapped.{Carried, as_written}
-use Rattle.sctp_table_laws.specs.FirstRun as run
 use Rattle.sctp_table_laws.specs.FirstRun.{init_packet, init_ack_packet, cookie_echo_packet, cookie_ack_packet, quiet, asking, answering, echoing, accepting, opening, association, IsSmall, Leads, LeadsOn}
-use Rattle.sctp_table_laws.proofs.OpeningRunLemmas.{same, telling, waiting, answered, echoed, opened_a, opened_b, asks, answers, echoes, accepts, opens}
+use Rattle.sctp_table_laws.proofs.OpeningRunLemmas.{same, waiting, answered, echoed, opened_a, opened_b, asks, answers, echoes, accepts, opens}
 use Rattle.sctp_table_laws.proofs.RunPacketsLemmas.{leads_on}
 use Rattle.sctp_network_table.specs.Judge.{A, B, same_association, Connect, Done, Entry, Called, Given, Associated, Emitted, Happened}
 use Rattle.sctp_network_table.specs.World.{Action, Side, World, Takes, Gives, Runs, recorded, settled, news_of, clock, calls, associated_if, ready_entries, ready_before, fresh_side, fresh_world}

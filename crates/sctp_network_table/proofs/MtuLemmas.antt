@@ -1,5 +1,5 @@
 -- No packet is above its sender's mtu.
-use Rattle.std.proofs.Common.{◌≡◌, ℕ, ◌≤◌, true, Some, List, [], ◌∷◌, ◌++◌, refl, sym, ap, subst, ◌∙◌, arith}
+use Rattle.std.proofs.Common.{◌≡◌, ℕ, ◌≤◌, List, [], ◌∷◌, ◌++◌, refl, sym, ap, subst, ◌∙◌, arith}
 use Rattle.std.specs.Prelude.{All}
 use Rattle.std.proofs.lemmas.List.Elements.{All-nil, All-cons, All-head, All-tail, All-append}
 use Rattle.rand_core.specs.Stream.{Stream}
@@ -11,7 +11,7 @@ use Rattle.sctp_table.specs.Laws as table
 use Rattle.sctp_table.specs.Hearing.{Hears, heard, not_read}
 use Rattle.sctp_table_laws.proofs.LawsLemmas.{stays_within, sends_at_most}
 use Rattle.sctp_network_table.specs.Judge.{End, Entry, A, B}
-use Rattle.sctp_network_table.specs.World.{Side, World, Action, CallOf, Give, GiveForeign, TellTime, Told, Takes, ComesTo, told, skipped, Comes, Gives, Happens, Runs, IsShort, IsShortSide, AreShort, fresh_side, fresh_world, packets_in, settled, side_of, other, step_of, calls, tells_time}
+use Rattle.sctp_network_table.specs.World.{Side, World, Action, CallOf, Give, GiveForeign, TellTime, Told, ComesTo, told, skipped, Comes, Gives, Happens, Runs, IsShort, IsShortSide, AreShort, fresh_side, fresh_world, packets_in, settled, step_of}
 
 packets_short : (mtu : ℕ) (events : List (Event (List ℕ))) → All (HasAtMost mtu) events → All (IsShort mtu) (packets_in events)
 packets_short mtu [] h = All-nil (IsShort mtu)

@@ -7,6 +7,17 @@ pub Runs-snoc : (front : List Action) (action : Action) (w u v : World) → Runs
 Runs-snoc [] action w u v runs happens = (v, subst (λ (x : World). Happens action x v) runs happens, refl)
 Runs-snoc (first ∷ front) action w u v runs happens = (runs.0, runs.1, Runs-snoc front action runs.0 u v runs.2 happens)
 
+pub Runs-append : (early late : List Action) (w u v : World) → Runs early w u → Runs late u v → Runs (early ++ late) w v
+Runs-append [] late w u v r s = subst (λ (z : World). Runs late z v) r s
+Runs-append (action ∷ early) late w u v r s = (r.0, r.1, Runs-append early late r.0 u v r.2 s)
+
+-- a run of one event
+pub runs_one : (action : Action) (w v : World) → Happens action w v → Runs (action ∷ []) w v
+runs_one action w v happens = (v, happens, refl)
+
+pub lacks_one : (action : Action) (w v : World) → Lacks action w → v ≡ w → RunsUpToLack (action ∷ []) w v
+lacks_one action w v lacks same = record { before = []; action = action; rest = []; split = refl; runs = same; lacks = subst (Lacks action) (sym same) lacks }
+
 pub stepped : (all rest more : List Action) (action : Action) (w u v : World)
     → (front : List Action) × (all ≡ front ++ rest) × Runs front w u → rest ≡ action ∷ more → Happens action u v
     → (front : List Action) × (all ≡ front ++ more) × Runs front w v

@@ -1,17 +1,20 @@
 //! One end of a world, with the packets that it ever sent.
 
-ghost use Rattle.std.specs.Prelude.{◌≡◌, ℕ, Some, None, true, false, List, [], ◌∷◌, ◌++◌, length, map, option_map, slice_get, IfOk, OnOk};
+ghost use Rattle.std.specs.Prelude.{◌≡◌, ℕ, Some, None, true, false, List, [], ◌∷◌, ◌++◌, drop, length, map, option_map, slice_get, IfOk, IfErr, OnOk};
+ghost use Rattle.sctp_packet.specs.Grammar.{Each};
 ghost use Rattle.sctp_serial.specs.Messages.{message_of};
 ghost use Rattle.sctp_state.specs.Events.{event_of, given_up_of};
 ghost use Rattle.sctp_state.specs.Options.{IsValid, options_of};
 ghost use Rattle.sctp_table.specs.Calls.{ready_in};
 ghost use Rattle.sctp_table.specs.Shown.{association_in};
+ghost use Rattle.sctp_table_laws.specs.ReadBack.{AreBytes};
 ghost use Rattle.sctp_association.specs.Socket.{association_of, endpoint};
 ghost use Rattle.sctp_network_table.specs.Judge.{Given, Foreign, GaveUp, same_association};
 ghost use Rattle.sctp_network_table.specs.World as table;
 ghost use Rattle.sctp_network_table.specs.World.{fresh_side, associated_if, Told, settled, news, packets_in, told_entries, gone_entries, ready_entries, after_call, after_time, clock, call_entry};
 ghost use Rattle.sctp_network.specs.WorldView.{ToldBy, call_tree, end_tree, entry_tree, ready_entry, side_in, without_events, without_records};
 
+use crate::arguments::packets_fit;
 use crate::world::calling::make_call;
 use crate::world::log::{Call, End, Entry, copy_of, copy_of_call};
 use rand_core::Rng;
@@ -54,7 +57,8 @@ impl<R: Rng + Drop, C: Checksum + Drop> Side<R, C> {
         checksum: C,
     ) -> Result<Side<R, C>, CallError>
         requires { IsValid (options_of options.now) }
-        ensures { IfOk result (λ side. side_in R.stream C.word_of side ≡ fresh_side (options_of options.now) (R.stream rng) (C.word_of checksum)) }
+        ensures side { IfOk result (λ side. side_in R.stream C.word_of side ≡ fresh_side (options_of options.now) (R.stream rng) (C.word_of checksum)) }
+        ensures memory { IfErr result (λ e. e ≡ CallError.Memory) }
     {
         Ok(Side {
             socket: Socket::new(alloc, name, options, rng, checksum)?,
@@ -71,6 +75,15 @@ impl<R: Rng, C: Checksum> Side<R, C> {
         match self.packets.get(number) {
             Some(bytes) => Some(bytes),
             None => None,
+        }
+    }
+
+    /// The packets from this number on are bytes.
+    pub fn are_bytes(&self, first: usize)
+        ensures bytes { Each AreBytes (drop first self.now.packets) }
+    {
+        if let Some(packets) = self.packets.get(first..) {
+            packets_fit(packets);
         }
     }
 

@@ -22,13 +22,13 @@ trait Watched: Drop {
 
 impl Watched for World<Pcg32, ByteSum> {
     fn does(&mut self, event: Event) -> Result<(), WorldError> {
-        let answer = self.step(&event);
+        let answer = step(self, &event);
         drop(event);
         answer
     }
 
     fn does_all(&mut self, events: &[Event]) -> Result<(), WorldError> {
-        self.run(events)
+        run(self, events)
     }
 
     fn size(&self, end: End, number: usize) -> usize {

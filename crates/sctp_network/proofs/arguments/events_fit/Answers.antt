@@ -1,6 +1,8 @@
+use Rattle.std.proofs.Common.{map}
 use Rattle.sctp_table_laws.proofs.ArgumentLemmas.{seen_more, seen_all}
 use Rattle.sctp_network.specs.WorldView.{action_of}
-use Rattle.sctp_network_laws.specs.Readable.{ActionFits}
+use Rattle.sctp_network_laws.specs.Courses.{ActionFits}
+use Rattle.sctp_network.proofs.LedLemmas.{all_of_each, fits_readable}
 use Rattle.sctp_network.proofs.arguments.events_fit.Goals as goal
 
 pub loop-event-init : goal.loop-event-init
@@ -12,4 +14,6 @@ loop-event-preserved c =
     c.loop-event.invariant c.an_event_fits.ensures.fits
 
 pub returns : goal.returns
-returns c = record { fit = seen_all ActionFits action_of c.args.events.now c.loop-event.event-index c.loop-event-test.false c.loop-event.invariant }
+returns c =
+    let all = seen_all ActionFits action_of c.args.events.now c.loop-event.event-index c.loop-event-test.false c.loop-event.invariant in
+    record { fit = all_of_each ActionFits (map action_of c.args.events.now) all; readable = fits_readable (map action_of c.args.events.now) all }

@@ -1,7 +1,7 @@
 use Rattle.std.proofs.Common.{map, take}
 use Rattle.sctp_packet.specs.Grammar.{Each}
 use Rattle.sctp_network.specs.WorldView.{action_of}
-use Rattle.sctp_network_laws.specs.Readable.{ActionFits}
+use Rattle.sctp_network_laws.specs.Courses.{ActionFits}
 use Rattle.sctp_network.proofs.arguments.events_fit.Given as goal
 
 abbrev pub invariant-loop-event : goal.invariant-loop-event

@@ -1,0 +1,111 @@
+-- Unless it has failed, a world that a new one was led to is led on: its new packets are bytes, and what was handed in fits.
+use Rattle.std.proofs.Common.{◌≡◌, ℕ, ◌-◌, Bool, true, false, List, [], ◌∷◌, ◌++◌, length, take, drop, map, refl, sym, ap, subst, ◌∙◌, arith}
+use Rattle.std.specs.Prelude.{All, Result, Ok, Err, OnOk, IfErr}
+use Rattle.std.specs.List.{slice_range}
+use Rattle.std.proofs.lemmas.List.{take_all, drop-map, length-drop}
+use Rattle.std.proofs.lemmas.List.Elements.{All-nil, All-cons, All-append, All-take}
+use Rattle.rand_core.specs.Stream.{Stream}
+use Rattle.sctp_packet.specs.Grammar.{Each}
+use Rattle.sctp_state.specs.Options.{Options, IsValid}
+use Rattle.sctp_table_laws.specs.Sound.{OptionsFit}
+use Rattle.sctp_table_laws.specs.ReadBack.{AreBytes}
+use Rattle.sctp_network.specs.declared.world.WorldError.{WorldError}
+use Rattle.sctp_network.specs.declared.world.WorldError.TheVariants as errors
+use Rattle.sctp_network_table.specs.World.{World, Action, CallOf, Give, GiveForeign, TellTime, Runs, Lacks, RunsUpToLack, fresh_world}
+use Rattle.sctp_network_table.proofs.RunLemmas.{lacks_one}
+use Rattle.sctp_network_laws.specs.Courses.{ActionFits, IsInBytes, IsLed}
+use Rattle.sctp_network_laws.specs.Readable as readable
+use Rattle.sctp_network_laws.proofs.WorldLemmas.{Extends}
+use Rattle.sctp_network_laws.proofs.RunsLemmas.{runs_extends}
+use Rattle.sctp_network_laws.proofs.ComposedLemmas.{led_on}
+
+-- ---- events that fit
+
+pub all_of_each : {X : Type 0} (P : X → Type 0) (xs : List X) → Each P xs → All P xs
+all_of_each P [] h = All-nil P
+all_of_each P (x ∷ xs) h = All-cons P x xs h.0 (all_of_each P xs h.1)
+
+pub fits_readable : (actions : List Action) → Each ActionFits actions → Each readable.ActionFits actions
+fits_readable [] h = tt
+fits_readable (CallOf x call ∷ actions) h = (h.0, fits_readable actions h.1)
+fits_readable (Give packet x ∷ actions) h = (tt, fits_readable actions h.1)
+fits_readable (GiveForeign x bytes ∷ actions) h = (tt, fits_readable actions h.1)
+fits_readable (TellTime x now ∷ actions) h = (tt, fits_readable actions h.1)
+
+-- ---- packets that are bytes
+
+dropped : {X : Type 0} (xs ys : List X) → drop (length xs) (xs ++ ys) ≡ ys
+dropped [] ys = refl
+dropped (x ∷ xs) ys = dropped xs ys
+
+more_bytes : (old new sent : List (List ℕ)) (n : ℕ) → new ≡ old ++ sent → n ≡ length old → Each AreBytes (drop n new) → All AreBytes old → All AreBytes new
+more_bytes old new sent n grown counted fresh h =
+    let sent_bytes : Each AreBytes sent =
+    subst (Each AreBytes) (ap (λ (k : ℕ). drop k new) counted ∙ (ap (drop (length old)) grown ∙ dropped old sent)) fresh in
+    subst (All AreBytes) (sym grown) (All-append AreBytes old sent h (all_of_each AreBytes sent sent_bytes))
+
+in_bytes_after : (actions : List Action) (w v : World) (a b : ℕ) → Runs actions w v → a ≡ length w.a.packets → b ≡ length w.b.packets
+    → Each AreBytes (drop a v.a.packets) → Each AreBytes (drop b v.b.packets) → IsInBytes w → IsInBytes v
+in_bytes_after actions w v a b runs sent_a sent_b bytes_a bytes_b h =
+    let e : Extends w v = runs_extends actions w v runs in
+    record { a = more_bytes w.a.packets v.a.packets e.sent_a a e.a sent_a bytes_a h.a; b = more_bytes w.b.packets v.b.packets e.sent_b b e.b sent_b bytes_b h.b }
+
+-- those of a list from a place on
+pub from_place : {X : Type 0} (f : X → List ℕ) (held xs part : List X) (first : ℕ) (packets : List (List ℕ)) → xs ≡ held → map f held ≡ packets
+    → part ≡ slice_range xs first (length xs) → Each AreBytes (map f part) → Each AreBytes (drop first packets)
+from_place f held xs part first packets is shown range h =
+    let whole : part ≡ drop first xs = range ∙ take_all (length xs - first) (drop first xs) (omega (arith, length-drop first xs)) in
+    subst (Each AreBytes)
+    (ap (map f) whole ∙ (sym (drop-map f first xs) ∙ ap (drop first) (ap (map f) is ∙ shown))) h
+
+-- ---- worlds
+
+front_fits : (actions before : List Action) (action : Action) (rest : List Action) → actions ≡ before ++ action ∷ rest → All ActionFits actions → All ActionFits before
+front_fits actions before action rest split h =
+    subst (All ActionFits) (took before (action ∷ rest)) (All-take ActionFits (length before) (before ++ action ∷ rest) (subst (All ActionFits) split h))
+  where
+    took : (xs ys : List Action) → take (length xs) (xs ++ ys) ≡ xs
+    took [] ys = refl
+    took (x ∷ xs) ys = ap (λ (zs : List Action). x ∷ zs) (took xs ys)
+
+module _ (w v : World) (failed : Bool) (a b : ℕ) (sent_a : a ≡ length w.a.packets) (sent_b : b ≡ length w.b.packets)
+    (bytes_a : Each AreBytes (drop a v.a.packets)) (bytes_b : Each AreBytes (drop b v.b.packets)) where
+  led : (actions : List Action) → All ActionFits actions → Runs actions w v → IsLed w → IsLed v
+  led actions fit runs l = led_on w v actions l fit runs (in_bytes_after actions w v a b runs sent_a sent_b bytes_a bytes_b l.bytes)
+
+  pub led_by : {X : Type 0} (r : Result X WorldError) (actions : List Action) → OnOk r (Runs actions w v) → IfErr r (λ e. e ≡ errors.NoSuchPacket → RunsUpToLack actions w v)
+      → IfErr r (λ e. e ≡ errors.Memory → failed ≡ true) → All ActionFits actions → failed ≡ false → IsLed w → IsLed v
+  led_by (Ok x) actions runs lacks memory fit works l = led actions fit runs l
+  led_by (Err errors.NoSuchPacket) actions runs lacks memory fit works l =
+      let k : RunsUpToLack actions w v = lacks refl in
+      led k.before (front_fits actions k.before k.action k.rest k.split fit) k.runs l
+  led_by (Err errors.Memory) actions runs lacks memory fit works l = absurd (not_both failed (memory refl) works)
+    where
+      not_both : (b : Bool) → b ≡ true → b ≡ false → ⊥
+      not_both b e f = cc
+
+-- a step that finds no packet
+pub lacks_then : {X : Type 0} (r : Result X WorldError) (action : Action) (w v : World) → IfErr r (λ e. e ≡ errors.NoSuchPacket → Lacks action w)
+    → IfErr r (λ e. e ≡ errors.NoSuchPacket → v ≡ w) → IfErr r (λ e. e ≡ errors.NoSuchPacket → RunsUpToLack (action ∷ []) w v)
+lacks_then (Ok x) action w v lacks same = tt
+lacks_then (Err e) action w v lacks same = λ is. lacks_one action w v (lacks is) (same is)
+
+-- a new world
+pub led_new : (a b : Options) (words_a words_b : Stream) (word_of_a word_of_b : List ℕ → ℕ) → IsValid a → IsValid b → OptionsFit a → OptionsFit b
+    → (w : World) → w ≡ fresh_world a b words_a words_b word_of_a word_of_b → IsLed w
+led_new a b words_a words_b word_of_a word_of_b valid_a valid_b fits_a fits_b w is = record {
+  a = a;
+  b = b;
+  words_a = words_a;
+  words_b = words_b;
+  word_of_a = word_of_a;
+  word_of_b = word_of_b;
+  valid_a = valid_a;
+  valid_b = valid_b;
+  fits_a = fits_a;
+  fits_b = fits_b;
+  actions = [];
+  fit = All-nil ActionFits;
+  runs = is;
+  bytes = subst IsInBytes (sym is) (record { a = All-nil AreBytes; b = All-nil AreBytes });
+}

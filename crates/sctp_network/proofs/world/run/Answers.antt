@@ -1,0 +1,40 @@
+use Rattle.std.proofs.Common.{map}
+use Rattle.std.proofs.lemmas.Result.{on_ok_weaker, IfErr-weaker}
+use Rattle.sctp_delivery.proofs.LawLemmas.{delivered, delivered_then}
+use Rattle.sctp_network_table.specs.World.{World}
+use Rattle.sctp_network_table.proofs.MtuLemmas.{runs_short}
+use Rattle.sctp_network_laws.proofs.AgreedLemmas.{worlds_agree}
+use Rattle.sctp_network_laws.proofs.ComposedLemmas.{compose}
+use Rattle.sctp_network.specs.WorldView.{action_of, world_of}
+use Rattle.sctp_network.proofs.GoesLemmas.{leads_on, only_memory}
+use Rattle.sctp_network.proofs.LedLemmas.{led_by}
+use Rattle.sctp_network.proofs.world.run.Goals as goal
+
+pub returns-clause-short : goal.returns-clause-short
+returns-clause-short g c =
+    on_ok_weaker c.proceed-answer.result (λ runs mtu_a mtu_b short. runs_short mtu_a mtu_b (map action_of c.args.events.now) _ _ runs short) c.proceed-answer.ensures.ok
+
+pub returns-clause-first_run : goal.returns-clause-first_run
+returns-clause-first_run g c =
+    let w : World = world_of g.R.Rng.stream g.C.Checksum.word_of c.args.world.now in
+    let v : World = world_of g.R.Rng.stream g.C.Checksum.word_of c.proceed-answer.new.self in
+    on_ok_weaker c.proceed-answer.result (λ runs. leads_on (map action_of c.args.events.now) w v runs) c.proceed-answer.ensures.ok
+
+pub returns-clause-nothing_lacks : goal.returns-clause-nothing_lacks
+returns-clause-nothing_lacks g c =
+    let w : World = world_of g.R.Rng.stream g.C.Checksum.word_of c.args.world.now in
+    let v : World = world_of g.R.Rng.stream g.C.Checksum.word_of c.proceed-answer.new.self in
+    IfErr-weaker c.proceed-answer.result _ _ (λ e lacks. only_memory (map action_of c.args.events.now) w v e lacks) c.proceed-answer.ensures.lacks
+
+pub returns-clause-leads : goal.returns-clause-leads
+returns-clause-leads g c =
+    let w : World = world_of g.R.Rng.stream g.C.Checksum.word_of c.args.world.now in
+    let v : World = world_of g.R.Rng.stream g.C.Checksum.word_of c.proceed-answer.new.self in
+    led_by w v c.proceed-answer.new.self.has_failed c.sent-a.result c.sent-b.result c.sent-a.ensures c.sent-b.ensures c.sent_bytes.ensures.bytes c.sent_bytes-2.ensures.bytes c.proceed-answer.result (map action_of c.args.events.now)
+    c.proceed-answer.ensures.ok c.proceed-answer.ensures.lacks c.proceed-answer.ensures.memory c.events_fit.ensures.fit
+
+pub returns-clause-composes : goal.returns-clause-composes
+returns-clause-composes g c = λ l. compose delivered delivered_then _ l
+
+pub returns-clause-agrees : goal.returns-clause-agrees
+returns-clause-agrees g c = λ l distinct. worlds_agree _ l distinct

@@ -1,0 +1,49 @@
+use Rattle.std.proofs.Common.{[], ◌∷◌, ap}
+use Rattle.std.proofs.lemmas.Result.{on_ok_weaker, IfErr-weaker}
+use Rattle.std.proofs.lemmas.List.Elements.{All-nil, All-cons}
+use Rattle.sctp_delivery.proofs.LawLemmas.{delivered, delivered_then}
+use Rattle.sctp_network_table.specs.World.{World}
+use Rattle.sctp_network_table.proofs.MtuLemmas.{happens_short}
+use Rattle.sctp_network_table.proofs.RunLemmas.{runs_one}
+use Rattle.sctp_network_laws.specs.Courses.{ActionFits}
+use Rattle.sctp_network_laws.proofs.AgreedLemmas.{worlds_agree}
+use Rattle.sctp_network_laws.proofs.ComposedLemmas.{compose}
+use Rattle.sctp_network.specs.WorldView.{action_of, world_of}
+use Rattle.sctp_network.proofs.GoesLemmas.{leads_on, only_memory}
+use Rattle.sctp_network.proofs.LedLemmas.{led_by, lacks_then}
+use Rattle.sctp_network.proofs.world.step.Goals as goal
+
+pub returns-clause-short : goal.returns-clause-short
+returns-clause-short g c =
+    on_ok_weaker c.happen-answer.result (λ happens mtu_a mtu_b short. happens_short mtu_a mtu_b (action_of c.args.event.now) _ _ happens short) c.happen-answer.ensures.ok
+
+pub returns-clause-first_run : goal.returns-clause-first_run
+returns-clause-first_run g c =
+    let w : World = world_of g.R.Rng.stream g.C.Checksum.word_of c.args.world.now in
+    let v : World = world_of g.R.Rng.stream g.C.Checksum.word_of c.happen-answer.new.self in
+    on_ok_weaker c.happen-answer.result (λ happens. leads_on (action_of c.args.event.now ∷ []) w v (runs_one (action_of c.args.event.now) w v happens)) c.happen-answer.ensures.ok
+
+pub returns-clause-nothing_lacks : goal.returns-clause-nothing_lacks
+returns-clause-nothing_lacks g c =
+    let w : World = world_of g.R.Rng.stream g.C.Checksum.word_of c.args.world.now in
+    let v : World = world_of g.R.Rng.stream g.C.Checksum.word_of c.happen-answer.new.self in
+    IfErr-weaker c.happen-answer.result _ _ (λ e lacks. only_memory (action_of c.args.event.now ∷ []) w v e lacks)
+    (lacks_then c.happen-answer.result (action_of c.args.event.now) w v c.happen-answer.ensures.lacks
+    (IfErr-weaker c.happen-answer.result _ _ (λ e same is. ap (world_of g.R.Rng.stream g.C.Checksum.word_of) (same is)) c.happen-answer.ensures.same))
+
+pub returns-clause-leads : goal.returns-clause-leads
+returns-clause-leads g c =
+    let w : World = world_of g.R.Rng.stream g.C.Checksum.word_of c.args.world.now in
+    let v : World = world_of g.R.Rng.stream g.C.Checksum.word_of c.happen-answer.new.self in
+    led_by w v c.happen-answer.new.self.has_failed c.sent-a.result c.sent-b.result c.sent-a.ensures c.sent-b.ensures c.sent_bytes.ensures.bytes c.sent_bytes-2.ensures.bytes
+    c.happen-answer.result (action_of c.args.event.now ∷ [])
+    (on_ok_weaker c.happen-answer.result (λ happens. runs_one (action_of c.args.event.now) w v happens) c.happen-answer.ensures.ok)
+    (lacks_then c.happen-answer.result (action_of c.args.event.now) w v c.happen-answer.ensures.lacks
+    (IfErr-weaker c.happen-answer.result _ _ (λ e same is. ap (world_of g.R.Rng.stream g.C.Checksum.word_of) (same is)) c.happen-answer.ensures.same))
+    c.happen-answer.ensures.memory (All-cons ActionFits (action_of c.args.event.now) [] c.an_event_fits.ensures.fits (All-nil ActionFits))
+
+pub returns-clause-composes : goal.returns-clause-composes
+returns-clause-composes g c = λ l. compose delivered delivered_then _ l
+
+pub returns-clause-agrees : goal.returns-clause-agrees
+returns-clause-agrees g c = λ l distinct. worlds_agree _ l distinct
