@@ -241,7 +241,7 @@ module _ (all : List (Bool × Turn)) (c : Pair) (P : List Entry → Type 0)
 
 -- ---- what is read off a beginning that ends within a block
 
-none_behind : {X : Type 0} (xs ys : List X) → xs ++ ys ≡ [] → ys ≡ []
+pub none_behind : {X : Type 0} (xs ys : List X) → xs ++ ys ≡ [] → ys ≡ []
 none_behind [] ys h = h
 none_behind (z ∷ xs) ys h = cc
 

@@ -122,7 +122,7 @@ module _ (word_of_a word_of_b : List ℕ → ℕ) where
   state_same : (f : Carried → List ℕ) (side : Side) (end : course.Side) → side.socket ≡ map_end f end.end → side.socket.standing.state ≡ state_of end
   state_same f side end e = ap (λ (z : Endpoint (List ℕ)). z.standing.state) e
 
-  stamp_same : (w : World) (c : Pair) → Both word_of_a word_of_b w c → stamp w ≡ windows.stamp c
+  pub stamp_same : (w : World) (c : Pair) → Both word_of_a word_of_b w c → stamp w ≡ windows.stamp c
   stamp_same w c h =
       ap (λ (s : State). record { a = numbered s; b = numbered w.b.socket.standing.state }) (state_same (as_written word_of_a) w.a c.a h.a.image.socket)
       ∙ ap (λ (s : State). record { a = numbered (state_of c.a); b = numbered s }) (state_same (as_written word_of_b) w.b c.b h.b.image.socket)
@@ -150,7 +150,7 @@ module _ (word_of_a word_of_b : List ℕ → ℕ) where
   none_stamped x s stamps =
       ap (λ (n : ℕ). stamps ++ replicate n s) (let e : length (emitted x) - length (emitted x) ≡ 0 = omega arith in e) ∙ append-nil stamps
 
-  stamps_same : (at_a : Bool) (turn : Turn) (w u : World) (c : Pair) (s : Stamps) → Both word_of_a word_of_b w c → Both word_of_a word_of_b u (goes at_a turn c)
+  pub stamps_same : (at_a : Bool) (turn : Turn) (w u : World) (c : Pair) (s : Stamps) → Both word_of_a word_of_b w c → Both word_of_a word_of_b u (goes at_a turn c)
       → stamps_after w u s ≡ windows.stamps_after at_a turn c s
   stamps_same true turn w u c s h k =
       ap (λ (l : List Stamp). record { of_a = l; of_b = stamped w.b u.b (stamp w) s.of_b })

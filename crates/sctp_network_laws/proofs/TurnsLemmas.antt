@@ -77,7 +77,7 @@ summed : (h : HeaderTree) (word : ℕ) (cs : List ChunkTree) → with_zero_field
 unfolding packet_bytes unsummed_bytes header_bytes be16 be32
 summed h word cs = refl
 
-field_in : (h : HeaderTree) (word : ℕ) (cs : List ChunkTree) → word < 2 ^ 32 → checksum_field (packet_bytes h word cs) ≡ word
+pub field_in : (h : HeaderTree) (word : ℕ) (cs : List ChunkTree) → word < 2 ^ 32 → checksum_field (packet_bytes h word cs) ≡ word
 unfolding packet_bytes
 field_in h word cs small = field_at h word (chunks_bytes cs) small
 

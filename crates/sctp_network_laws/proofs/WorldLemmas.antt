@@ -63,7 +63,7 @@ extends_then w u v e f = record {
   b = joins w.b.packets u.b.packets v.b.packets e.sent_b f.sent_b e.b f.b;
 }
 
-all_front : {X : Type 0} (P : X → Type 0) (xs ys zs : List X) → zs ≡ xs ++ ys → All P zs → All P xs
+pub all_front : {X : Type 0} (P : X → Type 0) (xs ys zs : List X) → zs ≡ xs ++ ys → All P zs → All P xs
 all_front {X} P xs ys zs e h = front xs ys (subst (All P) e h)
   where
     front : (xs ys : List X) → All P (xs ++ ys) → All P xs
