@@ -9,7 +9,7 @@ use Rattle.sctp_state.specs.Handover.{HandoverState}
 use Rattle.sctp_table.specs.Association.{Endpoint}
 use Rattle.sctp_table.specs.Handover.{handed_over}
 use Rattle.sctp_association.specs.Socket.{Worked, handover_ending, readiness_in}
-use Rattle.sctp_network_table.specs.Judge.{Answer, HandedOver, NotReady}
+use Rattle.sctp_network_table.specs.Judge.{HandedOver, NotReady}
 use Rattle.sctp_network_table.specs.World.{handed_by}
 
 pub is_handed : (n : ℕ) (s : Endpoint (List ℕ)) (h : HandoverState) → 0 ≡ n → h ≡ handed_over s.standing → HandedOver h ≡ handed_by n s

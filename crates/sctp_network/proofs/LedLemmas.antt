@@ -11,7 +11,7 @@ use Rattle.sctp_table_laws.specs.Sound.{OptionsFit}
 use Rattle.sctp_table_laws.specs.ReadBack.{AreBytes}
 use Rattle.sctp_network.specs.declared.world.WorldError.{WorldError}
 use Rattle.sctp_network.specs.declared.world.WorldError.TheVariants as errors
-use Rattle.sctp_network_table.specs.World.{World, Action, CallOf, Give, GiveForeign, TellTime, Happens, Runs, Lacks, RunsUpToLack, fresh_world}
+use Rattle.sctp_network_table.specs.World.{World, Action, CallOf, Give, GiveForeign, TellTime, Runs, Lacks, RunsUpToLack, fresh_world}
 use Rattle.sctp_network_table.proofs.RunLemmas.{lacks_one}
 use Rattle.sctp_network_laws.specs.Courses.{ActionFits, IsInBytes, IsLed}
 use Rattle.sctp_network_laws.specs.Readable as readable

@@ -1,7 +1,6 @@
 -- What an end makes of bytes, and what the log has of it.
 use Rattle.std.proofs.Common.{◌≡◌, ℕ, Bool, true, false, Option, None, Some, List, [], ◌∷◌, ◌++◌, length, refl, sym, ap, subst, ◌∙◌}
 use Rattle.rand_core.specs.Stream.{Stream}
-use Rattle.sctp_table.specs.Association.{Endpoint}
 use Rattle.sctp_table.specs.Calls.{ready_in}
 use Rattle.sctp_association.specs.Socket.{SocketValue, endpoint}
 use Rattle.sctp_table.specs.Shown.{Association, association_in}

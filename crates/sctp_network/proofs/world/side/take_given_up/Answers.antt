@@ -1,4 +1,4 @@
-use Rattle.std.proofs.Common.{◌≡◌, ap, ◌∙◌}
+use Rattle.std.proofs.Common.{ap, ◌∙◌}
 use Rattle.sctp_association.specs.Socket.{SocketValue}
 use Rattle.sctp_state.specs.Events.{given_up_of}
 use Rattle.sctp_network.specs.WorldView.{end_tree, without_records}

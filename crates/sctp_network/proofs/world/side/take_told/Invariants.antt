@@ -1,4 +1,4 @@
-use Rattle.std.proofs.Common.{◌≡◌, ◌++◌, [], length, map}
+use Rattle.std.proofs.Common.{◌≡◌, ◌++◌, length, map}
 use Rattle.sctp_network_table.specs.World.{packets_in, told_entries}
 use Rattle.sctp_network.specs.WorldView.{end_tree, entry_tree, without_events}
 use Rattle.sctp_network.proofs.world.side.take_told.Given as goal
