@@ -14,4 +14,4 @@ pub use sctp_reassembly::{
     reassembly_streams, resets_leave_queues_settled, restored_queues_are_settled, settled_laws,
     touch, traditional_reassembly_streams, unordered_fragments_make_ready,
 };
-pub use sctp_tracker::{DataTracker, data_tracker};
+pub use sctp_tracker::{DataTracker, a_set_has_one_form, data_tracker, set_laws};
