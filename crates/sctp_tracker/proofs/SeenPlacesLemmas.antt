@@ -1,60 +1,155 @@
--- Where a number is added to runs, by the index of the first run that does not end before it.
-use Rattle.std.proofs.Common.{◌≡◌, ◌≢◌, ℕ, zero, suc, ◌+◌, ◌<◌, ◌≤◌, Bool, true, false, not, leb, ◌&&◌, List, [], ◌∷◌, ◌++◌, length, get_or, take, drop, set, min, refl, sym, ap, ◌∙◌, subst, inl, inr, arith, add-one, drop-cons, length-drop, append_assoc}
-use Rattle.std.specs.List.{insert, remove}
-use Rattle.std.proofs.lemmas.Bool.{lt-ltb, le-ltb, ne_eqb, eq-eqb, lt-leb, le-leb, cases_lt}
-use Rattle.std.proofs.lemmas.Bool.Decides.{nat_tests}
-use Rattle.std.proofs.lemmas.List.{set_split, drop_more, take-append-drop, get_or-drop, drop-set-lt, take_all, drop_all, take_more_set}
-use Rattle.sctp_tracker.specs.Seen.{Run}
-use Rattle.sctp_tracker.specs.Seen.{in_runs, AreRuns}
-use Rattle.sctp_tracker.specs.SeenSteps.{runs_before, Adds}
+-- Where a number is added to a map of runs: at the run before it, and with the one behind it.
+use Rattle.std.proofs.Common.{◌≡◌, ◌≢◌, ℕ, zero, suc, ◌+◌, ◌<◌, ◌≤◌, Bool, true, false, not, ltb, ◌&&◌, ◌||◌, ◌==◌, if◌then◌else◌, cond, map, max, length, take, drop, get_or, List, [], ◌∷◌, ◌++◌, refl, sym, ap, ◌∙◌, subst, inl, inr, arith}
+use Rattle.std.specs.Prelude.{Some, None, unwrap_or, slice_get}
+use Rattle.std.specs.Map.{lookup, remove_entry}
+use Rattle.std.proofs.Common.{Ordering, Less, Equal, Greater}
+use Rattle.std.specs.Ordering.{is_eq, is_lt, nat_cmp, match_ordering}
+use Rattle.std.specs.BTreeMap.{is_at, insert_entry}
+use Rattle.std.specs.BTreeMap.Range.{entries_between}
+use Rattle.std.specs.declared.ops.Bound.TheVariants.{Unbounded, Included}
+use Rattle.std.proofs.lemmas.Bool.{lt-ltb, le-ltb, ne_eqb, eq-eqb, lt-leb, le-leb, cases_lt, cases_order, cases_eq, both_ways}
+use Rattle.sctp_tracker.specs.Seen.{Run, in_runs, AreRuns, last_above}
+use Rattle.sctp_tracker.specs.SeenSteps.{Adds, read, run_of, runs_of, last_entry, run_at, is_held, first_with, last_with}
 use Rattle.sctp_tracker.proofs.SeenEdits.{run, grown_to, add_here, add_number}
-use Rattle.sctp_tracker.proofs.SeenRunsLemmas.{in_runs-below, adds}
+use Rattle.sctp_tracker.proofs.SeenRunsLemmas.{le-last_above, adds}
+use Rattle.sctp_tracker.proofs.SeenOneFormLemmas.{before_first, past_last, within, later}
 
-pub runs_before-le-length : (n : ℕ) (rs : List Run) → runs_before n rs ≤ length rs
-runs_before-le-length n [] = omega arith
-runs_before-le-length n (b ∷ rs) = grind (arith, nat_tests, runs_before-le-length n rs)
+abbrev pub Entry : Type 0
+Entry = ℕ × ℕ
 
-record FoundAt (n : ℕ) (rs : List Run) (p : ℕ) (b : Run) : Type 0 where
-  reaches : n ≤ b.last + 1
-  added : add_number n rs ≡ take p rs ++ add_here n b (drop (suc p) rs)
-  held : in_runs rs n ≡ (leb b.first n && leb n b.last)
-  later : AreRuns b.last (drop (suc p) rs)
+-- ---- numbers as keys
 
-held_later : (n : ℕ) (b : Run) (rs : List Run) (v : Bool) → b.last + 1 < n → in_runs rs n ≡ v → in_runs (b ∷ rs) n ≡ v
-held_later n b rs v h e = grind (arith, nat_tests)
+nat_cmp-less : (k a : ℕ) → k < a → nat_cmp k a ≡ Less
+nat_cmp-less k a h = rw (lt-ltb k a h) refl
 
-held_here : (n : ℕ) (b : Run) (rs : List Run) → AreRuns b.last rs → n ≤ b.last + 1 → in_runs (b ∷ rs) n ≡ (leb b.first n && leb n b.last)
-held_here n b rs r h = grind (arith, nat_tests, in_runs-below b.last n rs r h)
+nat_cmp-same : (k a : ℕ) → k ≡ a → nat_cmp k a ≡ Equal
+nat_cmp-same k a e = rw (le-ltb k a (omega (arith, e)), eq-eqb k a e) refl
 
-at_place : (point n : ℕ) (rs : List Run) (d : Run) → AreRuns point rs → runs_before n rs < length rs → FoundAt n rs (runs_before n rs) (get_or rs (runs_before n rs) d)
-at_place point n [] d r h = absurd (omega arith)
-at_place point n (b ∷ rs) d r h =
-    elim (cases_lt (b.last + 1) n) [
-      | inl past ↦
-          let e = lt-ltb (b.last + 1) n past in
-          let more = rw e at h in
-          let f = at_place b.last n rs d r.2 (omega arith) in
-          rw e (record { reaches = f.reaches; added = rw e (ap (λ z. b ∷ z) f.added); held = held_later n b rs _ past f.held; later = f.later })
-      | inr here ↦
-          let e = le-ltb (b.last + 1) n here in
-          rw e (record { reaches = here; added = rw e refl; held = held_here n b rs r.2 here; later = r.2 })
+nat_cmp-more : (k a : ℕ) → a < k → nat_cmp k a ≡ Greater
+nat_cmp-more k a h = rw (le-ltb k a (omega (arith, h)), ne_eqb k a (omega (arith, h))) refl
+
+is_at-other : (k a : ℕ) → k ≢ a → is_at (nat_cmp k) a ≡ false
+is_at-other k a d =
+    elim (cases_order k a) [
+      | inl e ↦ absurd (d e)
+      | inr (inl less) ↦ ap is_eq (nat_cmp-less k a less)
+      | inr (inr more) ↦ ap is_eq (nat_cmp-more k a more)
     ]
 
-past_end : (n : ℕ) (rs : List Run) → length rs ≤ runs_before n rs → (add_number n rs ≡ rs ++ run n n ∷ []) × (in_runs rs n ≡ false)
-past_end n [] h = (refl, refl)
-past_end n (b ∷ rs) h =
-    elim (cases_lt (b.last + 1) n) [
-      | inl past ↦
-          let e = lt-ltb (b.last + 1) n past in
-          let more = rw e at h in
-          let f = past_end n rs (omega arith) in
-          (rw e (ap (λ z. b ∷ z) f.0), held_later n b rs false past f.1)
-      | inr here ↦ let more = rw (le-ltb (b.last + 1) n here) at h in absurd (omega arith)
+-- ---- what std's words do at the first entry
+
+insert-past : (k v : ℕ) (e : Entry) (es : List Entry) → e.0 < k → insert_entry nat_cmp (e ∷ es) k v ≡ e ∷ insert_entry nat_cmp es k v
+insert-past k v e es h = ap (λ (o : Ordering). match_ordering o ((k, v) ∷ e ∷ es) ((e.0, v) ∷ es) (e ∷ insert_entry nat_cmp es k v)) (nat_cmp-more k e.0 h)
+
+insert-here : (k v : ℕ) (e : Entry) (es : List Entry) → k ≡ e.0 → insert_entry nat_cmp (e ∷ es) k v ≡ (e.0, v) ∷ es
+insert-here k v e es h = ap (λ (o : Ordering). match_ordering o ((k, v) ∷ e ∷ es) ((e.0, v) ∷ es) (e ∷ insert_entry nat_cmp es k v)) (nat_cmp-same k e.0 h)
+
+insert-before : (k v : ℕ) (e : Entry) (es : List Entry) → k < e.0 → insert_entry nat_cmp (e ∷ es) k v ≡ (k, v) ∷ e ∷ es
+insert-before k v e es h = ap (λ (o : Ordering). match_ordering o ((k, v) ∷ e ∷ es) ((e.0, v) ∷ es) (e ∷ insert_entry nat_cmp es k v)) (nat_cmp-less k e.0 h)
+
+remove-past : (k : ℕ) (e : Entry) (es : List Entry) → k ≢ e.0 → remove_entry (is_at (nat_cmp k)) (e ∷ es) ≡ e ∷ remove_entry (is_at (nat_cmp k)) es
+remove-past k e es d = ap (λ (v : Bool). cond v es (e ∷ remove_entry (is_at (nat_cmp k)) es)) (is_at-other k e.0 d)
+
+remove-here : (k : ℕ) (e : Entry) (es : List Entry) → k ≡ e.0 → remove_entry (is_at (nat_cmp k)) (e ∷ es) ≡ es
+remove-here k e es h = ap (λ (o : Ordering). cond (is_eq o) es (e ∷ remove_entry (is_at (nat_cmp k)) es)) (nat_cmp-same k e.0 h)
+
+lookup-past : (k : ℕ) (e : Entry) (es : List Entry) → k ≢ e.0 → lookup (is_at (nat_cmp k)) (e ∷ es) ≡ lookup (is_at (nat_cmp k)) es
+lookup-past k e es d = ap (λ (v : Bool). cond v (Some e.1) (lookup (is_at (nat_cmp k)) es)) (is_at-other k e.0 d)
+
+lookup-here : (k : ℕ) (e : Entry) (es : List Entry) → k ≡ e.0 → lookup (is_at (nat_cmp k)) (e ∷ es) ≡ Some e.1
+lookup-here k e es h = ap (λ (o : Ordering). cond (is_eq o) (Some e.1) (lookup (is_at (nat_cmp k)) es)) (nat_cmp-same k e.0 h)
+
+lookup-above : (q k : ℕ) (es : List Entry) → AreRuns q (runs_of es) → k ≤ q + 1 → lookup (is_at (nat_cmp k)) es ≡ None
+lookup-above q k [] r h = refl
+lookup-above q k (e ∷ es) r h = lookup-past k e es (omega (arith, r.0, h)) ∙ lookup-above e.1 k es r.2 (omega (arith, r.0, r.1, h))
+
+abbrev begun : ℕ → List Entry → List Entry
+begun n es = entries_between nat_cmp Unbounded (Included n) es
+
+begun-past : (n : ℕ) (e : Entry) (es : List Entry) → e.0 ≤ n → begun n (e ∷ es) ≡ e ∷ begun n es
+begun-past n e es h =
+    elim (cases_lt e.0 n) [
+      | inl less ↦ ap (λ (o : Ordering). cond (true && not (is_lt o)) (e ∷ begun n es) (begun n es)) (nat_cmp-more n e.0 less)
+      | inr more ↦ ap (λ (o : Ordering). cond (true && not (is_lt o)) (e ∷ begun n es) (begun n es)) (nat_cmp-same n e.0 (omega (arith, h, more)))
     ]
 
-found : (point n p : ℕ) (rs : List Run) (b : Run) → AreRuns point rs → p ≡ runs_before n rs → p < length rs → b ≡ get_or rs p b → FoundAt n rs p b
-found point n p rs b r e h read =
-    subst (λ z. FoundAt n rs p z) (sym read) (subst (λ q. FoundAt n rs q (get_or rs q b)) (sym e) (at_place point n rs b r (omega arith)))
+begun-behind : (n : ℕ) (e : Entry) (es : List Entry) → n < e.0 → begun n (e ∷ es) ≡ begun n es
+begun-behind n e es h = ap (λ (o : Ordering). cond (true && not (is_lt o)) (e ∷ begun n es) (begun n es)) (nat_cmp-less n e.0 h)
+
+begun-none : (q n : ℕ) (es : List Entry) → AreRuns q (runs_of es) → n ≤ q + 1 → begun n es ≡ []
+begun-none q n [] r h = refl
+begun-none q n (e ∷ es) r h = begun-behind n e es (omega (arith, r.0, h)) ∙ begun-none e.1 n es r.2 (omega (arith, r.0, r.1, h))
+
+pub last_entry-end : (t : List Entry) (e : Entry) → last_entry (t ++ e ∷ []) ≡ Some e
+last_entry-end [] e = refl
+last_entry-end (x ∷ []) e = refl
+last_entry-end (x ∷ y ∷ t) e = last_entry-end (y ∷ t) e
+
+-- ---- the run that is written
+
+-- the entries with a run from first to last, which takes in the one that begins behind n
+abbrev pub written : (n first last : ℕ) → List Entry → List Entry
+written n first last es =
+    cond (ltb n last) (remove_entry (is_at (nat_cmp (n + 1))) (insert_entry nat_cmp es first last)) (insert_entry nat_cmp es first last)
+
+pub written-joined : (n first last : ℕ) (es : List Entry) → n < last → written n first last es ≡ remove_entry (is_at (nat_cmp (n + 1))) (insert_entry nat_cmp es first last)
+written-joined n first last es h = ap (λ (v : Bool). cond v (remove_entry (is_at (nat_cmp (n + 1))) (insert_entry nat_cmp es first last)) (insert_entry nat_cmp es first last)) (lt-ltb n last h)
+
+pub written-put : (n first last : ℕ) (es : List Entry) → last ≤ n → written n first last es ≡ insert_entry nat_cmp es first last
+written-put n first last es h = ap (λ (v : Bool). cond v (remove_entry (is_at (nat_cmp (n + 1))) (insert_entry nat_cmp es first last)) (insert_entry nat_cmp es first last)) (le-ltb n last h)
+
+written-alone : (n first : ℕ) (es : List Entry) → written n first n es ≡ insert_entry nat_cmp es first n
+written-alone n first es = written-put n first n es (omega arith)
+
+written-past : (n first last : ℕ) (e : Entry) (es : List Entry) → e.0 < first → e.0 < n → written n first last (e ∷ es) ≡ e ∷ written n first last es
+written-past n first last e es h k =
+    elim (cases_lt n last) [
+      | inl longer ↦
+          written-joined n first last (e ∷ es) longer
+          ∙ (ap (λ z. remove_entry (is_at (nat_cmp (n + 1))) z) (insert-past first last e es h)
+          ∙ (remove-past (n + 1) e (insert_entry nat_cmp es first last) (omega (arith, k))
+          ∙ ap (λ z. e ∷ z) (sym (written-joined n first last es longer))))
+      | inr alone ↦ written-put n first last (e ∷ es) alone ∙ (insert-past first last e es h ∙ ap (λ z. e ∷ z) (sym (written-put n first last es alone)))
+    ]
+
+-- ---- the run that is found
+
+-- one that ends before n - 1 doesn't count
+held-past : (n : ℕ) (e : Entry) (fs : List Entry) → e.1 + 1 < n → is_held n (last_entry (e ∷ fs)) ≡ is_held n (last_entry fs)
+held-past n e [] h = lt-leb n e.1 (omega (arith, h))
+held-past n e (f ∷ fs) h = refl
+
+first-past : (n : ℕ) (e : Entry) (fs : List Entry) → e.1 + 1 < n → first_with n (last_entry (e ∷ fs)) ≡ first_with n (last_entry fs)
+first-past n e [] h = ap (λ (v : Bool). cond v e.0 n) (ne_eqb n (suc e.1) (omega (arith, h)))
+first-past n e (f ∷ fs) h = refl
+
+-- the run begins above what lies below
+first-above : (low q n : ℕ) (es : List Entry) → AreRuns q (runs_of es) → low ≤ q → low < n → low < first_with n (run_at n es)
+first-above low q n [] r l h = h
+first-above low q n (e ∷ es) r l h =
+    elim (cases_lt n e.0) [
+      | inl less ↦ subst (λ (z : List Entry). low < first_with n (last_entry z)) (sym (begun-behind n e es less)) (first-above low e.1 n es r.2 (omega (arith, l, r.0, r.1)) h)
+      | inr more ↦ subst (λ (z : List Entry). low < first_with n (last_entry z)) (sym (begun-past n e es more)) (either (begun n es) (first-above low e.1 n es r.2 (omega (arith, l, r.0, r.1)) h))
+    ]
+  where
+    either : (fs : List Entry) → low < first_with n (last_entry fs) → low < first_with n (last_entry (e ∷ fs))
+    either (f ∷ fs) k = k
+    either [] k = one (n == suc e.1)
+      where
+        one : (v : Bool) → low < (if v then e.0 else n)
+        one true = omega (arith, l, r.0)
+        one false = h
+
+-- ---- the number is added
+
+record Put (n : ℕ) (es : List Entry) : Type 0 where
+  held : is_held n (run_at n es) ≡ in_runs (runs_of es) n
+  added : in_runs (runs_of es) n ≡ false → runs_of (written n (first_with n (run_at n es)) (last_with n es) es) ≡ add_number n (runs_of es)
+
+finish : (n first last : ℕ) (es zs : List Entry) → first_with n (run_at n es) ≡ first → last_with n es ≡ last → written n first last es ≡ zs → runs_of zs ≡ add_number n (runs_of es)
+    → runs_of (written n (first_with n (run_at n es)) (last_with n es) es) ≡ add_number n (runs_of es)
+finish n first last es zs f l w a =
+    ap (λ x. runs_of (written n x (last_with n es) es)) f ∙ (ap (λ y. runs_of (written n first y es)) l ∙ (ap runs_of w ∙ a))
 
 add_here-before : (n : ℕ) (b : Run) (rs : List Run) → n + 1 < b.first → add_here n b rs ≡ run n n ∷ (b ∷ rs)
 add_here-before n b rs h = rw (lt-ltb (n + 1) b.first h)
@@ -62,113 +157,210 @@ add_here-before n b rs h = rw (lt-ltb (n + 1) b.first h)
 add_here-first : (n : ℕ) (b : Run) (rs : List Run) → n + 1 ≡ b.first → add_here n b rs ≡ run n b.last ∷ rs
 add_here-first n b rs h = rw (le-ltb (n + 1) b.first (omega arith), eq-eqb (n + 1) b.first h)
 
-add_here-within : (n : ℕ) (b : Run) (rs : List Run) → b.first ≤ n → n ≤ b.last → add_here n b rs ≡ b ∷ rs
-add_here-within n b rs h k = rw (le-ltb (n + 1) b.first (omega arith), ne_eqb (n + 1) b.first (omega arith), le-leb n b.last k)
-
 add_here-after : (n : ℕ) (b : Run) (rs : List Run) → b.first ≤ n → b.last < n → add_here n b rs ≡ grown_to b.first n rs
 add_here-after n b rs h k = rw (le-ltb (n + 1) b.first (omega arith), ne_eqb (n + 1) b.first (omega arith), lt-leb n b.last k)
-
--- the list with the number, and whether it was there
-pub record Added (n : ℕ) (old new : List Run) (held : Bool) : Type 0 where
-  pub items : new ≡ add_number n old
-  pub was : held ≡ in_runs old n
-
-pub adds_there : (n : ℕ) (old there new : List Run) (held : Bool) → AreRuns 0 old → Added n old there held → new ≡ there → Adds n old (not held) new
-adds_there n old there new held r a e = adds n old new held r (e ∙ a.items) a.was
-
-pub add_at_end : (n p : ℕ) (rs : List Run) → p ≡ runs_before n rs → p ≡ length rs → Added n rs (insert rs p (run n n)) false
-add_at_end n p rs e h =
-    let f = past_end n rs (omega arith) in
-    record { items = rw (h, take_all (length rs) rs (omega arith), drop_all (length rs) rs (omega arith)) (sym f.0); was = sym f.1 }
-
-pub add_before : (point n p : ℕ) (rs : List Run) (b : Run) → AreRuns point rs → p ≡ runs_before n rs → p < length rs → b ≡ get_or rs p b → n + 1 < b.first → Added n rs (insert rs p (run n n)) false
-add_before point n p rs b r e h read k =
-    let f = found point n p rs b r e h read in
-    record {
-      items = rw (drop_more rs p b h, ← read, add-one) (sym (f.added ∙ ap (λ z. take p rs ++ z) (add_here-before n b _ k)));
-      was = grind (arith, nat_tests, f.held);
-    }
-
-pub add_first : (point n p : ℕ) (rs : List Run) (b : Run) → AreRuns point rs → p ≡ runs_before n rs → p < length rs → b ≡ get_or rs p b → n + 1 ≡ b.first → Added n rs (set rs p (run n b.last)) false
-add_first point n p rs b r e h read k =
-    let f = found point n p rs b r e h read in
-    record {
-      items = set_split rs p _ h ∙ sym (f.added ∙ ap (λ z. take p rs ++ z) (add_here-first n b _ k));
-      was = grind (arith, nat_tests, f.held);
-    }
-
-at_index : (p : ℕ) (rs : List Run) (b : Run) → p < length rs → b ≡ get_or rs p b → take p rs ++ (b ∷ drop (suc p) rs) ≡ rs
-at_index p rs b h read = ap (λ x. take p rs ++ (x ∷ drop (suc p) rs)) read ∙ ap (λ z. take p rs ++ z) (sym (drop-cons rs p b h)) ∙ take-append-drop p rs
-
-pub add_within : (point n p : ℕ) (rs : List Run) (b : Run) → AreRuns point rs → p ≡ runs_before n rs → p < length rs → b ≡ get_or rs p b → b.first ≤ n → n ≤ b.last → Added n rs rs true
-add_within point n p rs b r e h read k l =
-    let f = found point n p rs b r e h read in
-    record {
-      items = sym (f.added ∙ ap (λ z. take p rs ++ z) (add_here-within n b _ k l) ∙ at_index p rs b h read);
-      was = grind (arith, nat_tests, f.held);
-    }
-
-grown_to-apart : (f n : ℕ) (rs : List Run) (d : Run) → (0 < length rs → (get_or rs 0 d).first ≢ n + 1) → grown_to f n rs ≡ run f n ∷ rs
-grown_to-apart f n [] d h = refl
-grown_to-apart f n (c ∷ qs) d h = rw (ne_eqb c.first (n + 1) (h (omega arith)))
-
-pub add_after : (point n p : ℕ) (rs : List Run) (b d : Run) → AreRuns point rs → p ≡ runs_before n rs → p < length rs → b ≡ get_or rs p b → b.first ≤ n → b.last < n → (p + 1 < length rs → (get_or rs (p + 1) d).first ≢ n + 1) → Added n rs (set rs p (run b.first n)) false
-add_after point n p rs b d r e h read k l apart =
-    let f = found point n p rs b r e h read in
-    let next : get_or (drop (suc p) rs) 0 d ≡ get_or rs (p + 1) d = get_or-drop (suc p) rs 0 d ∙ ap (λ i. get_or rs i d) (omega arith) in
-    let other : 0 < length (drop (suc p) rs) → (get_or (drop (suc p) rs) 0 d).first ≢ n + 1 = λ q same. apart (omega (arith, length-drop (suc p) rs)) (ap (λ z. z.first) (sym next) ∙ same) in
-    record {
-      items = set_split rs p _ h ∙ sym (f.added ∙ ap (λ z. take p rs ++ z) (add_here-after n b _ k l ∙ grown_to-apart b.first n (drop (suc p) rs) d other));
-      was = grind (arith, nat_tests, f.held);
-    }
 
 grown_to-joins : (f n : ℕ) (c : Run) (qs : List Run) → c.first ≡ n + 1 → grown_to f n (c ∷ qs) ≡ run f c.last ∷ qs
 grown_to-joins f n c qs h = rw (eq-eqb c.first (n + 1) h)
 
-pub add_joining : (point n p : ℕ) (rs : List Run) (b c : Run) → AreRuns point rs → p ≡ runs_before n rs → p < length rs → b ≡ get_or rs p b → b.first ≤ n → b.last < n → p + 1 < length rs → c ≡ get_or rs (p + 1) c → c.first ≡ n + 1 → Added n rs (remove (set rs p (run b.first c.last)) (p + 1)) false
-add_joining point n p rs b c r e h read k l h2 read2 joins =
-    let f = found point n p rs b r e h read in
-    let rest : drop (suc p) rs ≡ c ∷ drop (suc (p + 1)) rs = ap (λ i. drop i rs) (sym (add-one p)) ∙ drop-cons rs (p + 1) c h2 ∙ ap (λ x. x ∷ drop (suc (p + 1)) rs) (sym read2) in
+grown_to-apart : (f n : ℕ) (c : Run) (qs : List Run) → c.first ≢ n + 1 → grown_to f n (c ∷ qs) ≡ run f n ∷ (c ∷ qs)
+grown_to-apart f n c qs h = rw (ne_eqb c.first (n + 1) h)
+
+-- behind a run that ends before n - 1
+put_past : (n : ℕ) (e : Entry) (es : List Entry) → AreRuns e.1 (runs_of es) → e.0 ≤ e.1 → e.1 + 1 < n → Put n es → Put n (e ∷ es)
+put_past n e es r o past p =
+    let split = begun-past n e es (omega (arith, o, past)) in
+    let behind : in_runs (run_of e ∷ runs_of es) n ≡ in_runs (runs_of es) n = later n (run_of e) (runs_of es) (omega (arith, past)) in
+    let f = first_with n (run_at n es) in
+    let l = last_with n es in
+    let firsts = ap (λ z. first_with n (last_entry z)) split ∙ first-past n e (begun n es) past in
+    let lasts = ap (λ z. unwrap_or z n) (lookup-past (n + 1) e es (omega (arith, o, past))) in
+    let here : add_number n (run_of e ∷ runs_of es) ≡ run_of e ∷ add_number n (runs_of es) = ap (λ (v : Bool). cond v (run_of e ∷ add_number n (runs_of es)) (add_here n (run_of e) (runs_of es))) (lt-ltb (e.1 + 1) n past) in
     record {
-      items =
-          ap (λ z. z ++ drop (suc (p + 1)) (set rs p (run b.first c.last))) (take_more_set rs p (run b.first c.last) h)
-          ∙ ap (λ z. (take p rs ++ run b.first c.last ∷ []) ++ z) (drop-set-lt (suc (p + 1)) rs p (run b.first c.last) (omega arith))
-          ∙ append_assoc (take p rs) (run b.first c.last ∷ []) (drop (suc (p + 1)) rs)
-          ∙ sym (f.added ∙ ap (λ z. take p rs ++ z) (add_here-after n b _ k l ∙ ap (λ z. grown_to b.first n z) rest ∙ grown_to-joins b.first n c (drop (suc (p + 1)) rs) joins));
-      was = grind (arith, nat_tests, f.held);
+      held = ap (λ z. is_held n (last_entry z)) split ∙ (held-past n e (begun n es) past ∙ (p.held ∙ sym behind));
+      added = λ h.
+          ap (λ x. runs_of (written n x (last_with n (e ∷ es)) (e ∷ es))) firsts
+          ∙ (ap (λ y. runs_of (written n f y (e ∷ es))) lasts
+          ∙ (ap runs_of (written-past n f l e es (first-above e.0 e.1 n es r o (omega (arith, o, past))) (omega (arith, o, past)))
+          ∙ (ap (λ z. run_of e ∷ z) (p.added (sym behind ∙ h)) ∙ sym here)));
     }
 
--- a run that n touches, or that lies behind it, isn't counted
-pub runs_before-within : (n k : ℕ) (rs : List Run) (d : Run) → n ≤ (get_or rs k d).last + 1 → k < length rs → runs_before n rs ≤ k
-runs_before-within n k [] d h l = absurd (omega arith)
-runs_before-within n zero (b ∷ rs) d h l = rw (le-ltb (b.last + 1) n h) (omega arith)
-runs_before-within n (suc k) (b ∷ rs) d h l = grind (arith, nat_tests, runs_before-within n k rs d h (omega arith))
+module _ (q n : ℕ) (e : Entry) (es : List Entry) (r : AreRuns q (runs_of (e ∷ es))) (here : n ≤ e.1 + 1) where
+  at_here : add_number n (runs_of (e ∷ es)) ≡ add_here n (run_of e) (runs_of es)
+  at_here = ap (λ (v : Bool). cond v (run_of e ∷ add_number n (runs_of es)) (add_here n (run_of e) (runs_of es))) (le-ltb (e.1 + 1) n here)
 
--- each run up to one that ends before n - 1 is counted
-pub runs_before-past : (point n k : ℕ) (rs : List Run) (d : Run) → AreRuns point rs → (get_or rs k d).last + 1 < n → k < length rs → k < runs_before n rs
-runs_before-past point n k [] d r h l = absurd (omega arith)
-runs_before-past point n zero (b ∷ rs) d r h l = rw (lt-ltb (b.last + 1) n h) (omega arith)
-runs_before-past point n (suc k) (b ∷ rs) d r h l =
-    let more = runs_before-past b.last n k rs d r.2 h (omega arith) in
-    let early : b.last + 1 < n = omega (arith, last_rises b.last k rs d r.2 (omega arith), h) in
-    rw (lt-ltb (b.last + 1) n early) (omega (arith, more))
+  none : begun n es ≡ []
+  none = begun-none e.1 n es r.2 here
+
+  -- before the run
+  put_before : n < e.0 → Put n (e ∷ es)
+  put_before before = record {
+    held = ap (is_held n) at ∙ sym (before_first q n (run_of e) (runs_of es) r before);
+    added = λ h. elim (cases_lt (n + 1) e.0) [ inl apart ↦ alone apart | inr touches ↦ joined (omega (arith, before, touches)) ];
+  }
+    where
+      at : run_at n (e ∷ es) ≡ None
+      at = ap last_entry (begun-behind n e es before ∙ none)
+
+      alone : n + 1 < e.0 → runs_of (written n (first_with n (run_at n (e ∷ es))) (last_with n (e ∷ es)) (e ∷ es)) ≡ add_number n (runs_of (e ∷ es))
+      alone apart =
+          let free = lookup-past (n + 1) e es (omega (arith, apart)) ∙ lookup-above e.1 (n + 1) es r.2 (omega (arith, before, r.1)) in
+          finish n n n (e ∷ es) ((n, n) ∷ e ∷ es) (ap (first_with n) at) (ap (λ z. unwrap_or z n) free)
+          (written-alone n n (e ∷ es) ∙ insert-before n n e es before) (sym (at_here ∙ add_here-before n (run_of e) (runs_of es) apart))
+
+      joined : n + 1 ≡ e.0 → runs_of (written n (first_with n (run_at n (e ∷ es))) (last_with n (e ∷ es)) (e ∷ es)) ≡ add_number n (runs_of (e ∷ es))
+      joined touches =
+          finish n n e.1 (e ∷ es) ((n, e.1) ∷ es) (ap (first_with n) at) (ap (λ z. unwrap_or z n) (lookup-here (n + 1) e es touches))
+          (written-joined n n e.1 (e ∷ es) (omega (arith, before, r.1))
+          ∙ (ap (λ z. remove_entry (is_at (nat_cmp (n + 1))) z) (insert-before n e.1 e es before)
+          ∙ (remove-past (n + 1) (n, e.1) (e ∷ es) (omega arith) ∙ ap (λ z. (n, e.1) ∷ z) (remove-here (n + 1) e es touches))))
+          (sym (at_here ∙ add_here-first n (run_of e) (runs_of es) touches))
+
+  module _ (started : e.0 ≤ n) where
+    at : run_at n (e ∷ es) ≡ Some e
+    at = ap last_entry (begun-past n e es started ∙ ap (λ z. e ∷ z) none)
+
+    -- in the run
+    put_within : n ≤ e.1 → Put n (e ∷ es)
+    put_within inside =
+        let there : in_runs (runs_of (e ∷ es)) n ≡ true = within n (run_of e) (runs_of es) started inside in
+        record {
+          held = ap (is_held n) at ∙ (le-leb n e.1 inside ∙ sym there);
+          added = λ h. absurd (both_ways _ h there);
+        }
+
+    -- right behind the run
+    module _ (ends : e.1 < n) where
+      first_is : first_with n (run_at n (e ∷ es)) ≡ e.0
+      first_is = ap (first_with n) at ∙ ap (λ (v : Bool). cond v e.0 n) (eq-eqb n (suc e.1) (omega (arith, ends, here)))
+
+      grows : add_number n (runs_of (e ∷ es)) ≡ grown_to e.0 n (runs_of es)
+      grows = at_here ∙ add_here-after n (run_of e) (runs_of es) started ends
+
+      held_is : is_held n (run_at n (e ∷ es)) ≡ in_runs (runs_of (e ∷ es)) n
+      held_is =
+          let next : e.1 + 1 ≡ n = omega (arith, ends, here) in
+          ap (is_held n) at ∙ (lt-leb n e.1 ends ∙ sym (ap (in_runs (runs_of (e ∷ es))) (sym next) ∙ past_last q (run_of e) (runs_of es) r))
+
+      -- no run begins right behind n
+      grown_alone : lookup (is_at (nat_cmp (n + 1))) es ≡ None → grown_to e.0 n (runs_of es) ≡ run e.0 n ∷ runs_of es
+          → runs_of (written n (first_with n (run_at n (e ∷ es))) (last_with n (e ∷ es)) (e ∷ es)) ≡ add_number n (runs_of (e ∷ es))
+      grown_alone free apart =
+          finish n e.0 n (e ∷ es) ((e.0, n) ∷ es) first_is (ap (λ z. unwrap_or z n) (lookup-past (n + 1) e es (omega (arith, started)) ∙ free))
+          (written-alone n e.0 (e ∷ es) ∙ insert-here e.0 n e es refl) (sym (grows ∙ apart))
+
+  -- one does
+  grown_joined : (f : Entry) (fs : List Entry) → e.0 ≤ n → e.1 < n → es ≡ f ∷ fs → f.0 ≡ n + 1 → f.0 ≤ f.1
+      → runs_of (written n (first_with n (run_at n (e ∷ es))) (last_with n (e ∷ es)) (e ∷ es)) ≡ add_number n (runs_of (e ∷ es))
+  grown_joined f fs started ends split touches full =
+      let found : lookup (is_at (nat_cmp (n + 1))) es ≡ Some f.1 = ap (λ z. lookup (is_at (nat_cmp (n + 1))) z) split ∙ lookup-here (n + 1) f fs (sym touches) in
+      let taken : remove_entry (is_at (nat_cmp (n + 1))) es ≡ fs = ap (λ z. remove_entry (is_at (nat_cmp (n + 1))) z) split ∙ remove-here (n + 1) f fs (sym touches) in
+      let wide : grown_to e.0 n (runs_of es) ≡ run e.0 f.1 ∷ runs_of fs = ap (λ z. grown_to e.0 n (runs_of z)) split ∙ grown_to-joins e.0 n (run_of f) (runs_of fs) touches in
+      finish n e.0 f.1 (e ∷ es) ((e.0, f.1) ∷ fs) (first_is started ends) (ap (λ z. unwrap_or z n) (lookup-past (n + 1) e es (omega (arith, started)) ∙ found))
+      (written-joined n e.0 f.1 (e ∷ es) (omega (arith, touches, full))
+      ∙ (ap (λ z. remove_entry (is_at (nat_cmp (n + 1))) z) (insert-here e.0 f.1 e es refl)
+      ∙ (remove-past (n + 1) (e.0, f.1) es (omega (arith, started)) ∙ ap (λ z. (e.0, f.1) ∷ z) taken)))
+      (sym (grows started ends ∙ wide))
+
+put_behind : (q n : ℕ) (e : Entry) (es : List Entry) → AreRuns q (runs_of (e ∷ es)) → n ≤ e.1 + 1 → e.0 ≤ n → e.1 < n → Put n (e ∷ es)
+put_behind q n e [] r here started ends = record { held = held_is q n e [] r here started ends; added = λ h. grown_alone q n e [] r here started ends refl refl }
+put_behind q n e (f ∷ fs) r here started ends =
+    let next = r.2 in
+    record {
+      held = held_is q n e (f ∷ fs) r here started ends;
+      added = λ h.
+          elim (cases_lt (n + 1) f.0) [
+            | inl apart ↦
+                grown_alone q n e (f ∷ fs) r here started ends
+                (lookup-past (n + 1) f fs (omega (arith, apart)) ∙ lookup-above f.1 (n + 1) fs next.2 (omega (arith, apart, next.1)))
+                (grown_to-apart e.0 n (run_of f) (runs_of fs) (omega (arith, apart)))
+            | inr touches ↦ grown_joined q n e (f ∷ fs) r here f fs started ends refl (omega (arith, touches, next.0, ends)) next.1
+          ];
+    }
+
+put : (q n : ℕ) (es : List Entry) → AreRuns q (runs_of es) → Put n es
+put q n [] r = record { held = refl; added = λ h. ap runs_of (written-alone n n []) }
+put q n (e ∷ es) r =
+    elim (cases_lt (e.1 + 1) n) [
+      | inl past ↦ put_past n e es r.2 r.1 past (put e.1 n es r.2)
+      | inr here ↦
+          elim (cases_lt n e.0) [
+            | inl before ↦ put_before q n e es r here before
+            | inr started ↦ elim (cases_lt e.1 n) [ inl ends ↦ put_behind q n e es r here started ends | inr inside ↦ put_within q n e es r here started inside ]
+          ]
+    ]
+
+-- ---- what the code does
+
+pub adds_written : (n first last : ℕ) (es new : List Entry) → AreRuns 0 (runs_of es) → is_held n (run_at n es) ≡ false → first ≡ first_with n (run_at n es) → last ≡ last_with n es → new ≡ written n first last es
+    → Adds n (runs_of es) true (runs_of new)
+adds_written n first last es new r free f l e =
+    let p = put 0 n es r in
+    let was = sym p.held ∙ free in
+    let same = ap runs_of e ∙ (ap (λ x. runs_of (written n x last es)) f ∙ (ap (λ y. runs_of (written n (first_with n (run_at n es)) y es)) l ∙ p.added was)) in
+    adds n (runs_of es) (runs_of new) false r same (sym was)
+
+up_to_last : (p n : ℕ) (rs : List Run) → AreRuns p rs → in_runs rs n ≡ true → n ≤ last_above p rs
+up_to_last p n [] r h = absurd (cc)
+up_to_last p n (b ∷ rs) r h =
+    elim (cases_lt b.last n) [
+      | inl past ↦ up_to_last b.last n rs r.2 (sym (later n b rs past) ∙ h)
+      | inr here ↦ omega (arith, here, le-last_above b.last rs r.2)
+    ]
+
+pub adds_held : (n : ℕ) (es : List Entry) → AreRuns 0 (runs_of es) → is_held n (run_at n es) ≡ true → Adds n (runs_of es) false (runs_of es)
+adds_held n es r h =
+    let there = sym (put 0 n es r).held ∙ h in
+    record {
+      answer = sym (ap not there);
+      numbers = λ m. again m there;
+      runs = λ below a l. a;
+      last = λ below a l. highest below a there;
+    }
   where
-    last_rises : (p k : ℕ) (rs : List Run) (d : Run) → AreRuns p rs → k < length rs → p < (get_or rs k d).last
-    last_rises p k [] d r l = absurd (omega arith)
-    last_rises p zero (b ∷ rs) d r l = omega arith
-    last_rises p (suc k) (b ∷ rs) d r l = omega (arith, last_rises b.last k rs d r.2 (omega arith))
+    again : (m : ℕ) → in_runs (runs_of es) n ≡ true → in_runs (runs_of es) m ≡ (m == n || in_runs (runs_of es) m)
+    again m there =
+        elim (cases_eq m n) [
+          | inl e ↦ rw (eq-eqb m n e) (ap (in_runs (runs_of es)) e ∙ there)
+          | inr d ↦ rw (ne_eqb m n d) refl
+        ]
+
+    highest : (below : ℕ) → AreRuns below (runs_of es) → in_runs (runs_of es) n ≡ true → last_above below (runs_of es) ≡ max n (last_above below (runs_of es))
+    highest below a there = omega (arith, up_to_last below n (runs_of es) a there)
+
+-- the first run, and the others
+pub at_front : (es new : List Entry) (e : Entry) → slice_get es 0 ≡ Some e → new ≡ drop 1 es → runs_of es ≡ run_of e ∷ runs_of new
+at_front [] new e h d = absurd (cc)
+at_front (x ∷ es) new e h d =
+    let same : x ≡ e = ap (λ o. unwrap_or o x) h in
+    let rest : es ≡ new = sym d in
+    ap (λ y. run_of y ∷ runs_of es) same ∙ ap (λ z. run_of e ∷ runs_of z) rest
+
+pub apart : (p : ℕ) (es : List Entry) (e : Entry) → slice_get es 0 ≡ Some e → AreRuns 0 (runs_of es) → p + 1 < e.0 → AreRuns p (runs_of es)
+apart p [] e h r far = absurd (cc)
+apart p (x ∷ es) e h r far =
+    let same : x ≡ e = ap (λ o. unwrap_or o x) h in
+    let first : x.0 ≡ e.0 = ap (λ (y : Entry). y.0) same in
+    (omega (arith, first, far), r.1, r.2)
+
+pub none_left : (p : ℕ) (es : List Entry) → slice_get es 0 ≡ None → AreRuns p (runs_of es)
+none_left p [] h = tt
+none_left p (x ∷ es) h = absurd (cc)
 
 -- each run lies above the front
-pub run_above : (p k : ℕ) (rs : List Run) (d : Run) → AreRuns p rs → k < length rs → (p < (get_or rs k d).first) × ((get_or rs k d).first ≤ (get_or rs k d).last)
+pub run_above : (p k : ℕ) (es : List Entry) (d : Entry) → AreRuns p (runs_of es) → k < length es → (p < (get_or es k d).0) × ((get_or es k d).0 ≤ (get_or es k d).1)
 run_above p k [] d r l = absurd (omega arith)
-run_above p zero (b ∷ rs) d r l = (omega arith, r.1)
-run_above p (suc k) (b ∷ rs) d r l =
-    let more = run_above b.last k rs d r.2 (omega arith) in
-    (omega (arith, more.0), more.1)
+run_above p zero (e ∷ es) d r l = (omega arith, r.1)
+run_above p (suc k) (e ∷ es) d r l =
+    let more = run_above e.1 k es d r.2 (omega arith) in
+    (omega (arith, more.0, r.0, r.1), more.1)
 
-pub take-min : (n k : ℕ) (rs : List Run) → k ≡ min (length rs) n → take k rs ≡ take n rs
-take-min n k rs e =
-    elim (cases_lt (length rs) n) [
-      | inl less ↦ take_all k rs (omega (arith, e)) ∙ sym (take_all n rs (omega arith))
-      | inr more ↦ ap (λ m. take m rs) (omega (arith, e, more))
-    ]
+pub runs_of-read : (n : ℕ) (es : List Entry) → runs_of (take n (map read es)) ≡ take n (runs_of es)
+runs_of-read zero es = refl
+runs_of-read (suc n) [] = refl
+runs_of-read (suc n) (e ∷ es) = ap (λ z. run_of e ∷ z) (runs_of-read n es)
+
+pub AreRuns-take : (p n : ℕ) (rs : List Run) → AreRuns p rs → AreRuns p (take n rs)
+AreRuns-take p zero rs r = tt
+AreRuns-take p (suc n) [] r = tt
+AreRuns-take p (suc n) (b ∷ rs) r = (r.0, r.1, AreRuns-take b.last n rs r.2)

@@ -1,5 +1,10 @@
 -- What the private steps on the runs of a set do.
-use Rattle.std.specs.Prelude.{◌≡◌, ℕ, suc, ◌+◌, ◌^◌, ◌==◌, ◌<◌, ◌≤◌, ◌||◌, nat_lt, nat_le, max, Bool, not, if◌then◌else◌, List, [], ◌∷◌}
+use Rattle.std.specs.Prelude.{◌≡◌, ℕ, suc, ◌+◌, ◌^◌, ◌==◌, ◌<◌, ◌≤◌, ◌||◌, nat_le, max, Bool, false, not, if◌then◌else◌, Option, Some, None, List, [], ◌∷◌, map, unwrap_or}
+use Rattle.std.specs.Map.{lookup}
+use Rattle.std.specs.Ordering.{nat_cmp}
+use Rattle.std.specs.BTreeMap.{is_at}
+use Rattle.std.specs.BTreeMap.Range.{entries_between}
+use Rattle.std.specs.declared.ops.Bound.TheVariants.{Unbounded, Included}
 use Rattle.sctp_tracker.specs.Seen.{Run, Seen, in_runs, AreRuns, IsInRuns, last_above, highest}
 
 -- the runs with the number n, and whether it is new
@@ -16,10 +21,40 @@ pub record Passes (p : ℕ) (old : List Run) (q : ℕ) (new : List Run) : Type 0
   pub onward : p ≤ q
   pub last : max q (last_above 0 new) ≡ max p (last_above 0 old)
 
--- how many runs at the front end before n - 1, so that n doesn't touch them
-abbrev pub runs_before : ℕ → List Run → ℕ
-runs_before n [] = 0
-runs_before n (r ∷ rs) = if nat_lt (r.last + 1) n then suc (runs_before n rs) else 0
+-- ---- the map of the runs, from the first number of each to its last
+
+abbrev pub run_of : ℕ × ℕ → Run
+run_of e = record { first = e.0; last = e.1 }
+
+abbrev pub runs_of : List (ℕ × ℕ) → List Run
+runs_of es = map run_of es
+
+-- an entry as an iterator gives it, copied
+abbrev pub read : ℕ × ℕ → ℕ × ℕ
+read e = (e.0, e.1)
+
+abbrev pub last_entry : List (ℕ × ℕ) → Option (ℕ × ℕ)
+last_entry [] = None
+last_entry (e ∷ []) = Some e
+last_entry (e ∷ f ∷ es) = last_entry (f ∷ es)
+
+-- the last run that begins at n or before it
+abbrev pub run_at : ℕ → List (ℕ × ℕ) → Option (ℕ × ℕ)
+run_at n es = last_entry (entries_between nat_cmp Unbounded (Included n) es)
+
+-- whether n is in that run
+abbrev pub is_held : ℕ → Option (ℕ × ℕ) → Bool
+is_held n None = false
+is_held n (Some e) = nat_le n e.1
+
+-- where the run of n begins: at that run, if it ends right before n
+abbrev pub first_with : ℕ → Option (ℕ × ℕ) → ℕ
+first_with n None = n
+first_with n (Some e) = if n == suc e.1 then e.0 else n
+
+-- where it ends: with a run that begins right behind n
+abbrev pub last_with : ℕ → List (ℕ × ℕ) → ℕ
+last_with n es = unwrap_or (lookup (is_at (nat_cmp (n + 1))) es) n
 
 -- what is true of every set
 pub record IsSeen (s : Seen) : Type 0 where

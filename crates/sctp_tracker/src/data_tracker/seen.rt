@@ -1,51 +1,34 @@
 //! The set of the numbers that were seen.
 
-ghost use Rattle.std.specs.Prelude.{◌≡◌, ◌==◌, ℕ, ◌+◌, ◌^◌, ◌<◌, ◌≤◌, ◌||◌, [], not, max, take, nat_lt, nat_le, length, IfOk, OnOk, OnErr, false};
+ghost use Rattle.std.specs.Prelude.{◌≡◌, ◌==◌, ℕ, ◌+◌, ◌^◌, ◌<◌, ◌≤◌, ◌||◌, [], not, max, map, take, drop, nat_lt, nat_le, slice_get, IfOk, OnOk, OnErr, false};
 ghost use Rattle.sctp_tracker.specs.Seen.{in_runs, AreRuns, last_above};
-ghost use Rattle.sctp_tracker.specs.SeenSteps.{Adds, Passes, runs_before};
+ghost use Rattle.sctp_tracker.specs.SeenSteps.{Adds, Passes, read, runs_of, run_at, is_held, first_with, last_with};
 ghost use Rattle.sctp_tracker.specs.Sack.{blocks_of, gap_ack_blocks};
 
 use sctp_chunk::GapAckBlock;
 use std::alloc::{AllocError, Global};
-use std::collections::VecDeque;
+use std::collections::BTreeMap;
 use std::marker::Model;
 
 /// A SACK tells at most as many runs.
 const MAX_BLOCKS: usize = 20;
 
-// Neighbouring numbers, from the first to the last.
-#[derive(Clone, Copy)]
-struct TsnRange {
-    first: u64,
-    last: u64,
-}
-
-impl Model for TsnRange {
-    ghost use Rattle.sctp_tracker.specs.Seen.{Run};
-
-    ghost Value = { Run };
-
-    ghost view = { λ r. record { first = r.first; last = r.last } };
-
-    ghost inverse = { λ r. record { first = r.first; last = r.last } };
-}
-
-/// Every number up to a front, and the maximal runs above it, ascending.
+/// Every number up to a front, and the maximal runs above it: from the first number of each to its last.
 #[derive(Drop)]
 pub(crate) struct Seen {
     front: u64,
-    runs: VecDeque<TsnRange>,
+    runs: BTreeMap<u64, u64>,
 }
 
 impl Model for Seen {
     ghost use Rattle.sctp_tracker.specs.Seen.{Seen};
-    ghost use Rattle.sctp_tracker.specs.SeenSteps.{IsSeen};
+    ghost use Rattle.sctp_tracker.specs.SeenSteps.{runs_of, IsSeen};
 
     ghost Value = { Seen };
 
-    ghost view = { λ s. record { front = s.front; runs = s.runs.items } };
+    ghost view = { λ s. record { front = s.front; runs = runs_of s.runs.entries } };
 
-    ghost invariant = { λ s. IsSeen (record { front = s.front; runs = s.runs.items }) };
+    ghost invariant = { λ s. IsSeen (record { front = s.front; runs = runs_of s.runs.entries }) };
 }
 
 impl Seen {
@@ -58,7 +41,7 @@ impl Seen {
     {
         Seen {
             front,
-            runs: VecDeque::new(alloc),
+            runs: BTreeMap::new(alloc),
         }
     }
 
@@ -82,7 +65,8 @@ impl Seen {
     pub fn gap_ack_blocks(&self, alloc: Global) -> Result<Vec<GapAckBlock>, AllocError>
         ensures { IfOk result (λ blocks. blocks.items ≡ gap_ack_blocks self.now) }
     {
-        first_blocks(alloc, self.front, &self.runs)
+        let runs = first_runs(alloc, &self.runs)?;
+        blocks_of(alloc, self.front, &runs)
     }
 
     /// Has seen every number up to this one, and no other.
@@ -135,21 +119,27 @@ impl Seen {
     }
 }
 
-// The first twenty runs, as offsets from the front, but those whose offsets don't have 16 bits.
-fn first_blocks(
-    alloc: Global,
-    front: u64,
-    runs: &VecDeque<TsnRange>,
-) -> Result<Vec<GapAckBlock>, AllocError>
-    requires { AreRuns front runs.now.items }
-    ensures { IfOk result (λ blocks. blocks.items ≡ blocks_of front (take 20 runs.now.items)) }
+// The first twenty runs.
+fn first_runs(alloc: Global, runs: &BTreeMap<u64, u64>) -> Result<Vec<(u64, u64)>, AllocError>
+    ensures { IfOk result (λ first. first.items ≡ take 20 (map read runs.now.entries)) }
+{
+    runs.iter()
+        .map(|(first, last)| (*first, *last))
+        .take(MAX_BLOCKS)
+        .collect(alloc)
+}
+
+// Runs as offsets from the front, but those whose offsets don't have 16 bits.
+fn blocks_of(alloc: Global, front: u64, runs: &[(u64, u64)]) -> Result<Vec<GapAckBlock>, AllocError>
+    requires { AreRuns front (runs_of runs.now) }
+    ensures { IfOk result (λ blocks. blocks.items ≡ blocks_of front (runs_of runs.now)) }
 {
     let mut blocks = Vec::new(alloc);
-    for i in 0..runs.len().min(MAX_BLOCKS) {
-        let range = runs[i];
-        let end = range.last - front;
+    for i in 0..runs.len() {
+        let (first, last) = runs[i];
+        let end = last - front;
         if end <= 65_535 {
-            let start = range.first - front;
+            let start = first - front;
             blocks.push(GapAckBlock {
                 start: start as u16,
                 end: end as u16,
@@ -159,83 +149,95 @@ fn first_blocks(
     Ok(blocks)
 }
 
-// Takes out the runs that a front at this point reaches, and gives the point to which it moves.
-fn pass(runs: &mut VecDeque<TsnRange>, mut point: u64) -> u64
-    requires runs { AreRuns 0 runs.old.items }
-    requires small { max point (last_above 0 runs.old.items) < 2 ^ 63 }
-    ensures { Passes point runs.old.items result runs.new.items }
+// The first run.
+fn first_run(runs: &BTreeMap<u64, u64>) -> Option<(u64, u64)>
+    ensures { result ≡ slice_get runs.now.entries 0 }
 {
-    while let Some(first) = runs.front() {
-        let range = *first;
-        if point + 1 < range.first {
+    match runs.first_key_value() {
+        Some((first, last)) => Some((*first, *last)),
+        None => None,
+    }
+}
+
+fn drop_first(runs: &mut BTreeMap<u64, u64>)
+    ensures { runs.new.entries ≡ drop 1 runs.old.entries }
+{
+    runs.pop_first();
+}
+
+// Takes out the runs that a front at this point reaches, and gives the point to which it moves.
+fn pass(runs: &mut BTreeMap<u64, u64>, mut point: u64) -> u64
+    requires runs { AreRuns 0 (runs_of runs.old.entries) }
+    requires small { max point (last_above 0 (runs_of runs.old.entries)) < 2 ^ 63 }
+    ensures { Passes point (runs_of runs.old.entries) result (runs_of runs.new.entries) }
+{
+    while let Some((first, last)) = first_run(runs) {
+        if point + 1 < first {
             break;
         }
-        runs.pop_front();
-        point = point.max(range.last);
+        drop_first(runs);
+        point = point.max(last);
     }
     point
 }
 
-// How many runs end before `number - 1`. It looks at the last runs first: most numbers come there.
-fn place_of(runs: &VecDeque<TsnRange>, number: u64) -> usize
-    requires some { 0 < number }
-    requires runs { AreRuns 0 runs.now.items }
-    ensures place { result ≡ runs_before number runs.now.items }
-    ensures within { result ≤ length runs.now.items }
+// The last run that begins at the number or before it.
+fn run_at(runs: &BTreeMap<u64, u64>, number: u64) -> Option<(u64, u64)>
+    ensures { result ≡ run_at number runs.now.entries }
 {
-    let mut place = runs.len();
-    while place > 0 && number - 1 <= runs[place - 1].last {
-        place -= 1;
+    match runs.range(..=number).next_back() {
+        Some((first, last)) => Some((*first, *last)),
+        None => None,
     }
-    place
+}
+
+fn is_held(run: Option<(u64, u64)>, number: u64) -> bool
+    ensures { result ≡ is_held number run }
+{
+    match run {
+        Some((_, last)) => number <= last,
+        None => false,
+    }
+}
+
+// Where the number's run begins: at the run before it, if that ends right before it.
+fn first_with(run: Option<(u64, u64)>, number: u64) -> u64
+    requires { 0 < number }
+    ensures { result ≡ first_with number run }
+{
+    match run {
+        Some((first, last)) => { if last == number - 1 { first } else { number } }
+        None => number,
+    }
+}
+
+// Where the number's run ends: with the run behind it, if that begins right behind it.
+fn last_with(runs: &BTreeMap<u64, u64>, number: u64) -> u64
+    requires { number < 2 ^ 63 }
+    ensures { result ≡ last_with number runs.now.entries }
+{
+    match runs.get(&(number + 1)) {
+        Some(last) => *last,
+        None => number,
+    }
 }
 
 // Adds a number, and says whether it is new.
-fn add_to(runs: &mut VecDeque<TsnRange>, number: u64) -> Result<bool, AllocError>
+fn add_to(runs: &mut BTreeMap<u64, u64>, number: u64) -> Result<bool, AllocError>
     requires within { (0 < number) × (number < 2 ^ 63) }
-    requires runs { AreRuns 0 runs.old.items }
-    ensures ok { IfOk result (λ is_new. Adds number runs.old.items is_new runs.new.items) }
-    ensures held { IfOk result (λ is_new. is_new ≡ false → runs.new.items ≡ runs.old.items) }
-    ensures err { OnErr result (runs.new.items ≡ runs.old.items) }
+    requires runs { AreRuns 0 (runs_of runs.old.entries) }
+    ensures ok { IfOk result (λ is_new. Adds number (runs_of runs.old.entries) is_new (runs_of runs.new.entries)) }
+    ensures held { IfOk result (λ is_new. is_new ≡ false → runs.new.entries ≡ runs.old.entries) }
+    ensures err { OnErr result (runs.new.entries ≡ runs.old.entries) }
 {
-    let place = place_of(runs, number);
-    let single = TsnRange {
-        first: number,
-        last: number,
-    };
-    if place == runs.len() {
-        runs.insert(place, single)?;
-        return Ok(true);
-    }
-    let range = runs[place];
-    if number + 1 < range.first {
-        runs.insert(place, single)?;
-        return Ok(true);
-    }
-    if number + 1 == range.first {
-        runs[place] = TsnRange {
-            first: number,
-            last: range.last,
-        };
-        return Ok(true);
-    }
-    if number <= range.last {
+    let run = run_at(runs, number);
+    if is_held(run, number) {
         return Ok(false);
     }
-    if place + 1 < runs.len() {
-        let next = runs[place + 1];
-        if next.first == number + 1 {
-            runs[place] = TsnRange {
-                first: range.first,
-                last: next.last,
-            };
-            runs.remove(place + 1);
-            return Ok(true);
-        }
+    let last = last_with(runs, number);
+    runs.insert(first_with(run, number), last)?;
+    if number < last {
+        runs.remove(&(number + 1));
     }
-    runs[place] = TsnRange {
-        first: range.first,
-        last: number,
-    };
     Ok(true)
 }

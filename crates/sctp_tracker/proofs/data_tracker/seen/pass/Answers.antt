@@ -1,20 +1,18 @@
-use Rattle.std.proofs.Common.{◌≡◌, ◌<◌, length, get_or, ◌∷◌, sym, subst, ap, ◌∙◌, arith}
-use Rattle.sctp_tracker.specs.Seen.{Run}
-use Rattle.sctp_tracker.proofs.SeenEdits.{run}
-use Rattle.sctp_tracker.proofs.SeenPassingLemmas.{passes_one, at_front}
+use Rattle.std.proofs.Common.{◌≡◌, sym, ◌∙◌, arith}
+use Rattle.std.specs.Prelude.{None, slice_get}
+use Rattle.sctp_tracker.specs.SeenSteps.{run_of, runs_of}
+use Rattle.sctp_tracker.proofs.SeenPassingLemmas.{passes_one}
+use Rattle.sctp_tracker.proofs.SeenPlacesLemmas.{Entry, at_front, apart, none_left}
 use Rattle.sctp_tracker.proofs.data_tracker.seen.pass.Goals as goal
 
 pub loop-first-preserved : goal.loop-first-preserved
 loop-first-preserved c =
     let i = c.loop-first.invariant in
-    let rs = c.loop-first.runs.items in
-    let new = c.pop_front.new.self.items in
-    let b : Run = run c.range.inside.first c.range.inside.last in
-    let P : Run → Type 0 = λ x. x ≡ get_or rs 0 x in
-    let read : b ≡ get_or rs 0 b = subst P (sym c.range.view_is) c.in-Some.ensures.lookup in
-    let some : 0 < length rs = c.in-Some.ensures.item.3.0 in
-    let split : rs ≡ b ∷ new = at_front rs b some read ∙ ap (λ z. b ∷ z) (sym c.pop_front.ensures.rest) in
-    let one = passes_one c.loop-first.point c.max-point.result b rs new i.runs split c.max-point.ensures c.if-point-range.false in
+    let es = c.loop-first.runs.entries in
+    let new = c.drop_first.new.runs.entries in
+    let e : Entry = (c.in-Some.first, c.in-Some.last) in
+    let split = at_front es new e (sym c.in-Some.ensures) c.drop_first.ensures in
+    let one = passes_one c.loop-first.point c.max-point.result (run_of e) (runs_of es) (runs_of new) i.runs split c.max-point.ensures (omega arith) in
     record {
       numbers = λ m. one.numbers m ∙ i.numbers m;
       last = one.last ∙ i.last;
@@ -22,3 +20,20 @@ loop-first-preserved c =
       runs = one.runs;
       small = omega (arith, one.last, i.small);
     }
+
+pub returns-then-point-first : goal.returns-then-point-first
+returns-then-point-first c =
+    let i = c.loop-first.invariant in
+    let e : Entry = (c.in-Some.first, c.in-Some.last) in
+    record {
+      numbers = i.numbers;
+      runs = apart c.loop-first.point c.loop-first.runs.entries e (sym c.in-Some.ensures) i.runs (omega arith);
+      onward = i.onward;
+      last = i.last;
+    }
+
+pub returns-in_default : goal.returns-in_default
+returns-in_default c =
+    let i = c.loop-first.invariant in
+    let none : slice_get c.loop-first.runs.entries 0 ≡ None = cc in
+    record { numbers = i.numbers; runs = none_left c.loop-first.point c.loop-first.runs.entries none; onward = i.onward; last = i.last }
