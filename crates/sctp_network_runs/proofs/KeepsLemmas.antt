@@ -1,0 +1,85 @@
+-- A run keeps the windows that its course keeps, where each packet that is given is let through.
+use Rattle.std.proofs.Common.{◌≡◌, ℕ, Bool, true, false, Some, List, [], ◌∷◌, slice_get, sym, subst}
+use Rattle.std.specs.Prelude.{All}
+use Rattle.std.specs.List.{list_any}
+use Rattle.std.proofs.lemmas.List.Elements.{All-head, All-tail}
+use Rattle.sctp_table.specs.Association.{Endpoint}
+use Rattle.sctp_table.specs.Laws.{NoPacket}
+use Rattle.sctp_table.specs.Wire.{field_of}
+use Rattle.sctp_table_laws.specs.Mapped.{Carried, map_end, as_written}
+use Rattle.sctp_course.specs.Course as course
+use Rattle.sctp_course.specs.Course.{Pair, Turn, Calls, goes, state_of}
+use Rattle.sctp_delivery.specs.Windows as windows
+use Rattle.sctp_delivery.specs.Windows.{IsWithin, Stamp, Stamps, IsYoung}
+use Rattle.sctp_network_table.specs.Judge.{A, B}
+use Rattle.sctp_network_table.specs.World.{Side, World, Action, CallOf, Give, GiveForeign, TellTime, Runs}
+use Rattle.sctp_network_laws.specs.Courses.{ActionFits, IsInBytes, is_a, end_of, is_let_through, hearing, IsHearing, IsTurnOf, AreTurnsOf}
+use Rattle.sctp_network_laws.specs.Delivered.{SideIsWithin, AreWithin, stamp, stamps_after, IsTimely, KeepsWindows}
+use Rattle.sctp_network_runs.specs.Worlds.{is_foreign, NoneIsForeign}
+use Rattle.sctp_network_laws.proofs.WorldLemmas.{Both, extends_then, in_bytes_before}
+use Rattle.sctp_network_laws.proofs.RunsLemmas.{runs_extends, happens_extends}
+use Rattle.sctp_network_laws.proofs.DeliveredLemmas.{stamp_same, stamps_same}
+use Rattle.sctp_network_runs.proofs.NextLemmas.{neither_first, neither_rest, goes_next}
+
+-- a packet that isn't let through is heard as none
+abbrev pub is_of_none : Turn → Bool
+is_of_none (Calls NoPacket) = true
+is_of_none turn = false
+
+abbrev pub AllAreHeard : List (Bool × Turn) → Type 0
+AllAreHeard turns = list_any (λ (e : Bool × Turn). is_of_none e.1) turns ≡ false
+
+hearing_timely : (b : Bool) (n sum : ℕ) (now : Stamp) (stamps : List Stamp) → is_of_none (hearing b n sum) ≡ false → windows.IsTimely (hearing b n sum) now stamps
+    → (old : Stamp) → slice_get stamps n ≡ Some old → IsYoung now old
+hearing_timely true n sum now stamps k t = t
+hearing_timely false n sum now stamps k t = cc
+
+given_timely : (f g : List ℕ → ℕ) (n : ℕ) (own beside : course.Side) (turn : Turn) (now : Stamp) (stamps : List Stamp) → IsHearing f g n own beside turn → is_of_none turn ≡ false
+    → windows.IsTimely turn now stamps → (old : Stamp) → slice_get stamps n ≡ Some old → IsYoung now old
+given_timely f g n own beside turn now stamps is k t =
+    hearing_timely (is_let_through f g own.end.standing.context.options is.carried) n (field_of g is.carried.header is.carried.is_summed is.carried.chunks) now stamps
+    (subst (λ (z : Turn). is_of_none z ≡ false) is.heard k) (subst (λ (z : Turn). windows.IsTimely z now stamps) is.heard t)
+
+module _ (word_of_a word_of_b : List ℕ → ℕ) where
+  within_of : (f : Carried → List ℕ) (side : Side) (end : course.Side) → side.socket ≡ map_end f end.end → IsWithin (state_of end) (windows.queue_of end) → SideIsWithin side
+  within_of f side end e h = subst (λ (z : Endpoint (List ℕ)). IsWithin z.standing.state z.standing.context.queue) (sym e) h
+
+  are_within : (w : World) (c : Pair) → Both word_of_a word_of_b w c → windows.AreWithin c → AreWithin w
+  are_within w c h k = record {
+    a = within_of (as_written word_of_a) w.a c.a h.a.image.socket k.a;
+    b = within_of (as_written word_of_b) w.b c.b h.b.image.socket k.b;
+  }
+
+  timely : (action : Action) (w : World) (c : Pair) (turn : Turn) (s : Stamps) → Both word_of_a word_of_b w c → is_of_none turn ≡ false → IsTurnOf word_of_a word_of_b action turn c
+      → windows.IsTimely turn (windows.stamp c) (windows.stamps_for (is_a (end_of action)) s) → IsTimely action (stamp w) s
+  timely (CallOf x call) w c turn s h k is t = tt
+  timely (Give n A) w c turn s h k is t = λ old e.
+      subst (λ (z : Stamp). IsYoung z old) (sym (stamp_same word_of_a word_of_b w c h)) (given_timely word_of_a word_of_b n c.a c.b turn (windows.stamp c) s.of_b is k t old e)
+  timely (Give n B) w c turn s h k is t = λ old e.
+      subst (λ (z : Stamp). IsYoung z old) (sym (stamp_same word_of_a word_of_b w c h)) (given_timely word_of_b word_of_a n c.b c.a turn (windows.stamp c) s.of_a is k t old e)
+  timely (GiveForeign x bytes) w c turn s h k is t = tt
+  timely (TellTime x now) w c turn s h k is t = tt
+
+  pub keeps : (actions : List Action) (turns : List (Bool × Turn)) (w v : World) (c : Pair) (s : Stamps) → All ActionFits actions → NoneIsForeign actions → AllAreHeard turns
+      → AreTurnsOf word_of_a word_of_b actions turns c → (r : Runs actions w v) → IsInBytes v → Both word_of_a word_of_b w c
+      → windows.KeepsWindows turns c s → KeepsWindows actions w v r s
+  keeps [] [] w v c s fit none heard are r small h k = λ stands. are_within w c h k
+  keeps [] (e ∷ es) w v c s fit none heard are r small h k = absurd are
+  keeps (action ∷ actions) [] w v c s fit none heard are r small h k = absurd are
+  keeps (action ∷ actions) ((at_a, turn) ∷ es) w v c s fit none heard are r small h k =
+      let u : World = r.0 in
+      let here : IsInBytes w = in_bytes_before w v (extends_then w u v (happens_extends action w u r.1) (runs_extends actions u v r.2)) small in
+      let own : is_foreign action ≡ false = neither_first (is_foreign action) (list_any is_foreign actions) none in
+      let some : is_of_none turn ≡ false = neither_first (is_of_none turn) (list_any (λ (e : Bool × Turn). is_of_none e.1) es) heard in
+      let both : Both word_of_a word_of_b u (goes at_a turn c) =
+      subst (λ (b : Bool). Both word_of_a word_of_b u (goes b turn c)) (sym are.0)
+      (goes_next word_of_a word_of_b action w u c turn own (All-head ActionFits action actions fit) here r.1 are.1 h) in (
+        (λ stands. (
+          are_within w c h k.0,
+          timely action w c turn s h some are.1 (subst (λ (b : Bool). windows.IsTimely turn (windows.stamp c) (windows.stamps_for b s)) are.0 k.1),
+        )),
+        keeps actions es u v (goes at_a turn c) (stamps_after w u s) (All-tail ActionFits action actions fit)
+            (neither_rest (is_foreign action) (list_any is_foreign actions) none) (neither_rest (is_of_none turn) (list_any (λ (e : Bool × Turn). is_of_none e.1) es) heard)
+            are.2 r.2 small both
+            (subst (λ (z : Stamps). windows.KeepsWindows es (goes at_a turn c) z) (sym (stamps_same word_of_a word_of_b at_a turn w u c s h both)) k.2),
+      )

@@ -1,0 +1,5 @@
+pub mod NextLemmas
+pub mod KeepsLemmas
+pub mod ConnectsLemmas
+pub mod ShownLemmas
+pub mod SkippingLemmas

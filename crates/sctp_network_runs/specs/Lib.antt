@@ -1,0 +1,2 @@
+pub mod Worlds
+pub mod Skipping

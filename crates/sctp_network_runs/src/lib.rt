@@ -1,0 +1,20 @@
+//! Runs of worlds: each course of two ends is one, where no bytes come from elsewhere; and one in which a message is skipped.
+#![tactic(auto)]
+
+ghost use Rattle.sctp_network_runs.specs.Skipping.{OneIsSkipped};
+ghost use Rattle.sctp_network_runs.specs.Worlds.{CoursesHaveWorlds};
+
+/// Each course of two new ends is that of a world, as long as no bytes come from elsewhere: a new world runs by these actions, and
+/// its sockets are the course's ends with each packet written. So what a course shows can happen, happens in bytes. Each packet
+/// that is emitted is to be bytes.
+pub fn courses_have_worlds()
+    ensures worlds { CoursesHaveWorlds }
+{}
+
+/// All that `worlds_compose` of `sctp_network_laws` asks can be had. In one run of a new world, computed, the rules are followed,
+/// no association is over and the bounds are kept, while of three messages that are sent on one stream the packet of the second is
+/// lost, and it may not be sent again. It is given up, the others become ready, the first is told as delivered, and in the end the
+/// sender is at rest.
+pub fn a_message_is_skipped()
+    ensures { OneIsSkipped }
+{}
