@@ -46,7 +46,7 @@ pub data TiesTell (n : Names) (tag : ℕ) (i : Identity) (k : Cookie) : Type 0 w
 abbrev pub RefusalsAreNamed : Type 0
 RefusalsAreNamed =
     (n : Names) → AreNames n → (tag : ℕ) (chunks : List ChunkTree) (s : State)
-    → is_some (refusal (n.tag tag) (named_chunks n chunks) (named_state n s)) ≡ is_some (refusal tag chunks s)
+    → is_some (refusal (n.tag tag) (named_chunks (flipped n) chunks) (named_state n s)) ≡ is_some (refusal tag chunks s)
 
 abbrev pub VerdictsAreNamed : Type 0
 VerdictsAreNamed =
@@ -111,29 +111,29 @@ EchoesAreNamed =
 -- ---- the end of an association, and of a packet
 
 -- a row of a standing
-abbrev pub IsNamed : (row : Standing (List ℕ) → Standing (List ℕ)) → Type 0
-IsNamed row =
+abbrev pub RowIsNamed : (row : Standing (List ℕ) → Standing (List ℕ)) → Type 0
+RowIsNamed row =
     (n : Names) → AreNames n → (pack : Packing (List ℕ)) (s : Standing (List ℕ)) → s.context.pack ≡ under n pack
     → row (named_standing n pack s) ≡ named_standing n pack (row s)
 
 pub record EndingsAreNamed : Type 0 where
-  pub close : IsNamed close
-  pub shutdown : IsNamed shutdown
-  pub on_shutdown : IsNamed (where_open on_shutdown)
-  pub on_shutdown_complete : IsNamed (where_open on_shutdown_complete)
-  pub on_abort : (causes : List CauseTree) → IsNamed (where_open (on_abort causes))
-  pub on_cookie_ack : IsNamed (where_open on_cookie_ack)
-  pub packet_end : IsNamed (where_open ended)
+  pub close : RowIsNamed close
+  pub shutdown : RowIsNamed shutdown
+  pub on_shutdown : RowIsNamed (where_open on_shutdown)
+  pub on_shutdown_complete : RowIsNamed (where_open on_shutdown_complete)
+  pub on_abort : (causes : List CauseTree) → RowIsNamed (where_open (on_abort causes))
+  pub on_cookie_ack : RowIsNamed (where_open on_cookie_ack)
+  pub packet_end : RowIsNamed (where_open ended)
 
 -- the passing of time, with all timers
 abbrev pub MomentsAreNamed : Type 0
-MomentsAreNamed = (now : ℕ) → IsNamed (advance now)
+MomentsAreNamed = (now : ℕ) → RowIsNamed (advance now)
 
 -- the calls that send, and the one that takes a message
 pub record CallsAreNamed : Type 0 where
-  pub send : (m : Message) (how : SendOptions) → IsNamed (send m how)
-  pub send_many : (ms : List Message) (how : SendOptions) → IsNamed (send_many ms how)
-  pub take_message : IsNamed take_message
+  pub send : (m : Message) (how : SendOptions) → RowIsNamed (send m how)
+  pub send_many : (ms : List Message) (how : SendOptions) → RowIsNamed (send_many ms how)
+  pub take_message : RowIsNamed take_message
 
 -- ---- packets
 

@@ -4,3 +4,4 @@ pub mod Laws
 pub mod Renamed
 pub mod NamedCookies
 pub mod Images
+pub mod NamedCalls
