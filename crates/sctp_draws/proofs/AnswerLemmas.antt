@@ -150,7 +150,7 @@ module _ {P : Type 0} (n : Names) (are : AreNames n) (pack : Packing P) where
 
   -- ---- a new control block
 
-  cookie_ack_named : (tag : ℕ) (t : Tcb) (c : Context P) → Knows n pack c → cookie_ack (n.tag tag) (named_tcb n t) (plain pack c) ≡ named_sent n pack (cookie_ack tag t c)
+  pub cookie_ack_named : (tag : ℕ) (t : Tcb) (c : Context P) → Knows n pack c → cookie_ack (n.tag tag) (named_tcb n t) (plain pack c) ≡ named_sent n pack (cookie_ack tag t c)
   cookie_ack_named tag t c knows =
       let p : Packet = record (packet_to tag c.options.mtu) { is_summed = not (zero_checksum_enabled t.capabilities) } in
       ap (λ (q : Packet). send_with false q (named_tcb n t) (plain pack c)) (named_add n are cookie_ack_chunk p)

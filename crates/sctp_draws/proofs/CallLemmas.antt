@@ -1,15 +1,21 @@
 -- The calls of the user under other names.
-use Rattle.std.proofs.Common.{◌≡◌, Bool, Option, Some, None, List, [], ◌∷◌, refl, ap, ◌∙◌}
+use Rattle.std.proofs.Common.{◌≡◌, ℕ, ◌==◌, bit_or, Bool, true, false, Option, Some, None, option_map, List, [], ◌∷◌, refl, ap, ◌∙◌}
 use Rattle.sctp_serial.specs.Messages.{Message}
 use Rattle.sctp_state.specs.declared.api.SocketState.{SocketState}
+use Rattle.sctp_state.specs.declared.api.errors.ResetStreamsError.{ResetStreamsError}
 use Rattle.sctp_state.specs.declared.api.errors.SendError.{SendError}
 use Rattle.sctp_state.specs.Options.{SendOptions}
-use Rattle.sctp_table.specs.Association.{Phase, CookieEchoed, Established, ShutdownPending, ShutdownSent, ShutdownReceived, ShutdownAckSent, State, Closed, CookieWait, Open, Context, Standing, with_context, where_open}
+use Rattle.sctp_table.specs.Association.{Tcb, Phase, CookieEchoed, Established, ShutdownPending, ShutdownSent, ShutdownReceived, ShutdownAckSent, State, Closed, CookieWait, Open, Context, Standing, with_context, where_open}
 use Rattle.sctp_table.specs.Sending.{Sent, is_alone, open_with, send_buffered, send_in}
 use Rattle.sctp_table.specs.Calls.{shown_phase, shown_state, refusal, offered, offer, sent_if, send, offer_all, send_many, taken_in, take_message}
+use Rattle.sctp_table.specs.Requests.{Request}
+use Rattle.sctp_table.specs.Resets.{reset_refusal, prepared, prepare_all, reset_if, reset_streams}
+use Rattle.sctp_table.specs.Handover.{is_strict, pending, receiving, readiness_open, readiness_in, readiness, left_in, left_if, hand_over}
 use Rattle.sctp_table.specs.Laws.{Packing}
+use Rattle.sctp_send_queue.specs.Readiness as queued
+use Rattle.sctp_tx.specs.Handover as sender
 use Rattle.sctp_draws.specs.NamedChunks.{Names, AreNames}
-use Rattle.sctp_draws.specs.Names.{named_phase, named_tcb, named_state, named_standing, plain}
+use Rattle.sctp_draws.specs.Names.{named_request, named_phase, named_tcb, named_state, named_standing, plain}
 use Rattle.sctp_draws.proofs.WritingLemmas.{Knows}
 use Rattle.sctp_draws.proofs.TagLemmas.{alone_named}
 use Rattle.sctp_draws.proofs.FillingLemmas.{send_buffered_named}
@@ -35,7 +41,55 @@ module _ (n : Names) where
   taken_named (CookieWait tag first t1) = refl
   taken_named (Open phase t) = refl
 
+  -- why streams can't be reset
+  reset_refusal_named : (s : State) → reset_refusal (named_state n s) ≡ reset_refusal s
+  reset_refusal_named Closed = refl
+  reset_refusal_named (CookieWait tag first t1) = refl
+  reset_refusal_named (Open phase t) = refl
+
+  -- ---- what stands in the way of a handover
+
+  pending_named : (o : Option Request) → pending (option_map (named_request n) o) ≡ pending o
+  pending_named None = refl
+  pending_named (Some r) = refl
+
+-- with this part of the requests
+abbrev readiness_with : {P : Type 0} → Tcb → Context P → (requests : ℕ) → ℕ
+readiness_with t c requests =
+    bit_or (queued.readiness (is_strict c.options) c.queue) (bit_or (bit_or (receiving t) (sender.readiness (is_strict c.options) t.sender)) requests)
+
+module _ {P : Type 0} (n : Names) (pack : Packing P) where
+  readiness_open_named : (phase : Phase) (t : Tcb) (c : Context P) → readiness_open (named_phase n phase) (named_tcb n t) (plain pack c) ≡ readiness_open phase t c
+  readiness_open_named (CookieEchoed t1 cookie) t c = refl
+  readiness_open_named Established t c = ap (λ (k : ℕ). readiness_with t c k) (pending_named n t.requests.current)
+  readiness_open_named ShutdownPending t c = refl
+  readiness_open_named (ShutdownSent t2) t c = refl
+  readiness_open_named ShutdownReceived t c = refl
+  readiness_open_named (ShutdownAckSent t2) t c = refl
+
+  readiness_named : (s : State) (c : Context P) → readiness_in (named_state n s) (plain pack c) ≡ readiness_in s c
+  readiness_named Closed c = refl
+  readiness_named (CookieWait tag first t1) c = refl
+  readiness_named (Open phase t) c = readiness_open_named phase t c
+
+  left_in_named : (s : State) (c : Context P) → left_in (named_state n s) (plain pack c) ≡ named_standing n pack (left_in s c)
+  left_in_named Closed c = refl
+  left_in_named (CookieWait tag first t1) c = refl
+  left_in_named (Open phase t) c = refl
+
+  left_named : (b : Bool) (s : Standing P) → left_if b (named_standing n pack s) ≡ named_standing n pack (left_if b s)
+  left_named true s = left_in_named s.state s.context
+  left_named false s = refl
+
+  pub hand_over_named : (s : Standing P) → hand_over (named_standing n pack s) ≡ named_standing n pack (hand_over s)
+  hand_over_named s =
+      ap (λ (k : ℕ). left_if (k == 0) (named_standing n pack s)) (readiness_named s.state s.context) ∙ left_named (readiness s == 0) s
+
 module _ {P : Type 0} (pack : Packing P) where
+  prepare_all_named : (ids : List ℕ) (c : Context P) → prepare_all ids (plain pack c) ≡ plain pack (prepare_all ids c)
+  prepare_all_named [] c = refl
+  prepare_all_named (id ∷ ids) c = prepare_all_named ids (prepared id c)
+
   offered_named : (o : Option SendError) (m : Message) (how : SendOptions) (c : Context P) → offered o m how (plain pack c) ≡ plain pack (offered o m how c)
   offered_named None m how c = refl
   offered_named (Some e) m how c = refl
@@ -49,6 +103,10 @@ module _ {P : Type 0} (pack : Packing P) where
       ap (λ (d : Context P). offer_all ms how shown d) (offer_named m how shown c) ∙ offer_all_named ms how shown (offer m how shown c)
 
 module _ {P : Type 0} where
+  prepare_all_stays : (ids : List ℕ) (c : Context P) → (prepare_all ids c).pack ≡ c.pack
+  prepare_all_stays [] c = refl
+  prepare_all_stays (id ∷ ids) c = prepare_all_stays ids (prepared id c)
+
   offered_stays : (o : Option SendError) (m : Message) (how : SendOptions) (c : Context P) → (offered o m how c).pack ≡ c.pack
   offered_stays None m how c = refl
   offered_stays (Some e) m how c = refl
@@ -85,3 +143,13 @@ module _ {P : Type 0} (n : Names) (are : AreNames n) (pack : Packing P) where
 
   pub take_named : (s : Standing P) → take_message (named_standing n pack s) ≡ named_standing n pack (take_message s)
   take_named s = ap (λ (st : State). record (named_standing n pack s) { state = st }) (taken_named n s.state)
+
+  reset_if_named : (o : Option ResetStreamsError) (ids : List ℕ) (s : Standing P) → Knows n pack s.context → reset_if o ids (named_standing n pack s) ≡ named_standing n pack (reset_if o ids s)
+  reset_if_named None ids s k =
+      ap (λ (d : Context P). where_open send_in (with_context (named_standing n pack s) d)) (prepare_all_named pack ids s.context)
+      ∙ where_named n are pack send_in (with_context s (prepare_all ids s.context)) send_in_named (prepare_all_stays ids s.context ∙ k)
+  reset_if_named (Some e) ids s k = refl
+
+  pub reset_streams_named : (ids : List ℕ) (s : Standing P) → Knows n pack s.context → reset_streams ids (named_standing n pack s) ≡ named_standing n pack (reset_streams ids s)
+  reset_streams_named ids s k =
+      ap (λ (o : Option ResetStreamsError). reset_if o ids (named_standing n pack s)) (reset_refusal_named n s.state) ∙ reset_if_named (reset_refusal s.state) ids s k

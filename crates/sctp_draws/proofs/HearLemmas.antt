@@ -31,14 +31,14 @@ use Rattle.sctp_draws.proofs.FillingLemmas.{send_with_stays, send_lost_stays}
 use Rattle.sctp_draws.proofs.SackLemmas.{named_on_sack, go_on_stays}
 use Rattle.sctp_draws.proofs.ClosingLemmas.{OpenIsNamed, where_named, on_shutdown_named, shutdown_ack_named, shutdown_complete_named, violated_named, on_abort_named, on_error_named, on_cookie_ack_named, repeats_named, ended_named}
 
-abbrev heard_as : {P : Type 0} → Bool → Endpoint P → Heard P
+abbrev pub heard_as : {P : Type 0} → Bool → Endpoint P → Heard P
 heard_as on e = record { end = e; goes_on = on }
 
 not_true : (b : Bool) → not b ≡ true → b ≡ false
 not_true true h = cc
 not_true false h = refl
 
-both_true : (a b : Bool) → (a && b) ≡ true → (a ≡ true) × (b ≡ true)
+pub both_true : (a b : Bool) → (a && b) ≡ true → (a ≡ true) × (b ≡ true)
 both_true true b h = (refl, h)
 both_true false b h = cc
 
@@ -184,7 +184,7 @@ module _ {P : Type 0} where
   rest_stays rest true e h = h e
   rest_stays rest false e h = refl
 
-  all_stay : (tag : ℕ) (chunks : List ChunkTree) (e : Endpoint P) → list_all is_flowing chunks ≡ true → (hear_all tag chunks e).standing.context.pack ≡ e.standing.context.pack
+  pub all_stay : (tag : ℕ) (chunks : List ChunkTree) (e : Endpoint P) → list_all is_flowing chunks ≡ true → (hear_all tag chunks e).standing.context.pack ≡ e.standing.context.pack
   all_stay tag [] e h = refl
   all_stay tag (c ∷ cs) e h =
       let both = both_true (is_flowing c) (list_all is_flowing cs) h in
@@ -199,7 +199,7 @@ module _ {P : Type 0} where
   repeats_stay ShutdownReceived t c = refl
   repeats_stay (ShutdownAckSent t2) t c = refl
 
-  repeats_if_stays : (b : Bool) (s : Standing P) → (repeats_if b s).context.pack ≡ s.context.pack
+  pub repeats_if_stays : (b : Bool) (s : Standing P) → (repeats_if b s).context.pack ≡ s.context.pack
   repeats_if_stays true s = where_stays repeats s repeats_stay
   repeats_if_stays false s = refl
 
@@ -246,7 +246,7 @@ module _ (m : Names) where
   goes_on_named (i_forward_tsn_chunk tsn skipped) = refl
   goes_on_named (unknown_chunk typ flags value) = refl
 
-violation_named : (n m : Names) (st : State) (chunk : ChunkTree) → violation (named_state n st) (named_chunk m chunk) ≡ violation st chunk
+pub violation_named : (n m : Names) (st : State) (chunk : ChunkTree) → violation (named_state n st) (named_chunk m chunk) ≡ violation st chunk
 violation_named n m Closed chunk = refl
 violation_named n m (CookieWait tag first t1) chunk = refl
 violation_named n m (Open phase t) chunk = misused_named m t.capabilities chunk
@@ -327,7 +327,7 @@ module _ {P : Type 0} (n : Names) (are : AreNames n) (pack : Packing P) where
   rest_named rest named true e h = h
   rest_named rest named false e h = refl
 
-  all_named : (tag : ℕ) (cs : List ChunkTree) (e : Endpoint P) → list_all is_flowing cs ≡ true → Knows n pack e.standing.context
+  pub all_named : (tag : ℕ) (cs : List ChunkTree) (e : Endpoint P) → list_all is_flowing cs ≡ true → Knows n pack e.standing.context
       → hear_all (n.tag tag) (named_chunks (flipped n) cs) (named_end n pack e) ≡ named_end n pack (hear_all tag cs e)
   all_named tag [] e h k = refl
   all_named tag (c ∷ cs) e h k =
@@ -337,7 +337,7 @@ module _ {P : Type 0} (n : Names) (are : AreNames n) (pack : Packing P) where
       ∙ rest_named (hear_all tag cs) (hear_all (n.tag tag) (named_chunks (flipped n) cs)) x.goes_on x.end
       (all_named tag cs x.end both.1 (heard_if_stays (violation e.standing.state c) tag c e both.0 ∙ k))
 
-  repeats_if_named : (b : Bool) (s : Standing P) → Knows n pack s.context → repeats_if b (named_standing n pack s) ≡ named_standing n pack (repeats_if b s)
+  pub repeats_if_named : (b : Bool) (s : Standing P) → Knows n pack s.context → repeats_if b (named_standing n pack s) ≡ named_standing n pack (repeats_if b s)
   repeats_if_named true s k = where_named n are pack repeats s (repeats_named n are pack) k
   repeats_if_named false s k = refl
 

@@ -14,4 +14,6 @@ pub mod TimeLemmas
 pub mod CallLemmas
 pub mod CookieLemmas
 pub mod HearLemmas
-pub mod ImageLemmas
+pub mod ComingLemmas
+pub mod TakenLemmas
+pub mod NamedLawLemmas

@@ -200,28 +200,29 @@ module _ (n : Names) (are : AreNames n) where
   has_tag_named (CookieWait my first t1) true tag = refl
   has_tag_named (Open phase t) true tag = are.apart tag t.identity.peer_tag
 
-  refused_by_named : (abort complete : Option Bool) (shut : Bool) (tag : ℕ) (cs : List ChunkTree) (s : State)
-      → is_some (refusal_by abort complete shut (n.tag tag) (named_chunks n cs) (named_state n s)) ≡ is_some (refusal_by abort complete shut tag cs s)
-  refused_by_named (Some reflected) complete shut tag cs s = refused_unless _ _ _ _ (has_tag_named s reflected tag)
-  refused_by_named None (Some reflected) shut tag cs s = refused_unless _ _ _ _ (has_tag_named s reflected tag)
-  refused_by_named None None true tag cs s =
+  -- whose chunks have names of any kind
+  refused_by_named : (m : Names) (abort complete : Option Bool) (shut : Bool) (tag : ℕ) (cs : List ChunkTree) (s : State)
+      → is_some (refusal_by abort complete shut (n.tag tag) (named_chunks m cs) (named_state n s)) ≡ is_some (refusal_by abort complete shut tag cs s)
+  refused_by_named m (Some reflected) complete shut tag cs s = refused_unless _ _ _ _ (has_tag_named s reflected tag)
+  refused_by_named m None (Some reflected) shut tag cs s = refused_unless _ _ _ _ (has_tag_named s reflected tag)
+  refused_by_named m None None true tag cs s =
       refused_unless _ _ _ _
       (ap (λ (b : Bool). b || (n.tag tag == my_tag (named_state n s))) (early_named n s) ∙ ap (λ (b : Bool). is_early s || b) (is_own_named s tag))
-  refused_by_named None None false tag cs s =
+  refused_by_named m None None false tag cs s =
       refused_plainly (begins_with_cookie cs) (tag == 0) (is_single_init cs) (tag == my_tag s)
-      (begins_with_cookie (named_chunks n cs)) (n.tag tag == 0) (is_single_init (named_chunks n cs)) (n.tag tag == my_tag (named_state n s))
+      (begins_with_cookie (named_chunks m cs)) (n.tag tag == 0) (is_single_init (named_chunks m cs)) (n.tag tag == my_tag (named_state n s))
       tag (my_tag s) (n.tag tag) (my_tag (named_state n s))
-      (cookie_named n cs) (is_none_named tag) (single_named n cs) (is_own_named s tag)
+      (cookie_named m cs) (is_none_named tag) (single_named m cs) (is_own_named s tag)
 
-  pub refused_named : (tag : ℕ) (cs : List ChunkTree) (s : State)
-      → is_some (refusal (n.tag tag) (named_chunks n cs) (named_state n s)) ≡ is_some (refusal tag cs s)
-  refused_named tag cs s =
-      let ds : List ChunkTree = named_chunks n cs in
+  pub refused_named : (m : Names) (tag : ℕ) (cs : List ChunkTree) (s : State)
+      → is_some (refusal (n.tag tag) (named_chunks m cs) (named_state n s)) ≡ is_some (refusal tag cs s)
+  refused_named m tag cs s =
+      let ds : List ChunkTree = named_chunks m cs in
       let r : State = named_state n s in
-      ap (λ (o : Option Bool). is_some (refusal_by o (complete_flag ds) (has_shutdown_ack ds) (n.tag tag) ds r)) (abort_named n cs)
-      ∙ (ap (λ (o : Option Bool). is_some (refusal_by (abort_flag cs) o (has_shutdown_ack ds) (n.tag tag) ds r)) (complete_named n cs)
-      ∙ (ap (λ (b : Bool). is_some (refusal_by (abort_flag cs) (complete_flag cs) b (n.tag tag) ds r)) (shut_named n cs)
-      ∙ refused_by_named (abort_flag cs) (complete_flag cs) (has_shutdown_ack cs) tag cs s))
+      ap (λ (o : Option Bool). is_some (refusal_by o (complete_flag ds) (has_shutdown_ack ds) (n.tag tag) ds r)) (abort_named m cs)
+      ∙ (ap (λ (o : Option Bool). is_some (refusal_by (abort_flag cs) o (has_shutdown_ack ds) (n.tag tag) ds r)) (complete_named m cs)
+      ∙ (ap (λ (b : Bool). is_some (refusal_by (abort_flag cs) (complete_flag cs) b (n.tag tag) ds r)) (shut_named m cs)
+      ∙ refused_by_named m (abort_flag cs) (complete_flag cs) (has_shutdown_ack cs) tag cs s))
 
   -- ---- a cookie that came back
 

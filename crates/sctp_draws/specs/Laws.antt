@@ -46,7 +46,7 @@ pub data TiesTell (n : Names) (tag : ℕ) (i : Identity) (k : Cookie) : Type 0 w
 abbrev pub RefusalsAreNamed : Type 0
 RefusalsAreNamed =
     (n : Names) → AreNames n → (tag : ℕ) (chunks : List ChunkTree) (s : State)
-    → is_some (refusal (n.tag tag) (named_chunks n chunks) (named_state n s)) ≡ is_some (refusal tag chunks s)
+    → is_some (refusal (n.tag tag) (named_chunks (flipped n) chunks) (named_state n s)) ≡ is_some (refusal tag chunks s)
 
 abbrev pub VerdictsAreNamed : Type 0
 VerdictsAreNamed =

@@ -1,5 +1,5 @@
 -- Calls under other names: what the words that are drawn, the cookies and a packet that comes have to be, and the law of each call.
-use Rattle.std.specs.Prelude.{◌≡◌, ℕ, ◌==◌, Bool, true, false, Option, Some, None, Result, Ok, Err, List, [], ◌∷◌, ⊤}
+use Rattle.std.specs.Prelude.{◌≡◌, ℕ, Bool, true, false, Option, Some, None, Result, Ok, Err, List, [], ◌∷◌, ⊤}
 use Rattle.std.specs.List.{list_all}
 use Rattle.rand_core.specs.Stream.{Stream, next_u32, next_u64}
 use Rattle.sctp_packet.specs.Chunk.{ChunkTree, InitTree, init_chunk, init_ack_chunk, cookie_echo_chunk}
@@ -31,7 +31,7 @@ pub record DrawsTie (n : Names) (w v : Stream) : Type 0 where
 -- the names know the cookie of an answer, and its tie
 pub record KnowsAnswer (n : Names) (i : InitTree) (tag first tie named_tie : ℕ) : Type 0 where
   pub makes : Makes n (cookie_for i tag first tie)
-  pub tie : n.cookie_tie tie ≡ named_tie
+  pub cookie_tie : n.cookie_tie tie ≡ named_tie
 
 -- by what is drawn, a first TSN and a tag, and not kept
 pub record AnswersNew (n : Names) (i : InitTree) (w v : Stream) : Type 0 where

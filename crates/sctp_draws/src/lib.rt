@@ -1,8 +1,8 @@
 //! Draws: an end whose tags, ties and first TSNs are others does the same under these names, and tells the same packets under them.
 #![tactic(auto)]
 
-ghost use Rattle.sctp_draws.specs.Images.{ConnectsAlike, SacksAreHeardAlike};
 ghost use Rattle.sctp_draws.specs.Laws.{AnswersAreNamed, BurstsAreNamed, CallsAreNamed, ConnectIsNamed, DataIsNamed, EchoesAreNamed, EndingsAreNamed, ForwardPointsAreNamed, MomentsAreNamed, NewBlocksAreNamed, PacketsAreNamed, RefusalsAreNamed, SacksAreNamed, VerdictsAreNamed};
+ghost use Rattle.sctp_draws.specs.NamedCalls.{EachCallIsNamed, EachRefusalIsNamed};
 ghost use Rattle.sctp_draws.specs.NamedCookies.{CookiesAreNamed};
 ghost use Rattle.sctp_draws.specs.Renamed.{PairsAreRenamed};
 
@@ -63,8 +63,10 @@ pub fn packets_are_named()
     ensures packets { PacketsAreNamed }
 {}
 
-/// What the second end tells is what the first one tells, each packet under the other names.
-pub fn packets_are_images()
-    ensures connects { ConnectsAlike }
-    ensures sacks { SacksAreHeardAlike }
+/// Each call of an end under other names leaves it as the same call leaves the first one, under these names, and tells the same packets
+/// under them. Asked for are the words that are drawn, and of a packet what opens an association in it; of other calls nothing, but that
+/// no record is taken up. A packet that one of the two refuses the other one refuses too.
+pub fn each_call_is_named()
+    ensures calls { EachCallIsNamed }
+    ensures refusals { EachRefusalIsNamed }
 {}

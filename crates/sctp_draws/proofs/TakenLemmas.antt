@@ -1,0 +1,239 @@
+-- Packets that are taken, also those that begin with what opens an association, and packets that are refused.
+use Rattle.std.proofs.Common.{◌≡◌, ℕ, Bool, true, false, Option, Some, None, is_some, List, [], ◌∷◌, refl, sym, ap, subst, ◌∙◌}
+use Rattle.std.specs.List.{list_all}
+use Rattle.rand_core.specs.Stream.{Stream}
+use Rattle.sctp_packet.specs.Chunk.{ChunkTree, InitTree, data_chunk, idata_chunk, init_chunk, init_ack_chunk, sack_chunk, heartbeat_request_chunk, heartbeat_ack_chunk, abort_chunk, shutdown_chunk, shutdown_ack_chunk, error_chunk, cookie_echo_chunk, cookie_ack_chunk, shutdown_complete_chunk, re_config_chunk, forward_tsn_chunk, i_forward_tsn_chunk, unknown_chunk}
+use Rattle.sctp_packet.specs.Packet.{PacketTree}
+use Rattle.sctp_state.specs.Cookie.{Cookie}
+use Rattle.sctp_table.specs.Association.{Tcb, Phase, CookieEchoed, Established, ShutdownPending, ShutdownSent, ShutdownReceived, ShutdownAckSent, State, Closed, CookieWait, Open, Context, Standing, Endpoint, with_context, where_open}
+use Rattle.sctp_table.specs.Opening.{judged}
+use Rattle.sctp_table.specs.Input.{refusal, violation, on_chunk, goes_on, Heard, heard_if, hear, hear_rest, hear_all, has_data, repeats_if, ended, handled, counted, counts, taken_if, on_packet}
+use Rattle.sctp_table.specs.Laws.{Packing}
+use Rattle.sctp_table_laws.proofs.OpeningStepsLemmas.{steps_init, steps_init_ack, steps_cookie_echo}
+use Rattle.sctp_draws.specs.NamedChunks.{Names, AreNames, flipped, named_chunk, named_chunks}
+use Rattle.sctp_draws.specs.Names.{named_state, named_standing, with_words}
+use Rattle.sctp_draws.specs.Laws.{TiesTell, is_flowing}
+use Rattle.sctp_draws.specs.NamedCalls.{is_new, CookieIsNamed, AreNamed, IsNamed, named_heard}
+use Rattle.sctp_draws.proofs.WritingLemmas.{Knows}
+use Rattle.sctp_draws.proofs.TagLemmas.{data_named, refused_named}
+use Rattle.sctp_draws.proofs.ClosingLemmas.{where_named, ended_named}
+use Rattle.sctp_draws.proofs.HearLemmas.{heard_as, both_true, all_stay, repeats_if_stays, violation_named, all_named, repeats_if_named}
+use Rattle.sctp_draws.proofs.ComingLemmas.{init_named, init_ack_named, cookie_echo_named}
+
+-- ---- chunks that open nothing draw nothing
+
+abbrev standing_in : {P : Type 0} → State → Context P → Standing P
+standing_in st c = record { state = st; context = c }
+
+-- with other words
+abbrev worded : {P : Type 0} → Stream → Endpoint P → Endpoint P
+worded v e = with_words v e.standing
+
+module _ {P : Type 0} (v : Stream) where
+  chunk_quiet : (tag : ℕ) (chunk : ChunkTree) (e : Endpoint P) → is_flowing chunk ≡ true → on_chunk tag chunk (worded v e) ≡ worded v (on_chunk tag chunk e)
+  chunk_quiet tag (data_chunk tsn immediate f) e h = refl
+  chunk_quiet tag (idata_chunk tsn immediate f) e h = refl
+  chunk_quiet tag (init_chunk i) e h = cc
+  chunk_quiet tag (init_ack_chunk i) e h = cc
+  chunk_quiet tag (sack_chunk k) e h = refl
+  chunk_quiet tag (heartbeat_request_chunk parameters) e h = refl
+  chunk_quiet tag (heartbeat_ack_chunk parameters) e h = refl
+  chunk_quiet tag (abort_chunk reflected causes) e h = refl
+  chunk_quiet tag (shutdown_chunk tsn) e h = refl
+  chunk_quiet tag shutdown_ack_chunk e h = refl
+  chunk_quiet tag (error_chunk causes) e h = refl
+  chunk_quiet tag (cookie_echo_chunk cookie) e h = cc
+  chunk_quiet tag cookie_ack_chunk e h = refl
+  chunk_quiet tag (shutdown_complete_chunk reflected) e h = refl
+  chunk_quiet tag (re_config_chunk parameters) e h = refl
+  chunk_quiet tag (forward_tsn_chunk tsn skipped) e h = refl
+  chunk_quiet tag (i_forward_tsn_chunk tsn skipped) e h = refl
+  chunk_quiet tag (unknown_chunk typ flags value) e h = refl
+
+  heard_quiet : (o : Option (List ℕ)) (tag : ℕ) (chunk : ChunkTree) (e : Endpoint P) → is_flowing chunk ≡ true
+      → heard_if o tag chunk (worded v e) ≡ heard_as (heard_if o tag chunk e).goes_on (worded v (heard_if o tag chunk e).end)
+  heard_quiet (Some reason) tag chunk e h = refl
+  heard_quiet None tag chunk e h = ap (λ (x : Endpoint P). heard_as (goes_on chunk) x) (chunk_quiet tag chunk e h)
+
+  rest_quiet : (rest : Endpoint P → Endpoint P) (b : Bool) (e : Endpoint P) → rest (worded v e) ≡ worded v (rest e)
+      → hear_rest rest (heard_as b (worded v e)) ≡ worded v (hear_rest rest (heard_as b e))
+  rest_quiet rest true e h = h
+  rest_quiet rest false e h = refl
+
+  all_quiet : (tag : ℕ) (cs : List ChunkTree) (e : Endpoint P) → list_all is_flowing cs ≡ true → hear_all tag cs (worded v e) ≡ worded v (hear_all tag cs e)
+  all_quiet tag [] e h = refl
+  all_quiet tag (c ∷ cs) e h =
+      let both = both_true (is_flowing c) (list_all is_flowing cs) h in
+      let x : Heard P = hear tag c e in
+      ap (λ (y : Heard P). hear_rest (hear_all tag cs) y) (heard_quiet (violation e.standing.state c) tag c e both.0)
+      ∙ rest_quiet (hear_all tag cs) x.goes_on x.end (all_quiet tag cs x.end both.1)
+
+-- ---- the first chunk
+
+module _ {P : Type 0} where
+  -- one that nothing forbids
+  first_heard : (tag : ℕ) (c : ChunkTree) (cs : List ChunkTree) (e : Endpoint P) → violation e.standing.state c ≡ None → goes_on c ≡ true
+      → hear_all tag (c ∷ cs) e ≡ hear_all tag cs (on_chunk tag c e)
+  first_heard tag c cs e allowed on =
+      ap (λ (o : Option (List ℕ)). hear_rest (hear_all tag cs) (heard_if o tag c e)) allowed
+      ∙ ap (λ (b : Bool). hear_rest (hear_all tag cs) (heard_as b (on_chunk tag c e))) on
+
+init_allowed : (st : State) (i : InitTree) → violation st (init_chunk i) ≡ None
+init_allowed Closed i = refl
+init_allowed (CookieWait tag first t1) i = refl
+init_allowed (Open phase t) i = refl
+
+init_ack_allowed : (st : State) (i : InitTree) → violation st (init_ack_chunk i) ≡ None
+init_ack_allowed Closed i = refl
+init_ack_allowed (CookieWait tag first t1) i = refl
+init_ack_allowed (Open phase t) i = refl
+
+cookie_echo_allowed : (st : State) (cookie : List ℕ) → violation st (cookie_echo_chunk cookie) ≡ None
+cookie_echo_allowed Closed cookie = refl
+cookie_echo_allowed (CookieWait tag first t1) cookie = refl
+cookie_echo_allowed (Open phase t) cookie = refl
+
+-- ---- a SHUTDOWN that is sent again leaves the control block as it is
+
+abbrev block_or : Tcb → State → Tcb
+block_or u Closed = u
+block_or u (CookieWait tag first t1) = u
+block_or u (Open phase t) = t
+
+-- the control block is that of this state
+abbrev HasBlockOf : (before after : State) → Type 0
+HasBlockOf before after = (phase : Phase) (t : Tcb) → after ≡ Open phase t → (q : Phase) × (before ≡ Open q t)
+
+same_block : (p q : Phase) (u : Tcb) → HasBlockOf (Open p u) (Open q u)
+same_block p q u phase t e = (p, ap (λ (x : Tcb). Open p x) (ap (λ (st : State). block_or u st) e))
+
+module _ {P : Type 0} where
+  repeats_block : (b : Bool) (st : State) (c : Context P) → HasBlockOf st (repeats_if b (standing_in st c)).state
+  repeats_block false st c = λ phase t e. (phase, e)
+  repeats_block true Closed c = λ phase t e. (phase, e)
+  repeats_block true (CookieWait tag first t1) c = λ phase t e. (phase, e)
+  repeats_block true (Open (CookieEchoed t1 cookie) t) c = λ phase u e. (phase, e)
+  repeats_block true (Open Established t) c = λ phase u e. (phase, e)
+  repeats_block true (Open ShutdownPending t) c = λ phase u e. (phase, e)
+  repeats_block true (Open (ShutdownSent t2) t) c = same_block (ShutdownSent t2) _ t
+  repeats_block true (Open ShutdownReceived t) c = λ phase u e. (phase, e)
+  repeats_block true (Open (ShutdownAckSent t2) t) c = λ phase u e. (phase, e)
+
+  repeats_judged : (b : Bool) (tag : ℕ) (k : Cookie) (st : State) (c : Context P) → judged tag k (repeats_if b (standing_in st c)).state ≡ judged tag k st
+  repeats_judged false tag k st c = refl
+  repeats_judged true tag k Closed c = refl
+  repeats_judged true tag k (CookieWait mine first t1) c = refl
+  repeats_judged true tag k (Open (CookieEchoed t1 cookie) t) c = refl
+  repeats_judged true tag k (Open Established t) c = refl
+  repeats_judged true tag k (Open ShutdownPending t) c = refl
+  repeats_judged true tag k (Open (ShutdownSent t2) t) c = refl
+  repeats_judged true tag k (Open ShutdownReceived t) c = refl
+  repeats_judged true tag k (Open (ShutdownAckSent t2) t) c = refl
+
+ties_from : (n : Names) (tag : ℕ) (k : Cookie) (before after : State) → HasBlockOf before after
+    → ((phase : Phase) (t : Tcb) → before ≡ Open phase t → TiesTell n tag t.identity k) → (phase : Phase) (t : Tcb) → after ≡ Open phase t → TiesTell n tag t.identity k
+ties_from n tag k before after same tell phase t e = let had = same phase t e in tell had.0 t had.1
+
+-- ---- packets
+
+none_of : (o : Option (List ℕ)) → is_some o ≡ false → o ≡ None
+none_of None h = refl
+none_of (Some text) h = cc
+
+pub some_of : (o : Option (List ℕ)) → is_some o ≡ true → (text : List ℕ) × (o ≡ Some text)
+some_of None h = cc
+some_of (Some text) h = (text, refl)
+
+-- these chunks are heard under both names alike
+record HeardAlike {P : Type 0} (n : Names) (pack : Packing P) (tag : ℕ) (cs : List ChunkTree) (s : Standing P) (w v : Stream) : Type 0 where
+  alike : (hear_all (n.tag tag) (named_chunks (flipped n) cs) (with_words v (named_standing n pack s))).standing ≡ named_standing n pack (hear_all tag cs (with_words w s)).standing
+  knows : Knows n pack (hear_all tag cs (with_words w s)).standing.context
+
+abbrev HandledAlike : {P : Type 0} → Names → Packing P → (tag : ℕ) → List ChunkTree → Standing P → (w v : Stream) → Type 0
+HandledAlike {P} n pack tag cs s w v =
+    (handled (n.tag tag) (named_chunks (flipped n) cs) (with_words v (named_standing n pack s))).standing ≡ named_standing n pack (handled tag cs (with_words w s)).standing
+
+module _ {P : Type 0} (n : Names) (are : AreNames n) (pack : Packing P) where
+  -- ends that stand alike
+  flow_alike : (tag : ℕ) (cs : List ChunkTree) (x y : Endpoint P) → list_all is_flowing cs ≡ true → Knows n pack x.standing.context → y.standing ≡ named_standing n pack x.standing
+      → (hear_all (n.tag tag) (named_chunks (flipped n) cs) y).standing ≡ named_standing n pack (hear_all tag cs x).standing
+  flow_alike tag cs x y h k same =
+      ap (λ (s : Standing P). (hear_all (n.tag tag) (named_chunks (flipped n) cs) (with_words y.words s)).standing) same
+      ∙ (ap (λ (e : Endpoint P). e.standing) (all_named n are pack tag cs (worded y.words x) h k)
+      ∙ ap (λ (e : Endpoint P). named_standing n pack e.standing) (all_quiet y.words tag cs x h))
+
+  flow_heard : (tag : ℕ) (cs : List ChunkTree) (s : Standing P) (w v : Stream) → list_all is_flowing cs ≡ true → Knows n pack s.context → HeardAlike n pack tag cs s w v
+  flow_heard tag cs s w v h k = record {
+    alike = flow_alike tag cs (with_words w s) (with_words v (named_standing n pack s)) h k refl;
+    knows = all_stay tag cs (with_words w s) h ∙ k;
+  }
+
+  -- behind a first chunk that both take alike
+  first_alike : (tag : ℕ) (c : ChunkTree) (cs : List ChunkTree) (s : Standing P) (w v : Stream)
+      → violation s.state c ≡ None → goes_on c ≡ true → goes_on (named_chunk (flipped n) c) ≡ true → list_all is_flowing cs ≡ true
+      → Knows n pack (on_chunk tag c (with_words w s)).standing.context
+      → (on_chunk (n.tag tag) (named_chunk (flipped n) c) (with_words v (named_standing n pack s))).standing ≡ named_standing n pack (on_chunk tag c (with_words w s)).standing
+      → HeardAlike n pack tag (c ∷ cs) s w v
+  first_alike tag c cs s w v allowed on on_named h k alike =
+      let x : Endpoint P = on_chunk tag c (with_words w s) in
+      let d : ChunkTree = named_chunk (flipped n) c in
+      let r : Standing P = named_standing n pack s in
+      let y : Endpoint P = on_chunk (n.tag tag) d (with_words v r) in
+      let here : hear_all tag (c ∷ cs) (with_words w s) ≡ hear_all tag cs x = first_heard tag c cs (with_words w s) allowed on in
+      let there : hear_all (n.tag tag) (named_chunks (flipped n) (c ∷ cs)) (with_words v r) ≡ hear_all (n.tag tag) (named_chunks (flipped n) cs) y =
+      first_heard (n.tag tag) d (named_chunks (flipped n) cs) (with_words v r) (violation_named n (flipped n) s.state c ∙ allowed) on_named in
+      record {
+        alike = ap (λ (e : Endpoint P). e.standing) there
+            ∙ (flow_alike tag cs x y h k alike ∙ sym (ap (λ (e : Endpoint P). named_standing n pack e.standing) here));
+        knows = ap (λ (e : Endpoint P). e.standing.context.pack) here ∙ (all_stay tag cs x h ∙ k);
+      }
+
+  -- the beginning and the end of a packet
+  handled_alike : (tag : ℕ) (cs : List ChunkTree) (s : Standing P) (w v : Stream) → HeardAlike n pack tag cs (repeats_if (has_data cs) s) w v → Knows n pack s.context
+      → HandledAlike n pack tag cs s w v
+  handled_alike tag cs s w v h k =
+      let ds : List ChunkTree = named_chunks (flipped n) cs in
+      let x : Standing P = (hear_all tag cs (with_words w (repeats_if (has_data cs) s))).standing in
+      ap (λ (b : Bool). where_open ended (hear_all (n.tag tag) ds (with_words v (repeats_if b (named_standing n pack s)))).standing) (data_named (flipped n) cs)
+      ∙ (ap (λ (r : Standing P). where_open ended (hear_all (n.tag tag) ds (with_words v r)).standing) (repeats_if_named n are pack (has_data cs) s k)
+      ∙ (ap (λ (r : Standing P). where_open ended r) h.alike
+      ∙ where_named n are pack ended x (ended_named n are pack) h.knows))
+
+  cookie_after : (b : Bool) (tag : ℕ) (cookie : List ℕ) (st : State) (c : Context P) (w v : Stream) → CookieIsNamed n tag cookie st w v
+      → CookieIsNamed n tag cookie (repeats_if b (standing_in st c)).state w v
+  cookie_after b tag cookie st c w v is = record {
+    reads = is.reads;
+    ties = λ k e. ties_from n tag k st (repeats_if b (standing_in st c)).state (repeats_block b st c) (is.ties k e);
+    draws = λ k e new. is.draws k e (sym (ap is_new (repeats_judged b tag k st c)) ∙ new);
+  }
+
+  taken_as : (tag : ℕ) (cs : List ChunkTree) (s : Standing P) (w v : Stream) → AreNamed n tag cs s.state w v → Knows n pack s.context → HandledAlike n pack tag cs s w v
+  taken_as tag cs s w v (AreNamed.flow h) k =
+      let r : Standing P = repeats_if (has_data cs) s in
+      handled_alike tag cs s w v (flow_heard tag cs r w v h (repeats_if_stays (has_data cs) s ∙ k)) k
+  taken_as tag cs s w v (AreNamed.init i e is) k =
+      subst (λ (ds : List ChunkTree). HandledAlike n pack tag ds s w v) (sym e)
+      (handled_alike tag (init_chunk i ∷ []) s w v
+      (first_alike tag (init_chunk i) [] s w v (init_allowed s.state i) refl refl refl ((steps_init i (with_words w s)).pack ∙ k) (init_named n are pack i s w v is k)) k)
+  taken_as tag cs s w v (AreNamed.init_ack i e is) k =
+      subst (λ (ds : List ChunkTree). HandledAlike n pack tag ds s w v) (sym e)
+      (handled_alike tag (init_ack_chunk i ∷ []) s w v
+      (first_alike tag (init_ack_chunk i) [] s w v (init_ack_allowed s.state i) refl refl refl ((steps_init_ack i (with_words w s)).pack ∙ k) (init_ack_named n are pack i s w v is k)) k)
+  taken_as tag cs s w v (AreNamed.cookie_echo cookie rest e is h) k =
+      let b : Bool = has_data rest in
+      let r : Standing P = repeats_if b s in
+      let at : Knows n pack r.context = repeats_if_stays b s ∙ k in
+      subst (λ (ds : List ChunkTree). HandledAlike n pack tag ds s w v) (sym e)
+      (handled_alike tag (cookie_echo_chunk cookie ∷ rest) s w v
+      (first_alike tag (cookie_echo_chunk cookie) rest r w v (cookie_echo_allowed r.state cookie) refl refl h ((steps_cookie_echo tag cookie (with_words w r)).pack ∙ at)
+      (cookie_echo_named n are pack tag cookie r w v (cookie_after b tag cookie s.state s.context w v is) at)) k)
+
+  pub packet_named : (p : PacketTree) (s : Standing P) (w v : Stream) → IsNamed n p s.state w v → Knows n pack s.context
+      → (on_packet (named_heard n p) (with_words v (named_standing n pack s))).standing ≡ named_standing n pack (on_packet p (with_words w s)).standing
+  packet_named p s w v is k =
+      let tag : ℕ = p.header.verification_tag in
+      let ds : List ChunkTree = named_chunks (flipped n) p.chunks in
+      let other : refusal (n.tag tag) ds (named_state n s.state) ≡ None = none_of (refusal (n.tag tag) ds (named_state n s.state)) (refused_named n are (flipped n) tag p.chunks s.state ∙ ap (λ (o : Option (List ℕ)). is_some o) is.taken) in
+      ap (λ (o : Option (List ℕ)). (taken_if o (n.tag tag) ds (counts (with_words v (named_standing n pack s)))).standing) other
+      ∙ (taken_as tag p.chunks (with_context s (counted s.context)) w v is.chunks k
+      ∙ sym (ap (λ (o : Option (List ℕ)). named_standing n pack (taken_if o tag p.chunks (counts (with_words w s))).standing) is.taken))
