@@ -27,6 +27,8 @@ use Rattle.sctp_course.proofs.ToldLemmas.{is_light, TellsLightly}
 use Rattle.sctp_course.proofs.UntilLemmas.{light_sack, light_sending, light_time, light_call, light_reset, no_end, until_end}
 use Rattle.sctp_draws_course.proofs.TwinLemmas.{has_numbers}
 use Rattle.sctp_draws_course.proofs.StepLemmas.{hears_init, is_past, EachChunk}
+use Rattle.sctp_state.specs.Capabilities.{announced}
+use Rattle.sctp_table.specs.Opening.{init_of}
 
 -- what is known of the call
 pub record Hears (call : Call) : Type 0 where
@@ -201,7 +203,7 @@ module _ (call : Call) (g : Hears call) where
 
   own_opening : (act : OpeningAct Carried call) → R (before_opening act) (after_opening act)
   own_opening (connects m is) = turns_to Closed (after_opening {call = call} (connects m is)).state m (λ e. cc) (λ e. no_init Connect is refl e)
-  own_opening (adds_init tag first t1 m to) = adds_to (CookieWait tag first t1) m (init_chunk _) (init_may call (CookieWait tag first t1) _)
+  own_opening (adds_init tag first t1 m to) = adds_to (CookieWait tag first t1) m (init_chunk (init_of m.context.options tag first (announced m.context.options m.context.options.zero_checksum_method))) (init_may call (CookieWait tag first t1) (init_of m.context.options tag first (announced m.context.options m.context.options.zero_checksum_method)))
   own_opening (answers_new tag i m heard to) = adds_to Closed m (init_ack_chunk _) (g.inits tag i heard)
   own_opening (answers_waiting tag i my_tag first t1 m heard to) = adds_to (CookieWait my_tag first t1) m (init_ack_chunk _) (g.inits tag i heard)
   own_opening (answers_echoed tag i t1 cookie t m heard to) = adds_to (Open (CookieEchoed t1 cookie) t) m (init_ack_chunk _) (g.inits tag i heard)
