@@ -1,0 +1,231 @@
+-- A packet that opens no association is heard under the names of its sender, flipped; where it holds no numbers, under any.
+use Rattle.std.proofs.Common.{◌≡◌, ◌≢◌, ℕ, ◌&&◌, not, Bool, true, false, Option, Some, None, List, [], ◌∷◌, map, All, ◌⊎◌, inl, inr, refl, sym, ap, subst, ◌∙◌}
+use Rattle.std.specs.List.{list_all}
+use Rattle.std.proofs.lemmas.Bool.{both_ways, and_parts, and_from}
+use Rattle.std.proofs.lemmas.List.Elements.{All-nil, All-cons, All-head, All-tail}
+use Rattle.sctp_packet.specs.Chunk.{ChunkTree, InitTree, data_chunk, idata_chunk, init_chunk, init_ack_chunk, sack_chunk, heartbeat_request_chunk, heartbeat_ack_chunk, abort_chunk, shutdown_chunk, shutdown_ack_chunk, error_chunk, cookie_echo_chunk, cookie_ack_chunk, shutdown_complete_chunk, re_config_chunk, forward_tsn_chunk, i_forward_tsn_chunk, unknown_chunk}
+use Rattle.sctp_packet.specs.Grammar.{carried}
+use Rattle.sctp_state.specs.Cookie.{Cookie}
+use Rattle.sctp_table.specs.Association.{Phase, Tcb, State, Closed, CookieWait, Open, Endpoint}
+use Rattle.sctp_table.specs.Shown.{Association, association_in}
+use Rattle.sctp_table.specs.Input.{my_tag, refusal}
+use Rattle.sctp_table.specs.Laws.{Call, Packet, called}
+use Rattle.sctp_table_laws.specs.Mapped.{Carried}
+use Rattle.sctp_course.specs.Acts.{IsHeard, IsEchoed}
+use Rattle.sctp_course.specs.Course.{Side, as_carried, as_heard, state_of}
+use Rattle.sctp_course.specs.Agreement.{Draw as Drawn}
+use Rattle.sctp_course.proofs.JoinLemmas.{Draw, Both, View, view_of, Faces, some_same}
+use Rattle.sctp_draws.specs.NamedChunks.{Names, flipped, named_chunk, named_chunks}
+use Rattle.sctp_draws.specs.Names.{named_state}
+use Rattle.sctp_draws.specs.Laws.{is_flowing}
+use Rattle.sctp_draws.specs.NamedCalls.{AreNamed, flow, EachCallIsNamed}
+use Rattle.sctp_draws.specs.Renamed.{renamed}
+use Rattle.sctp_draws_course.specs.Pairing.{tags_of, names, Knows}
+use Rattle.sctp_draws_course.proofs.NamesLemmas.{same_tie, peer_in, names_in, TagsAre, state_by}
+use Rattle.sctp_draws_course.proofs.TwinLemmas.{Holds, HoldsOne, has_numbers, Marked, Twin, IsNamedBy}
+use Rattle.sctp_draws_course.proofs.ChunkLemmas.{named_with, is_bare, chunks_heard, chunks_bare, all_flow_carried}
+use Rattle.sctp_draws_course.proofs.GuideLemmas.{Guides, tags_after}
+use Rattle.sctp_draws_course.proofs.StepLemmas.{first_is_init, hears_init, Named}
+use Rattle.sctp_draws_course.proofs.HeardLemmas.{all_heard, taken_as, taken_too}
+use Rattle.sctp_draws_course.proofs.BlankLemmas.{on_chunks, chunks_blank}
+
+-- ---- tags
+
+pub own_tags : (s : State) → TagsAre (my_tag s) (peer_in s) s
+own_tags Closed = tt
+own_tags (CookieWait tag first t1) = refl
+own_tags (Open phase t) = (refl, refl)
+
+abbrev pub held_by : Tcb → Association
+held_by t = record {
+  my_tag = t.identity.my_tag;
+  my_initial_tsn = t.identity.my_first;
+  peer_tag = t.identity.peer_tag;
+  peer_initial_tsn = t.identity.peer_first;
+}
+
+-- the end beside one that holds an association has its tags crossed
+pub faced_tags : (s u : State) (mine peer : ℕ) → Holds u mine peer → Faces (view_of u).holds (view_of s).mine → Faces (view_of s).holds (view_of u).mine
+    → TagsAre peer mine s
+faced_tags s Closed mine peer h f g = let none = h.held in cc
+faced_tags s (CookieWait tag first t1) mine peer h f g = let none = h.held in cc
+faced_tags Closed (Open phase t) mine peer h f g = tt
+faced_tags (CookieWait tag first t1) (Open phase t) mine peer h f g =
+    let same : held_by t ≡ h.association = some_same (held_by t) h.association h.held in
+    ap (λ (d : Draw). d.tag) f ∙ (ap (λ (a : Association). a.peer_tag) same ∙ h.other)
+faced_tags (Open next u) (Open phase t) mine peer h f g =
+    let same : held_by t ≡ h.association = some_same (held_by t) h.association h.held in (
+      ap (λ (d : Draw). d.tag) f ∙ (ap (λ (a : Association). a.peer_tag) same ∙ h.other),
+      sym (ap (λ (d : Draw). d.tag) g) ∙ (ap (λ (a : Association). a.my_tag) same ∙ h.own),
+    )
+
+-- ---- tests of all chunks
+
+pub all_true : (test : ChunkTree → Bool) (cs : List ChunkTree) → list_all test cs ≡ true → All (λ c. test c ≡ true) cs
+all_true test [] h = All-nil (λ c. test c ≡ true)
+all_true test (c ∷ cs) h =
+    let parts = and_parts (test c) (list_all test cs) h in All-cons (λ c. test c ≡ true) c cs parts.0 (all_true test cs parts.1)
+
+pub flow_silent : (cs : List ChunkTree) → list_all is_flowing cs ≡ true → first_is_init cs ≡ false
+flow_silent [] h = refl
+flow_silent (init_chunk i ∷ cs) h = cc
+flow_silent (c ∷ cs) h = refl
+
+-- ---- cookies are not in what flows
+
+module _ (tag : ℕ → ℕ) (own peer : ℕ) (cookie other : List ℕ → List ℕ) (t c u d : ℕ → ℕ) where
+  chunk_cookies : (k : ChunkTree) → is_flowing k ≡ true
+      → named_chunk (named_with tag own peer cookie t c) k ≡ named_chunk (named_with tag own peer other u d) k
+  chunk_cookies (data_chunk tsn immediate f) h = refl
+  chunk_cookies (idata_chunk tsn immediate f) h = refl
+  chunk_cookies (init_chunk i) h = cc
+  chunk_cookies (init_ack_chunk i) h = cc
+  chunk_cookies (sack_chunk k) h = refl
+  chunk_cookies (heartbeat_request_chunk parameters) h = refl
+  chunk_cookies (heartbeat_ack_chunk parameters) h = refl
+  chunk_cookies (abort_chunk reflected causes) h = refl
+  chunk_cookies (shutdown_chunk tsn) h = refl
+  chunk_cookies shutdown_ack_chunk h = refl
+  chunk_cookies (error_chunk causes) h = refl
+  chunk_cookies (cookie_echo_chunk k) h = cc
+  chunk_cookies cookie_ack_chunk h = refl
+  chunk_cookies (shutdown_complete_chunk reflected) h = refl
+  chunk_cookies (re_config_chunk parameters) h = cc
+  chunk_cookies (forward_tsn_chunk tsn skipped) h = refl
+  chunk_cookies (i_forward_tsn_chunk tsn skipped) h = refl
+  chunk_cookies (unknown_chunk typ flags value) h = refl
+
+  chunks_cookies : (ks : List ChunkTree) → list_all is_flowing ks ≡ true
+      → named_chunks (named_with tag own peer cookie t c) ks ≡ named_chunks (named_with tag own peer other u d) ks
+  chunks_cookies [] h = refl
+  chunks_cookies (k ∷ ks) h =
+      let parts = and_parts (is_flowing k) (list_all is_flowing ks) h in
+      ap (λ (z : ChunkTree). z ∷ named_chunks (named_with tag own peer cookie t c) ks) (chunk_cookies k parts.0)
+      ∙ ap (λ (zs : List ChunkTree). named_chunk (named_with tag own peer other u d) k ∷ zs) (chunks_cookies ks parts.1)
+
+-- ---- numbers, or none
+
+module _ (s u : State) (mine peer : ℕ) (cookie_tie : ℕ → ℕ) where
+  chunk_holds : (c : ChunkTree) → is_flowing c ≡ true → Marked s u mine peer cookie_tie c → Holds s mine peer ⊎ (is_bare c ≡ true)
+  chunk_holds (data_chunk tsn immediate f) h m = inl m
+  chunk_holds (idata_chunk tsn immediate f) h m = inl m
+  chunk_holds (init_chunk i) h m = cc
+  chunk_holds (init_ack_chunk i) h m = cc
+  chunk_holds (sack_chunk k) h m = inl m
+  chunk_holds (heartbeat_request_chunk parameters) h m = inr refl
+  chunk_holds (heartbeat_ack_chunk parameters) h m = inr refl
+  chunk_holds (abort_chunk reflected causes) h m = inr refl
+  chunk_holds (shutdown_chunk tsn) h m = inr refl
+  chunk_holds shutdown_ack_chunk h m = inr refl
+  chunk_holds (error_chunk causes) h m = inr refl
+  chunk_holds (cookie_echo_chunk k) h m = cc
+  chunk_holds cookie_ack_chunk h m = inr refl
+  chunk_holds (shutdown_complete_chunk reflected) h m = inr refl
+  chunk_holds (re_config_chunk parameters) h m = cc
+  chunk_holds (forward_tsn_chunk tsn skipped) h m = inl m
+  chunk_holds (i_forward_tsn_chunk tsn skipped) h m = inl m
+  chunk_holds (unknown_chunk typ flags value) h m = inr refl
+
+  with_rest : (c : ChunkTree) (cs : List ChunkTree) → is_bare c ≡ true → Holds s mine peer ⊎ (list_all is_bare cs ≡ true) → Holds s mine peer ⊎ (list_all is_bare (c ∷ cs) ≡ true)
+  with_rest c cs bare (inl h) = inl h
+  with_rest c cs bare (inr h) = inr (and_from (is_bare c) (list_all is_bare cs) bare h)
+
+  holds_or_bare : (cs : List ChunkTree) → list_all is_flowing cs ≡ true → All (Marked s u mine peer cookie_tie) cs
+      → Holds s mine peer ⊎ (list_all is_bare cs ≡ true)
+  holds_or_bare [] h m = inr refl
+  holds_or_bare (c ∷ cs) h m =
+      let parts = and_parts (is_flowing c) (list_all is_flowing cs) h in
+      elim (chunk_holds c parts.0 (All-head (Marked s u mine peer cookie_tie) c cs m)) [
+        | inl k ↦ inl k
+        | inr bare ↦ with_rest c cs bare (holds_or_bare cs parts.1 (All-tail (Marked s u mine peer cookie_tie) c cs m))
+      ]
+
+-- ---- the packet
+
+module _ (ps : List (Drawn × Drawn)) (k : Knows ps) (law : EachCallIsNamed) (x y z : Side) (t : Twin ps x y z) (p q : Carried) (checksum other : ℕ)
+    (packing : x.end.standing.context.pack ≡ as_carried) (quiet : x.end.standing.context.told.events ≡ [])
+    (none : refusal p.header.verification_tag (map carried p.chunks) (state_of x) ≡ None) (n : IsNamedBy ps (state_of y) (state_of x) p q)
+    (flows : list_all is_flowing p.chunks ≡ true) where
+  abbrev call : Call
+  call = Packet (as_heard p checksum)
+
+  abbrev f : Endpoint Carried
+  f = called (Packet (as_heard q other)) z.end
+
+  abbrev heard : List ChunkTree
+  heard = map carried p.chunks
+
+  flow_heard : list_all is_flowing heard ≡ true
+  flow_heard = all_flow_carried p.chunks ∙ flows
+
+  guides : (mine peer : ℕ) → Guides call mine peer
+  guides mine peer =
+      let all : All (λ c. is_flowing c ≡ true) heard = all_true is_flowing heard flow_heard in
+      record {
+        answers = λ tag i h. let no : false ≡ true = all_heard (λ c. is_flowing c ≡ true) (as_heard p checksum) all tag (init_ack_chunk i) h in cc;
+        own = λ tag c e. let no : false ≡ true = all_heard (λ c. is_flowing c ≡ true) (as_heard p checksum) all tag (cookie_echo_chunk e.cookie) e.heard in cc;
+        other = λ tag c e. let no : false ≡ true = all_heard (λ c. is_flowing c ≡ true) (as_heard p checksum) all tag (cookie_echo_chunk e.cookie) e.heard in cc;
+        connects = λ e. cc;
+        restores = λ h e. cc;
+      }
+
+  silent : hears_init call ≡ false
+  silent = flow_silent heard flow_heard
+
+  -- under the names of its sender
+  with_numbers : TagsAre n.peer n.mine (state_of x) → Named ps x z (state_of y) call f
+  with_numbers tags =
+      let state : state_of z ≡ named_state (names ps n.peer n.mine t.tie same_tie) (state_of x) = t.state ∙ state_by ps n.peer n.mine t.tie (state_of x) tags in
+      let m : Names = flipped (names ps n.peer n.mine t.tie n.cookie_tie) in
+      let o : Names = flipped (names ps n.peer n.mine t.tie same_tie) in
+      let chunks : map carried (named_chunks (names ps n.mine n.peer n.tie n.cookie_tie) p.chunks) ≡ named_chunks o heard =
+      chunks_heard ps n.mine n.peer n.tie t.tie n.cookie_tie p.chunks
+      ∙ chunks_cookies m.tag m.own m.peer m.cookie o.cookie m.tie m.cookie_tie o.tie o.cookie_tie heard flow_heard in
+      record {
+        mine = n.peer;
+        peer = n.mine;
+        tie = t.tie;
+        cookie_tie = same_tie;
+        before = state;
+        is = taken_too ps k x z p q checksum other n.mine n.peer n.tie n.cookie_tie n.is t.tie t.state law packing quiet t.context none n.peer n.mine t.tie same_tie state chunks
+            (flow flow_heard);
+        tags = λ stand. tags_after call n.peer n.mine (guides n.peer n.mine) x.end tags;
+        ties = inl refl;
+        drew = λ hears closed. absurd (both_ways (hears_init call) silent hears);
+      }
+
+  -- the TSN of a SHUTDOWN aside
+  does : list_all is_bare p.chunks ≡ true
+      → (on_chunks (renamed (tags_of ps) p.header.verification_tag) (map carried (named_chunks (names ps n.mine n.peer n.tie n.cookie_tie) p.chunks)) z.end).standing
+      ≡ (on_chunks (renamed (tags_of ps) p.header.verification_tag) (named_chunks (flipped (names_in ps (state_of x) t.tie)) heard) z.end).standing
+  does bare =
+      let l : Names = names ps n.mine n.peer n.tie n.cookie_tie in
+      let m : Names = flipped (names_in ps (state_of x) t.tie) in
+      let tag : ℕ = l.tag p.header.verification_tag in
+      ap (λ (e : Endpoint Carried). e.standing)
+      (sym (chunks_blank tag (map carried (named_chunks l p.chunks)) z.end)
+      ∙ (ap (λ (cs : List ChunkTree). on_chunks tag cs z.end) (chunks_bare l m p.chunks bare) ∙ chunks_blank tag (named_chunks m heard) z.end))
+
+  without_numbers : list_all is_bare p.chunks ≡ true → Named ps x z (state_of y) call f
+  without_numbers bare =
+      let s : State = state_of x in
+      record {
+        mine = my_tag s;
+        peer = peer_in s;
+        tie = t.tie;
+        cookie_tie = same_tie;
+        before = t.state;
+        is = taken_as ps k x z p q checksum other n.mine n.peer n.tie n.cookie_tie n.is t.tie t.state law packing quiet t.context none (my_tag s) (peer_in s) t.tie same_tie
+            t.state (does bare) (flow flow_heard);
+        tags = λ stand. tags_after call (my_tag s) (peer_in s) (guides (my_tag s) (peer_in s)) x.end (own_tags s);
+        ties = inl refl;
+        drew = λ hears closed. absurd (both_ways (hears_init call) silent hears);
+      }
+
+  pub flow_named : Faces (view_of (state_of y)).holds (view_of (state_of x)).mine → Faces (view_of (state_of x)).holds (view_of (state_of y)).mine
+      → Named ps x z (state_of y) call f
+  flow_named faced faces =
+      elim (holds_or_bare (state_of y) (state_of x) n.mine n.peer n.cookie_tie p.chunks flows n.marks) [
+        | inl h ↦ with_numbers (faced_tags (state_of x) (state_of y) n.mine n.peer h faced faces)
+        | inr bare ↦ without_numbers bare
+      ]

@@ -1,0 +1,268 @@
+-- An INIT that comes to an end with an established association: it is answered with a tag drawn for it and the association's tie.
+use Rattle.std.proofs.Common.{◌≡◌, ◌≢◌, ℕ, ◌+◌, ◌%◌, ◌/◌, ◌^◌, ◌<◌, not, Bool, true, false, Option, Some, None, List, [], ◌∷◌, ◌++◌, map, All, ◌⊎◌, inl, inr, refl, sym, ap, subst, ◌∙◌, arith}
+use Rattle.std.proofs.lemmas.Bool.{both_ways}
+use Rattle.std.proofs.lemmas.List.Elements.{All-nil, All-cons, All-head}
+use Rattle.rand_core.specs.Stream.{Stream, next_u32}
+use Rattle.sctp_serial.specs.Unwrapped.{words}
+use Rattle.sctp_wire.specs.Fields.{be64}
+use Rattle.sctp_packet.specs.Chunk.{ChunkTree, InitTree, init_chunk, init_ack_chunk, cookie_echo_chunk}
+use Rattle.sctp_packet.specs.Grammar.{carried}
+use Rattle.sctp_state.specs.Options.{Options}
+use Rattle.sctp_state.specs.Cookie.{Cookie, CookieFits, cookie_bytes}
+use Rattle.sctp_outstanding.specs.Items.{next_number}
+use Rattle.sctp_table.specs.Association.{Tcb, Phase, CookieEchoed, Established, ShutdownPending, ShutdownSent, ShutdownReceived, ShutdownAckSent, State, Closed, CookieWait, Open, Context, Endpoint}
+use Rattle.sctp_table.specs.Sending.{is_alone}
+use Rattle.sctp_table.specs.Opening.{tag_from, word, next_first, cookie_for}
+use Rattle.sctp_table.specs.Input.{my_tag, refusal, counts, taken_if, handled, on_standing, repeats_if, has_data, ended_if}
+use Rattle.sctp_table.specs.Laws.{Call, Packet, called, is_closed}
+use Rattle.sctp_table_laws.specs.Mapped.{Carried}
+use Rattle.sctp_course.specs.Course.{Side, AreGiven, as_carried, as_heard, state_of}
+use Rattle.sctp_course.specs.Agreement.{Draw as Drawn, Has, drawn_hearing, drawn_taking, drawn_given}
+use Rattle.sctp_course.proofs.JoinLemmas.{Draw, IsDraw, view_of, init_by, cookie_by, IsInit, Says, Drawn as IsDrawn, Faces}
+use Rattle.sctp_course.proofs.CourseLemmas.{SaysAll, seen, Halves}
+use Rattle.sctp_draws.specs.NamedChunks.{Names, flipped, moved, named_init, named_chunks}
+use Rattle.sctp_draws.specs.Names.{named_state, named_tcb, named_cookie}
+use Rattle.sctp_draws.specs.Laws.{Makes}
+use Rattle.sctp_draws.specs.NamedCalls.{KnowsAnswer, AnswersAgain, InitIsNamedOpen, InitIsNamed, AreNamed, init, EachCallIsNamed}
+use Rattle.sctp_draws.proofs.MovedLemmas.{sum_moved}
+use Rattle.sctp_draws_course.specs.Pairing.{distance, far, names, pairs_of, Knows}
+use Rattle.sctp_draws_course.proofs.PairingLemmas.{far_below, moved_distance}
+use Rattle.sctp_draws_course.proofs.NamesLemmas.{same_tie, names_in, TagsAre, state_by, makes}
+use Rattle.sctp_draws_course.proofs.TwinLemmas.{HoldsOne, Marked, Twin, IsNamedBy}
+use Rattle.sctp_draws_course.proofs.ChunkLemmas.{init_heard}
+use Rattle.sctp_draws_course.proofs.GuideLemmas.{Guides, tags_after}
+use Rattle.sctp_draws_course.proofs.StepLemmas.{hears_init, is_past, IsLate, Named}
+use Rattle.sctp_draws_course.proofs.HeardLemmas.{all_heard, refused_as_well, taken_too}
+use Rattle.sctp_draws_course.proofs.EchoLemmas.{cookie_fits}
+use Rattle.sctp_draws_course.proofs.InitLemmas.{IsThat, at_state}
+use Rattle.sctp_draws_course.proofs.GivenLemmas.{two_paired, draw_is, peer_at}
+use Rattle.sctp_draws_course.proofs.TurnLemmas.{LateInitsAreNamed}
+
+-- ---- the cookie with a tie of any size
+
+eight : (a b c d e f g h p q r s t u v w : ℕ) → a ≡ p → b ≡ q → c ≡ r → d ≡ s → e ≡ t → f ≡ u → g ≡ v → h ≡ w
+    → a ∷ b ∷ c ∷ d ∷ e ∷ f ∷ g ∷ h ∷ [] ≡ p ∷ q ∷ r ∷ s ∷ t ∷ u ∷ v ∷ w ∷ []
+eight a b c d e f g h p q r s t u v w e0 e1 e2 e3 e4 e5 e6 e7 = rw (e0, e1, e2, e3, e4, e5, e6, e7) refl
+
+-- 64 bits of it are written
+be64_low : (n : ℕ) → be64 (n % 2 ^ 64) ≡ be64 n
+unfolding be64
+be64_low n =
+    eight _ _ _ _ _ _ _ _ _ _ _ _ _ _ _ _ (omega arith) (omega arith) (omega arith) (omega arith) (omega arith) (omega arith) (omega arith) (omega arith)
+
+abbrev low_tie : Cookie → Cookie
+low_tie c = record c { tie_tag = c.tie_tag % 2 ^ 64 }
+
+same_bytes : (c : Cookie) → cookie_bytes (low_tie c) ≡ cookie_bytes c
+unfolding cookie_bytes
+same_bytes c = rw (be64_low c.tie_tag) refl
+
+with_tie : (c : Cookie) (tie : ℕ) → tie < 2 ^ 64 → CookieFits c → CookieFits (record c { tie_tag = tie })
+with_tie c tie small f = record {
+  peer_tag = f.peer_tag;
+  my_tag = f.my_tag;
+  peer_initial_tsn = f.peer_initial_tsn;
+  my_initial_tsn = f.my_initial_tsn;
+  a_rwnd = f.a_rwnd;
+  tie_tag = small;
+  peer_capabilities = f.peer_capabilities;
+}
+
+-- ---- the first TSN of an association in this one's place
+
+next_first_named : (n : Names) (t : Tcb) → next_first (named_tcb n t) ≡ moved n.own (next_first t)
+next_first_named n t =
+    let first : ℕ = t.sender.outstanding.first in
+    let count : ℕ = next_number t.sender.outstanding.items in
+    ap (λ (k : ℕ). (k + 1000000) % 2 ^ 32) (sum_moved words first count n.own) ∙ sum_moved words ((first + count) % words) 1000000 n.own
+
+-- ---- it keeps its state, and no cookie is kept
+
+ended_past : (b : Bool) (phase : Phase) (t : Tcb) (c : Context Carried) → is_past (ended_if b phase t c).state ≡ not (is_alone phase)
+ended_past true phase t c = refl
+ended_past false phase t c = refl
+
+init_leaves_past : (tag : ℕ) (i : InitTree) (phase : Phase) (t : Tcb) (c : Context Carried) (w : Stream) → is_alone phase ≡ false
+    → is_past (handled tag (init_chunk i ∷ []) (at_state (Open phase t) c w)).standing.state ≡ true
+init_leaves_past tag i (CookieEchoed t1 cookie) t c w h = cc
+init_leaves_past tag i Established t c w h = ended_past _ _ _ _
+init_leaves_past tag i ShutdownPending t c w h = ended_past _ _ _ _
+init_leaves_past tag i (ShutdownSent t2) t c w h = ended_past _ _ _ _
+init_leaves_past tag i ShutdownReceived t c w h = ended_past _ _ _ _
+init_leaves_past tag i (ShutdownAckSent t2) t c w h = ended_past _ _ _ _
+
+ended_open : (b : Bool) (phase : Phase) (t : Tcb) (c : Context Carried) → is_closed (ended_if b phase t c).state ≡ false
+ended_open true phase t c = refl
+ended_open false phase t c = refl
+
+init_leaves_open : (tag : ℕ) (i : InitTree) (phase : Phase) (t : Tcb) (c : Context Carried) (w : Stream) → is_alone phase ≡ false
+    → is_closed (handled tag (init_chunk i ∷ []) (at_state (Open phase t) c w)).standing.state ≡ false
+init_leaves_open tag i (CookieEchoed t1 cookie) t c w h = cc
+init_leaves_open tag i Established t c w h = ended_open _ _ _ _
+init_leaves_open tag i ShutdownPending t c w h = ended_open _ _ _ _
+init_leaves_open tag i (ShutdownSent t2) t c w h = ended_open _ _ _ _
+init_leaves_open tag i ShutdownReceived t c w h = ended_open _ _ _ _
+init_leaves_open tag i (ShutdownAckSent t2) t c w h = ended_open _ _ _ _
+
+-- the same under one tie
+late_state : (ps : List (Drawn × Drawn)) (mine peer : ℕ) (tie : ℕ → ℕ) (phase : Phase) (u : Tcb) → is_alone phase ≡ false
+    → named_state (names ps mine peer tie same_tie) (Open phase u)
+    ≡ named_state (names ps mine peer (λ old. tie u.identity.tie) (λ old. tie u.identity.tie)) (Open phase u)
+late_state ps mine peer tie (CookieEchoed t1 cookie) u h = cc
+late_state ps mine peer tie Established u h = refl
+late_state ps mine peer tie ShutdownPending u h = refl
+late_state ps mine peer tie (ShutdownSent t2) u h = refl
+late_state ps mine peer tie ShutdownReceived u h = refl
+late_state ps mine peer tie (ShutdownAckSent t2) u h = refl
+
+-- ---- the tag that is drawn
+
+abbrev one_of : Tcb → Endpoint Carried → Drawn
+one_of t e = record { tag = tag_from (word e); first = next_first t }
+
+abbrev answers : Phase → Bool
+answers (CookieEchoed t1 cookie) = false
+answers Established = true
+answers ShutdownPending = true
+answers (ShutdownSent t2) = true
+answers ShutdownReceived = true
+answers (ShutdownAckSent t2) = false
+
+drew_in : (tag : ℕ) (i : InitTree) (phase : Phase) (t : Tcb) (c : Context Carried) (w : Stream) → answers phase ≡ true
+    → drawn_hearing tag (init_chunk i ∷ []) (at_state (Open phase t) c w) ≡ one_of t (at_state (Open phase t) c w) ∷ []
+drew_in tag i (CookieEchoed t1 cookie) t c w h = cc
+drew_in tag i Established t c w h = refl
+drew_in tag i ShutdownPending t c w h = refl
+drew_in tag i (ShutdownSent t2) t c w h = refl
+drew_in tag i ShutdownReceived t c w h = refl
+drew_in tag i (ShutdownAckSent t2) t c w h = cc
+
+drew_one : (p : Carried) (checksum : ℕ) (x : Side) (i : InitTree) → map carried p.chunks ≡ init_chunk i ∷ []
+    → refusal p.header.verification_tag (map carried p.chunks) (state_of x) ≡ None → (phase : Phase) (t : Tcb) → state_of x ≡ Open phase t → answers phase ≡ true
+    → drawn_given (Some p) checksum x ≡ one_of t x.end ∷ []
+drew_one p checksum x i alone none phase t is late =
+    let tag : ℕ = p.header.verification_tag in
+    let e : Endpoint Carried = counts x.end in
+    ap (λ (r : Option (List ℕ)). drawn_taking r (as_heard p checksum) x.end) none
+    ∙ (ap (λ (cs : List ChunkTree). drawn_hearing tag cs (on_standing (repeats_if (has_data cs)) e)) alone
+    ∙ (ap (λ (s : State). drawn_hearing tag (init_chunk i ∷ []) (at_state s e.standing.context e.words)) is
+    ∙ drew_in tag i phase t e.standing.context e.words late))
+
+-- in the second course too
+named_open : (n : Names) (phase : Phase) (t : Tcb) → answers phase ≡ true → named_state n (Open phase t) ≡ Open phase (named_tcb n t)
+named_open n (CookieEchoed t1 cookie) t h = cc
+named_open n Established t h = refl
+named_open n ShutdownPending t h = refl
+named_open n (ShutdownSent t2) t h = refl
+named_open n ShutdownReceived t h = refl
+named_open n (ShutdownAckSent t2) t h = cc
+
+open_is : (n : Names) (i : InitTree) (phase : Phase) (u : Tcb) (w v : Stream) → is_alone phase ≡ false → (answers phase ≡ true → AnswersAgain n i u w v)
+    → InitIsNamedOpen n i phase u w v
+open_is n i (CookieEchoed t1 cookie) u w v h f = cc
+open_is n i Established u w v h f = f refl
+open_is n i ShutdownPending u w v h f = f refl
+open_is n i (ShutdownSent t2) u w v h f = f refl
+open_is n i ShutdownReceived u w v h f = f refl
+open_is n i (ShutdownAckSent t2) u w v h f = tt
+
+opened_late : (s u : State) (phase : Phase) (t : Tcb) → s ≡ Open phase t → is_alone phase ≡ false → ((view_of s).is_late ≡ true → (view_of u).is_opened ≡ true)
+    → (view_of u).is_opened ≡ true
+opened_late s u phase t is late f = f (ap (λ (z : State). (view_of z).is_late) is ∙ ap not late)
+
+holds_one : (s : State) → (view_of s).is_opened ≡ true → HoldsOne s
+holds_one Closed h = cc
+holds_one (CookieWait tag first t1) h = cc
+holds_one (Open phase t) h = record { association = _; held = refl }
+
+module _ (ps : List (Drawn × Drawn)) (k : Knows ps) (law : EachCallIsNamed) where
+  pub late_named : LateInitsAreNamed ps
+  late_named o q x y z p r checksum other given h t n says pair i alone none phase u is late =
+      let tag : ℕ = p.header.verification_tag in
+      let heard : map carried p.chunks ≡ init_chunk i ∷ [] = ap (λ (cs : List ChunkTree). map carried cs) alone in
+      let s : State = state_of x in
+      let call : Call = Packet (as_heard p checksum) in
+      let l : Names = names ps n.mine n.peer n.tie n.cookie_tie in
+      let own : ℕ = u.identity.my_tag in
+      let peer : ℕ = i.initiate_tag in
+      let tie : ℕ → ℕ = λ old. t.tie u.identity.tie in
+      let m : Names = names ps own peer tie tie in
+      let said : IsInit q (seen y) tag i =
+      All-head (Says q o (seen y) (seen x) y.is_asked tag) (init_chunk i) [] (subst (All (Says q o (seen y) (seen x) y.is_asked tag)) alone says) in
+      let mark : i.initiate_tag ≡ n.mine =
+      All-head (Marked (state_of y) s n.mine n.peer n.cookie_tie) (init_chunk i) [] (subst (All (Marked (state_of y) s n.mine n.peer n.cookie_tie)) alone n.marks) in
+      let theirs : IsDraw said.draw = draw_is q (state_of y) said.draw said.own h.other.stands.draw in
+      let faces : u.identity.peer_tag ≡ peer =
+      peer_at s phase u (seen y).mine said.draw is said.own h.own.stands.faces ∙ sym (ap (λ (j : InitTree). j.initiate_tag) said.is) in
+      let tags : TagsAre own peer s = subst (TagsAre own peer) (sym is) (refl, faces) in
+      let state : state_of z ≡ named_state m s =
+      t.state
+      ∙ (state_by ps own peer t.tie s tags
+      ∙ subst (λ (a : State). named_state (names ps own peer t.tie same_tie) a ≡ named_state m a) (sym is) (late_state ps own peer t.tie phase u late)) in
+      let heard_as : (j : InitTree) → j ≡ init_by q said.draw → far ps n.mine ≡ far ps peer → named_init l j ≡ named_init (flipped m) j =
+      λ j e far_is. subst (λ (a : InitTree). named_init l a ≡ named_init (flipped m) a) (sym e)
+      (init_heard l (flipped m) q said.draw.tag said.draw.first q.zero_checksum_method refl far_is) in
+      let chunks : map carried (named_chunks l p.chunks) ≡ named_chunks (flipped m) (map carried p.chunks) =
+      ap (λ (cs : List ChunkTree). map carried (named_chunks l cs)) alone
+      ∙ (ap (λ (j : InitTree). init_chunk j ∷ []) (heard_as i said.is (ap (λ (a : ℕ). far ps a) (sym mark)))
+      ∙ sym (ap (λ (cs : List ChunkTree). named_chunks (flipped m) cs) heard)) in
+      let again : answers phase ≡ true → AnswersAgain m i u x.end.words z.end.words =
+      λ answering.
+      let before : Names = names_in ps s t.tie in
+      let open_too : state_of z ≡ Open phase (named_tcb before u) = t.state ∙ (ap (λ (a : State). named_state before a) is ∙ named_open before phase u answering) in
+      let second : map carried r.chunks ≡ init_chunk (named_init l i) ∷ [] =
+      ap (λ (a : Carried). map carried a.chunks) n.is ∙ ap (λ (cs : List ChunkTree). map carried (named_chunks l cs)) alone in
+      let mine : Drawn = one_of u x.end in
+      let its : Drawn = one_of (named_tcb before u) z.end in
+      let there : Has (mine, its) ps =
+      two_paired ps (drawn_given (Some p) checksum x) (drawn_given (Some r) other z) mine its (drew_one p checksum x i heard none phase u is answering)
+      (drew_one r other z (named_init l i) second (refused_as_well ps k x z p r checksum other n.mine n.peer n.tie n.cookie_tie n.is t.tie t.state none) phase
+      (named_tcb before u) open_too answering) pair in
+      let drawn : Draw = record { tag = mine.tag; first = mine.first } in
+      let own_is : IsDraw drawn = record { some = λ e. omega (arith, e); tag = omega arith; first = omega arith } in
+      let made : Cookie = cookie_for i drawn.tag drawn.first u.identity.tie in
+      let small : next_first u < 2 ^ 32 = omega arith in
+      let own_far : far ps drawn.tag ≡ far ps own =
+      k.by mine its there
+      ∙ (ap (λ (a : ℕ). distance (next_first u) a)
+      (next_first_named before u ∙ ap (λ (a : State). moved (far ps (my_tag a)) (next_first u)) is)
+      ∙ moved_distance (next_first u) (far ps own) small (far_below ps own)) in
+      let fits : CookieFits (low_tie made) =
+      subst (λ (j : InitTree). CookieFits (low_tie (cookie_for j drawn.tag drawn.first u.identity.tie))) (sym said.is)
+      (with_tie (cookie_by q said.draw drawn) (u.identity.tie % 2 ^ 64) (omega arith) (cookie_fits q said.draw drawn given theirs own_is)) in
+      let some : i.initiate_tag ≢ 0 = λ e. theirs.some (sym (ap (λ (j : InitTree). j.initiate_tag) said.is) ∙ e) in
+      let knows : Makes m made =
+      ap m.cookie (sym (same_bytes made))
+      ∙ makes ps k own peer tie tie (low_tie made) (record { own = own_far; other = refl })
+      (record { fits = fits; some_peer = some; some_own = own_is.some }) in
+      record { draws = record { tag = sym (k.tags mine its there) }; knows = record { makes = knows; cookie_tie = refl } } in
+      let all : All IsThat (map carried p.chunks) = subst (All IsThat) (sym heard) (All-cons IsThat (init_chunk i) [] tt (All-nil IsThat)) in
+      let guides : Guides call own peer = record {
+        answers = λ a j e. absurd (all_heard IsThat (as_heard p checksum) all a (init_ack_chunk j) e);
+        own = λ a c e. absurd (all_heard IsThat (as_heard p checksum) all a (cookie_echo_chunk e.cookie) e.heard);
+        other = λ a c e. absurd (all_heard IsThat (as_heard p checksum) all a (cookie_echo_chunk e.cookie) e.heard);
+        connects = λ e. cc;
+        restores = λ a e. cc;
+      } in
+      let e : Endpoint Carried = counts x.end in
+      let after : (P : State → Bool) → P (called call x.end).standing.state ≡ P (handled tag (init_chunk i ∷ []) (at_state (Open phase u) e.standing.context e.words)).standing.state =
+      λ P. ap (λ (a : Option (List ℕ)). P (taken_if a tag (map carried p.chunks) e).standing.state) none
+      ∙ (ap (λ (cs : List ChunkTree). P (handled tag cs e).standing.state) heard
+      ∙ ap (λ (a : State). P (handled tag (init_chunk i ∷ []) (at_state a e.standing.context e.words)).standing.state) is) in
+      record {
+        mine = own;
+        peer = peer;
+        tie = tie;
+        cookie_tie = tie;
+        before = state;
+        is = taken_too ps k x z p r checksum other n.mine n.peer n.tie n.cookie_tie n.is t.tie t.state law h.own.packing h.own.quiet t.context none own peer tie tie state
+            chunks (init i heard (subst (λ (a : State). InitIsNamed m i a x.end.words z.end.words) (sym is) (open_is m i phase u x.end.words z.end.words late again)));
+        tags = λ stand. tags_after call own peer guides x.end tags;
+        ties = inr (record {
+          hears = ap (λ (cs : List ChunkTree). hears_init (Packet (record (as_heard p checksum) { chunks = cs }))) heard;
+          held = holds_one (state_of y) (opened_late s (state_of y) phase u is late h.own.stands.late);
+          past = after is_past ∙ init_leaves_past tag i phase u e.standing.context e.words late;
+        });
+        drew = λ hears closed.
+            absurd (both_ways (is_closed (called call x.end).standing.state) (after is_closed ∙ init_leaves_open tag i phase u e.standing.context e.words late) closed);
+      }

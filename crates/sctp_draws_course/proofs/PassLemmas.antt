@@ -1,0 +1,31 @@
+-- A packet without a checksum is let through in one course where its image is in the other.
+use Rattle.std.proofs.Common.{◌≡◌, ℕ, ◌==◌, Bool, true, false, List, [], ◌∷◌, All, sym, ap, subst, ◌∙◌}
+use Rattle.std.proofs.lemmas.List.Elements.{All-nil, All-cons, All-head, All-tail}
+use Rattle.sctp_state.specs.Events.{Event, SendPacket, OnError, OnAborted}
+use Rattle.sctp_table.specs.Association.{Context}
+use Rattle.sctp_table_laws.specs.Mapped.{Carried}
+use Rattle.sctp_course.specs.Course.{Side, Pair, packets_in}
+use Rattle.sctp_draws_course.specs.Alike.{IsImage, AreTold, AreAlike, ArePairsAlike, PassesAt, ArePassed, ImagesPass}
+
+module _ (y z : Side) (same : z.end.standing.context ≡ y.end.standing.context) where
+  passes : (p q : Carried) → IsImage p q → PassesAt y p → PassesAt z q
+  passes p q i h e =
+      ap (λ (c : Context Carried). c.options.zero_checksum_method == 0) same ∙ h (sym (ap (λ (r : Carried). r.is_summed) i.is) ∙ e)
+
+  passed : (es fs : List (Event Carried)) → AreTold es fs → All (PassesAt y) (packets_in es) → All (PassesAt z) (packets_in fs)
+  passed [] [] t h = All-nil (PassesAt z)
+  passed [] (f ∷ fs) t h = absurd t
+  passed (e ∷ es) [] t h = absurd t
+  passed (SendPacket p ∷ es) (f ∷ fs) t h =
+      subst (λ (e : Event Carried). All (PassesAt z) (packets_in (e ∷ fs))) (sym t.0.1)
+      (All-cons (PassesAt z) t.0.0 (packets_in fs) (passes p t.0.0 t.0.2 (All-head (PassesAt y) p (packets_in es) h))
+      (passed es fs t.1 (All-tail (PassesAt y) p (packets_in es) h)))
+  passed (OnError kind text ∷ es) (f ∷ fs) t h = subst (λ (e : Event Carried). All (PassesAt z) (packets_in (e ∷ fs))) (sym t.0.1) (passed es fs t.1 h)
+  passed (OnAborted kind text ∷ es) (f ∷ fs) t h = subst (λ (e : Event Carried). All (PassesAt z) (packets_in (e ∷ fs))) (sym t.0.1) (passed es fs t.1 h)
+  passed (e ∷ es) (f ∷ fs) t h = subst (λ (d : Event Carried). All (PassesAt z) (packets_in (d ∷ fs))) (sym t.0) (passed es fs t.1 h)
+
+pub images_pass : ImagesPass
+images_pass w v alike h = record {
+  a = passed w.b v.b alike.b.context w.a.told v.a.told alike.a.told h.a;
+  b = passed w.a v.a alike.a.context w.b.told v.b.told alike.b.told h.b;
+}
