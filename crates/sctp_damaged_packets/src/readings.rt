@@ -1,0 +1,130 @@
+//! What packets are read as.
+
+use sctp_packet::{Chunk, SctpPacket};
+use sctp_probe::ByteSum;
+use sctp_wire::{Checksum, Policy};
+use std::alloc::{AllocError, Global};
+use std::fmt;
+
+/// Which checksums are let through.
+#[derive(Clone, Copy)]
+pub enum Look {
+    AnyChecksum,
+    ItsChecksum,
+}
+
+impl fmt::Display for Look {
+    fn fmt<W: fmt::Write>(&self, f: &mut fmt::Formatter<W>) -> fmt::Result {
+        match self {
+            Look::AnyChecksum => f.write_str("any checksum"),
+            Look::ItsChecksum => f.write_str("its checksum"),
+        }
+    }
+}
+
+impl Look {
+    fn policy(self) -> Policy {
+        Policy {
+            disable_checksum_verification: matches!(self, Look::AnyChecksum),
+            ..Policy::default()
+        }
+    }
+}
+
+/// The sum of all bytes but the checksum's four.
+fn word_of(bytes: &[u8]) -> u32 {
+    match (bytes.get(..8), bytes.get(12..)) {
+        (Some(before), Some(after)) => ByteSum.word(before, after),
+        _ => 0,
+    }
+}
+
+/// What each chunk says.
+fn texts(alloc: Global, chunks: &[Chunk]) -> Result<String, AllocError> {
+    let mut text = String::new(alloc);
+    for chunk in chunks {
+        if !text.is_empty() {
+            text.push_str(" + ")?;
+        }
+        write!(text, "{chunk}")?;
+    }
+    if text.is_empty() {
+        text.push_str("no chunks")?;
+    }
+    Ok(text)
+}
+
+/// What the chunks of the packet say, or why it is refused.
+fn reading(alloc: Global, bytes: &[u8], look: Look) -> Result<String, AllocError> {
+    match SctpPacket::from_bytes(alloc, bytes, word_of(bytes), &look.policy()) {
+        Ok(packet) => {
+            let text = texts(alloc, &packet.chunks);
+            drop(packet);
+            text
+        }
+        Err(fault) => format!(in alloc; "{fault}"),
+    }
+}
+
+/// An answer, and the first and the last of what it answers.
+#[derive(Drop)]
+struct Run {
+    first: usize,
+    last: usize,
+    answer: String,
+}
+
+/// Answers, those that follow one another and are equal once.
+#[derive(Drop)]
+pub struct Runs {
+    alloc: Global,
+    runs: Vec<Run>,
+}
+
+impl Runs {
+    pub fn new(alloc: Global) -> Runs {
+        Runs {
+            alloc,
+            runs: Vec::new(alloc),
+        }
+    }
+
+    /// Reads the bytes as what is called `place`.
+    pub fn read(&mut self, place: usize, bytes: &[u8], look: Look) -> Result<(), AllocError> {
+        let answer = reading(self.alloc, bytes, look)?;
+        match self.runs.last_mut() {
+            Some(run) if run.answer == answer => {
+                run.last = place;
+                Ok(())
+            }
+            _ => {
+                self.runs.push(Run {
+                    first: place,
+                    last: place,
+                    answer,
+                })?;
+                Ok(())
+            }
+        }
+    }
+
+    pub fn told(&self) -> Result<String, AllocError> {
+        let mut text = String::new(self.alloc);
+        for run in &self.runs {
+            if !text.is_empty() {
+                text.push_str("; ")?;
+            }
+            tell(&mut text, run)?;
+        }
+        Ok(text)
+    }
+}
+
+fn tell(text: &mut String, run: &Run) -> Result<(), AllocError> {
+    let (first, last, answer) = (run.first, run.last, &run.answer);
+    if first == last {
+        write!(text, "{first} {answer}")
+    } else {
+        write!(text, "{first}-{last} {answer}")
+    }
+}
