@@ -1,8 +1,9 @@
 //! What packets are read as.
 
+use sctp_endpoint::outgoing_packet::word_of;
 use sctp_packet::{Chunk, SctpPacket};
 use sctp_probe::ByteSum;
-use sctp_wire::{Checksum, Policy};
+use sctp_wire::Policy;
 use std::alloc::{AllocError, Global};
 use std::fmt;
 
@@ -31,14 +32,6 @@ impl Look {
     }
 }
 
-/// The sum of all bytes but the checksum's four.
-fn word_of(bytes: &[u8]) -> u32 {
-    match (bytes.get(..8), bytes.get(12..)) {
-        (Some(before), Some(after)) => ByteSum.word(before, after),
-        _ => 0,
-    }
-}
-
 /// What each chunk says.
 fn texts(alloc: Global, chunks: &[Chunk]) -> Result<String, AllocError> {
     let mut text = String::new(alloc);
@@ -56,7 +49,7 @@ fn texts(alloc: Global, chunks: &[Chunk]) -> Result<String, AllocError> {
 
 /// What the chunks of the packet say, or why it is refused.
 fn reading(alloc: Global, bytes: &[u8], look: Look) -> Result<String, AllocError> {
-    match SctpPacket::from_bytes(alloc, bytes, word_of(bytes), &look.policy()) {
+    match SctpPacket::from_bytes(alloc, bytes, word_of(&ByteSum, bytes), &look.policy()) {
         Ok(packet) => {
             let text = texts(alloc, &packet.chunks);
             drop(packet);
