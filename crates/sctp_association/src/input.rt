@@ -1,7 +1,7 @@
 //! How an end takes a packet: whether it is for this association, then chunk by chunk, then what is due.
 
 ghost use Rattle.std.specs.Prelude.{◌≡◌, codes, true, map, IfOk, OnOk};
-ghost use Rattle.sctp_wire.specs.ParameterViews.{parameter_tree};
+ghost use Rattle.sctp_parameter.specs.ParameterViews.{parameter_tree};
 ghost use Rattle.sctp_packet.specs.ChunkView.{chunk_tree};
 ghost use Rattle.sctp_packet.specs.Packet.{IsFault};
 ghost use Rattle.sctp_packet.specs.PacketView.{packet_tree};
@@ -25,12 +25,13 @@ use sctp_endpoint::{Context, Phase, State, TransmissionControlBlock};
 use sctp_handshake::cookie_echo::{handle_cookie_ack, handle_cookie_echo};
 use sctp_handshake::opening::{handle_init, handle_init_ack};
 use sctp_packet::{Chunk, HeartbeatAckChunk, PacketParseError, SctpPacket};
+use sctp_parameter::Parameter;
 use sctp_state::{ErrorKind, SocketEvent};
 use sctp_timers::heartbeats::handle_heartbeat_ack;
 use sctp_transfer::data::{handle_data, handle_forward_tsn};
 use sctp_transfer::sack::handle_sack;
 use sctp_transfer::stream_reset::handle_reconfig;
-use sctp_wire::{Checksum, Parameter, Policy};
+use sctp_wire::{Checksum, Policy};
 use std::alloc::AllocError;
 
 /// A packet came.

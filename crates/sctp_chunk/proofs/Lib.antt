@@ -2,5 +2,4 @@ pub mod ValueLemmas
 pub mod FieldLemmas
 pub mod FragmentLemmas
 pub mod SackLemmas
-pub mod InnerLemmas
 pub mod SkipLemmas

@@ -2,7 +2,5 @@ pub mod Chunk
 pub mod Written
 pub mod Grammar
 pub mod Views
-pub mod InitFront
-pub mod ChunkView
 pub mod ChunkText
 pub mod Covered

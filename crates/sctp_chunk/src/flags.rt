@@ -3,17 +3,10 @@
 ghost use Rattle.std.specs.Prelude.{◌≡◌, ◌||◌, if◌then◌else◌, [], Some, codes};
 ghost use Rattle.std.specs.Prelude.{map};
 ghost use Rattle.sctp_wire.specs.Show.{joined};
-ghost use Rattle.sctp_chunk.specs.ChunkText.{letter, fragment_flags_text, reflected_text, tsn_text};
+ghost use Rattle.sctp_chunk.specs.ChunkText.{letter, fragment_flags_text, tsn_text};
 
 use sctp_serial::Tsn;
 use std::fmt;
-
-/// The flag T, where it is set.
-pub fn reflected_text(tag_reflected: bool) -> &'static str
-    ensures { result.now ≡ reflected_text tag_reflected }
-{
-    if tag_reflected { ", flags=T" } else { "" }
-}
 
 /// The flags of DATA and I-DATA that are set.
 #[derive(Clone, Copy)]

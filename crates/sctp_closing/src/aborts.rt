@@ -1,7 +1,7 @@
 //! ABORT and ERROR, and the ABORT that a chunk is answered with that was not negotiated (RFC 9260 section 9.1).
 
 ghost use Rattle.std.specs.Prelude.{◌≡◌, map, IfOk, OnOk, string_bytes};
-ghost use Rattle.sctp_wire.specs.CauseViews.{cause_tree};
+ghost use Rattle.sctp_error_cause.specs.CauseViews.{cause_tree};
 ghost use Rattle.sctp_state.specs.Events.{OnAborted};
 ghost use Rattle.sctp_table.specs.Association.{where_open};
 ghost use Rattle.sctp_table.specs.Packets.{complain};
@@ -12,8 +12,9 @@ ghost use Rattle.sctp_table.specs.Input as table;
 
 use crate::misuse::Misuse;
 use sctp_endpoint::{Context, State, TransmissionControlBlock};
+use sctp_error_cause::{ErrorCause, ProtocolViolationErrorCause};
 use sctp_state::{ErrorKind, SocketEvent};
-use sctp_wire::{Checksum, ErrorCause, ProtocolViolationErrorCause};
+use sctp_wire::Checksum;
 use std::alloc::{AllocError, Global};
 
 /// What the causes say, with commas between them.

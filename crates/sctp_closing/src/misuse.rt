@@ -13,9 +13,10 @@ ghost use Rattle.sctp_table.specs.Packets.{emit_chunk};
 ghost use Rattle.sctp_table.specs.Input as table;
 
 use sctp_endpoint::{Context, State, TransmissionControlBlock};
+use sctp_error_cause::{ErrorCause, UnrecognizedChunkErrorCause};
 use sctp_packet::{Chunk, ErrorChunk, UnknownChunk};
 use sctp_state::{Capabilities, ErrorKind, SocketEvent};
-use sctp_wire::{Checksum, ErrorCause, UnrecognizedChunkErrorCause};
+use sctp_wire::Checksum;
 use std::alloc::{AllocError, Global};
 
 /// How a chunk breaks what was negotiated.

@@ -9,7 +9,7 @@ use Rattle.sctp_wire.specs.Item.{Item, item_bytes, padding}
 use Rattle.sctp_wire.specs.Serialize.{padded_item, inner_items}
 use Rattle.sctp_wire.specs.Parameter.{ParameterTree, heartbeat_info, state_cookie, outgoing_reset_request, incoming_reset_request, ssn_tsn_reset_request, reset_response, add_outgoing_streams_request, add_incoming_streams_request, supported_extensions, forward_tsn_supported, zero_checksum_acceptable, unknown_parameter, parameter_item, parameter_value, parameter_is_whole, optional_tsn_bytes}
 use Rattle.sctp_wire.proofs.SerializeLemmas.{length_item_bytes, length_padded_item}
-use Rattle.sctp_wire.proofs.ParameterLemmas.{length_outgoing, length_incoming, length_response}
+use Rattle.sctp_parameter.proofs.ParameterLemmas.{length_outgoing, length_incoming, length_response}
 use Rattle.sctp_packet.specs.Chunk.{ChunkTree, FragmentTree, InitTree, SackTree, data_chunk, init_chunk, init_ack_chunk, sack_chunk, heartbeat_request_chunk, heartbeat_ack_chunk, abort_chunk, shutdown_chunk, shutdown_ack_chunk, error_chunk, cookie_echo_chunk, cookie_ack_chunk, shutdown_complete_chunk, idata_chunk, re_config_chunk, forward_tsn_chunk, i_forward_tsn_chunk, unknown_chunk}
 use Rattle.sctp_chunk.specs.declared.forward_tsn.SkippedStream.{SkippedStream}
 use Rattle.sctp_packet.specs.Written.{chunk_item, chunk_value, chunk_bytes, chunks_bytes, chunk_is_whole, data_value, idata_value, init_fields, sack_value, forward_value, tsn_bytes, block_bytes}

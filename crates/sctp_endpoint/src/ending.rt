@@ -2,7 +2,7 @@
 
 ghost use Rattle.std.specs.Prelude.{◌≡◌, false, [], ◌∷◌, codes, IfOk, OnOk};
 ghost use Rattle.sctp_wire.specs.Cause.{user_initiated_abort};
-ghost use Rattle.sctp_wire.specs.CauseViews.{cause_tree};
+ghost use Rattle.sctp_error_cause.specs.CauseViews.{cause_tree};
 ghost use Rattle.sctp_packet.specs.Chunk.{abort_chunk};
 ghost use Rattle.sctp_table.specs.Packets.{emit_chunk};
 ghost use Rattle.sctp_state.specs.Events.{OnAborted, OnClosed};
@@ -12,9 +12,10 @@ ghost use Rattle.sctp_table.specs.Closing as table;
 use crate::context::Context;
 use crate::state::Phase;
 use crate::transmission_control_block::TransmissionControlBlock;
+use sctp_error_cause::{ErrorCause, UserInitiatedAbortErrorCause};
 use sctp_packet::{AbortChunk, Chunk, ShutdownAckChunk, ShutdownChunk};
 use sctp_state::{BackoffAlgorithm, ErrorKind, SocketEvent, Timer};
-use sctp_wire::{Checksum, ErrorCause, UserInitiatedAbortErrorCause};
+use sctp_wire::Checksum;
 use std::alloc::AllocError;
 
 impl<C: Checksum> Context<C> {

@@ -2,7 +2,7 @@
 
 ghost use Rattle.std.specs.Prelude.{◌≡◌, true, option_map, is_some, IfOk};
 ghost use Rattle.std.specs.Duration.{as_nanos};
-ghost use Rattle.sctp_wire.specs.ParameterViews.{result_number};
+ghost use Rattle.sctp_parameter.specs.ParameterViews.{result_number};
 ghost use Rattle.sctp_packet.specs.ChunkView.{chunk_tree};
 ghost use Rattle.sctp_state.specs.Events.{numbers_of};
 ghost use Rattle.sctp_state.specs.Options.{options_of};
@@ -13,12 +13,12 @@ ghost use Rattle.sctp_endpoint.specs.RequestViews.{outcome_of};
 ghost use Rattle.sctp_table.specs.Requests as table;
 
 use sctp_packet::{Chunk, ReConfigChunk};
-use sctp_serial::{SocketTime, StreamId, Tsn};
-use sctp_state::{BackoffAlgorithm, HandoverReadiness, Options, SocketHandoverState, Timer};
-use sctp_wire::{
+use sctp_parameter::{
     OutgoingSsnResetRequestParameter, Parameter, ReconfigurationResponseParameter,
     ReconfigurationResponseResult,
 };
+use sctp_serial::{SocketTime, StreamId, Tsn};
+use sctp_state::{BackoffAlgorithm, HandoverReadiness, Options, SocketHandoverState, Timer};
 use std::alloc::{AllocError, Global};
 use std::marker::Model;
 use std::time::Duration;
@@ -85,7 +85,7 @@ pub struct ResetRequests {
 }
 
 impl Model for ResetRequests {
-    ghost use Rattle.sctp_wire.specs.ParameterViews.{result_number};
+    ghost use Rattle.sctp_parameter.specs.ParameterViews.{result_number};
     ghost use Rattle.sctp_table.specs.Requests.{Requests};
 
     ghost Value = { Requests };

@@ -4,7 +4,7 @@ ghost use Rattle.std.specs.Prelude.{◌≡◌, None, map, IfOk, OnOk};
 ghost use Rattle.std.specs.Duration.{as_nanos};
 ghost use Rattle.sctp_state.specs.Timers.{start, timer};
 ghost use Rattle.std.specs.Option.{option_map};
-ghost use Rattle.sctp_wire.specs.ParameterViews.{parameter_tree};
+ghost use Rattle.sctp_parameter.specs.ParameterViews.{parameter_tree};
 ghost use Rattle.sctp_packet.specs.Chunk.{init_ack_chunk};
 ghost use Rattle.sctp_packet.specs.ChunkView.{chunk_tree};
 ghost use Rattle.sctp_packet.specs.Views.{init_tree};
@@ -16,12 +16,13 @@ ghost use Rattle.sctp_endpoint.specs.Views.{context_of};
 
 use sctp_endpoint::{Context, OutgoingPacket};
 use sctp_packet::{Chunk, InitAckChunk, InitChunk};
+use sctp_parameter::{Parameter, StateCookieParameter};
 use sctp_serial::Tsn;
 use sctp_state::{
     BackoffAlgorithm, Capabilities, Options, SctpImplementation, StateCookie, Timer,
     announced_parameters,
 };
-use sctp_wire::{Checksum, Parameter, StateCookieParameter};
+use sctp_wire::Checksum;
 use std::alloc::{AllocError, Global};
 use std::time::Duration;
 

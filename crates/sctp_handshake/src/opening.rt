@@ -3,7 +3,7 @@
 ghost use Rattle.std.specs.Prelude.{◌≡◌, false, [], ◌∷◌, map, OnOk};
 ghost use Rattle.rand_core.specs.Stream.{next_u32};
 ghost use Rattle.sctp_wire.specs.Cause.{missing_mandatory_parameter};
-ghost use Rattle.sctp_wire.specs.ParameterViews.{parameter_tree};
+ghost use Rattle.sctp_parameter.specs.ParameterViews.{parameter_tree};
 ghost use Rattle.sctp_packet.specs.Chunk.{abort_chunk};
 ghost use Rattle.sctp_packet.specs.Views.{init_ack_tree, init_tree};
 ghost use Rattle.sctp_table.specs.Packets.{add, emit, packet_to, rounded};
@@ -19,10 +19,11 @@ use sctp_endpoint::{
     Context, CookieEchoedState, CookieWaitState, Identity, OutgoingPacket, Phase, State,
     TransmissionControlBlock,
 };
+use sctp_error_cause::{ErrorCause, MissingMandatoryParameterErrorCause};
 use sctp_packet::{AbortChunk, Chunk, InitAckChunk, InitChunk};
 use sctp_serial::Tsn;
 use sctp_state::ErrorKind;
-use sctp_wire::{Checksum, ErrorCause, MissingMandatoryParameterErrorCause};
+use sctp_wire::Checksum;
 use std::alloc::AllocError;
 
 /// The type of the parameter that holds a cookie.

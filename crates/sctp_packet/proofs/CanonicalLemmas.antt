@@ -21,7 +21,7 @@ use Rattle.sctp_chunk.specs.Written.{chunk_item, chunk_value, chunk_bytes, chunk
 use Rattle.sctp_chunk.specs.Grammar.{IsChunk, SaysSkips, carried}
 use Rattle.sctp_packet.specs.ReadBack.{ChunkReadsBack, IsReadable}
 use Rattle.sctp_packet.specs.Packet.{HeaderTree, PacketTree, IsPacket, Accepts, packet_bytes, canonical}
-use Rattle.sctp_chunk.proofs.InnerLemmas.{each_fits}
+use Rattle.sctp_control_chunk.proofs.InnerLemmas.{each_fits}
 use Rattle.sctp_packet.proofs.ReadBackLemmas.{chunks_tile}
 use Rattle.sctp_packet.proofs.PacketLemmas.{length_joined}
 use Rattle.sctp_packet.proofs.LawLemmas.{one_packet_lem, packet_of}

@@ -16,8 +16,8 @@ use Rattle.sctp_wire.specs.Parameter.{ParameterTree, IsParameter}
 use Rattle.sctp_wire.specs.Cause.{CauseTree, IsCause}
 use Rattle.sctp_wire.proofs.TilesLemmas.{cut_same, one_tiling}
 use Rattle.sctp_wire.proofs.SerializeLemmas.{length_entries}
-use Rattle.sctp_wire.proofs.OneParameterLemmas.{one_parameter_lem}
-use Rattle.sctp_wire.proofs.OneCauseLemmas.{one_cause_lem}
+use Rattle.sctp_parameter.proofs.OneParameterLemmas.{one_parameter_lem}
+use Rattle.sctp_error_cause.proofs.OneCauseLemmas.{one_cause_lem}
 use Rattle.sctp_chunk.specs.declared.sack.GapAckBlock.{GapAckBlock}
 use Rattle.sctp_chunk.specs.declared.forward_tsn.SkippedStream.{SkippedStream}
 use Rattle.sctp_chunk.specs.declared.forward_tsn.SkippedStream.TheVariants as skips

@@ -14,7 +14,7 @@ use Rattle.sctp_chunk.specs.Chunk.{ChunkTree, SackTree, data_chunk, init_chunk, 
 use Rattle.sctp_chunk.specs.Written.{chunk_item, chunk_value, chunk_is_whole, init_fields}
 use Rattle.sctp_chunk.specs.Grammar.{FitsChunk, FitsSack, FitsBlock, FitsTsn}
 use Rattle.sctp_packet.specs.ReadBack.{ChunkReadsBack, IsReadable, HasItsTypes, InsideFits}
-use Rattle.sctp_chunk.proofs.InnerLemmas.{each_fits}
+use Rattle.sctp_control_chunk.proofs.InnerLemmas.{each_fits}
 use Rattle.sctp_chunk.proofs.ValueLemmas.{length_sack}
 
 parameters_back : (ps : List ParameterTree) → All (λ p. IsEncodable (parameter_item p)) ps → All (λ p. parameter_is_whole p ≡ true) ps → All ParameterFits ps → All IsOfItsVariant ps

@@ -12,7 +12,8 @@ use Rattle.sctp_wire.specs.Serialize.{inner_items}
 use Rattle.sctp_wire.specs.Parameter.{ParameterTree, IsParameter, parameter_item}
 use Rattle.sctp_wire.specs.Cause.{CauseTree, IsCause, cause_item}
 use Rattle.sctp_wire.specs.ReadBack.{ParameterReadsBack, CauseReadsBack}
-use Rattle.sctp_wire.proofs.LawLemmas.{parameter_written, cause_written}
+use Rattle.sctp_parameter.proofs.LawLemmas.{parameter_written}
+use Rattle.sctp_error_cause.proofs.LawLemmas.{cause_written}
 use Rattle.sctp_wire.proofs.ReadBackLemmas.{tiles_padded, tiles_inner}
 use Rattle.sctp_wire.proofs.RefusalLemmas.{Tiles-map}
 use Rattle.sctp_chunk.specs.declared.forward_tsn.SkippedStream.{SkippedStream}

@@ -13,7 +13,8 @@ use Rattle.sctp_wire.specs.declared.error.ChunkParseError.TheVariants.{Memory}
 use Rattle.sctp_wire.proofs.TilesLemmas.{whole_not_broken}
 use Rattle.sctp_wire.proofs.SerializeLemmas.{length_entries}
 use Rattle.sctp_wire.proofs.RefusalLemmas.{BreaksAs-Breaks, one_break, one_fault_as}
-use Rattle.sctp_wire.proofs.LawLemmas.{parameter_stands, cause_stands}
+use Rattle.sctp_parameter.proofs.LawLemmas.{parameter_stands}
+use Rattle.sctp_error_cause.proofs.LawLemmas.{cause_stands}
 use Rattle.sctp_chunk.specs.declared.forward_tsn.SkippedStream.{SkippedStream}
 use Rattle.sctp_chunk.specs.Chunk.{ChunkTree, FragmentTree, InitTree, SackTree, data_chunk, init_chunk, init_ack_chunk, sack_chunk, heartbeat_request_chunk, heartbeat_ack_chunk, abort_chunk, shutdown_chunk, shutdown_ack_chunk, error_chunk, cookie_echo_chunk, cookie_ack_chunk, shutdown_complete_chunk, idata_chunk, re_config_chunk, forward_tsn_chunk, i_forward_tsn_chunk, unknown_chunk}
 use Rattle.sctp_chunk.specs.Written.{is_known_chunk, data_value, idata_value, init_fields, sack_value, block_bytes, length_block_bytes, tsn_bytes, skip_bytes, forward_value, is_ssn_skip}

@@ -2,7 +2,7 @@
 use Rattle.std.specs.Prelude.{map}
 use Rattle.sctp_packet.specs.declared.packet.CommonHeader.{CommonHeader}
 use Rattle.sctp_packet.specs.declared.packet.SctpPacket.{SctpPacket}
-use Rattle.sctp_chunk.specs.ChunkView.{chunk_tree}
+use Rattle.sctp_control_chunk.specs.ChunkView.{chunk_tree}
 use Rattle.sctp_packet.specs.Packet.{HeaderTree, PacketTree}
 
 abbrev pub header_tree : CommonHeader → HeaderTree

@@ -6,13 +6,13 @@ ghost use Rattle.sctp_wire.specs.Serialize.{IsEncodable, is_encodable, padded_it
 ghost use Rattle.sctp_wire.specs.Room.{Fills};
 ghost use Rattle.sctp_chunk.specs.Chunk.{ChunkTree};
 ghost use Rattle.sctp_chunk.specs.Written.{chunk_item, chunk_bytes, chunk_is_whole};
-ghost use Rattle.sctp_chunk.specs.ChunkView.{chunk_tree};
+ghost use Rattle.sctp_control_chunk.specs.ChunkView.{chunk_tree};
 ghost use Rattle.sctp_packet.specs.Packet.{HeaderTree, header_bytes, unsummed_bytes, joined_bytes};
 ghost use Rattle.sctp_packet.specs.PacketView.{header_tree};
 ghost use Rattle.sctp_packet.specs.Builder.{BuilderTree, Holds, remaining, so_far, built};
 
 use crate::packet::{COMMON_HEADER_SIZE, CommonHeader};
-use sctp_chunk::Chunk;
+use sctp_control_chunk::Chunk;
 use sctp_wire::{SerializableTlv, push_u16, push_u32};
 use std::alloc::{AllocError, Global};
 use std::marker::Model;

@@ -16,9 +16,11 @@ pub use laws::{
 pub use packet::{COMMON_HEADER_SIZE, CommonHeader, PacketParseError, SctpPacket};
 pub use ranges::chunk_fits;
 pub use sctp_chunk::{
-    AbortChunk, Chunk, CookieAckChunk, CookieEchoChunk, Data, DataChunk, ErrorChunk,
-    ForwardTsnChunk, GapAckBlock, HeartbeatAckChunk, HeartbeatRequestChunk, IDataChunk,
-    IForwardTsnChunk, InitAckChunk, InitChunk, RawChunk, ReConfigChunk, SackChunk,
-    ShutdownAckChunk, ShutdownChunk, ShutdownCompleteChunk, SkippedStream, UnknownChunk,
-    write_chunk_header,
+    Data, DataChunk, ForwardTsnChunk, GapAckBlock, IDataChunk, IForwardTsnChunk, RawChunk,
+    SackChunk, SkippedStream, write_chunk_header,
+};
+pub use sctp_control_chunk::{
+    AbortChunk, Chunk, CookieAckChunk, CookieEchoChunk, ErrorChunk, HeartbeatAckChunk,
+    HeartbeatRequestChunk, InitAckChunk, InitChunk, ReConfigChunk, ShutdownAckChunk, ShutdownChunk,
+    ShutdownCompleteChunk, UnknownChunk,
 };

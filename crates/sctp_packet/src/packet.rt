@@ -6,12 +6,12 @@ ghost use Rattle.sctp_wire.specs.Refusal.{BreaksAs};
 ghost use Rattle.sctp_wire.specs.declared.error.ChunkParseError.TheVariants.{Memory as no_memory_for_chunk};
 ghost use Rattle.sctp_packet.specs.declared.packet.PacketParseError.TheVariants.{Memory as no_memory, Chunk as chunk_fault};
 ghost use Rattle.sctp_chunk.specs.Grammar.{IsChunk, RefusesChunk};
-ghost use Rattle.sctp_chunk.specs.ChunkView.{chunk_tree};
+ghost use Rattle.sctp_control_chunk.specs.ChunkView.{chunk_tree};
 ghost use Rattle.sctp_packet.specs.Packet.{Accepts, Refuses, FitsHeader, joined_bytes, checksum_field};
 ghost use Rattle.sctp_packet.specs.PacketView.{header_tree, packet_tree};
 ghost use Rattle.sctp_packet.specs.Faults.{IsPacketFault};
 
-use sctp_chunk::Chunk;
+use sctp_control_chunk::Chunk;
 use sctp_wire::{ChunkParseError, Policy, first_u16, first_u32, items_from_bytes};
 use std::alloc::Global;
 use thiserror::Error;

@@ -3,19 +3,22 @@
 ghost use Rattle.std.specs.Prelude.{◌≡◌, ◌+◌, ◌<◌, ◌^◌, true, length, map, All};
 ghost use Rattle.sctp_wire.specs.Serialize.{IsEncodable, inner_items};
 ghost use Rattle.sctp_wire.specs.Parameter.{ParameterFits};
-ghost use Rattle.sctp_wire.specs.ParameterViews.{parameter_tree};
+ghost use Rattle.sctp_parameter.specs.ParameterViews.{parameter_tree};
 ghost use Rattle.sctp_wire.specs.Cause.{CauseFits, cause_item};
-ghost use Rattle.sctp_wire.specs.CauseViews.{cause_tree};
+ghost use Rattle.sctp_error_cause.specs.CauseViews.{cause_tree};
 ghost use Rattle.sctp_wire.specs.ReadBack.{IsText};
 ghost use Rattle.sctp_chunk.specs.Written.{chunk_item, chunk_is_whole, key_stream};
 ghost use Rattle.sctp_chunk.specs.Grammar.{Each, FitsFragment, FitsInit, FitsBlock, FitsTsn, FitsSkip, FitsChunk};
-ghost use Rattle.sctp_chunk.specs.Views.{fragment_tree, init_tree, init_ack_tree, sack_chunk_tree};
-ghost use Rattle.sctp_chunk.specs.ChunkView.{chunk_tree};
+ghost use Rattle.sctp_chunk.specs.Views.{fragment_tree, sack_chunk_tree};
+ghost use Rattle.sctp_control_chunk.specs.Views.{init_tree, init_ack_tree};
+ghost use Rattle.sctp_control_chunk.specs.ChunkView.{chunk_tree};
 ghost use Rattle.sctp_packet.specs.ReadBack.{HasItsTypes, InsideFits, ChunkReadsBack};
 
-use sctp_chunk::{Chunk, Data, GapAckBlock, InitAckChunk, InitChunk, SackChunk, SkippedStream};
+use sctp_chunk::{Data, GapAckBlock, SackChunk, SkippedStream};
+use sctp_control_chunk::{Chunk, InitAckChunk, InitChunk};
+use sctp_error_cause::{ErrorCause, cause_fits};
+use sctp_parameter::{Parameter, parameter_fits};
 use sctp_serial::{StreamKey, Tsn};
-use sctp_wire::{ErrorCause, Parameter, cause_fits, parameter_fits};
 
 /// The numbers of a chunk that can be written fit their fields. So it is read back, as `read_back` says, where each item's type
 /// is one of its variant and a COOKIE ECHO has a cookie.

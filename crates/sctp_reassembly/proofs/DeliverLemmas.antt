@@ -4,9 +4,10 @@ use Rattle.std.specs.Prelude.{◌&&◌, nat_lt, option_map, option_to_list}
 use Rattle.std.specs.List.{find}
 use Rattle.std.proofs.lemmas.Bool.Decides.{nat_tests}
 use Rattle.sctp_serial.specs.Messages.{Message}
-use Rattle.sctp_reassembly.specs.Runs.{flat, is_held, with_item}
-use Rattle.sctp_reassembly.specs.Held.{Held, rank_of, goes_on, NonePass, NoneComplete, NoneInTurn, without_first_of, left_by, intervals_of, is_in_turn, is_complete, IsTaken, IsPlaced, bytes_of, payload_of}
-use Rattle.sctp_reassembly.specs.Delivery.{OrderedDelivery, OrderedStream, deliver, deliver_within, at_rest, preceded_by, delivering, ordered_arrival, message_of_run, completed, ready_bytes}
+use Rattle.sctp_fragments.specs.Runs.{flat, is_held, with_item}
+use Rattle.sctp_fragments.specs.Held.{Held, rank_of, goes_on, NonePass, NoneComplete, NoneInTurn, without_first_of, left_by, intervals_of, is_in_turn, is_complete, IsTaken, IsPlaced, bytes_of, payload_of}
+use Rattle.sctp_reassembly.specs.Delivery.{OrderedDelivery, OrderedStream, deliver, deliver_within, at_rest, preceded_by, delivering, ordered_arrival, completed, ready_bytes}
+use Rattle.sctp_fragments.specs.Held.{message_of_run}
 use Rattle.std.proofs.lemmas.List.Sums.{sum_by_push}
 use Rattle.sctp_reassembly.proofs.FindLemmas.{found, not_found, left_none, taken_left}
 
@@ -54,10 +55,6 @@ deliver_step n hs new r is left intervals =
   where
     one : (most : ℕ) → deliver_within (suc most) n hs ≡ preceded_by (message_of_run r) (deliver_within most (suc n) (left_by (is_in_turn n) hs))
     one most = ap (λ (o : Option (List Held)). delivering o n hs (deliver_within most (suc n) (left_by (is_in_turn n) hs))) is
-
-pub length-payload : (hs : List Held) → length (payload_of hs) ≡ bytes_of hs
-length-payload [] = refl
-length-payload (h ∷ hs) = length-append h.fragment.payload (payload_of hs) ∙ ap (λ (t : ℕ). length h.fragment.payload + t) (length-payload hs)
 
 -- ---- unordered messages
 

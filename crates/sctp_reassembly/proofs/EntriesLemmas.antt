@@ -1,8 +1,8 @@
 -- Sums over the streams of a map, when one stream changes.
 use Rattle.std.proofs.Common.{◌≡◌, ℕ, ◌+◌, ◌≤◌, Bool, true, false, cond, List, [], ◌∷◌, Option, Some, None, refl, ap, sym, ◌∙◌, arith}
 use Rattle.std.specs.Prelude.{unwrap_or, is_some, option_map, sum_by, filter, map, nat_lt, length}
-use Rattle.sctp_reassembly.specs.Runs.{from_rank}
-use Rattle.sctp_reassembly.specs.Held.{Held, rank_of, bytes_of}
+use Rattle.sctp_fragments.specs.Runs.{from_rank}
+use Rattle.sctp_fragments.specs.Held.{Held, rank_of, bytes_of}
 use Rattle.std.specs.Ordering.{nat_cmp}
 use Rattle.std.specs.List.Sorted.{IsStrictlySortedBy}
 use Rattle.std.specs.Map.{lookup, set_value, keys_of, values_of}

@@ -2,13 +2,13 @@
 use Rattle.std.proofs.Common.{◌≡◌, ℕ, ◌+◌, ◌<◌, ◌≤◌, Bool, None, List, [], ◌∷◌, ◌++◌, length, take, drop, get_or, refl, ap, sym, subst, ◌∙◌, arith}
 use Rattle.std.proofs.lemmas.Bool.{lt-ltb}
 use Rattle.std.proofs.lemmas.List.{take_more}
-use Rattle.sctp_reassembly.specs.declared.interval.Entry.{Entry}
-use Rattle.sctp_reassembly.specs.declared.interval.Interval.{Interval}
-use Rattle.sctp_reassembly.specs.Runs.{flat, from_rank, AreRuns, AllBelow, IsBelow, end_of}
-use Rattle.sctp_reassembly.specs.Held.{Held, rank_of, goes_on, bytes_of, is_complete, NoneComplete}
-use Rattle.sctp_reassembly.specs.Intervals.{run_of, lists_of, entries_of}
-use Rattle.sctp_reassembly.proofs.RunLemmas.{flat-append, AreRuns-front, AreRuns-back, AllBelow-runs, first_runs}
-use Rattle.sctp_reassembly.proofs.PlaceLemmas.{lists_of-append}
+use Rattle.sctp_fragments.specs.declared.interval.Entry.{Entry}
+use Rattle.sctp_fragments.specs.declared.interval.Interval.{Interval}
+use Rattle.sctp_fragments.specs.Runs.{flat, from_rank, AreRuns, AllBelow, IsBelow, end_of}
+use Rattle.sctp_fragments.specs.Held.{Held, rank_of, goes_on, bytes_of, is_complete, NoneComplete}
+use Rattle.sctp_fragments.specs.Intervals.{run_of, lists_of, entries_of}
+use Rattle.sctp_fragments.proofs.RunLemmas.{flat-append, AreRuns-front, AreRuns-back, AllBelow-runs, first_runs}
+use Rattle.sctp_fragments.proofs.PlaceLemmas.{lists_of-append}
 use Rattle.sctp_reassembly.proofs.ListLemmas.{bytes_of-append}
 use Rattle.sctp_reassembly.proofs.InsertLemmas.{in_two, NonePass-back}
 

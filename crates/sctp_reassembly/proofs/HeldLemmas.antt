@@ -3,7 +3,7 @@ use Rattle.std.proofs.Common.{◌≡◌, ℕ, suc, ◌<◌, ◌≤◌, ◌==◌,
 use Rattle.std.specs.List.{find}
 use Rattle.std.proofs.lemmas.Bool.{cases_lt}
 use Rattle.std.proofs.lemmas.Bool.Decides.{nat_tests}
-use Rattle.sctp_reassembly.specs.Runs.{is_next, last_of, IsLinked, flat, AreRuns}
+use Rattle.sctp_fragments.specs.Runs.{is_next, last_of, IsLinked, flat, AreRuns}
 
 pub is_below : (a b : ℕ) → (a == b) ≡ true → b < suc a
 is_below a b h = grind (arith, nat_tests)

@@ -3,13 +3,13 @@ use Rattle.std.proofs.Common.{◌≡◌, ℕ, zero, suc, ◌<◌, ◌≤◌, Boo
 use Rattle.std.proofs.lemmas.Bool.Decides.{nat_tests}
 use Rattle.std.specs.List.{insert}
 use Rattle.std.proofs.lemmas.List.{take-append-drop, length-take}
-use Rattle.sctp_reassembly.specs.declared.interval.Entry.{Entry}
-use Rattle.sctp_reassembly.specs.declared.interval.Interval.{Interval}
-use Rattle.sctp_reassembly.specs.Runs.{flat, end_of, last_of, is_held, IsBelow, LeadsTo, is_next, joins_left, joins_right, AreRuns}
-use Rattle.sctp_reassembly.specs.Held.{Held, rank_of, goes_on, NonePass}
-use Rattle.sctp_reassembly.specs.Intervals.{IsInserted, run_of, lists_of}
-use Rattle.sctp_reassembly.proofs.RunLemmas.{end_of-append, flat-append, alone, at_left, at_right, joining}
-use Rattle.sctp_reassembly.proofs.PlaceLemmas.{cons, some_run, lists_of-append}
+use Rattle.sctp_fragments.specs.declared.interval.Entry.{Entry}
+use Rattle.sctp_fragments.specs.declared.interval.Interval.{Interval}
+use Rattle.sctp_fragments.specs.Runs.{flat, end_of, last_of, is_held, IsBelow, LeadsTo, is_next, joins_left, joins_right, AreRuns}
+use Rattle.sctp_fragments.specs.Held.{Held, rank_of, goes_on, NonePass}
+use Rattle.sctp_fragments.specs.Intervals.{IsInserted, run_of, lists_of}
+use Rattle.sctp_fragments.proofs.RunLemmas.{end_of-append, flat-append, alone, at_left, at_right, joining}
+use Rattle.sctp_fragments.proofs.PlaceLemmas.{cons, some_run, lists_of-append}
 
 flat_last : {E : Type 0} (ps : List (List E)) (r : List E) → flat (ps ++ r ∷ []) ≡ flat ps ++ r
 flat_last [] r = append-nil r

@@ -1,5 +1,3 @@
-pub mod RunLemmas
-pub mod PlaceLemmas
 pub mod InsertLemmas
 pub mod ListLemmas
 pub mod FindLemmas

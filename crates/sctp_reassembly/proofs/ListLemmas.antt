@@ -4,19 +4,19 @@ use Rattle.std.proofs.lemmas.Bool.Decides.{nat_tests}
 use Rattle.std.specs.List.{remove}
 use Rattle.std.specs.Prelude.{IfSome, IfNone, ◌&&◌}
 use Rattle.std.proofs.lemmas.Bool.{lt-ltb}
-use Rattle.sctp_reassembly.specs.Intervals.{StartsInTurn, without_first, first_below, IsInserted, EndsFrom, starts_upto, run_of}
-use Rattle.sctp_reassembly.specs.Runs.{from_rank}
-use Rattle.sctp_reassembly.proofs.PlaceLemmas.{told_less, told_not_less}
-use Rattle.sctp_reassembly.proofs.RunLemmas.{first_runs, from_rank-runs}
+use Rattle.sctp_fragments.specs.Intervals.{StartsInTurn, without_first, first_below, IsInserted, EndsFrom, starts_upto, run_of}
+use Rattle.sctp_fragments.specs.Runs.{from_rank}
+use Rattle.sctp_fragments.proofs.PlaceLemmas.{told_less, told_not_less}
+use Rattle.sctp_fragments.proofs.RunLemmas.{first_runs, from_rank-runs}
 use Rattle.std.proofs.lemmas.List.{take_more, take_all}
 use Rattle.std.proofs.lemmas.List.{get_or_read}
-use Rattle.sctp_reassembly.specs.declared.interval.Entry.{Entry}
-use Rattle.sctp_reassembly.specs.declared.interval.Interval.{Interval}
-use Rattle.sctp_reassembly.specs.Runs.{is_next, flat, last_of, end_of, is_held, with_item, IsBelow, LeadsTo, AreRuns}
-use Rattle.sctp_reassembly.specs.Held.{Held, rank_of, goes_on, bytes_of, intervals_of, is_complete, begins, ends, NonePass, NoneComplete, IsPlaced, IsTaken, is_in_turn, NoneInTurn, IsTurn}
-use Rattle.sctp_reassembly.specs.Intervals.{lists_of, entries_of}
-use Rattle.sctp_reassembly.proofs.RunLemmas.{flat-append, runs_of-flat, AreRuns-without, with_item-between, is_held-between, is_held-within}
-use Rattle.sctp_reassembly.proofs.PlaceLemmas.{cons, some_run, lists_of-append, read_at, remove_at}
+use Rattle.sctp_fragments.specs.declared.interval.Entry.{Entry}
+use Rattle.sctp_fragments.specs.declared.interval.Interval.{Interval}
+use Rattle.sctp_fragments.specs.Runs.{is_next, flat, last_of, end_of, is_held, with_item, IsBelow, LeadsTo, AreRuns}
+use Rattle.sctp_fragments.specs.Held.{Held, rank_of, goes_on, bytes_of, intervals_of, is_complete, begins, ends, NonePass, NoneComplete, IsPlaced, IsTaken, is_in_turn, NoneInTurn, IsTurn}
+use Rattle.sctp_fragments.specs.Intervals.{lists_of, entries_of}
+use Rattle.sctp_fragments.proofs.RunLemmas.{flat-append, runs_of-flat, AreRuns-without, with_item-between, is_held-between, is_held-within}
+use Rattle.sctp_fragments.proofs.PlaceLemmas.{cons, some_run, lists_of-append, read_at, remove_at}
 use Rattle.sctp_reassembly.proofs.InsertLemmas.{split_at, length-lists_of, in_two}
 
 pub bytes_of-append : (xs ys : List Held) → bytes_of (xs ++ ys) ≡ bytes_of xs + bytes_of ys

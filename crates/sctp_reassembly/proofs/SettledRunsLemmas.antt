@@ -4,11 +4,11 @@ use Rattle.std.specs.Prelude.{◌&&◌, ◌==◌, not, nat_lt}
 use Rattle.std.specs.List.{find}
 use Rattle.std.proofs.lemmas.Bool.{lt-ltb, le-ltb, cases_lt, cases_Bool}
 use Rattle.std.proofs.lemmas.Bool.Decides.{nat_tests}
-use Rattle.sctp_reassembly.specs.Runs.{is_next, is_held, with_item, from_rank, last_of, attached, runs_of, flat, AreRuns, end_of, IsBelow, LeadsTo, joins_left, joins_right}
-use Rattle.sctp_reassembly.specs.Held.{Held, rank_of, goes_on, intervals_of, is_complete, NonePass, NoneComplete, without_first_of, left_by}
-use Rattle.sctp_reassembly.specs.Intervals.{IsInserted}
+use Rattle.sctp_fragments.specs.Runs.{is_next, is_held, with_item, from_rank, last_of, attached, runs_of, flat, AreRuns, end_of, IsBelow, LeadsTo, joins_left, joins_right}
+use Rattle.sctp_fragments.specs.Held.{Held, rank_of, goes_on, intervals_of, is_complete, NonePass, NoneComplete, without_first_of, left_by}
+use Rattle.sctp_fragments.specs.Intervals.{IsInserted}
 use Rattle.sctp_reassembly.specs.Settled.{AreInOrder}
-use Rattle.sctp_reassembly.proofs.RunLemmas.{AreRuns-without, AreRuns-front, end_of-append, runs_of-flat, flat-runs_of, from_rank-runs, is_held-within, with_item-between}
+use Rattle.sctp_fragments.proofs.RunLemmas.{AreRuns-without, AreRuns-front, end_of-append, runs_of-flat, flat-runs_of, from_rank-runs, is_held-within, with_item-between}
 use Rattle.sctp_reassembly.proofs.InsertLemmas.{inserts_alone, inserts_left, inserts_right, inserts_both}
 use Rattle.sctp_reassembly.proofs.FindLemmas.{without_none}
 

@@ -2,7 +2,7 @@
 use Rattle.std.proofs.Common.{◌≡◌, ℕ, zero, suc, ◌+◌, ◌<◌, ◌≤◌, Bool, true, false, cond, Option, Some, None, List, [], ◌∷◌, ◌++◌, length, take, drop, get_or, refl, ap, sym, subst, ◌∙◌, arith, append_assoc, append-nil, drop-cons}
 use Rattle.sctp_serial.specs.Messages.{Message}
 use Rattle.sctp_chunk.specs.declared.forward_tsn.SkippedStream.{SkippedStream}
-use Rattle.sctp_reassembly.specs.Held.{Held}
+use Rattle.sctp_fragments.specs.Held.{Held}
 use Rattle.sctp_reassembly.specs.Delivery.{OrderedStream, UnorderedStream, fresh_ordered, fresh_unordered, ordered_arrival, unordered_arrival, ordered_forward, unordered_forward}
 use Rattle.sctp_serial.specs.Unwrapped.{words, nearest}
 use Rattle.sctp_chunk.specs.Chunk.{FragmentTree}

@@ -3,15 +3,9 @@ use Rattle.std.specs.Prelude.{◌≡◌, ℕ, zero, suc, ◌+◌, ◌^◌, ◌<�
 use Rattle.std.specs.List.{find, sum_by}
 use Rattle.sctp_serial.specs.Messages.{Message}
 use Rattle.sctp_serial.specs.Unwrapped.{origin}
-use Rattle.sctp_reassembly.specs.Key.{pair_rank}
-use Rattle.sctp_reassembly.specs.Runs.{with_item, from_rank}
-use Rattle.sctp_reassembly.specs.Held.{Held, rank_of, intervals_of, is_complete, is_in_turn, left_by, payload_of, NoneInTurn, NoneComplete}
-
--- the message of an interval: stream and protocol id are those of its beginning, the payloads are joined
-abbrev pub message_of_run : List Held → Message
-message_of_run [] = record { stream = 0; ppid = 0; payload = [] }
-message_of_run (h ∷ hs) =
-    record { stream = h.fragment.stream_id; ppid = h.fragment.ppid; payload = payload_of (h ∷ hs) }
+use Rattle.sctp_fragments.specs.Key.{pair_rank}
+use Rattle.sctp_fragments.specs.Runs.{with_item, from_rank}
+use Rattle.sctp_fragments.specs.Held.{Held, rank_of, intervals_of, is_complete, message_of_run, is_in_turn, left_by, NoneInTurn, NoneComplete}
 
 pub record OrderedStream : Type 0 where
   pub next : ℕ  -- the number of the message that becomes ready next

@@ -1,8 +1,3 @@
-pub mod Runs
-pub mod Key
-pub mod KeyLaws
-pub mod Held
-pub mod Intervals
 pub mod Delivery
 pub mod Streams
 pub mod ReassemblyQueue

@@ -2,8 +2,8 @@
 use Rattle.std.specs.Prelude.{None, List}
 use Rattle.std.specs.List.{All}
 use Rattle.std.specs.Map.{values_of}
-use Rattle.sctp_reassembly.specs.Runs.{AreRuns}
-use Rattle.sctp_reassembly.specs.Held.{Held, rank_of, goes_on, intervals_of, NoneComplete, NoneInTurn}
+use Rattle.sctp_fragments.specs.Runs.{AreRuns}
+use Rattle.sctp_fragments.specs.Held.{Held, rank_of, goes_on, intervals_of, NoneComplete, NoneInTurn}
 use Rattle.sctp_reassembly.specs.Delivery.{OrderedStream, UnorderedStream}
 use Rattle.sctp_reassembly.specs.Streams.{Streams}
 

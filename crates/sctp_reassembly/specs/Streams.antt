@@ -12,7 +12,7 @@ use Rattle.sctp_serial.specs.Keys.{stream_of}
 use Rattle.sctp_serial.specs.declared.types.StreamKey.TheVariants.{Ordered, Unordered}
 use Rattle.sctp_chunk.specs.declared.forward_tsn.SkippedStream.{SkippedStream}
 use Rattle.sctp_chunk.specs.declared.forward_tsn.SkippedStream.TheVariants.{ForwardTsn, IForwardTsn}
-use Rattle.sctp_reassembly.specs.Held.{Held, bytes_of}
+use Rattle.sctp_fragments.specs.Held.{Held, bytes_of}
 use Rattle.sctp_reassembly.specs.Delivery.{OrderedStream, UnorderedStream, OrderedDelivery, UnorderedDelivery, fresh_ordered, fresh_unordered, ordered_arrival, ordered_forward, unordered_arrival, unordered_forward, unordered_forward_tsn}
 
 -- ---- a map of streams

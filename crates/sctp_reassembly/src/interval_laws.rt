@@ -1,8 +1,8 @@
 //! What intervals have to do with messages.
 
 ghost use Rattle.std.specs.Prelude.{◌≡◌, ℕ, List, ◌∷◌, ◌++◌};
-ghost use Rattle.sctp_reassembly.specs.Runs.{IsMessage};
-ghost use Rattle.sctp_reassembly.specs.Held.{Held, rank_of, goes_on, begins, ends, intervals_of};
+ghost use Rattle.sctp_fragments.specs.Runs.{IsMessage};
+ghost use Rattle.sctp_fragments.specs.Held.{Held, rank_of, goes_on, begins, ends, intervals_of};
 
 /// Fragments from a beginning to an end, each with the key after the one before, are one of the intervals, wherever they
 /// stand among fragments.

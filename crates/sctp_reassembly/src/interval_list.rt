@@ -2,9 +2,8 @@
 
 ghost use Rattle.std.specs.Prelude.{◌≡◌, ◌==◌, ℕ, suc, ◌+◌, ◌<◌, ◌≤◌, ◌^◌, ◌&&◌, ◌++◌, ◌∷◌, [], List, Option, Some, None, nat_lt, not, false, true, length, take, drop, is_none, option_map, slice_index_or, IfOk, OnOk, OnErr, IfSome, IfNone, IsTrue};
 
-use crate::interval::{Entry, Interval, goes_on_to};
-use crate::reassembly_key::{ReassemblyKey, is_before};
 use sctp_chunk::Data;
+use sctp_fragments::{Entry, Interval, ReassemblyKey, goes_on_to, is_before};
 use std::alloc::{AllocError, Global};
 use std::collections::VecDeque;
 use std::marker::Model;
@@ -20,8 +19,8 @@ pub struct IntervalList<K: ReassemblyKey> {
 
 impl<K: ReassemblyKey> Model for IntervalList<K> {
     ghost use Rattle.std.specs.Prelude.{List};
-    ghost use Rattle.sctp_reassembly.specs.Held.{Held};
-    ghost use Rattle.sctp_reassembly.specs.Intervals.{held_of, entries_of, IsKept};
+    ghost use Rattle.sctp_fragments.specs.Held.{Held};
+    ghost use Rattle.sctp_fragments.specs.Intervals.{held_of, entries_of, IsKept};
 
     ghost Value = { List Held };
 
@@ -32,10 +31,10 @@ impl<K: ReassemblyKey> Model for IntervalList<K> {
 
 impl<K: ReassemblyKey> IntervalList<K> {
     ghost use Rattle.std.specs.List.{find};
-    ghost use Rattle.sctp_reassembly.specs.Runs.{is_held, with_item, from_rank};
-    ghost use Rattle.sctp_reassembly.specs.Held.{Held, rank_of, intervals_of, bytes_of, is_complete, NoneComplete, is_in_turn, without_first_of, left_by, IsPlaced, IsTaken};
-    ghost use Rattle.sctp_reassembly.specs.Key.{rank_at};
-    ghost use Rattle.sctp_reassembly.specs.Intervals.{held, held_of, run_of};
+    ghost use Rattle.sctp_fragments.specs.Runs.{is_held, with_item, from_rank};
+    ghost use Rattle.sctp_fragments.specs.Held.{Held, rank_of, intervals_of, bytes_of, is_complete, NoneComplete, is_in_turn, without_first_of, left_by, IsPlaced, IsTaken};
+    ghost use Rattle.sctp_fragments.specs.Key.{rank_at};
+    ghost use Rattle.sctp_fragments.specs.Intervals.{held, held_of, run_of};
 
     /// No fragments. Takes no memory.
     pub fn new(alloc: Global) -> IntervalList<K>
@@ -150,12 +149,12 @@ impl<K: ReassemblyKey> IntervalList<K> {
 }
 
 ghost use Rattle.std.specs.VecDeque.{deque_len, deque_capacity};
-ghost use Rattle.sctp_reassembly.specs.Runs.{end_of, IsBelow, LeadsTo, joins_left, joins_right};
-ghost use Rattle.sctp_reassembly.specs.Held.{Held, rank_of, goes_on, bytes_of, NoneInTurn};
-ghost use Rattle.sctp_reassembly.specs.Key.{rank_at};
-ghost use Rattle.sctp_reassembly.specs.Intervals.{held_of, run_of, lists_of, entries_of, EndsFrom, IsInRuns, IsInserted, starts_upto, StartsInTurn, without_first, first_below};
-ghost use Rattle.sctp_reassembly.specs.declared.interval.Entry.{Entry};
-ghost use Rattle.sctp_reassembly.specs.declared.interval.Interval.{Interval};
+ghost use Rattle.sctp_fragments.specs.Runs.{end_of, IsBelow, LeadsTo, joins_left, joins_right};
+ghost use Rattle.sctp_fragments.specs.Held.{Held, rank_of, goes_on, bytes_of, NoneInTurn};
+ghost use Rattle.sctp_fragments.specs.Key.{rank_at};
+ghost use Rattle.sctp_fragments.specs.Intervals.{held_of, run_of, lists_of, entries_of, EndsFrom, IsInRuns, IsInserted, starts_upto, StartsInTurn, without_first, first_below};
+ghost use Rattle.sctp_fragments.specs.declared.interval.Entry.{Entry};
+ghost use Rattle.sctp_fragments.specs.declared.interval.Interval.{Interval};
 
 // How many bytes the intervals before the place hold.
 fn bytes_before<K: ReassemblyKey>(intervals: &[Interval<K>], place: usize) -> usize

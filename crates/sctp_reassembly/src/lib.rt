@@ -2,16 +2,13 @@
 #![tactic(auto)]
 
 pub mod interleaved_reassembly_streams;
-pub mod interval;
 pub mod interval_laws;
 pub mod interval_list;
-mod message;
 mod near;
 mod ordered_stream;
 mod ordered_streams;
 pub mod ready_laws;
 pub mod ready_messages;
-pub mod reassembly_key;
 pub mod reassembly_queue;
 pub mod reassembly_streams;
 pub mod settled_laws;
@@ -21,7 +18,6 @@ mod unordered_stream;
 mod unordered_streams;
 
 pub use interleaved_reassembly_streams::InterleavedReassemblyStreams;
-pub use interval::{Entry, Interval};
 pub use interval_laws::messages_are_intervals;
 pub use interval_list::IntervalList;
 pub use ready_laws::{
@@ -29,12 +25,12 @@ pub use ready_laws::{
     ordered_fragments_make_ready, unordered_fragments_make_ready,
 };
 pub use ready_messages::ReadyMessages;
-pub use reassembly_key::{
-    InterleavedKey, ReassemblyKey, TraditionalKey, UnorderedInterleavedKey, is_before, is_same,
-    leads_to, next_key, touch,
-};
 pub use reassembly_queue::ReassemblyQueue;
 pub use reassembly_streams::ReassemblyStreams;
+pub use sctp_fragments::{
+    Entry, InterleavedKey, Interval, ReassemblyKey, TraditionalKey, UnorderedInterleavedKey,
+    is_before, is_same, leads_to, next_key, touch,
+};
 pub use settled_laws::{
     calls_leave_streams_settled, forward_points_leave_queues_settled,
     fragments_leave_queues_settled, new_queues_are_settled, resets_leave_queues_settled,

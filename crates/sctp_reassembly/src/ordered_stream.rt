@@ -2,17 +2,16 @@
 
 ghost use Rattle.std.specs.Prelude.{◌≡◌, ℕ, suc, ◌+◌, ◌<◌, ◌≤◌, ◌^◌, ◌++◌, max, length, OnOk, OnErr, IfOk, [], true, false, nat_lt};
 ghost use Rattle.sctp_serial.specs.Unwrapped.{origin};
-ghost use Rattle.sctp_reassembly.specs.Held.{bytes_of, rank_of, intervals_of, NoneInTurn};
-ghost use Rattle.sctp_reassembly.specs.Key.{rank_at};
-ghost use Rattle.sctp_reassembly.specs.Intervals.{held};
-ghost use Rattle.sctp_reassembly.specs.Runs.{with_item, from_rank};
+ghost use Rattle.sctp_fragments.specs.Held.{bytes_of, rank_of, intervals_of, NoneInTurn};
+ghost use Rattle.sctp_fragments.specs.Key.{rank_at};
+ghost use Rattle.sctp_fragments.specs.Intervals.{held};
+ghost use Rattle.sctp_fragments.specs.Runs.{with_item, from_rank};
 ghost use Rattle.sctp_reassembly.specs.Delivery.{deliver, ordered_arrival, ready_bytes, Extends};
 
 use crate::interval_list::IntervalList;
-use crate::message::message_of;
 use crate::ready_messages::ReadyMessages;
-use crate::reassembly_key::ReassemblyKey;
 use sctp_chunk::Data;
+use sctp_fragments::{ReassemblyKey, message_of};
 use std::alloc::{AllocError, Global};
 use std::marker::Model;
 

@@ -10,8 +10,8 @@ ghost use Rattle.sctp_reassembly.specs.ReassemblyHandover.{ordered_is_held, orde
 
 use crate::ordered_stream::{FIRST, OrderedStream};
 use crate::ready_messages::ReadyMessages;
-use crate::reassembly_key::ReassemblyKey;
 use sctp_chunk::Data;
+use sctp_fragments::ReassemblyKey;
 use sctp_serial::{Mid, SerialNumber, Ssn, StreamId};
 use sctp_state::api::handover::HandoverOrderedStream;
 use std::alloc::{AllocError, Global};
@@ -39,7 +39,7 @@ impl<K: ReassemblyKey> Model for OrderedStreams<K> {
 }
 
 impl<K: ReassemblyKey> OrderedStreams<K> {
-    ghost use Rattle.sctp_reassembly.specs.Intervals.{held};
+    ghost use Rattle.sctp_fragments.specs.Intervals.{held};
     ghost use Rattle.sctp_reassembly.specs.Delivery.{fresh_ordered, ordered_arrival, ordered_forward, ready_bytes, Extends};
     ghost use Rattle.sctp_reassembly.specs.Streams.{ordered_bytes, stream_at, opened, written, changed, forgotten};
 

@@ -1,9 +1,9 @@
 //! What becomes ready, told of the map of fragments: it is made of fragments that were held, and are held no more.
 
 ghost use Rattle.std.specs.Prelude.{◌≡◌, ℕ, suc, max, nat_lt, false, true, List, ◌∷◌, ◌++◌};
-ghost use Rattle.sctp_reassembly.specs.Key.{pair_rank};
-ghost use Rattle.sctp_reassembly.specs.Runs.{flat, with_item, from_rank};
-ghost use Rattle.sctp_reassembly.specs.Held.{Held, rank_of, intervals_of, is_complete};
+ghost use Rattle.sctp_fragments.specs.Key.{pair_rank};
+ghost use Rattle.sctp_fragments.specs.Runs.{flat, with_item, from_rank};
+ghost use Rattle.sctp_fragments.specs.Held.{Held, rank_of, intervals_of, is_complete};
 ghost use Rattle.sctp_reassembly.specs.Delivery.{OrderedStream, UnorderedStream, ordered_arrival, ordered_forward, unordered_arrival};
 ghost use Rattle.sctp_reassembly.specs.Settled.{AreInOrder};
 ghost use Rattle.sctp_reassembly.specs.Ready.{AreHeld, IsWhole, IsIn, AreReady, AreReadyInTurn};

@@ -4,11 +4,10 @@ ghost use Rattle.std.specs.Prelude.{◌≡◌, ℕ, suc, ◌+◌, ◌<◌, ◌�
 ghost use Rattle.sctp_serial.specs.Unwrapped.{origin};
 
 use crate::interval_list::IntervalList;
-use crate::message::message_of;
 use crate::ordered_stream::FIRST;
 use crate::ready_messages::ReadyMessages;
-use crate::reassembly_key::ReassemblyKey;
 use sctp_chunk::Data;
+use sctp_fragments::{ReassemblyKey, message_of};
 use std::alloc::{AllocError, Global};
 use std::marker::Model;
 
@@ -31,9 +30,9 @@ impl<K: ReassemblyKey> Model for UnorderedStream<K> {
     ghost invariant = { λ s. IsUnordered (record { near = s.near; passed = s.passed; held = s.list }) };
 }
 
-ghost use Rattle.sctp_reassembly.specs.Runs.{with_item};
-ghost use Rattle.sctp_reassembly.specs.Held.{rank_of, bytes_of, intervals_of, is_complete, left_by, NoneComplete};
-ghost use Rattle.sctp_reassembly.specs.Intervals.{held};
+ghost use Rattle.sctp_fragments.specs.Runs.{with_item};
+ghost use Rattle.sctp_fragments.specs.Held.{rank_of, bytes_of, intervals_of, is_complete, left_by, NoneComplete};
+ghost use Rattle.sctp_fragments.specs.Intervals.{held};
 ghost use Rattle.sctp_reassembly.specs.Delivery.{completed, ready_bytes, Extends};
 
 // Adds a fragment, and makes the message ready that it completes.
@@ -66,7 +65,7 @@ fn take_in<K: ReassemblyKey>(
 
 impl<K: ReassemblyKey> UnorderedStream<K> {
     ghost use Rattle.sctp_reassembly.specs.Delivery.{fresh_unordered, unordered_arrival, unordered_forward, held_from};
-    ghost use Rattle.sctp_reassembly.specs.Key.{rank_at};
+    ghost use Rattle.sctp_fragments.specs.Key.{rank_at};
 
     /// A stream of which nothing came.
     pub fn new(alloc: Global) -> UnorderedStream<K>

@@ -11,9 +11,9 @@ ghost use Rattle.sctp_reassembly.specs.ReassemblyHandover.{unordered_is_held, un
 use crate::ordered_stream::FIRST;
 use crate::ordered_streams::is_named;
 use crate::ready_messages::ReadyMessages;
-use crate::reassembly_key::ReassemblyKey;
 use crate::unordered_stream::UnorderedStream;
 use sctp_chunk::Data;
+use sctp_fragments::ReassemblyKey;
 use sctp_serial::StreamId;
 use sctp_state::api::handover::HandoverUnorderedStream;
 use std::alloc::{AllocError, Global};
@@ -41,9 +41,9 @@ impl<K: ReassemblyKey> Model for UnorderedStreams<K> {
 }
 
 impl<K: ReassemblyKey> UnorderedStreams<K> {
-    ghost use Rattle.sctp_reassembly.specs.Intervals.{held};
+    ghost use Rattle.sctp_fragments.specs.Intervals.{held};
     ghost use Rattle.sctp_reassembly.specs.Delivery.{fresh_unordered, unordered_arrival, unordered_forward, held_from, ready_bytes, Extends};
-    ghost use Rattle.sctp_reassembly.specs.Key.{rank_at};
+    ghost use Rattle.sctp_fragments.specs.Key.{rank_at};
     ghost use Rattle.sctp_reassembly.specs.Streams.{unordered_bytes, stream_at, opened, written, changed, forgotten};
 
     /// No streams. Takes no memory.

@@ -24,7 +24,4 @@ pub mod ForgetLemmas
 pub mod SenderRowLemmas
 pub mod StepLemmas
 pub mod EpochLemmas
-pub mod HandshakeLemmas
-pub mod AgreementLemmas
-pub mod RenamingLemmas
 pub mod PlainRunLemmas

@@ -1,9 +1,8 @@
 -- One run of each machine, in which something is lost, overtaken and given up.
-use Rattle.std.specs.Prelude.{ℕ, zero, suc, ◌+◌, ◌-◌, ◌*◌, Bool, true, false, List, [], ◌∷◌}
+use Rattle.std.specs.Prelude.{ℕ, zero, suc, true, false, List, [], ◌∷◌}
 use Rattle.sctp_rules.specs.State.{Message, ForwardPoint}
 use Rattle.sctp_rules.specs.Rules.{Event, accept, begin, number, close, give_up, data_comes, late_comes, deliver, send_sack, leave, send_forward, forward_comes}
 use Rattle.sctp_rules.specs.Resets.{Request, ResetEvent, transfers, reset_stream, send_request, perform, commit}
-use Rattle.sctp_rules.specs.Handshake as handshake
 
 -- ---- DATA: two ordered messages of stream 0 and an unordered one of stream 1
 abbrev pub three : ℕ → Message
@@ -50,37 +49,3 @@ reset_run =
     transfers accept ∷ transfers accept ∷ transfers (begin 0) ∷ transfers (number 0 (0 ∷ []) []) ∷ reset_stream 0 ∷ transfers (give_up 1) ∷ transfers accept
     ∷ send_request 0 ∷ transfers (data_comes 0) ∷ transfers (deliver 0) ∷ perform request ∷ commit 0
     ∷ transfers (begin 2) ∷ transfers (number 2 (2 ∷ []) []) ∷ transfers (data_comes 1) ∷ transfers (deliver 2) ∷ []
-
--- ---- the handshake. Of a draw the tag tells the first TSN here
-abbrev pub drawn : ℕ → handshake.Draw
-drawn n = record { tag = n; tsn = n * 10 }
-
--- what an end receives where it draws nothing but a tie
-abbrev pub receives : ℕ → ℕ → handshake.Event
-receives which tie = handshake.receive which (drawn 0) tie
-
--- both ends connect; a's INIT and its first COOKIE ACK are lost, and b's COOKIE ECHO is sent again; b gives up and opens
--- anew, and a takes it for a restart; b's old cookie comes; a shuts down, and answers b's next INIT by SHUTDOWN ACK
-abbrev pub openings : List (Bool × handshake.Event)
-openings =
-    (true, handshake.connect (drawn 5)) ∷ (false, handshake.connect (drawn 6)) ∷ (true, receives 0 0) ∷ (false, receives 0 21) ∷ (true, receives 0 22)
-    ∷ (false, handshake.resend) ∷ (true, receives 0 0) ∷ (false, receives 0 0) ∷ (false, handshake.close) ∷ (false, handshake.connect (drawn 7))
-    ∷ (true, handshake.receive 0 (drawn 8) 0) ∷ (false, receives 0 23) ∷ (true, receives 0 24) ∷ (true, receives 3 0) ∷ (false, receives 0 0)
-    ∷ (true, handshake.shut handshake.shutdown_ack_sent) ∷ (false, handshake.close) ∷ (false, handshake.connect (drawn 9)) ∷ (true, receives 0 0) ∷ (false, receives 0 0) ∷ []
-
-abbrev pub between : ℕ → ℕ → handshake.Association
-between m p = record { mine = drawn m; peer = drawn p }
-
--- other tags, first TSNs and ties: each 1000 more, and no tie stays no tie
-abbrev pub more : ℕ → ℕ
-more n = n + 1000
-
-abbrev pub other_tsn : ℕ → ℕ → ℕ
-other_tsn tag tsn = tsn + 1000
-
-abbrev pub other_tie : ℕ → ℕ
-other_tie zero = zero
-other_tie (suc n) = suc (n + 1000)
-
-abbrev pub between_others : ℕ → ℕ → handshake.Association
-between_others m p = record { mine = record { tag = m; tsn = (m - 1000) * 10 + 1000 }; peer = record { tag = p; tsn = (p - 1000) * 10 + 1000 } }

@@ -1,12 +1,9 @@
 //! One run of each machine, so that no law is empty. The expected values were worked out by hand.
 
 ghost use Rattle.std.specs.Prelude.{◌≡◌, List, [], ◌∷◌, false, true, ℕ};
-ghost use Rattle.sctp_rules.specs.Handshake as handshake;
-ghost use Rattle.sctp_rules.specs.Handshake.{cookie_wait, connected, established, NoneTwice, shutdown_ack_sent};
-ghost use Rattle.sctp_rules.specs.Renaming.{IsOneToOne, events};
 ghost use Rattle.sctp_rules.specs.Resets.{MayAll, first_epoch, go_all};
 ghost use Rattle.sctp_rules.specs.Rules.{Happens, run};
-ghost use Rattle.sctp_rules.specs.Runs.{alike, between, between_others, drawn, more, openings, other_tie, other_tsn, plain_run, reset_run, three, woven, woven_run};
+ghost use Rattle.sctp_rules.specs.Runs.{alike, plain_run, reset_run, three, woven, woven_run};
 ghost use Rattle.sctp_rules.specs.State.{count, start};
 
 /// DATA: a fragment is lost, two messages overtake its message, which is given up, and a forward point passes it. All of
@@ -35,22 +32,4 @@ pub fn reset_stream()
     ensures places { (go_all alike false first_epoch reset_run).transfer.receiver.places ≡ 0 ∷ 2 ∷ [] }
     ensures epoch { (go_all alike false first_epoch reset_run).epoch 2 ≡ 1 }
     ensures performed { (go_all alike false first_epoch reset_run).performed 0 ≡ 1 }
-{}
-
-/// The handshake: a collision, lost packets, a restart, an old cookie, and a SHUTDOWN ACK to an INIT.
-pub fn opens_twice()
-    ensures once { NoneTwice (handshake.run openings handshake.start) }
-    ensures connected_a { (handshake.run openings handshake.start).a.connected ≡ between 8 7 ∷ between 5 6 ∷ [] }
-    ensures connected_b { (handshake.run openings handshake.start).b.connected ≡ between 7 8 ∷ between 6 5 ∷ [] }
-    ensures state_a { (handshake.run openings handshake.start).a.state ≡ connected shutdown_ack_sent (between 8 7) 24 }
-    ensures state_b { (handshake.run openings handshake.start).b.state ≡ cookie_wait (drawn 9) }
-{}
-
-/// The same handshake with other tags, first TSNs and ties: different ones stay different, and the renamed run connects
-/// the renamed ends.
-pub fn opens_twice_renamed()
-    ensures tags { IsOneToOne more }
-    ensures ties { IsOneToOne other_tie }
-    ensures connected_a { (handshake.run (events more other_tsn other_tie openings) handshake.start).a.connected
-        ≡ between_others 1008 1007 ∷ between_others 1005 1006 ∷ [] }
 {}

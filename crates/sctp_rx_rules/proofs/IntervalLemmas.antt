@@ -5,7 +5,7 @@ use Rattle.sctp_rules.specs.State.{IsAmong}
 use Rattle.sctp_rx.specs.Runs.{IsLinked, flat, AreRuns, IsMessage}
 use Rattle.sctp_rx.specs.Held.{Held, rank_of, goes_on, begins, ends, intervals_of, is_complete, is_in_turn, NonePass, without_first_of, left_by}
 use Rattle.sctp_rx.specs.Settled.{AreInOrder}
-use Rattle.sctp_reassembly.proofs.RunLemmas.{AreRuns-back, flat-append, flat-runs_of, runs_of-around}
+use Rattle.sctp_fragments.proofs.RunLemmas.{AreRuns-back, flat-append, flat-runs_of, runs_of-around}
 use Rattle.sctp_reassembly.proofs.ListLemmas.{first_stops, last_stops}
 use Rattle.sctp_rx_rules.proofs.RisingLemmas.{Rising, rising_runs, segment}
 

@@ -3,7 +3,7 @@ use Rattle.std.proofs.Common.{◌≡◌, ℕ, suc, ◌<◌, ◌≤◌, Bool, tru
 use Rattle.std.proofs.lemmas.Bool.Decides.{nat_tests}
 use Rattle.sctp_rules.specs.State.{IsAmong}
 use Rattle.sctp_rx.specs.Runs.{is_next, last_of, IsLinked, flat, AreRuns}
-use Rattle.sctp_reassembly.proofs.RunLemmas.{linked_rises}
+use Rattle.sctp_fragments.proofs.RunLemmas.{linked_rises}
 use Rattle.sctp_rx_rules.proofs.AmongLemmas.{around, among_left, among_right, among_cases}
 
 module _ {A : Type 0} (rank : A → ℕ) where

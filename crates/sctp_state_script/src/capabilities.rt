@@ -2,9 +2,10 @@
 
 use crate::answer::{Answer, Line, Subject, low_half, low_word, run_commands, tell_all, tell_hex};
 use crate::options::set_option;
+use sctp_parameter::{Parameter, parameters_from_bytes};
 use sctp_serial::ZeroChecksumAlternateErrorDetectionMethod;
 use sctp_state::{Capabilities, Options, announced_parameters};
-use sctp_wire::{Parameter, all_encodable, parameters_from_bytes, parameters_serialize_to};
+use sctp_wire::{all_encodable, parameters_serialize_to};
 use std::alloc::{AllocError, Global};
 
 /// What an end has been set to, and what it was told last.

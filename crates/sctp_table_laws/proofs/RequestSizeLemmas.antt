@@ -4,7 +4,7 @@ use Rattle.std.proofs.lemmas.Bool.{lt-ltb, le-leb}
 use Rattle.sctp_wire.specs.Serialize.{inner_items}
 use Rattle.sctp_wire.specs.Parameter.{outgoing_reset_request, parameter_item}
 use Rattle.sctp_wire.proofs.SerializeLemmas.{length_item_bytes, length_padded_item}
-use Rattle.sctp_wire.proofs.ParameterLemmas.{length_outgoing}
+use Rattle.sctp_parameter.proofs.ParameterLemmas.{length_outgoing}
 use Rattle.sctp_packet.specs.Written.{chunk_item, chunk_value, chunk_bytes}
 use Rattle.sctp_table.specs.Requests.{Request, ids, request_chunk}
 use Rattle.sctp_table.specs.Packets.{Packet, room, fits}

@@ -3,16 +3,17 @@
 ghost use Rattle.std.specs.Prelude.{◌≡◌, Some, map, IfOk, OnOk};
 ghost use Rattle.std.specs.Option.{option_map};
 ghost use Rattle.sctp_packet.specs.ChunkView.{chunk_tree};
-ghost use Rattle.sctp_wire.specs.ParameterViews.{parameter_tree};
+ghost use Rattle.sctp_parameter.specs.ParameterViews.{parameter_tree};
 ghost use Rattle.sctp_state.specs.Timers.{is_due};
 ghost use Rattle.sctp_endpoint.specs.Views.{context_of, tcb_of};
 ghost use Rattle.sctp_table.specs.Heartbeats as table;
 
 use sctp_endpoint::{Context, TransmissionControlBlock};
 use sctp_packet::{Chunk, HeartbeatRequestChunk};
+use sctp_parameter::{HeartbeatInfoParameter, Parameter};
 use sctp_serial::SocketTime;
 use sctp_state::ErrorKind;
-use sctp_wire::{Checksum, HeartbeatInfoParameter, Parameter};
+use sctp_wire::Checksum;
 use std::alloc::{AllocError, Global};
 
 /// A HEARTBEAT with this number.

@@ -11,10 +11,11 @@ ghost use Rattle.sctp_endpoint.specs.Views.{context_of, standing_of, state_of, t
 ghost use Rattle.sctp_table.specs.Data as table;
 
 use sctp_endpoint::{Context, State, TransmissionControlBlock};
+use sctp_error_cause::{ErrorCause, NoUserDataErrorCause};
 use sctp_packet::{Chunk, Data, ErrorChunk, SkippedStream};
 use sctp_serial::{SocketTime, Tsn};
 use sctp_state::ErrorKind;
-use sctp_wire::{Checksum, ErrorCause, NoUserDataErrorCause};
+use sctp_wire::Checksum;
 use std::alloc::AllocError;
 
 /// DATA or I-DATA.

@@ -2,7 +2,7 @@
 
 ghost use Rattle.std.specs.Prelude.{◌≡◌, ◌++◌, ◌∷◌, [], false, None, map, IfOk, OnOk};
 ghost use Rattle.sctp_wire.specs.Parameter.{reset_response};
-ghost use Rattle.sctp_wire.specs.ParameterViews.{parameter_tree, result_number};
+ghost use Rattle.sctp_parameter.specs.ParameterViews.{parameter_tree, result_number};
 ghost use Rattle.sctp_state.specs.Events.{numbers_of};
 ghost use Rattle.sctp_table.specs.Association.{where_open};
 ghost use Rattle.sctp_table.specs.Requests.{is_final};
@@ -14,12 +14,13 @@ use sctp_endpoint::reset_requests::ResetOutcome;
 use sctp_endpoint::sending::send_waiting;
 use sctp_endpoint::{Context, Phase, State, TransmissionControlBlock};
 use sctp_packet::{Chunk, ReConfigChunk};
-use sctp_serial::{SerialNumber, StreamId, Tsn};
-use sctp_state::{ErrorKind, ResetStreamsError, SocketEvent};
-use sctp_wire::{
-    Checksum, OutgoingSsnResetRequestParameter, Parameter, ReconfigurationResponseParameter,
+use sctp_parameter::{
+    OutgoingSsnResetRequestParameter, Parameter, ReconfigurationResponseParameter,
     ReconfigurationResponseResult,
 };
+use sctp_serial::{SerialNumber, StreamId, Tsn};
+use sctp_state::{ErrorKind, ResetStreamsError, SocketEvent};
+use sctp_wire::Checksum;
 use std::alloc::AllocError;
 
 /// Whether some TSN up to this one did not come yet.

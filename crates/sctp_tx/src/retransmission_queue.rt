@@ -8,7 +8,7 @@ ghost use Rattle.sctp_state.specs.Timers.{is_due, next_expiry, set_duration};
 ghost use Rattle.sctp_outstanding.specs.Items.{number_of, written, next_number, flight_bytes, flight_payload, flight_items, fast_items, begin_reset};
 ghost use Rattle.sctp_outstanding.specs.Losses.{nack_all, expire_outstanding};
 ghost use Rattle.sctp_outstanding.specs.Forward.{is_forward_due};
-ghost use Rattle.sctp_chunk.specs.ChunkView.{chunk_tree};
+ghost use Rattle.sctp_control_chunk.specs.ChunkView.{chunk_tree};
 ghost use Rattle.sctp_tx.specs.ForwardPoints.{expired, forward_chunk};
 ghost use Rattle.sctp_outstanding.specs.Sack.{is_valid, acked_bytes};
 ghost use Rattle.sctp_tx.specs.Retransmission.{sender, heard, step_of, sender_if, told_if, answer_if, answer_of, windows_after, after_sack, kept_running, is_quiet, timed_out_sender};

@@ -237,3 +237,17 @@ impl Entry for Tsn {
         push_u32(output, self.0)
     }
 }
+
+/// A number of four bytes is one, as its type says.
+pub fn number_fits(number: u32)
+    ensures { number < 2 ^ 32 }
+{
+    let _ = number;
+}
+
+/// A number of two bytes is one, as its type says.
+pub fn id_fits(id: u16)
+    ensures { id < 2 ^ 16 }
+{
+    let _ = id;
+}

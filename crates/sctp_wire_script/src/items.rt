@@ -1,10 +1,11 @@
 //! Items, parameters and causes.
 
 use crate::show::{Hex, refuse};
+use sctp_error_cause::error_cause_from_bytes;
+use sctp_parameter::{Parameter, parameters_from_bytes};
 use sctp_wire::{
-    ChunkParseError, Parameter, RawItem, RawParameter, SerializableTlv, all_encodable, ends_here,
-    error_cause_from_bytes, parameters_from_bytes, parameters_serialize_to,
-    parameters_serialized_size, push_u64, text_from_bytes, u64_at,
+    ChunkParseError, RawItem, RawParameter, SerializableTlv, all_encodable, ends_here,
+    parameters_serialize_to, parameters_serialized_size, push_u64, text_from_bytes, u64_at,
 };
 use std::alloc::{AllocError, Global};
 use std::fmt::Display;

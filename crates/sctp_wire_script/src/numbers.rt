@@ -4,13 +4,17 @@ ghost use Rattle.std.specs.Prelude.{◌<◌, ◌^◌};
 
 use crate::packets;
 use crate::show::Hex;
+use sctp_error_cause::NoUserDataErrorCause;
 use sctp_packet::write_chunk_header;
+use sctp_parameter::{
+    HeartbeatInfoParameter, ReconfigurationResponseParameter, ReconfigurationResponseResult,
+    StateCookieParameter,
+};
 use sctp_serial::Tsn;
 use sctp_wire::{
-    HeartbeatInfoParameter, NoUserDataErrorCause, Policy, RawParameter,
-    ReconfigurationResponseParameter, ReconfigurationResponseResult, SerializableTlv,
-    StateCookieParameter, ZERO_CHECKSUM_ALTERNATE_ERROR_DETECTION_METHOD_LOWER_LAYER_DTLS,
-    write_item_header, write_parameter_header,
+    Policy, RawParameter, SerializableTlv,
+    ZERO_CHECKSUM_ALTERNATE_ERROR_DETECTION_METHOD_LOWER_LAYER_DTLS, write_item_header,
+    write_parameter_header,
 };
 use std::alloc::{AllocError, Global};
 use std::io;

@@ -1,5 +1,5 @@
 use Rattle.std.proofs.Common.{rules}
-use Rattle.sctp_chunk.specs.ChunkView.{chunk_tree}
+use Rattle.sctp_control_chunk.specs.ChunkView.{chunk_tree}
 use Rattle.sctp_packet.proofs.BuilderLemmas.{size_of_chunk}
 use Rattle.sctp_packet.proofs.builder.has_room.Goals as goal
 

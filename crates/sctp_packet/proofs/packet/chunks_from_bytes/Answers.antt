@@ -2,7 +2,7 @@ use Rattle.std.proofs.Common.{[], inl, inr, ⊎_elim}
 use Rattle.std.proofs.lemmas.Result.{IfOk-weaker, IfErr-weaker}
 use Rattle.sctp_wire.proofs.RefusalLemmas.{Tiles-map, BreaksAs-map}
 use Rattle.sctp_chunk.specs.Grammar.{IsChunk, RefusesChunk}
-use Rattle.sctp_chunk.specs.ChunkView.{chunk_tree}
+use Rattle.sctp_control_chunk.specs.ChunkView.{chunk_tree}
 use Rattle.sctp_packet.proofs.packet.chunks_from_bytes.Goals as goal
 
 pub returns-clause-ok : goal.returns-clause-ok

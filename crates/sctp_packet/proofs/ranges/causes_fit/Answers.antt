@@ -2,12 +2,12 @@ use Rattle.std.proofs.Common.{rules, sym, subst}
 use Rattle.std.proofs.lemmas.Grind.{common_steps}
 use Rattle.std.proofs.lemmas.Simd.{map-map}
 use Rattle.std.proofs.lemmas.List.Elements.{All-map}
-use Rattle.sctp_wire.specs.declared.error_cause.ErrorCause.{ErrorCause}
+use Rattle.sctp_error_cause.specs.declared.error_cause.ErrorCause.{ErrorCause}
 use Rattle.sctp_wire.specs.Serialize.{IsEncodable}
 use Rattle.sctp_wire.specs.Cause.{CauseFits, cause_item}
-use Rattle.sctp_wire.specs.CauseViews.{cause_tree}
+use Rattle.sctp_error_cause.specs.CauseViews.{cause_tree}
 use Rattle.sctp_wire.specs.ReadBack.{IsText}
-use Rattle.sctp_chunk.proofs.InnerLemmas.{each_fits}
+use Rattle.sctp_control_chunk.proofs.InnerLemmas.{each_fits}
 use Rattle.sctp_packet.proofs.ranges.causes_fit.Goals as goal
 
 pub cause_fits-requires : goal.cause_fits-requires

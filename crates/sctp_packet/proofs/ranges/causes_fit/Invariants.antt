@@ -1,7 +1,7 @@
 use Rattle.std.proofs.Common.{ℕ, ◌<◌, get_or}
-use Rattle.sctp_wire.specs.declared.error_cause.ErrorCause.{ErrorCause}
+use Rattle.sctp_error_cause.specs.declared.error_cause.ErrorCause.{ErrorCause}
 use Rattle.sctp_wire.specs.Cause.{CauseFits}
-use Rattle.sctp_wire.specs.CauseViews.{cause_tree}
+use Rattle.sctp_error_cause.specs.CauseViews.{cause_tree}
 use Rattle.sctp_wire.specs.ReadBack.{IsText}
 use Rattle.sctp_packet.proofs.ranges.causes_fit.Given as goal
 

@@ -1,7 +1,7 @@
 use Rattle.std.proofs.Common.{◌≡◌, ◌+◌, ◌-◌, ◌<◌, ◌≤◌, ◌==◌, suc, length, ◌∷◌, ◌++◌, [], ap, sym, ◌∙◌, refl, arith, take, drop, true, false, not, None, rules}
 use Rattle.sctp_reassembly.proofs.ListLemmas.{first_below-read}
-use Rattle.sctp_reassembly.specs.Intervals.{held_of}
-use Rattle.sctp_reassembly.specs.Key.{rank_at}
+use Rattle.sctp_fragments.specs.Intervals.{held_of}
+use Rattle.sctp_fragments.specs.Key.{rank_at}
 use Rattle.sctp_reassembly.proofs.interval_list.begins_below.Goals as goal
 
 pub returns-clause-value : goal.returns-clause-value

@@ -1,6 +1,6 @@
 use Rattle.std.proofs.Common.{◌≡◌, take}
-use Rattle.sctp_reassembly.specs.Held.{bytes_of}
-use Rattle.sctp_reassembly.specs.Intervals.{held_of, entries_of}
+use Rattle.sctp_fragments.specs.Held.{bytes_of}
+use Rattle.sctp_fragments.specs.Intervals.{held_of, entries_of}
 use Rattle.sctp_reassembly.proofs.interval_list.bytes_before.Given as goal
 
 abbrev pub invariant-loop-index : goal.invariant-loop-index

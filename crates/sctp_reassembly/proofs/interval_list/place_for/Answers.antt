@@ -1,7 +1,7 @@
 use Rattle.std.proofs.Common.{◌+◌, ◌-◌, ◌/◌, arith}
-use Rattle.sctp_reassembly.specs.Key.{rank_at}
-use Rattle.sctp_reassembly.specs.Intervals.{held_of}
-use Rattle.sctp_reassembly.proofs.PlaceLemmas.{below_more, ends_from-read, some_run, told_less, told_not_less}
+use Rattle.sctp_fragments.specs.Key.{rank_at}
+use Rattle.sctp_fragments.specs.Intervals.{held_of}
+use Rattle.sctp_fragments.proofs.PlaceLemmas.{below_more, ends_from-read, some_run, told_less, told_not_less}
 use Rattle.sctp_reassembly.proofs.interval_list.place_for.Goals as goal
 
 pub loop-place-preserved-then-is_before : goal.loop-place-preserved-then-is_before

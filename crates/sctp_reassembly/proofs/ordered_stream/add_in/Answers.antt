@@ -1,5 +1,5 @@
 use Rattle.std.proofs.Common.{sym, ◌∙◌}
-use Rattle.sctp_reassembly.specs.Intervals.{held}
+use Rattle.sctp_fragments.specs.Intervals.{held}
 use Rattle.sctp_reassembly.proofs.DeliverLemmas.{none_turned}
 use Rattle.sctp_reassembly.proofs.ordered_stream.add_in.Goals as goal
 

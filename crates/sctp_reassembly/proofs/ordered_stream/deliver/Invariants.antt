@@ -1,5 +1,5 @@
 use Rattle.std.proofs.Common.{◌≡◌, ◌+◌, ◌≤◌, ◌++◌, length}
-use Rattle.sctp_reassembly.specs.Held.{bytes_of, intervals_of}
+use Rattle.sctp_fragments.specs.Held.{bytes_of, intervals_of}
 use Rattle.sctp_reassembly.specs.Delivery.{deliver, ready_bytes, Extends}
 use Rattle.sctp_reassembly.proofs.ordered_stream.deliver.Given as goal
 

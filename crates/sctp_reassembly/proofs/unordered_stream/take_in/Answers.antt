@@ -1,8 +1,8 @@
 use Rattle.std.proofs.Common.{◌≡◌, ◌++◌, ◌∷◌, [], true, ap, sym, subst, ◌∙◌}
 use Rattle.std.specs.Prelude.{OnOk}
 use Rattle.std.proofs.lemmas.Result.{on_ok_weaker}
-use Rattle.sctp_reassembly.specs.Held.{rank_of, intervals_of, is_complete, left_by, NoneComplete}
-use Rattle.sctp_reassembly.specs.Intervals.{held, held_of, run_of}
+use Rattle.sctp_fragments.specs.Held.{rank_of, intervals_of, is_complete, left_by, NoneComplete}
+use Rattle.sctp_fragments.specs.Intervals.{held, held_of, run_of}
 use Rattle.sctp_reassembly.specs.Delivery.{completed}
 use Rattle.sctp_reassembly.proofs.FindLemmas.{left_none}
 use Rattle.sctp_reassembly.proofs.DeliverLemmas.{added_none, nothing_more, none_completed, none_incomplete, none_taken, left_taken, found_taken}

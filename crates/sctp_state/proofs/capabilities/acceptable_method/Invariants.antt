@@ -1,5 +1,5 @@
 use Rattle.std.proofs.Common.{◌≡◌, map, drop}
-use Rattle.sctp_wire.specs.ParameterViews.{parameter_tree}
+use Rattle.sctp_parameter.specs.ParameterViews.{parameter_tree}
 use Rattle.sctp_state.specs.Capabilities.{method_in}
 use Rattle.sctp_state.proofs.capabilities.acceptable_method.Given as goal
 

@@ -1,5 +1,5 @@
 use Rattle.std.proofs.Common.{◌≡◌, map, drop}
-use Rattle.sctp_wire.specs.ParameterViews.{parameter_tree}
+use Rattle.sctp_parameter.specs.ParameterViews.{parameter_tree}
 use Rattle.sctp_state.specs.Capabilities.{extensions_in}
 use Rattle.sctp_state.proofs.capabilities.supported_chunk_types.Given as goal
 

@@ -1,7 +1,7 @@
 use Rattle.std.proofs.Common.{drop, ap, ◌∙◌}
 use Rattle.sctp_packet.specs.Builder.{BuilderTree}
 use Rattle.sctp_packet.specs.BuilderView.{builder_header}
-use Rattle.sctp_chunk.specs.ChunkView.{chunk_tree}
+use Rattle.sctp_control_chunk.specs.ChunkView.{chunk_tree}
 use Rattle.sctp_packet.proofs.BuilderLemmas.{still_packet, still_reserved, added_body, holds_more, builder}
 use Rattle.sctp_packet.proofs.builder.SctpPacketBuilder.add.Goals as goal
 

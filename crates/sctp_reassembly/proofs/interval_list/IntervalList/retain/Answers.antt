@@ -1,12 +1,12 @@
 use Rattle.std.proofs.Common.{◌≡◌, ◌+◌, ◌-◌, ◌<◌, ◌≤◌, ◌==◌, suc, length, ◌∷◌, ◌++◌, [], ap, sym, ◌∙◌, refl, arith, take, drop, true, false, not, None, rules, List}
 use Rattle.sctp_reassembly.proofs.ListLemmas.{drops, drops_none, intervals-kept}
-use Rattle.sctp_reassembly.specs.Runs.{from_rank, AreRuns}
-use Rattle.sctp_reassembly.specs.declared.interval.Interval.{Interval}
+use Rattle.sctp_fragments.specs.Runs.{from_rank, AreRuns}
+use Rattle.sctp_fragments.specs.declared.interval.Interval.{Interval}
 use Rattle.sctp_reassembly.proofs.FrontLemmas.{in_two_bytes, passes}
-use Rattle.sctp_reassembly.specs.Held.{rank_of, goes_on, NoneComplete, bytes_of}
+use Rattle.sctp_fragments.specs.Held.{rank_of, goes_on, NoneComplete, bytes_of}
 use Rattle.std.proofs.Common.{subst}
-use Rattle.sctp_reassembly.specs.Intervals.{held_of, lists_of, entries_of}
-use Rattle.sctp_reassembly.specs.Key.{rank_at}
+use Rattle.sctp_fragments.specs.Intervals.{held_of, lists_of, entries_of}
+use Rattle.sctp_fragments.specs.Key.{rank_at}
 use Rattle.sctp_reassembly.proofs.interval_list.IntervalList.retain.Goals as goal
 
 pub overflow_sub-self-in-loop-key : goal.overflow_sub-self-in-loop-key

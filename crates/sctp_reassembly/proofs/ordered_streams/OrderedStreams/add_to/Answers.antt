@@ -1,5 +1,5 @@
 use Rattle.std.proofs.Common.{refl, ap, arith}
-use Rattle.sctp_reassembly.specs.Held.{bytes_of}
+use Rattle.sctp_fragments.specs.Held.{bytes_of}
 use Rattle.sctp_reassembly.specs.Delivery.{OrderedStream, fresh_ordered}
 use Rattle.sctp_reassembly.specs.Streams.{ordered_bytes}
 use Rattle.sctp_reassembly.proofs.EntriesLemmas.{sum-written, sum-at_least}

@@ -2,7 +2,7 @@ use Rattle.std.proofs.Common.{[], ◌+◌, ◌≤◌, ◌≡◌, refl, ap, ◌�
 use Rattle.sctp_serial.specs.Unwrapped.{origin}
 use Rattle.sctp_state.specs.declared.api.handover.HandoverOrderedStream.{HandoverOrderedStream}
 use Rattle.sctp_state.specs.declared.api.handover.HandoverUnorderedStream.{HandoverUnorderedStream}
-use Rattle.sctp_reassembly.specs.Held.{bytes_of}
+use Rattle.sctp_fragments.specs.Held.{bytes_of}
 use Rattle.sctp_reassembly.specs.Delivery.{OrderedStream, UnorderedStream, fresh_unordered}
 use Rattle.sctp_reassembly.specs.Streams.{ordered_bytes, unordered_bytes, held_bytes}
 use Rattle.sctp_reassembly.proofs.RestoredLemmas.{weightless}

@@ -1,7 +1,7 @@
 use Rattle.std.proofs.Common.{rules, ap, arith, ◌∙◌, subst}
 use Rattle.std.specs.Prelude.{not}
 use Rattle.std.proofs.lemmas.Map.Made.{filter_same_pairs}
-use Rattle.sctp_reassembly.specs.Held.{bytes_of}
+use Rattle.sctp_fragments.specs.Held.{bytes_of}
 use Rattle.sctp_reassembly.specs.Delivery.{UnorderedStream}
 use Rattle.sctp_reassembly.specs.Streams.{unordered_bytes, is_named, forgotten}
 use Rattle.sctp_reassembly.proofs.EntriesLemmas.{sum-kept}

@@ -1,7 +1,7 @@
 use Rattle.std.proofs.Common.{rules, ap, arith, ◌∙◌, map}
 use Rattle.std.proofs.lemmas.Map.Made.{map_same_pairs}
-use Rattle.sctp_reassembly.specs.Key.{rank_at}
-use Rattle.sctp_reassembly.specs.Held.{bytes_of}
+use Rattle.sctp_fragments.specs.Key.{rank_at}
+use Rattle.sctp_fragments.specs.Held.{bytes_of}
 use Rattle.sctp_reassembly.specs.Delivery.{UnorderedStream, held_from}
 use Rattle.sctp_reassembly.specs.Streams.{unordered_bytes}
 use Rattle.sctp_reassembly.proofs.EntriesLemmas.{sum-mapped, from_rank-bytes}

@@ -1,7 +1,7 @@
 use Rattle.std.proofs.Common.{refl, ap, sym, ◌∙◌}
 use Rattle.std.specs.Ordering.{nat_cmp}
 use Rattle.std.specs.BTreeMap.{insert_entry}
-use Rattle.sctp_reassembly.specs.Held.{bytes_of}
+use Rattle.sctp_fragments.specs.Held.{bytes_of}
 use Rattle.sctp_reassembly.specs.Delivery.{UnorderedStream, fresh_unordered}
 use Rattle.sctp_reassembly.specs.Streams.{unordered_bytes}
 use Rattle.sctp_reassembly.proofs.EntriesLemmas.{sum-opened, none-from}

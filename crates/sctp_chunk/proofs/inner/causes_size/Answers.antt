@@ -1,6 +1,0 @@
-use Rattle.std.proofs.Common.{rules}
-use Rattle.std.proofs.lemmas.Simd.{map-map}
-use Rattle.sctp_chunk.proofs.inner.causes_size.Goals as goal
-
-pub returns : goal.returns
-returns c = rw map-map (search rules)

@@ -1,0 +1,6 @@
+use Rattle.std.proofs.Common.{rules}
+use Rattle.std.proofs.lemmas.Simd.{map-map}
+use Rattle.sctp_control_chunk.proofs.inner.causes_size.Goals as goal
+
+pub returns : goal.returns
+returns c = rw map-map (search rules)

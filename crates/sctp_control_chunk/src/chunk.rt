@@ -1,0 +1,209 @@
+//! A chunk of any kind.
+
+ghost use Rattle.std.specs.Prelude.{◌≡◌, ◌+◌, ◌^◌, ◌-◌, min, true, [], ◌∷◌, ◌++◌, IfOk, IfErr, OnOk, Some};
+ghost use Rattle.sctp_chunk.specs.Written.{chunk_item, chunk_is_whole};
+ghost use Rattle.sctp_chunk.specs.Grammar.{IsChunk, RefusesChunk};
+ghost use Rattle.sctp_chunk.specs.Views.{raw_chunk};
+ghost use Rattle.sctp_control_chunk.specs.ChunkView.{chunk_tree};
+ghost use Rattle.sctp_chunk.specs.ChunkText.{chunk_text};
+
+use crate::cookie::{CookieAckChunk, CookieEchoChunk};
+use crate::error::{AbortChunk, ErrorChunk};
+use crate::heartbeat::{HeartbeatAckChunk, HeartbeatRequestChunk};
+use crate::init::{InitAckChunk, InitChunk};
+use crate::re_config::ReConfigChunk;
+use crate::shutdown::{ShutdownAckChunk, ShutdownChunk, ShutdownCompleteChunk};
+use crate::unknown::UnknownChunk;
+use sctp_chunk::{DataChunk, ForwardTsnChunk, IDataChunk, IForwardTsnChunk, RawChunk, SackChunk};
+use sctp_wire::{ChunkParseError, FromItem, RawItem, SerializableTlv};
+use std::alloc::{AllocError, Global};
+use std::fmt;
+
+/// A chunk (RFC 9260 section 3.2).
+#[derive(Debug, Drop)]
+pub enum Chunk {
+    Data(DataChunk),
+    Init(InitChunk),
+    InitAck(InitAckChunk),
+    Sack(SackChunk),
+    HeartbeatRequest(HeartbeatRequestChunk),
+    HeartbeatAck(HeartbeatAckChunk),
+    Abort(AbortChunk),
+    Shutdown(ShutdownChunk),
+    ShutdownAck(ShutdownAckChunk),
+    Error(ErrorChunk),
+    CookieEcho(CookieEchoChunk),
+    CookieAck(CookieAckChunk),
+    ShutdownComplete(ShutdownCompleteChunk),
+    ReConfig(ReConfigChunk),
+    ForwardTsn(ForwardTsnChunk),
+    IData(IDataChunk),
+    IForwardTsn(IForwardTsnChunk),
+    /// A chunk of another type.
+    Unknown(UnknownChunk),
+}
+
+impl Chunk {
+    /// What the chunk says, by its type.
+    pub fn try_from(alloc: Global, raw: RawChunk<'_>) -> Result<Chunk, ChunkParseError>
+        ensures ok { IfOk result (λ c. IsChunk (raw_chunk raw.entry) (chunk_tree c)) }
+        ensures refused { IfErr result (RefusesChunk (raw_chunk raw.entry)) }
+    {
+        match raw.typ {
+            0 => Ok(Chunk::Data(DataChunk::try_from(alloc, raw)?)),
+            1 => Ok(Chunk::Init(InitChunk::try_from(alloc, raw)?)),
+            2 => Ok(Chunk::InitAck(InitAckChunk::try_from(alloc, raw)?)),
+            3 => Ok(Chunk::Sack(SackChunk::try_from(alloc, raw)?)),
+            4 => Ok(Chunk::HeartbeatRequest(HeartbeatRequestChunk::try_from(alloc, raw)?)),
+            5 => Ok(Chunk::HeartbeatAck(HeartbeatAckChunk::try_from(alloc, raw)?)),
+            6 => Ok(Chunk::Abort(AbortChunk::try_from(alloc, raw)?)),
+            7 => Ok(Chunk::Shutdown(ShutdownChunk::try_from(raw)?)),
+            8 => Ok(Chunk::ShutdownAck(ShutdownAckChunk::try_from(raw)?)),
+            9 => Ok(Chunk::Error(ErrorChunk::try_from(alloc, raw)?)),
+            10 => Ok(Chunk::CookieEcho(CookieEchoChunk::try_from(alloc, raw)?)),
+            11 => Ok(Chunk::CookieAck(CookieAckChunk::try_from(raw)?)),
+            14 => Ok(Chunk::ShutdownComplete(ShutdownCompleteChunk::try_from(raw)?)),
+            64 => Ok(Chunk::IData(IDataChunk::try_from(alloc, raw)?)),
+            130 => Ok(Chunk::ReConfig(ReConfigChunk::try_from(alloc, raw)?)),
+            192 => Ok(Chunk::ForwardTsn(ForwardTsnChunk::try_from(alloc, raw)?)),
+            194 => Ok(Chunk::IForwardTsn(IForwardTsnChunk::try_from(alloc, raw)?)),
+            _ => Ok(Chunk::Unknown(UnknownChunk::try_from(alloc, raw)?)),
+        }
+    }
+}
+
+impl FromItem for Chunk {
+    ghost stands_for = { λ i c. IsChunk i (chunk_tree c) };
+
+    ghost refuses = { RefusesChunk };
+
+    fn from_item(alloc: Global, item: RawItem<'_>) -> Result<Chunk, ChunkParseError> {
+        Chunk::try_from(alloc, RawChunk::from_item(item))
+    }
+}
+
+impl SerializableTlv for Chunk {
+    ghost item_of = { λ c. chunk_item (chunk_tree c) };
+
+    ghost parts_agree = { λ c. chunk_is_whole (chunk_tree c) };
+
+    fn kind(&self) -> [u8; 2] {
+        match self {
+            Chunk::Data(c) => c.kind(),
+            Chunk::Init(c) => c.kind(),
+            Chunk::InitAck(c) => c.kind(),
+            Chunk::Sack(c) => c.kind(),
+            Chunk::HeartbeatRequest(c) => c.kind(),
+            Chunk::HeartbeatAck(c) => c.kind(),
+            Chunk::Abort(c) => c.kind(),
+            Chunk::Shutdown(c) => c.kind(),
+            Chunk::ShutdownAck(c) => c.kind(),
+            Chunk::Error(c) => c.kind(),
+            Chunk::CookieEcho(c) => c.kind(),
+            Chunk::CookieAck(c) => c.kind(),
+            Chunk::ShutdownComplete(c) => c.kind(),
+            Chunk::ReConfig(c) => c.kind(),
+            Chunk::ForwardTsn(c) => c.kind(),
+            Chunk::IData(c) => c.kind(),
+            Chunk::IForwardTsn(c) => c.kind(),
+            Chunk::Unknown(c) => c.kind(),
+        }
+    }
+
+    fn value_size(&self) -> usize {
+        match self {
+            Chunk::Data(c) => c.value_size(),
+            Chunk::Init(c) => c.value_size(),
+            Chunk::InitAck(c) => c.value_size(),
+            Chunk::Sack(c) => c.value_size(),
+            Chunk::HeartbeatRequest(c) => c.value_size(),
+            Chunk::HeartbeatAck(c) => c.value_size(),
+            Chunk::Abort(c) => c.value_size(),
+            Chunk::Shutdown(c) => c.value_size(),
+            Chunk::ShutdownAck(c) => c.value_size(),
+            Chunk::Error(c) => c.value_size(),
+            Chunk::CookieEcho(c) => c.value_size(),
+            Chunk::CookieAck(c) => c.value_size(),
+            Chunk::ShutdownComplete(c) => c.value_size(),
+            Chunk::ReConfig(c) => c.value_size(),
+            Chunk::ForwardTsn(c) => c.value_size(),
+            Chunk::IData(c) => c.value_size(),
+            Chunk::IForwardTsn(c) => c.value_size(),
+            Chunk::Unknown(c) => c.value_size(),
+        }
+    }
+
+    fn is_whole(&self) -> bool {
+        match self {
+            Chunk::Data(c) => c.is_whole(),
+            Chunk::Init(c) => c.is_whole(),
+            Chunk::InitAck(c) => c.is_whole(),
+            Chunk::Sack(c) => c.is_whole(),
+            Chunk::HeartbeatRequest(c) => c.is_whole(),
+            Chunk::HeartbeatAck(c) => c.is_whole(),
+            Chunk::Abort(c) => c.is_whole(),
+            Chunk::Shutdown(c) => c.is_whole(),
+            Chunk::ShutdownAck(c) => c.is_whole(),
+            Chunk::Error(c) => c.is_whole(),
+            Chunk::CookieEcho(c) => c.is_whole(),
+            Chunk::CookieAck(c) => c.is_whole(),
+            Chunk::ShutdownComplete(c) => c.is_whole(),
+            Chunk::ReConfig(c) => c.is_whole(),
+            Chunk::ForwardTsn(c) => c.is_whole(),
+            Chunk::IData(c) => c.is_whole(),
+            Chunk::IForwardTsn(c) => c.is_whole(),
+            Chunk::Unknown(c) => c.is_whole(),
+        }
+    }
+
+    fn push_value(&self, output: &mut Vec<u8>) -> Result<(), AllocError> {
+        match self {
+            Chunk::Data(c) => c.push_value(output),
+            Chunk::Init(c) => c.push_value(output),
+            Chunk::InitAck(c) => c.push_value(output),
+            Chunk::Sack(c) => c.push_value(output),
+            Chunk::HeartbeatRequest(c) => c.push_value(output),
+            Chunk::HeartbeatAck(c) => c.push_value(output),
+            Chunk::Abort(c) => c.push_value(output),
+            Chunk::Shutdown(c) => c.push_value(output),
+            Chunk::ShutdownAck(c) => c.push_value(output),
+            Chunk::Error(c) => c.push_value(output),
+            Chunk::CookieEcho(c) => c.push_value(output),
+            Chunk::CookieAck(c) => c.push_value(output),
+            Chunk::ShutdownComplete(c) => c.push_value(output),
+            Chunk::ReConfig(c) => c.push_value(output),
+            Chunk::ForwardTsn(c) => c.push_value(output),
+            Chunk::IData(c) => c.push_value(output),
+            Chunk::IForwardTsn(c) => c.push_value(output),
+            Chunk::Unknown(c) => c.push_value(output),
+        }
+    }
+}
+
+#[tactic(auto, unfolding(sctp_chunk::specs::ChunkText::chunk_text))]
+impl fmt::Display for Chunk {
+    ghost output = { λ c. Some (chunk_text (chunk_tree c)) };
+
+    fn fmt<W: fmt::Write>(&self, f: &mut fmt::Formatter<W>) -> fmt::Result {
+        match self {
+            Chunk::Data(c) => c.fmt(f),
+            Chunk::Init(c) => c.fmt(f),
+            Chunk::InitAck(c) => c.fmt(f),
+            Chunk::Sack(c) => c.fmt(f),
+            Chunk::HeartbeatRequest(c) => c.fmt(f),
+            Chunk::HeartbeatAck(c) => c.fmt(f),
+            Chunk::Abort(c) => c.fmt(f),
+            Chunk::Shutdown(c) => c.fmt(f),
+            Chunk::ShutdownAck(c) => c.fmt(f),
+            Chunk::Error(c) => c.fmt(f),
+            Chunk::CookieEcho(c) => c.fmt(f),
+            Chunk::CookieAck(c) => c.fmt(f),
+            Chunk::ShutdownComplete(c) => c.fmt(f),
+            Chunk::ReConfig(c) => c.fmt(f),
+            Chunk::ForwardTsn(c) => c.fmt(f),
+            Chunk::IData(c) => c.fmt(f),
+            Chunk::IForwardTsn(c) => c.fmt(f),
+            Chunk::Unknown(c) => c.fmt(f),
+        }
+    }
+}

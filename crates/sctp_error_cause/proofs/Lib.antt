@@ -1,0 +1,3 @@
+pub mod CauseLemmas
+pub mod LawLemmas
+pub mod OneCauseLemmas

@@ -1,0 +1,172 @@
+//! Error causes, by their types.
+
+ghost use Rattle.std.specs.Prelude.{◌≡◌, ◌⊎◌, true, [], map, IfOk, IfErr, Some};
+ghost use Rattle.sctp_wire.specs.CauseText.{cause_text};
+ghost use Rattle.sctp_wire.specs.Item.{Tiles};
+ghost use Rattle.sctp_wire.specs.Refusal.{BreaksAs};
+ghost use Rattle.sctp_wire.specs.Cause.{SaysCause, RefusesCauseAs, IsCause, RefusesCause, cause_item};
+ghost use Rattle.sctp_error_cause.specs.CauseViews.{cause_tree};
+
+use crate::cause::{
+    CookieReceivedWhileShuttingDownErrorCause, MissingMandatoryParameterErrorCause,
+    NoUserDataErrorCause, ProtocolViolationErrorCause, UnrecognizedChunkErrorCause,
+    UserInitiatedAbortErrorCause,
+};
+use sctp_wire::{
+    ChunkParseError, FromItem, RawItem, RawParameter, SerializableTlv, UnknownParameter,
+    items_from_bytes,
+};
+use std::alloc::{AllocError, Global};
+use std::fmt;
+
+/// An error cause of ABORT or ERROR.
+#[derive(Debug, Drop)]
+pub enum ErrorCause {
+    /// Type 2.
+    MissingMandatoryParameter(MissingMandatoryParameterErrorCause),
+    /// Type 6.
+    UnrecognizedChunk(UnrecognizedChunkErrorCause),
+    /// Type 9.
+    NoUserData(NoUserDataErrorCause),
+    /// Type 10.
+    CookieReceivedWhileShuttingDown(CookieReceivedWhileShuttingDownErrorCause),
+    /// Type 12.
+    UserInitiatedAbort(UserInitiatedAbortErrorCause),
+    /// Type 13.
+    ProtocolViolation(ProtocolViolationErrorCause),
+    /// Any other type, kept as it came.
+    Unknown(UnknownParameter),
+}
+
+#[tactic(auto, unfolding(sctp_wire::specs::Cause::cause_value))]
+impl ErrorCause {
+    /// What a cause says, by its type.
+    pub fn try_from(alloc: Global, raw: RawParameter<'_>) -> Result<ErrorCause, ChunkParseError>
+        ensures ok { IfOk result (λ it. SaysCause raw.entry.typ raw.entry.value.now (cause_tree it)) }
+        ensures refused { IfErr result (RefusesCauseAs raw.entry.typ raw.entry.typ raw.entry.value.now) }
+    {
+        match raw.typ {
+            MissingMandatoryParameterErrorCause::TYPE => Ok(ErrorCause::MissingMandatoryParameter(
+                MissingMandatoryParameterErrorCause::try_from(alloc, raw)?,
+            )),
+            UnrecognizedChunkErrorCause::TYPE => Ok(ErrorCause::UnrecognizedChunk(
+                UnrecognizedChunkErrorCause::try_from(alloc, raw)?,
+            )),
+            NoUserDataErrorCause::TYPE => Ok(ErrorCause::NoUserData(NoUserDataErrorCause::try_from(
+                alloc, raw,
+            )?)),
+            CookieReceivedWhileShuttingDownErrorCause::TYPE => Ok(
+                ErrorCause::CookieReceivedWhileShuttingDown(
+                    CookieReceivedWhileShuttingDownErrorCause::try_from(alloc, raw)?,
+                ),
+            ),
+            UserInitiatedAbortErrorCause::TYPE => Ok(ErrorCause::UserInitiatedAbort(
+                UserInitiatedAbortErrorCause::try_from(alloc, raw)?,
+            )),
+            ProtocolViolationErrorCause::TYPE => Ok(ErrorCause::ProtocolViolation(
+                ProtocolViolationErrorCause::try_from(alloc, raw)?,
+            )),
+            _ => Ok(ErrorCause::Unknown(UnknownParameter::try_from(alloc, raw)?)),
+        }
+    }
+}
+
+#[tactic(auto, unfolding(sctp_wire::specs::Cause::cause_value))]
+impl SerializableTlv for ErrorCause {
+    ghost item_of = { λ it. cause_item (cause_tree it) };
+
+    ghost parts_agree = { λ it. true };
+
+    fn kind(&self) -> [u8; 2] {
+        match self {
+            ErrorCause::MissingMandatoryParameter(it) => it.kind(),
+            ErrorCause::UnrecognizedChunk(it) => it.kind(),
+            ErrorCause::NoUserData(it) => it.kind(),
+            ErrorCause::CookieReceivedWhileShuttingDown(it) => it.kind(),
+            ErrorCause::UserInitiatedAbort(it) => it.kind(),
+            ErrorCause::ProtocolViolation(it) => it.kind(),
+            ErrorCause::Unknown(it) => it.kind(),
+        }
+    }
+
+    fn value_size(&self) -> usize {
+        match self {
+            ErrorCause::MissingMandatoryParameter(it) => it.value_size(),
+            ErrorCause::UnrecognizedChunk(it) => it.value_size(),
+            ErrorCause::NoUserData(it) => it.value_size(),
+            ErrorCause::CookieReceivedWhileShuttingDown(it) => it.value_size(),
+            ErrorCause::UserInitiatedAbort(it) => it.value_size(),
+            ErrorCause::ProtocolViolation(it) => it.value_size(),
+            ErrorCause::Unknown(it) => it.value_size(),
+        }
+    }
+
+    fn is_whole(&self) -> bool {
+        match self {
+            ErrorCause::MissingMandatoryParameter(it) => it.is_whole(),
+            ErrorCause::UnrecognizedChunk(it) => it.is_whole(),
+            ErrorCause::NoUserData(it) => it.is_whole(),
+            ErrorCause::CookieReceivedWhileShuttingDown(it) => it.is_whole(),
+            ErrorCause::UserInitiatedAbort(it) => it.is_whole(),
+            ErrorCause::ProtocolViolation(it) => it.is_whole(),
+            ErrorCause::Unknown(it) => it.is_whole(),
+        }
+    }
+
+    fn push_value(&self, output: &mut Vec<u8>) -> Result<(), AllocError> {
+        match self {
+            ErrorCause::MissingMandatoryParameter(it) => it.push_value(output),
+            ErrorCause::UnrecognizedChunk(it) => it.push_value(output),
+            ErrorCause::NoUserData(it) => it.push_value(output),
+            ErrorCause::CookieReceivedWhileShuttingDown(it) => it.push_value(output),
+            ErrorCause::UserInitiatedAbort(it) => it.push_value(output),
+            ErrorCause::ProtocolViolation(it) => it.push_value(output),
+            ErrorCause::Unknown(it) => it.push_value(output),
+        }
+    }
+}
+
+#[tactic(auto, unfolding(sctp_wire::specs::CauseText::cause_text))]
+impl fmt::Display for ErrorCause {
+    ghost output = { λ it. Some (cause_text (cause_tree it)) };
+
+    fn fmt<W: fmt::Write>(&self, f: &mut fmt::Formatter<W>) -> fmt::Result {
+        match self {
+            ErrorCause::MissingMandatoryParameter(it) => it.fmt(f),
+            ErrorCause::UnrecognizedChunk(it) => it.fmt(f),
+            ErrorCause::NoUserData(it) => it.fmt(f),
+            ErrorCause::CookieReceivedWhileShuttingDown(it) => it.fmt(f),
+            ErrorCause::UserInitiatedAbort(it) => it.fmt(f),
+            ErrorCause::ProtocolViolation(it) => it.fmt(f),
+            ErrorCause::Unknown(it) => {
+                write!(
+                    f,
+                    "UNKNOWN CAUSE, typ={}, value={} bytes",
+                    it.typ,
+                    it.value.len()
+                )
+            }
+        }
+    }
+}
+
+impl FromItem for ErrorCause {
+    ghost stands_for = { λ i it. IsCause i (cause_tree it) };
+
+    ghost refuses = { RefusesCause };
+
+    fn from_item(alloc: Global, item: RawItem<'_>) -> Result<ErrorCause, ChunkParseError> {
+        ErrorCause::try_from(alloc, RawParameter::from_item(item))
+    }
+}
+
+/// The causes that the bytes are, from the left. The fault is that of the first one that cannot be read.
+pub fn error_cause_from_bytes(
+    alloc: Global,
+    bytes: &[u8],
+) -> Result<Vec<ErrorCause>, ChunkParseError>
+    ensures ok { IfOk result (λ list. Tiles IsCause bytes.now (map cause_tree list.items) []) }
+    ensures refused { IfErr result (λ fault. (fault ≡ ChunkParseError.Memory) ⊎ BreaksAs IsCause RefusesCause bytes.now fault) }
+{
+    items_from_bytes(alloc, bytes)
+}

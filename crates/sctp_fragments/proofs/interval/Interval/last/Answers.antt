@@ -1,0 +1,7 @@
+use Rattle.std.proofs.Common.{◌-◌, arith}
+use Rattle.sctp_fragments.proofs.PlaceLemmas.{last_held}
+use Rattle.sctp_fragments.specs.Intervals.{held_of}
+use Rattle.sctp_fragments.proofs.interval.Interval.last.Goals as goal
+
+pub returns : goal.returns
+returns g c h hs is = last_held (held_of g.K.ReassemblyKey.number g.K.ReassemblyKey.index) c.args.self.now.entries.items c.index.result.now h hs (c.len.result - 1) (omega arith) c.index.ensures is

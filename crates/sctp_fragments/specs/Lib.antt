@@ -1,0 +1,5 @@
+pub mod Runs
+pub mod Key
+pub mod KeyLaws
+pub mod Held
+pub mod Intervals

@@ -1,0 +1,3 @@
+pub mod ParameterLemmas
+pub mod LawLemmas
+pub mod OneParameterLemmas

@@ -1,0 +1,222 @@
+//! Parameters, by their types.
+
+ghost use Rattle.std.specs.Prelude.{◌≡◌, ◌⊎◌, [], map, IfOk, IfErr, Some};
+ghost use Rattle.sctp_wire.specs.ParameterText.{parameter_text};
+ghost use Rattle.sctp_wire.specs.Item.{Tiles};
+ghost use Rattle.sctp_wire.specs.Refusal.{BreaksAs};
+ghost use Rattle.sctp_wire.specs.Parameter.{SaysParameter, RefusesParameterAs, IsParameter, RefusesParameter, parameter_item, parameter_is_whole};
+ghost use Rattle.sctp_parameter.specs.ParameterViews.{parameter_tree};
+
+use crate::parameter::{
+    ForwardTsnSupportedParameter, HeartbeatInfoParameter, StateCookieParameter,
+    SupportedExtensionsParameter, ZeroChecksumAcceptableParameter,
+};
+use crate::reset::{
+    IncomingSsnResetRequestParameter, OutgoingSsnResetRequestParameter,
+    ReconfigurationResponseParameter,
+};
+use sctp_wire::{
+    ChunkParseError, FromItem, RawItem, RawParameter, SerializableTlv, UnknownParameter,
+    items_from_bytes,
+};
+use std::alloc::{AllocError, Global};
+use std::fmt;
+
+/// The type of a request to reset all numbers (RFC 6525 section 4.3).
+pub const PARAMETER_TYPE_SSN_TSN_RESET_REQUEST: u16 = 15;
+
+/// The type of a request for more outgoing streams (RFC 6525 section 4.5).
+pub const PARAMETER_TYPE_ADD_OUTGOING_STREAMS_REQUEST: u16 = 17;
+
+/// The type of a request for more incoming streams (RFC 6525 section 4.6).
+pub const PARAMETER_TYPE_ADD_INCOMING_STREAMS_REQUEST: u16 = 18;
+
+/// A parameter: of INIT, INIT ACK, HEARTBEAT, HEARTBEAT ACK or RE-CONFIG.
+#[derive(Debug, Drop)]
+pub enum Parameter {
+    /// Type 1.
+    HeartbeatInfo(HeartbeatInfoParameter),
+    /// Type 7.
+    StateCookie(StateCookieParameter),
+    /// Type 13.
+    OutgoingSsnResetRequest(OutgoingSsnResetRequestParameter),
+    /// Type 14.
+    IncomingSsnResetRequest(IncomingSsnResetRequestParameter),
+    /// Type 15, kept as it came.
+    SsnTsnResetRequest(UnknownParameter),
+    /// Type 16.
+    ReconfigurationResponse(ReconfigurationResponseParameter),
+    /// Type 17, kept as it came.
+    AddOutgoingStreamsRequest(UnknownParameter),
+    /// Type 18, kept as it came.
+    AddIncomingStreamsRequest(UnknownParameter),
+    /// Type 0x8008.
+    SupportedExtensions(SupportedExtensionsParameter),
+    /// Type 0xC000.
+    ForwardTsnSupported(ForwardTsnSupportedParameter),
+    /// Type 0x8001.
+    ZeroChecksumAcceptable(ZeroChecksumAcceptableParameter),
+    /// Any other type, kept as it came.
+    Unknown(UnknownParameter),
+}
+
+#[tactic(auto, unfolding(sctp_wire::specs::Parameter::parameter_value))]
+impl Parameter {
+    /// What a parameter says, by its type.
+    pub fn try_from(alloc: Global, raw: RawParameter<'_>) -> Result<Parameter, ChunkParseError>
+        ensures ok { IfOk result (λ it. SaysParameter raw.entry.typ raw.entry.value.now (parameter_tree it)) }
+        ensures refused { IfErr result (RefusesParameterAs raw.entry.typ raw.entry.typ raw.entry.value.now) }
+    {
+        match raw.typ {
+            HeartbeatInfoParameter::TYPE => Ok(Parameter::HeartbeatInfo(
+                HeartbeatInfoParameter::try_from(alloc, raw)?,
+            )),
+            StateCookieParameter::TYPE => Ok(Parameter::StateCookie(StateCookieParameter::try_from(
+                alloc, raw,
+            )?)),
+            OutgoingSsnResetRequestParameter::TYPE => Ok(Parameter::OutgoingSsnResetRequest(
+                OutgoingSsnResetRequestParameter::try_from(alloc, raw)?,
+            )),
+            IncomingSsnResetRequestParameter::TYPE => Ok(Parameter::IncomingSsnResetRequest(
+                IncomingSsnResetRequestParameter::try_from(alloc, raw)?,
+            )),
+            PARAMETER_TYPE_SSN_TSN_RESET_REQUEST => Ok(Parameter::SsnTsnResetRequest(
+                UnknownParameter::try_from(alloc, raw)?,
+            )),
+            ReconfigurationResponseParameter::TYPE => Ok(Parameter::ReconfigurationResponse(
+                ReconfigurationResponseParameter::try_from(alloc, raw)?,
+            )),
+            PARAMETER_TYPE_ADD_OUTGOING_STREAMS_REQUEST => Ok(Parameter::AddOutgoingStreamsRequest(
+                UnknownParameter::try_from(alloc, raw)?,
+            )),
+            PARAMETER_TYPE_ADD_INCOMING_STREAMS_REQUEST => Ok(Parameter::AddIncomingStreamsRequest(
+                UnknownParameter::try_from(alloc, raw)?,
+            )),
+            SupportedExtensionsParameter::TYPE => Ok(Parameter::SupportedExtensions(
+                SupportedExtensionsParameter::try_from(alloc, raw)?,
+            )),
+            ForwardTsnSupportedParameter::TYPE => Ok(Parameter::ForwardTsnSupported(
+                ForwardTsnSupportedParameter::try_from(alloc, raw)?,
+            )),
+            ZeroChecksumAcceptableParameter::TYPE => Ok(Parameter::ZeroChecksumAcceptable(
+                ZeroChecksumAcceptableParameter::try_from(alloc, raw)?,
+            )),
+            _ => Ok(Parameter::Unknown(UnknownParameter::try_from(alloc, raw)?)),
+        }
+    }
+}
+
+#[tactic(auto, unfolding(sctp_wire::specs::Parameter::parameter_value))]
+impl SerializableTlv for Parameter {
+    ghost item_of = { λ it. parameter_item (parameter_tree it) };
+
+    ghost parts_agree = { λ it. parameter_is_whole (parameter_tree it) };
+
+    fn kind(&self) -> [u8; 2] {
+        match self {
+            Parameter::HeartbeatInfo(it) => it.kind(),
+            Parameter::StateCookie(it) => it.kind(),
+            Parameter::OutgoingSsnResetRequest(it) => it.kind(),
+            Parameter::IncomingSsnResetRequest(it) => it.kind(),
+            Parameter::SsnTsnResetRequest(it) => it.kind(),
+            Parameter::ReconfigurationResponse(it) => it.kind(),
+            Parameter::AddOutgoingStreamsRequest(it) => it.kind(),
+            Parameter::AddIncomingStreamsRequest(it) => it.kind(),
+            Parameter::SupportedExtensions(it) => it.kind(),
+            Parameter::ForwardTsnSupported(it) => it.kind(),
+            Parameter::ZeroChecksumAcceptable(it) => it.kind(),
+            Parameter::Unknown(it) => it.kind(),
+        }
+    }
+
+    fn value_size(&self) -> usize {
+        match self {
+            Parameter::HeartbeatInfo(it) => it.value_size(),
+            Parameter::StateCookie(it) => it.value_size(),
+            Parameter::OutgoingSsnResetRequest(it) => it.value_size(),
+            Parameter::IncomingSsnResetRequest(it) => it.value_size(),
+            Parameter::SsnTsnResetRequest(it) => it.value_size(),
+            Parameter::ReconfigurationResponse(it) => it.value_size(),
+            Parameter::AddOutgoingStreamsRequest(it) => it.value_size(),
+            Parameter::AddIncomingStreamsRequest(it) => it.value_size(),
+            Parameter::SupportedExtensions(it) => it.value_size(),
+            Parameter::ForwardTsnSupported(it) => it.value_size(),
+            Parameter::ZeroChecksumAcceptable(it) => it.value_size(),
+            Parameter::Unknown(it) => it.value_size(),
+        }
+    }
+
+    fn is_whole(&self) -> bool {
+        match self {
+            Parameter::HeartbeatInfo(it) => it.is_whole(),
+            Parameter::StateCookie(it) => it.is_whole(),
+            Parameter::OutgoingSsnResetRequest(it) => it.is_whole(),
+            Parameter::IncomingSsnResetRequest(it) => it.is_whole(),
+            Parameter::SsnTsnResetRequest(it) => it.is_whole(),
+            Parameter::ReconfigurationResponse(it) => it.is_whole(),
+            Parameter::AddOutgoingStreamsRequest(it) => it.is_whole(),
+            Parameter::AddIncomingStreamsRequest(it) => it.is_whole(),
+            Parameter::SupportedExtensions(it) => it.is_whole(),
+            Parameter::ForwardTsnSupported(it) => it.is_whole(),
+            Parameter::ZeroChecksumAcceptable(it) => it.is_whole(),
+            Parameter::Unknown(it) => it.is_whole(),
+        }
+    }
+
+    fn push_value(&self, output: &mut Vec<u8>) -> Result<(), AllocError> {
+        match self {
+            Parameter::HeartbeatInfo(it) => it.push_value(output),
+            Parameter::StateCookie(it) => it.push_value(output),
+            Parameter::OutgoingSsnResetRequest(it) => it.push_value(output),
+            Parameter::IncomingSsnResetRequest(it) => it.push_value(output),
+            Parameter::SsnTsnResetRequest(it) => it.push_value(output),
+            Parameter::ReconfigurationResponse(it) => it.push_value(output),
+            Parameter::AddOutgoingStreamsRequest(it) => it.push_value(output),
+            Parameter::AddIncomingStreamsRequest(it) => it.push_value(output),
+            Parameter::SupportedExtensions(it) => it.push_value(output),
+            Parameter::ForwardTsnSupported(it) => it.push_value(output),
+            Parameter::ZeroChecksumAcceptable(it) => it.push_value(output),
+            Parameter::Unknown(it) => it.push_value(output),
+        }
+    }
+}
+
+#[tactic(auto, unfolding(sctp_wire::specs::ParameterText::parameter_text))]
+impl fmt::Display for Parameter {
+    ghost output = { λ it. Some (parameter_text (parameter_tree it)) };
+
+    fn fmt<W: fmt::Write>(&self, f: &mut fmt::Formatter<W>) -> fmt::Result {
+        match self {
+            Parameter::HeartbeatInfo(it) => it.fmt(f),
+            Parameter::StateCookie(it) => it.fmt(f),
+            Parameter::OutgoingSsnResetRequest(it) => it.fmt(f),
+            Parameter::IncomingSsnResetRequest(it) => it.fmt(f),
+            Parameter::SsnTsnResetRequest(it) => it.fmt(f),
+            Parameter::ReconfigurationResponse(it) => it.fmt(f),
+            Parameter::AddOutgoingStreamsRequest(it) => it.fmt(f),
+            Parameter::AddIncomingStreamsRequest(it) => it.fmt(f),
+            Parameter::SupportedExtensions(it) => it.fmt(f),
+            Parameter::ForwardTsnSupported(it) => it.fmt(f),
+            Parameter::ZeroChecksumAcceptable(it) => it.fmt(f),
+            Parameter::Unknown(it) => it.fmt(f),
+        }
+    }
+}
+
+impl FromItem for Parameter {
+    ghost stands_for = { λ i it. IsParameter i (parameter_tree it) };
+
+    ghost refuses = { RefusesParameter };
+
+    fn from_item(alloc: Global, item: RawItem<'_>) -> Result<Parameter, ChunkParseError> {
+        Parameter::try_from(alloc, RawParameter::from_item(item))
+    }
+}
+
+/// The parameters that the bytes are, from the left. The fault is that of the first one that cannot be read.
+pub fn parameters_from_bytes(alloc: Global, bytes: &[u8]) -> Result<Vec<Parameter>, ChunkParseError>
+    ensures ok { IfOk result (λ list. Tiles IsParameter bytes.now (map parameter_tree list.items) []) }
+    ensures refused { IfErr result (λ fault. (fault ≡ ChunkParseError.Memory) ⊎ BreaksAs IsParameter RefusesParameter bytes.now fault) }
+{
+    items_from_bytes(alloc, bytes)
+}

@@ -1,5 +1,0 @@
-use Rattle.sctp_wire.proofs.LawLemmas.{cause_stands}
-use Rattle.sctp_wire.proofs.laws.cause_is_not_refused.Goals as goal
-
-pub returns : goal.returns
-returns c = cause_stands
