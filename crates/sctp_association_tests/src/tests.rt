@@ -8,9 +8,10 @@ ghost use Rattle.std.specs.Prelude.{◌≡◌};
 ghost use Rattle.sctp_endpoint.specs.Views.{tcb_of};
 
 use sctp_association::{Identity, OutgoingPacket, TransmissionControlBlock};
+use sctp_capabilities::Capabilities;
 use sctp_packet::{Chunk, CookieAckChunk, CookieEchoChunk, Data};
 use sctp_serial::Tsn;
-use sctp_state::{Capabilities, Options};
+use sctp_state::Options;
 use sctp_wire::Checksum;
 use std::alloc::{AllocError, Global};
 

@@ -4,7 +4,7 @@ use Rattle.std.specs.Duration.{as_nanos}
 use Rattle.std.specs.Int.{div_ceil}
 use Rattle.sctp_state.specs.declared.api.SctpImplementation.{SctpImplementation}
 use Rattle.sctp_state.specs.declared.api.Metrics as given
-use Rattle.sctp_state.specs.Capabilities.{zero_checksum_enabled}
+use Rattle.sctp_capabilities.specs.Capabilities.{zero_checksum_enabled}
 use Rattle.sctp_state.specs.Rtt.{srtt}
 use Rattle.sctp_outstanding.specs.Items.{flight_items}
 use Rattle.sctp_send_queue.specs.Queue.{total_of}

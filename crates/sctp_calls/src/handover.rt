@@ -2,7 +2,7 @@
 //! place.
 
 ghost use Rattle.std.specs.Prelude.{◌≡◌, IfOk, IsTrue, OnOk};
-ghost use Rattle.sctp_state.specs.Capabilities.{capabilities_of};
+ghost use Rattle.sctp_capabilities.specs.Capabilities.{capabilities_of};
 ghost use Rattle.sctp_state.specs.Events.{OnClosed};
 ghost use Rattle.sctp_state.specs.Handover.{handover_state_of};
 ghost use Rattle.sctp_state.specs.Validity.{is_valid_state};
@@ -11,10 +11,11 @@ ghost use Rattle.sctp_table.specs.Packets.{say};
 ghost use Rattle.sctp_endpoint.specs.Views.{context_of, phase_of, standing_of, state_of, tcb_of};
 ghost use Rattle.sctp_table.specs.Handover as table;
 
+use sctp_capabilities::Capabilities;
 use sctp_endpoint::{Context, Identity, Phase, State, TransmissionControlBlock};
 use sctp_serial::{Tsn, ZeroChecksumAlternateErrorDetectionMethod};
 use sctp_state::api::handover::{HandoverCapabilities, HandoverSocketState};
-use sctp_state::{Capabilities, HandoverReadiness, RestoreError, SocketEvent, SocketHandoverState};
+use sctp_state::{HandoverReadiness, RestoreError, SocketEvent, SocketHandoverState};
 use sctp_wire::Checksum;
 use std::alloc::AllocError;
 

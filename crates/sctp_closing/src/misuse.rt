@@ -6,16 +6,17 @@ ghost use Rattle.sctp_packet.specs.ChunkView.{chunk_tree};
 ghost use Rattle.sctp_packet.specs.Views.{unknown_tree};
 ghost use Rattle.sctp_wire.specs.Item.{item_bytes};
 ghost use Rattle.sctp_packet.specs.Written.{chunk_item};
-ghost use Rattle.sctp_state.specs.Capabilities.{capabilities_of};
+ghost use Rattle.sctp_capabilities.specs.Capabilities.{capabilities_of};
 ghost use Rattle.sctp_endpoint.specs.Views.{context_of, standing_of, state_of, tcb_of};
 ghost use Rattle.sctp_closing.specs.MisuseView.{misuse_text};
 ghost use Rattle.sctp_table.specs.Packets.{emit_chunk};
 ghost use Rattle.sctp_table.specs.Input as table;
 
+use sctp_capabilities::Capabilities;
 use sctp_endpoint::{Context, State, TransmissionControlBlock};
 use sctp_error_cause::{ErrorCause, UnrecognizedChunkErrorCause};
 use sctp_packet::{Chunk, ErrorChunk, UnknownChunk};
-use sctp_state::{Capabilities, ErrorKind, SocketEvent};
+use sctp_state::{ErrorKind, SocketEvent};
 use sctp_wire::Checksum;
 use std::alloc::{AllocError, Global};
 

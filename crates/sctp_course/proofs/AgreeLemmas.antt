@@ -6,8 +6,8 @@ use Rattle.std.proofs.lemmas.List.Elements.{All-weaker}
 use Rattle.std.proofs.lemmas.List.Folds.{list_all-append}
 use Rattle.sctp_packet.specs.Chunk.{ChunkTree, InitTree, data_chunk, init_chunk, init_ack_chunk, sack_chunk, cookie_echo_chunk, cookie_ack_chunk, idata_chunk, re_config_chunk, forward_tsn_chunk, i_forward_tsn_chunk}
 use Rattle.sctp_packet.specs.Grammar.{carried}
-use Rattle.sctp_state.specs.Capabilities.{told_by}
-use Rattle.sctp_state.specs.Cookie.{Cookie, CapabilitiesFit, read_cookie}
+use Rattle.sctp_capabilities.specs.Capabilities.{told_by}
+use Rattle.sctp_capabilities.specs.Cookie.{Cookie, CapabilitiesFit, read_cookie}
 use Rattle.sctp_table.specs.Association.{Tcb, Phase, CookieEchoed, Established, ShutdownPending, ShutdownSent, ShutdownReceived, ShutdownAckSent, State, Closed, CookieWait, Open}
 use Rattle.sctp_table.specs.Sending.{is_alone}
 use Rattle.sctp_table.specs.Opening.{cookie_in}

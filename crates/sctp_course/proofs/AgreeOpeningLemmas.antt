@@ -4,9 +4,9 @@ use Rattle.rand_core.specs.Stream.{Stream}
 use Rattle.sctp_wire.specs.Fields.{be64}
 use Rattle.sctp_packet.specs.Chunk.{InitTree, init_ack_chunk}
 use Rattle.sctp_packet.specs.Packet.{PacketTree}
-use Rattle.sctp_state.specs.declared.state_cookie.StateCookieError.{StateCookieError}
-use Rattle.sctp_state.specs.Cookie.{Cookie, cookie_bytes, read_cookie}
-use Rattle.sctp_state.proofs.CookieLemmas.{both_tags, read_cookie-bytes}
+use Rattle.sctp_capabilities.specs.declared.state_cookie.StateCookieError.{StateCookieError}
+use Rattle.sctp_capabilities.specs.Cookie.{Cookie, cookie_bytes, read_cookie}
+use Rattle.sctp_capabilities.proofs.CookieLemmas.{both_tags, read_cookie-bytes}
 use Rattle.sctp_state.specs.Events.{OnConnected}
 use Rattle.sctp_state.specs.Options.{Options}
 use Rattle.sctp_state.specs.Timers.{Timer}

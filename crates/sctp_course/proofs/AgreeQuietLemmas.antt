@@ -3,12 +3,12 @@ use Rattle.std.proofs.Common.{◌≡◌, ℕ, Bool, true, false, Some, None, Lis
 use Rattle.std.proofs.lemmas.List.Elements.{All-nil}
 use Rattle.std.proofs.lemmas.Bool.{both_ways}
 use Rattle.sctp_packet.specs.Chunk.{ChunkTree, InitTree, init_chunk, init_ack_chunk, cookie_echo_chunk, cookie_ack_chunk, re_config_chunk}
-use Rattle.sctp_state.specs.Capabilities.{announced}
-use Rattle.sctp_state.specs.Cookie.{Cookie, CapabilitiesFit}
+use Rattle.sctp_capabilities.specs.Capabilities.{announced}
+use Rattle.sctp_capabilities.specs.Cookie.{Cookie, CapabilitiesFit}
 use Rattle.sctp_state.specs.Handover.{HandoverState}
 use Rattle.sctp_state.specs.Options.{Options}
 use Rattle.sctp_state.specs.Events.{Event, SendPacket, OnError, OnClosed}
-use Rattle.sctp_state.proofs.CapabilitiesLemmas.{told_with-options}
+use Rattle.sctp_capabilities.proofs.CapabilitiesLemmas.{told_with-options}
 use Rattle.sctp_table.specs.Association.{Tcb, Phase, CookieEchoed, Established, ShutdownPending, CookieWait, Open, Context}
 use Rattle.sctp_table.specs.Packets.{Packet, packet_to, add}
 use Rattle.sctp_table.specs.Requests.{Outcome, Unsettled, Done, Denied, outcome, request_chunk}

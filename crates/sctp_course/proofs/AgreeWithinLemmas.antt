@@ -8,8 +8,8 @@ use Rattle.sctp_wire.specs.Cause.{missing_mandatory_parameter}
 use Rattle.sctp_packet.specs.Chunk.{ChunkTree, InitTree, data_chunk, init_ack_chunk, sack_chunk, abort_chunk, cookie_echo_chunk, cookie_ack_chunk, idata_chunk, re_config_chunk, forward_tsn_chunk, i_forward_tsn_chunk}
 use Rattle.sctp_packet.specs.Packet.{PacketTree}
 use Rattle.sctp_state.specs.declared.api.ErrorKind.TheVariants.{ParseFailed, ProtocolViolation}
-use Rattle.sctp_state.specs.declared.state_cookie.StateCookieError.{StateCookieError}
-use Rattle.sctp_state.specs.Cookie.{Cookie, read_cookie, refusal_text}
+use Rattle.sctp_capabilities.specs.declared.state_cookie.StateCookieError.{StateCookieError}
+use Rattle.sctp_capabilities.specs.Cookie.{Cookie, read_cookie, refusal_text}
 use Rattle.sctp_state.specs.Events.{Event, OnAborted, OnError}
 use Rattle.sctp_tx.specs.Retransmission.{SackAnswer, Invalid, Valid}
 use Rattle.sctp_table.specs.Association.{Tcb, Phase, CookieEchoed, Established, ShutdownPending, ShutdownSent, ShutdownReceived, ShutdownAckSent, State, Closed, CookieWait, Open, Context, Endpoint, where_open}

@@ -6,9 +6,9 @@ use Rattle.sctp_serial.specs.Unwrapped.{words}
 use Rattle.sctp_packet.specs.Chunk.{ChunkTree, cookie_echo_chunk}
 use Rattle.sctp_packet.specs.Packet.{PacketTree}
 use Rattle.sctp_packet.specs.Grammar.{Each}
-use Rattle.sctp_state.specs.Capabilities.{zero_checksum_enabled}
-use Rattle.sctp_state.specs.declared.state_cookie.StateCookieError.{StateCookieError}
-use Rattle.sctp_state.specs.Cookie.{Cookie, cookie_from, has_tags, tested, read_cookie}
+use Rattle.sctp_capabilities.specs.Capabilities.{zero_checksum_enabled}
+use Rattle.sctp_capabilities.specs.declared.state_cookie.StateCookieError.{StateCookieError}
+use Rattle.sctp_capabilities.specs.Cookie.{Cookie, cookie_from, has_tags, tested, read_cookie}
 use Rattle.sctp_send_queue.specs.Queue.{Queue}
 use Rattle.sctp_send_queue.specs.Settings.{set_mode}
 use Rattle.sctp_send_queue.specs.Restarted.{reset}

@@ -5,8 +5,8 @@ use Rattle.sctp_serial.specs.Unwrapped.{words}
 use Rattle.sctp_serial.specs.Messages.{Message}
 use Rattle.sctp_packet.specs.Chunk.{FragmentTree, init_ack_chunk}
 use Rattle.sctp_chunk.specs.declared.forward_tsn.SkippedStream.{SkippedStream}
-use Rattle.sctp_state.specs.Capabilities.{told_by, negotiated}
-use Rattle.sctp_state.specs.Cookie.{Cookie}
+use Rattle.sctp_capabilities.specs.Capabilities.{told_by, negotiated}
+use Rattle.sctp_capabilities.specs.Cookie.{Cookie}
 use Rattle.sctp_state.specs.Events.{OnConnected, OnConnectionRestarted}
 use Rattle.sctp_state.specs.Rtt.{Rtt}
 use Rattle.sctp_state.specs.Handover.{HandoverState}

@@ -9,8 +9,8 @@ use Rattle.sctp_packet.specs.Grammar.{carried}
 use Rattle.sctp_packet.specs.Packet.{PacketTree}
 use Rattle.sctp_state.specs.declared.api.ErrorKind.TheVariants.{ParseFailed}
 use Rattle.sctp_state.specs.Options.{Options}
-use Rattle.sctp_state.specs.Capabilities.{agreed}
-use Rattle.sctp_state.proofs.CapabilitiesLemmas.{agreed-exchanged}
+use Rattle.sctp_capabilities.specs.Capabilities.{agreed}
+use Rattle.sctp_capabilities.proofs.CapabilitiesLemmas.{agreed-exchanged}
 use Rattle.sctp_state.specs.Events.{Event, OnError}
 use Rattle.sctp_table.specs.Association.{State, Endpoint}
 use Rattle.sctp_table.specs.Opening.{complains}

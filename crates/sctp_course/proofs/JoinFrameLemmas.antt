@@ -3,7 +3,7 @@ use Rattle.std.proofs.Common.{◌≡◌, ℕ, ◌||◌, not, Bool, true, false, 
 use Rattle.std.proofs.lemmas.List.Elements.{All-nil}
 use Rattle.sctp_packet.specs.Chunk.{ChunkTree, cookie_echo_chunk, cookie_ack_chunk, re_config_chunk}
 use Rattle.sctp_state.specs.Options.{Options}
-use Rattle.sctp_state.specs.Cookie.{Cookie}
+use Rattle.sctp_capabilities.specs.Cookie.{Cookie}
 use Rattle.sctp_state.specs.Events.{Event, OnConnected, OnError, OnClosed}
 use Rattle.sctp_table.specs.Association.{Tcb, Phase, CookieEchoed, Established, ShutdownPending, State, Closed, CookieWait, Open, Context}
 use Rattle.sctp_table.specs.Packets.{Packet, add, add_all}

@@ -4,14 +4,14 @@ use Rattle.std.specs.List.{list_any}
 use Rattle.std.proofs.lemmas.Bool.Decides.{nat_tests}
 use Rattle.sctp_wire.specs.Parameter.{ParameterTree, supported_extensions, forward_tsn_supported, zero_checksum_acceptable, state_cookie}
 use Rattle.sctp_packet.specs.Chunk.{ChunkTree, InitTree, init_chunk, init_ack_chunk, cookie_echo_chunk}
-use Rattle.sctp_state.specs.declared.state_cookie.StateCookieError.{StateCookieError}
+use Rattle.sctp_capabilities.specs.declared.state_cookie.StateCookieError.{StateCookieError}
 use Rattle.sctp_state.specs.Handover.{HandoverState}
 use Rattle.sctp_state.specs.Options.{Options}
 use Rattle.sctp_state.specs.Timers.{Timer}
-use Rattle.sctp_state.specs.Capabilities.{where_enabled, announced, told_by, negotiated, agreed, extensions_in, method_in, is_forward_tsn_supported, has_type, forward_tsn, i_data, re_config}
-use Rattle.sctp_state.specs.Cookie.{Cookie, CapabilitiesFit, CookieFits, cookie_bytes, read_cookie}
-use Rattle.sctp_state.proofs.CapabilitiesLemmas.{told_with-options, negotiated-told_by_init, negotiated-told_by_init_ack}
-use Rattle.sctp_state.proofs.CookieLemmas.{both_tags, read_cookie-bytes}
+use Rattle.sctp_capabilities.specs.Capabilities.{where_enabled, announced, told_by, negotiated, agreed, extensions_in, method_in, is_forward_tsn_supported, has_type, forward_tsn, i_data, re_config}
+use Rattle.sctp_capabilities.specs.Cookie.{Cookie, CapabilitiesFit, CookieFits, cookie_bytes, read_cookie}
+use Rattle.sctp_capabilities.proofs.CapabilitiesLemmas.{told_with-options, negotiated-told_by_init, negotiated-told_by_init_ack}
+use Rattle.sctp_capabilities.proofs.CookieLemmas.{both_tags, read_cookie-bytes}
 use Rattle.sctp_state.specs.Events.{Event, OnConnected}
 use Rattle.sctp_table.specs.Association.{Identity, Tcb, Phase, CookieEchoed, Closed, CookieWait, Open}
 use Rattle.sctp_table.specs.Opening.{word, drew_word, init_of, init_ack_of, cookie_for, agreed_by, cookie_in, Verdict, RestartDetected, SimultaneousInit, MaintainExisting, by_tags, compared, tcb_by}

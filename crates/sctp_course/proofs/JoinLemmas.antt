@@ -4,8 +4,8 @@ use Rattle.std.specs.Prelude.{⊤}
 use Rattle.sctp_packet.specs.Chunk.{ChunkTree, InitTree, init_chunk, init_ack_chunk, cookie_echo_chunk, cookie_ack_chunk}
 use Rattle.sctp_packet.specs.Grammar.{carried}
 use Rattle.sctp_state.specs.Options.{Options}
-use Rattle.sctp_state.specs.Capabilities.{Capabilities, announced, agreed}
-use Rattle.sctp_state.specs.Cookie.{Cookie, cookie_bytes}
+use Rattle.sctp_capabilities.specs.Capabilities.{Capabilities, announced, agreed}
+use Rattle.sctp_capabilities.specs.Cookie.{Cookie, cookie_bytes}
 use Rattle.sctp_table.specs.Association.{Tcb, Phase, CookieEchoed, Established, ShutdownPending, ShutdownSent, ShutdownReceived, ShutdownAckSent, State, Closed, CookieWait, Open}
 use Rattle.sctp_table.specs.Sending.{is_alone}
 use Rattle.sctp_table.specs.Opening.{tsn_from, tag_from, init_of, init_ack_of, cookie_for}

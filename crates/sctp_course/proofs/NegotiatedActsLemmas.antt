@@ -3,8 +3,8 @@ use Rattle.std.proofs.Common.{◌≡◌, ℕ, zero, suc, Bool, true, false, cond
 use Rattle.std.proofs.lemmas.Bool.{and_parts}
 use Rattle.std.proofs.lemmas.List.Elements.{All-nil, All-cons, All-push}
 use Rattle.sctp_packet.specs.Chunk.{ChunkTree, FragmentTree, InitTree, data_chunk, init_chunk, init_ack_chunk, cookie_echo_chunk, cookie_ack_chunk, idata_chunk, re_config_chunk, forward_tsn_chunk, i_forward_tsn_chunk}
-use Rattle.sctp_state.specs.Capabilities.{Capabilities, announced, negotiated, agreed}
-use Rattle.sctp_state.specs.Cookie.{Cookie}
+use Rattle.sctp_capabilities.specs.Capabilities.{Capabilities, announced, negotiated, agreed}
+use Rattle.sctp_capabilities.specs.Cookie.{Cookie}
 use Rattle.sctp_state.specs.Events.{Event, SendPacket, OnConnected, OnConnectionRestarted, OnError, OnClosed, Told}
 use Rattle.sctp_state.specs.Handover.{HandoverState}
 use Rattle.sctp_state.specs.Options.{Options}

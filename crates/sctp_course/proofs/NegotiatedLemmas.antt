@@ -4,12 +4,12 @@ use Rattle.std.specs.Prelude.{⊤}
 use Rattle.sctp_wire.specs.Fields.{be32, be64}
 use Rattle.sctp_packet.specs.Chunk.{ChunkTree, InitTree, init_chunk, init_ack_chunk, cookie_echo_chunk}
 use Rattle.sctp_packet.specs.Grammar.{carried}
-use Rattle.sctp_state.specs.declared.state_cookie.StateCookieError.{StateCookieError}
-use Rattle.sctp_state.specs.Capabilities.{Capabilities, announced, told_by, negotiated, agreed, told_with, told_by_init}
-use Rattle.sctp_state.specs.Cookie.{Cookie, CapabilitiesFit, SpellsCapabilities, flag_byte, is_set, capability_bytes, cookie_bytes, cookie_from, tested, read_cookie}
+use Rattle.sctp_capabilities.specs.declared.state_cookie.StateCookieError.{StateCookieError}
+use Rattle.sctp_capabilities.specs.Capabilities.{Capabilities, announced, told_by, negotiated, agreed, told_with, told_by_init}
+use Rattle.sctp_capabilities.specs.Cookie.{Cookie, CapabilitiesFit, SpellsCapabilities, flag_byte, is_set, capability_bytes, cookie_bytes, cookie_from, tested, read_cookie}
 use Rattle.sctp_state.specs.Options.{Options}
-use Rattle.sctp_state.proofs.CapabilitiesLemmas.{told_with-options, negotiated-told_by_init, negotiated-told_by_init_ack}
-use Rattle.sctp_state.proofs.CookieLemmas.{cookie_from-spelled}
+use Rattle.sctp_capabilities.proofs.CapabilitiesLemmas.{told_with-options, negotiated-told_by_init, negotiated-told_by_init_ack}
+use Rattle.sctp_capabilities.proofs.CookieLemmas.{cookie_from-spelled}
 use Rattle.sctp_tx.specs.Retransmission.{Sender}
 use Rattle.sctp_tx.specs.ForwardPoints.{chunk_if}
 use Rattle.sctp_table.specs.Association.{Tcb, Phase, CookieEchoed, Established, ShutdownPending, ShutdownSent, ShutdownReceived, ShutdownAckSent, State, Closed, CookieWait, Open}

@@ -12,8 +12,8 @@ use Rattle.sctp_packet.specs.Chunk.{ChunkTree, FragmentTree, InitTree, SackTree,
 use Rattle.sctp_packet.specs.Packet.{PacketTree}
 use Rattle.sctp_state.specs.declared.api.ErrorKind.{ErrorKind}
 use Rattle.sctp_state.specs.declared.api.errors.SendError.{SendError}
-use Rattle.sctp_state.specs.Capabilities.{announced, negotiated}
-use Rattle.sctp_state.specs.Cookie.{Cookie, read_cookie}
+use Rattle.sctp_capabilities.specs.Capabilities.{announced, negotiated}
+use Rattle.sctp_capabilities.specs.Cookie.{Cookie, read_cookie}
 use Rattle.sctp_state.specs.Errors.{ErrorCounter, one_error}
 use Rattle.sctp_state.specs.Events.{Event, OnConnected, OnConnectionRestarted, OnClosed, OnIncomingStreamReset, numbers_of}
 use Rattle.sctp_state.specs.Handover.{HandoverState}

@@ -6,7 +6,7 @@ use Rattle.sctp_packet.specs.Chunk.{ChunkTree}
 use Rattle.sctp_packet.specs.Grammar.{carried}
 use Rattle.sctp_packet.specs.Packet.{HeaderTree, PacketTree}
 use Rattle.sctp_state.specs.Options.{Options, IsValid}
-use Rattle.sctp_state.specs.Capabilities.{agreed, exchanged}
+use Rattle.sctp_capabilities.specs.Capabilities.{agreed, exchanged}
 use Rattle.sctp_state.specs.Events.{Event, SendPacket, OnConnected, silent}
 use Rattle.sctp_table.specs.Association.{Identity, Tcb, Phase, State, Open, Endpoint, fresh}
 use Rattle.sctp_table.specs.Input.{refusal}

@@ -12,7 +12,7 @@ use Rattle.sctp_wire.specs.CauseText.{cause_text}
 use Rattle.sctp_wire.specs.Show.{joined}
 use Rattle.sctp_packet.specs.Written.{chunk_bytes, chunks_bytes, chunk_value, data_value, idata_value, init_fields, block_bytes, sack_value, skip_bytes, forward_value}
 use Rattle.sctp_serial.specs.Unwrapped.{origin}
-use Rattle.sctp_state.specs.Cookie.{cookie_bytes, capability_bytes, cookie_from, read_cookie}
+use Rattle.sctp_capabilities.specs.Cookie.{cookie_bytes, capability_bytes, cookie_from, read_cookie}
 use Rattle.sctp_send_queue.specs.Queue.{Queue, stream}
 use Rattle.sctp_outstanding.specs.Item.{Item}
 use Rattle.sctp_outstanding.specs.Items.{next_number}

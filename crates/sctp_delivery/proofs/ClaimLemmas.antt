@@ -9,7 +9,7 @@ use Rattle.sctp_packet.specs.Chunk.{ChunkTree, FragmentTree, SackTree, data_chun
 use Rattle.sctp_packet.specs.Grammar.{carried}
 use Rattle.sctp_state.specs.Events as events
 use Rattle.sctp_state.specs.Options.{Options}
-use Rattle.sctp_state.specs.Capabilities.{agreed}
+use Rattle.sctp_capabilities.specs.Capabilities.{agreed}
 use Rattle.sctp_send_queue.specs.declared.send_queue.stream.PauseState.TheVariants.{NotPaused}
 use Rattle.sctp_send_queue.specs.Queue.{Stream, Queue}
 use Rattle.sctp_outstanding.specs.Items.{no_items}

@@ -7,7 +7,7 @@ use Rattle.sctp_packet.specs.Chunk.{ChunkTree}
 use Rattle.sctp_packet.specs.Packet.{PacketTree}
 use Rattle.sctp_state.specs.declared.api.ErrorKind.TheVariants.{ParseFailed}
 use Rattle.sctp_state.specs.Options.{Options}
-use Rattle.sctp_state.specs.Capabilities.{agreed}
+use Rattle.sctp_capabilities.specs.Capabilities.{agreed}
 use Rattle.sctp_state.specs.Events.{Told, OnError}
 use Rattle.sctp_rules.specs.State.{Message, Transfer, count}
 use Rattle.sctp_table.specs.Association.{Endpoint}

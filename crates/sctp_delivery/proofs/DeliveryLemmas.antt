@@ -6,8 +6,8 @@ use Rattle.sctp_serial.specs.Messages as messages
 use Rattle.sctp_packet.specs.Packet.{PacketTree}
 use Rattle.sctp_state.specs.Events.{Event}
 use Rattle.sctp_state.specs.Options.{Options}
-use Rattle.sctp_state.specs.Capabilities.{agreed}
-use Rattle.sctp_state.proofs.CapabilitiesLemmas.{agreed-exchanged}
+use Rattle.sctp_capabilities.specs.Capabilities.{agreed}
+use Rattle.sctp_capabilities.proofs.CapabilitiesLemmas.{agreed-exchanged}
 use Rattle.sctp_rx_rules.specs.View.{ready_of}
 use Rattle.sctp_rules.specs.State.{Message, Transfer, has}
 use Rattle.sctp_rules.specs.Kept.{Kept}

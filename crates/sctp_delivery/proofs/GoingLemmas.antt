@@ -8,10 +8,10 @@ use Rattle.sctp_packet.specs.Chunk.{ChunkTree}
 use Rattle.sctp_packet.specs.Packet.{PacketTree}
 use Rattle.sctp_state.specs.declared.api.ErrorKind.TheVariants.{ParseFailed}
 use Rattle.sctp_state.specs.Options.{Options}
-use Rattle.sctp_state.specs.Capabilities.{agreed}
+use Rattle.sctp_capabilities.specs.Capabilities.{agreed}
 use Rattle.sctp_state.specs.declared.api.errors.SendError.{SendError}
 use Rattle.sctp_state.specs.Events.{Event, Told, OnError}
-use Rattle.sctp_state.proofs.CapabilitiesLemmas.{agreed-exchanged}
+use Rattle.sctp_capabilities.proofs.CapabilitiesLemmas.{agreed-exchanged}
 use Rattle.sctp_send_queue.specs.Queue.{Queue}
 use Rattle.sctp_rules.specs.State.{Message, Transfer, count}
 use Rattle.sctp_rules.specs.Rules as rules

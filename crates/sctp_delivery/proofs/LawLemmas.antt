@@ -5,7 +5,7 @@ use Rattle.std.proofs.lemmas.Bool.{or_parts}
 use Rattle.std.proofs.lemmas.List.Folds.{list_any-append}
 use Rattle.rand_core.specs.Stream.{Stream}
 use Rattle.sctp_state.specs.Options.{Options}
-use Rattle.sctp_state.specs.Capabilities.{agreed}
+use Rattle.sctp_capabilities.specs.Capabilities.{agreed}
 use Rattle.sctp_rules.specs.State.{Message, start}
 use Rattle.sctp_rules.proofs.KeepsLemmas.{at_start}
 use Rattle.sctp_rx_rules.proofs.RowLemmas.{first_receives}

@@ -7,7 +7,7 @@ use Rattle.sctp_packet.specs.Chunk.{ChunkTree}
 use Rattle.sctp_packet.specs.Grammar.{carried}
 use Rattle.sctp_packet.specs.Packet.{PacketTree}
 use Rattle.sctp_state.specs.Options.{Options}
-use Rattle.sctp_state.specs.Capabilities.{agreed}
+use Rattle.sctp_capabilities.specs.Capabilities.{agreed}
 use Rattle.sctp_state.specs.Events.{Told}
 use Rattle.sctp_rules.specs.State.{Message, Transfer, place_of, count}
 use Rattle.sctp_rules.specs.Windows.{Windows}

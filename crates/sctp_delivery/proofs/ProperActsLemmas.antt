@@ -9,7 +9,7 @@ use Rattle.sctp_state.specs.Options.{SendOptions}
 use Rattle.sctp_state.specs.declared.api.GivenUpCause.{GivenUpCause}
 use Rattle.sctp_state.specs.declared.api.GivenUpCause.TheVariants.{Lifetime, Retransmissions}
 use Rattle.sctp_state.specs.Events.{GivenUp, Told}
-use Rattle.sctp_state.specs.Capabilities.{negotiated}
+use Rattle.sctp_capabilities.specs.Capabilities.{negotiated}
 use Rattle.sctp_state.specs.Handover.{HandoverState}
 use Rattle.sctp_send_queue.specs.declared.send_queue.stream.ResetStep.TheVariants.{Requested, Performed, Refused}
 use Rattle.sctp_send_queue.specs.Queue.{Queue, expiry_of}

@@ -7,7 +7,7 @@ use Rattle.sctp_serial.specs.Unwrapped.{origin}
 use Rattle.sctp_packet.specs.Chunk.{ChunkTree, FragmentTree, data_chunk, idata_chunk, forward_tsn_chunk, i_forward_tsn_chunk, cookie_echo_chunk, cookie_ack_chunk}
 use Rattle.sctp_chunk.specs.declared.forward_tsn.SkippedStream.{SkippedStream}
 use Rattle.sctp_state.specs.Options.{Options}
-use Rattle.sctp_state.specs.Capabilities.{Capabilities, agreed}
+use Rattle.sctp_capabilities.specs.Capabilities.{Capabilities, agreed}
 use Rattle.sctp_state.specs.Events as events
 use Rattle.sctp_state.specs.Events.{OnConnected, OnError}
 use Rattle.sctp_rx.specs.Tracker as tracker

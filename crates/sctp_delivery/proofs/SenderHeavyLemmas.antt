@@ -5,7 +5,7 @@ use Rattle.std.specs.List.{list_all}
 use Rattle.std.proofs.lemmas.List.Elements.{All-nil, All-cons}
 use Rattle.sctp_packet.specs.Chunk.{ChunkTree, FragmentTree, SackTree, sack_chunk}
 use Rattle.sctp_state.specs.Events.{Told}
-use Rattle.sctp_state.specs.Capabilities.{Capabilities}
+use Rattle.sctp_capabilities.specs.Capabilities.{Capabilities}
 use Rattle.sctp_state.specs.Timers.{is_due}
 use Rattle.sctp_state.specs.Errors.{one_error}
 use Rattle.sctp_send_queue.specs.Queue.{Queue}

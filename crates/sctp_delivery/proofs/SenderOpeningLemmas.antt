@@ -3,8 +3,8 @@ use Rattle.std.proofs.Common.{◌≡◌, ℕ, ◌≤◌, ◌||◌, Bool, true, f
 use Rattle.std.proofs.lemmas.List.Elements.{All-weaker}
 use Rattle.sctp_packet.specs.Chunk.{ChunkTree, InitTree, FragmentTree, data_chunk, idata_chunk, cookie_echo_chunk, cookie_ack_chunk, forward_tsn_chunk, i_forward_tsn_chunk}
 use Rattle.sctp_state.specs.Options.{Options}
-use Rattle.sctp_state.specs.Capabilities.{Capabilities, agreed, negotiated}
-use Rattle.sctp_state.specs.Cookie.{Cookie}
+use Rattle.sctp_capabilities.specs.Capabilities.{Capabilities, agreed, negotiated}
+use Rattle.sctp_capabilities.specs.Cookie.{Cookie}
 use Rattle.sctp_state.specs.Events.{Event, OnConnected}
 use Rattle.sctp_state.specs.Timers.{Timer}
 use Rattle.sctp_send_queue.specs.Queue.{Queue}

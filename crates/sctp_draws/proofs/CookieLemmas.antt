@@ -5,9 +5,9 @@ use Rattle.std.specs.List.{starts_with}
 use Rattle.std.proofs.lemmas.Bool.{cases_eq}
 use Rattle.sctp_state.specs.declared.api.SctpImplementation.{SctpImplementation}
 use Rattle.sctp_state.specs.declared.api.SctpImplementation.TheVariants as implementations
-use Rattle.sctp_state.specs.Cookie.{Cookie, CookieFits, has_tags, magic, cookie_bytes, read_cookie}
-use Rattle.sctp_state.specs.declared.state_cookie.StateCookieError.{StateCookieError}
-use Rattle.sctp_state.proofs.CookieLemmas.{refused_size, refused_magic, length-cookie_bytes, read_cookie-bytes}
+use Rattle.sctp_capabilities.specs.Cookie.{Cookie, CookieFits, has_tags, magic, cookie_bytes, read_cookie}
+use Rattle.sctp_capabilities.specs.declared.state_cookie.StateCookieError.{StateCookieError}
+use Rattle.sctp_capabilities.proofs.CookieLemmas.{refused_size, refused_magic, length-cookie_bytes, read_cookie-bytes}
 use Rattle.sctp_table.specs.Opening.{maker_by, maker}
 use Rattle.sctp_draws.specs.NamedCookies.{rewritten, cookie_named, NamesCookies}
 

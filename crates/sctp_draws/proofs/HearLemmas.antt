@@ -5,7 +5,7 @@ use Rattle.sctp_wire.specs.Parameter.{ParameterTree}
 use Rattle.sctp_wire.specs.Cause.{no_user_data, protocol_violation}
 use Rattle.sctp_chunk.specs.declared.sack.GapAckBlock.{GapAckBlock}
 use Rattle.sctp_packet.specs.Chunk.{ChunkTree, FragmentTree, SackTree, data_chunk, idata_chunk, init_chunk, init_ack_chunk, sack_chunk, heartbeat_request_chunk, heartbeat_ack_chunk, abort_chunk, shutdown_chunk, shutdown_ack_chunk, error_chunk, cookie_echo_chunk, cookie_ack_chunk, shutdown_complete_chunk, re_config_chunk, forward_tsn_chunk, i_forward_tsn_chunk, unknown_chunk}
-use Rattle.sctp_state.specs.Capabilities.{Capabilities}
+use Rattle.sctp_capabilities.specs.Capabilities.{Capabilities}
 use Rattle.sctp_outstanding.specs.Items.{number_of}
 use Rattle.sctp_outstanding.specs.Sack.{is_valid}
 use Rattle.sctp_rx.specs.Tracker.{written}

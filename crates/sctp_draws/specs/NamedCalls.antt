@@ -4,8 +4,8 @@ use Rattle.std.specs.List.{list_all}
 use Rattle.rand_core.specs.Stream.{Stream, next_u32, next_u64}
 use Rattle.sctp_packet.specs.Chunk.{ChunkTree, InitTree, init_chunk, init_ack_chunk, cookie_echo_chunk}
 use Rattle.sctp_packet.specs.Packet.{PacketTree}
-use Rattle.sctp_state.specs.declared.state_cookie.StateCookieError.{StateCookieError}
-use Rattle.sctp_state.specs.Cookie.{Cookie, read_cookie}
+use Rattle.sctp_capabilities.specs.declared.state_cookie.StateCookieError.{StateCookieError}
+use Rattle.sctp_capabilities.specs.Cookie.{Cookie, read_cookie}
 use Rattle.sctp_table.specs.Association.{Tcb, Phase, CookieEchoed, Established, ShutdownPending, ShutdownSent, ShutdownReceived, ShutdownAckSent, State, Closed, CookieWait, Open, Standing}
 use Rattle.sctp_table.specs.Opening.{tsn_from, tag_from, next_first, cookie_for, cookie_in, maker, Verdict, EstablishNew, RestartDetected, SimultaneousInit, MaintainExisting, Discard, InvalidTag, judged, complains}
 use Rattle.sctp_table.specs.Input.{refusal, counts}

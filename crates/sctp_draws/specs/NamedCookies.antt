@@ -1,7 +1,7 @@
 -- Cookies under other names: what can be read is written anew, and what can't stays.
 use Rattle.std.specs.Prelude.{◌≡◌, ℕ, true, Result, Ok, Err, List, length}
-use Rattle.sctp_state.specs.Cookie.{Cookie, CookieFits, has_tags, cookie_bytes, read_cookie}
-use Rattle.sctp_state.specs.declared.state_cookie.StateCookieError.{StateCookieError}
+use Rattle.sctp_capabilities.specs.Cookie.{Cookie, CookieFits, has_tags, cookie_bytes, read_cookie}
+use Rattle.sctp_capabilities.specs.declared.state_cookie.StateCookieError.{StateCookieError}
 use Rattle.sctp_table.specs.Opening.{maker}
 
 abbrev pub rewritten : (Cookie → Cookie) → Result Cookie StateCookieError → List ℕ → List ℕ

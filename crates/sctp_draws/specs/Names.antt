@@ -2,7 +2,7 @@
 -- same; and its packets are the same, written under these names by the one who writes them.
 use Rattle.std.specs.Prelude.{option_map}
 use Rattle.rand_core.specs.Stream.{Stream}
-use Rattle.sctp_state.specs.Cookie.{Cookie}
+use Rattle.sctp_capabilities.specs.Cookie.{Cookie}
 use Rattle.sctp_rx.specs.Tracker.{DataTracker}
 use Rattle.sctp_rx.specs.ReassemblyQueue.{Reassembly}
 use Rattle.sctp_outstanding.specs.Items.{Outstanding}

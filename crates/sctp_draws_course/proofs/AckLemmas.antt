@@ -7,7 +7,7 @@ use Rattle.sctp_wire.specs.Parameter.{ParameterTree, state_cookie}
 use Rattle.sctp_packet.specs.Chunk.{ChunkTree, InitTree, init_chunk, init_ack_chunk, cookie_echo_chunk}
 use Rattle.sctp_packet.specs.Grammar.{carried}
 use Rattle.sctp_state.specs.Options.{Options}
-use Rattle.sctp_state.specs.Cookie.{Cookie, cookie_bytes}
+use Rattle.sctp_capabilities.specs.Cookie.{Cookie, cookie_bytes}
 use Rattle.sctp_state.specs.Timers.{Timer}
 use Rattle.sctp_table.specs.Association.{State, Closed, CookieWait, Open, Context, Endpoint}
 use Rattle.sctp_table.specs.Shown.{Association}

@@ -8,7 +8,7 @@ use Rattle.sctp_wire.specs.Parameter.{ParameterTree, state_cookie}
 use Rattle.sctp_packet.specs.Chunk.{ChunkTree, FragmentTree, InitTree, data_chunk, idata_chunk, init_chunk, init_ack_chunk, sack_chunk, heartbeat_request_chunk, heartbeat_ack_chunk, abort_chunk, shutdown_chunk, shutdown_ack_chunk, error_chunk, cookie_echo_chunk, cookie_ack_chunk, shutdown_complete_chunk, re_config_chunk, forward_tsn_chunk, i_forward_tsn_chunk, unknown_chunk}
 use Rattle.sctp_packet.specs.Grammar.{carried}
 use Rattle.sctp_state.specs.Options.{Options}
-use Rattle.sctp_state.specs.Capabilities.{announced}
+use Rattle.sctp_capabilities.specs.Capabilities.{announced}
 use Rattle.sctp_table.specs.Opening.{init_of}
 use Rattle.sctp_course.specs.Agreement.{Draw}
 use Rattle.sctp_draws.specs.NamedChunks.{Names, flipped, moved, named_parameter, named_init, named_chunk, named_chunks}

@@ -7,11 +7,11 @@ use Rattle.std.proofs.lemmas.List.Elements.{All-nil, All-cons, All-head, All-tai
 use Rattle.rand_core.specs.Stream.{Stream, next_u64}
 use Rattle.sctp_packet.specs.Chunk.{ChunkTree, InitTree, init_chunk, init_ack_chunk, cookie_echo_chunk}
 use Rattle.sctp_packet.specs.Grammar.{carried}
-use Rattle.sctp_state.specs.declared.state_cookie.StateCookieError.{StateCookieError}
+use Rattle.sctp_capabilities.specs.declared.state_cookie.StateCookieError.{StateCookieError}
 use Rattle.sctp_state.specs.Options.{Options}
-use Rattle.sctp_state.specs.Cookie.{Cookie, CapabilitiesFit, CookieFits, cookie_bytes, read_cookie}
-use Rattle.sctp_state.proofs.CapabilitiesLemmas.{told_with-options}
-use Rattle.sctp_state.proofs.CookieLemmas.{both_tags, read_cookie-bytes}
+use Rattle.sctp_capabilities.specs.Cookie.{Cookie, CapabilitiesFit, CookieFits, cookie_bytes, read_cookie}
+use Rattle.sctp_capabilities.proofs.CapabilitiesLemmas.{told_with-options}
+use Rattle.sctp_capabilities.proofs.CookieLemmas.{both_tags, read_cookie-bytes}
 use Rattle.sctp_table.specs.Association.{Phase, Tcb, Identity, State, Closed, CookieWait, Open, Endpoint}
 use Rattle.sctp_table.specs.Shown.{Association, association_in}
 use Rattle.sctp_table.specs.Opening.{Verdict, MaintainExisting, by_tags, compared, judged}

@@ -1,7 +1,7 @@
 -- Which tags an end has after a call: those that it had, or those of what the call brings.
 use Rattle.std.proofs.Common.{◌≡◌, ℕ, Bool, true, false, Option, Some, None, List, [], ◌∷◌, ◌++◌, All, refl, sym, ap, subst, ◌∙◌}
 use Rattle.sctp_packet.specs.Chunk.{ChunkTree, InitTree, init_ack_chunk}
-use Rattle.sctp_state.specs.Cookie.{Cookie}
+use Rattle.sctp_capabilities.specs.Cookie.{Cookie}
 use Rattle.sctp_state.specs.Handover.{HandoverState}
 use Rattle.sctp_table.specs.Association.{State, Closed, CookieWait, Open, Endpoint}
 use Rattle.sctp_table.specs.Laws.{Call, Connect, Restore, called}

@@ -8,7 +8,7 @@ use Rattle.sctp_wire.specs.Fields.{be64}
 use Rattle.sctp_packet.specs.Chunk.{ChunkTree, InitTree, init_chunk, init_ack_chunk, cookie_echo_chunk}
 use Rattle.sctp_packet.specs.Grammar.{carried}
 use Rattle.sctp_state.specs.Options.{Options}
-use Rattle.sctp_state.specs.Cookie.{Cookie, CookieFits, cookie_bytes}
+use Rattle.sctp_capabilities.specs.Cookie.{Cookie, CookieFits, cookie_bytes}
 use Rattle.sctp_outstanding.specs.Items.{next_number}
 use Rattle.sctp_table.specs.Association.{Tcb, Phase, CookieEchoed, Established, ShutdownPending, ShutdownSent, ShutdownReceived, ShutdownAckSent, State, Closed, CookieWait, Open, Context, Endpoint}
 use Rattle.sctp_table.specs.Sending.{is_alone}

@@ -27,7 +27,7 @@ use Rattle.sctp_course.proofs.ToldLemmas.{is_light, TellsLightly}
 use Rattle.sctp_course.proofs.UntilLemmas.{light_sack, light_sending, light_time, light_call, light_reset, no_end, until_end}
 use Rattle.sctp_draws_course.proofs.TwinLemmas.{has_numbers}
 use Rattle.sctp_draws_course.proofs.StepLemmas.{hears_init, is_past, EachChunk}
-use Rattle.sctp_state.specs.Capabilities.{announced}
+use Rattle.sctp_capabilities.specs.Capabilities.{announced}
 use Rattle.sctp_table.specs.Opening.{init_of}
 
 -- what is known of the call

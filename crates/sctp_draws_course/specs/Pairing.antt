@@ -1,6 +1,6 @@
 -- What two courses of the same turns drew, place by place, and the names that take the one's ends to the other's.
 use Rattle.std.specs.Prelude.{◌≡◌, ℕ, ◌+◌, ◌-◌, ◌%◌, ◌^◌, ◌<◌, ◌==◌, if◌then◌else◌, Bool, true, false, List, [], ◌∷◌, ◌++◌, map}
-use Rattle.sctp_state.specs.Cookie.{Cookie}
+use Rattle.sctp_capabilities.specs.Cookie.{Cookie}
 use Rattle.sctp_course.specs.Course.{Pair, Turn, goes}
 use Rattle.sctp_course.specs.Agreement.{Draw, Has, drawn_in, AreDistinct}
 use Rattle.sctp_draws.specs.NamedChunks.{Names, moved}

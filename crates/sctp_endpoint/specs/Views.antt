@@ -5,7 +5,7 @@ use Rattle.sctp_state.specs.declared.api.SctpImplementation.{SctpImplementation}
 use Rattle.sctp_state.specs.Errors.{ErrorCounter}
 use Rattle.sctp_state.specs.Events.{Told}
 use Rattle.sctp_state.specs.Options.{Options}
-use Rattle.sctp_state.specs.Capabilities.{capabilities_of}
+use Rattle.sctp_capabilities.specs.Capabilities.{capabilities_of}
 use Rattle.sctp_endpoint.specs.declared.transmission_control_block.Identity as given_identity
 use Rattle.sctp_endpoint.specs.declared.transmission_control_block.TransmissionControlBlock as given_tcb
 use Rattle.sctp_chunk.specs.declared.sack.SackChunk.{SackChunk}

@@ -3,16 +3,17 @@
 ghost use Rattle.std.specs.Prelude.{◌≡◌, IfOk, OnOk};
 ghost use Rattle.sctp_packet.specs.Chunk.{init_chunk};
 ghost use Rattle.sctp_packet.specs.ChunkView.{chunk_tree};
-ghost use Rattle.sctp_state.specs.Capabilities.{announced};
+ghost use Rattle.sctp_capabilities.specs.Capabilities.{announced};
 ghost use Rattle.sctp_state.specs.Options.{IsValid, options_of};
 ghost use Rattle.sctp_table.specs.Opening.{init_of, send_init};
 ghost use Rattle.sctp_endpoint.specs.Views.{context_of};
 
 use crate::context::Context;
 use crate::outgoing_packet::OutgoingPacket;
+use sctp_capabilities::announced_parameters;
 use sctp_packet::{Chunk, InitChunk};
 use sctp_serial::Tsn;
-use sctp_state::{Options, announced_parameters};
+use sctp_state::Options;
 use sctp_wire::Checksum;
 use std::alloc::{AllocError, Global};
 

@@ -2,7 +2,7 @@
 
 ghost use Rattle.std.specs.Prelude.{◌≡◌, None, OnOk, IsTrue};
 ghost use Rattle.sctp_state.specs.Options.{IsValid, options_of};
-ghost use Rattle.sctp_state.specs.Capabilities.{capabilities_of};
+ghost use Rattle.sctp_capabilities.specs.Capabilities.{capabilities_of};
 ghost use Rattle.sctp_table.specs.Association.{tcb};
 ghost use Rattle.sctp_table.specs.Packets.{new_packet};
 ghost use Rattle.sctp_table.specs.Sending.{data_chunk_of, add_request, request_started};
@@ -16,13 +16,12 @@ ghost use Rattle.sctp_table.specs.Handover as handover;
 
 use crate::outgoing_packet::OutgoingPacket;
 use crate::reset_requests::ResetRequests;
+use sctp_capabilities::Capabilities;
 use sctp_packet::{Chunk, Data, DataChunk, IDataChunk};
 use sctp_rx::{DataTracker, ReassemblyQueue};
 use sctp_serial::{SocketTime, StreamId, Tsn};
 use sctp_state::api::handover::{HandoverCapabilities, HandoverSocketState};
-use sctp_state::{
-    Capabilities, HandoverReadiness, Options, RetransmissionTimeout, SocketHandoverState,
-};
+use sctp_state::{HandoverReadiness, Options, RetransmissionTimeout, SocketHandoverState};
 use sctp_tx::RetransmissionQueue;
 use std::alloc::{AllocError, Global};
 

@@ -8,20 +8,18 @@ ghost use Rattle.sctp_parameter.specs.ParameterViews.{parameter_tree};
 ghost use Rattle.sctp_packet.specs.Chunk.{init_ack_chunk};
 ghost use Rattle.sctp_packet.specs.ChunkView.{chunk_tree};
 ghost use Rattle.sctp_packet.specs.Views.{init_tree};
-ghost use Rattle.sctp_state.specs.Capabilities.{capabilities_of, negotiated, told_by};
-ghost use Rattle.sctp_state.specs.Cookie.{cookie_of};
+ghost use Rattle.sctp_capabilities.specs.Capabilities.{capabilities_of, negotiated, told_by};
+ghost use Rattle.sctp_capabilities.specs.Cookie.{cookie_of};
 ghost use Rattle.sctp_state.specs.Options.{IsValid, options_of};
 ghost use Rattle.sctp_table.specs.Opening.{agreed_by, answer, cookie_for, cookie_in, init_ack_of, maker, t1_cookie, t1_init};
 ghost use Rattle.sctp_endpoint.specs.Views.{context_of};
 
+use sctp_capabilities::{Capabilities, StateCookie, announced_parameters};
 use sctp_endpoint::{Context, OutgoingPacket};
 use sctp_packet::{Chunk, InitAckChunk, InitChunk};
 use sctp_parameter::{Parameter, StateCookieParameter};
 use sctp_serial::Tsn;
-use sctp_state::{
-    BackoffAlgorithm, Capabilities, Options, SctpImplementation, StateCookie, Timer,
-    announced_parameters,
-};
+use sctp_state::{BackoffAlgorithm, Options, SctpImplementation, Timer};
 use sctp_wire::Checksum;
 use std::alloc::{AllocError, Global};
 use std::time::Duration;

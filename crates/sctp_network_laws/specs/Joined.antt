@@ -3,7 +3,7 @@ use Rattle.std.specs.Prelude.{◌≡◌, ◌⊎◌, ℕ, ◌==◌, ◌&&◌, ◌
 use Rattle.std.specs.Int.{w32, from_be_bytes}
 use Rattle.std.specs.List.{flat_map, list_any}
 use Rattle.sctp_state.specs.Options.{Options}
-use Rattle.sctp_state.specs.Capabilities.{agreed, exchanged}
+use Rattle.sctp_capabilities.specs.Capabilities.{agreed, exchanged}
 use Rattle.sctp_state.specs.Events.{OnClosed, OnAborted}
 use Rattle.sctp_table.specs.Association.{Tcb, Phase, Open}
 use Rattle.sctp_table.specs.Shown.{Association}

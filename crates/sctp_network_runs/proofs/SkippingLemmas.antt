@@ -15,7 +15,7 @@ use Rattle.sctp_wire.specs.Show.{joined}
 use Rattle.sctp_packet.specs.Chunk.{ChunkTree}
 use Rattle.sctp_packet.specs.Packet.{HeaderTree, header_bytes, packet_bytes}
 use Rattle.sctp_packet.specs.Written.{chunk_bytes, chunks_bytes, chunk_value, data_value, idata_value, init_fields, block_bytes, sack_value, skip_bytes, forward_value}
-use Rattle.sctp_state.specs.Cookie.{cookie_bytes, capability_bytes, cookie_from, read_cookie}
+use Rattle.sctp_capabilities.specs.Cookie.{cookie_bytes, capability_bytes, cookie_from, read_cookie}
 use Rattle.sctp_state.specs.Options.{Options, defaults}
 use Rattle.sctp_table.specs.Laws as table
 use Rattle.sctp_table.specs.Pair.{words_from}

@@ -1,6 +1,3 @@
-pub mod CapabilitiesLemmas
-pub mod CookieLemmas
 pub mod EventLemmas
-mod CookieRows
 mod Rows
 pub mod SchedulerLemmas

@@ -7,8 +7,6 @@ pub mod Options
 pub mod Readiness
 pub mod Rtt
 pub mod Timers
-pub mod Capabilities
-pub mod Cookie
 pub mod Errors
 pub mod Validity
 pub mod Scheduler

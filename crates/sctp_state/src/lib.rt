@@ -2,10 +2,8 @@
 #![tactic(auto)]
 
 pub mod api;
-pub mod capabilities;
 pub mod events;
 pub mod retransmission_timeout;
-pub mod state_cookie;
 pub mod stream_scheduler;
 pub mod threshold_watcher;
 pub mod timer;
@@ -16,10 +14,8 @@ pub use api::{
     HandoverReadiness, Metrics, Options, ResetStreamsError, RestoreError, SctpImplementation,
     SendError, SendOptions, SocketEvent, SocketHandoverState, SocketState,
 };
-pub use capabilities::{Capabilities, announced_parameters};
 pub use events::{EventMark, EventSink, Events};
 pub use retransmission_timeout::RetransmissionTimeout;
-pub use state_cookie::{STATE_COOKIE_SIZE, StateCookie, StateCookieError};
 pub use stream_scheduler::StreamScheduler;
 pub use threshold_watcher::ThresholdWatcher;
 pub use timer::{BackoffAlgorithm, MAX_DURATION, MAX_RESTARTS, Timer};

@@ -2,9 +2,10 @@
 
 use crate::answer::{Answer, Line, Subject, low_half, low_word, run_commands, tell_all, tell_hex};
 use crate::options::set_option;
+use sctp_capabilities::{Capabilities, announced_parameters};
 use sctp_parameter::{Parameter, parameters_from_bytes};
 use sctp_serial::ZeroChecksumAlternateErrorDetectionMethod;
-use sctp_state::{Capabilities, Options, announced_parameters};
+use sctp_state::Options;
 use sctp_wire::{all_encodable, parameters_serialize_to};
 use std::alloc::{AllocError, Global};
 

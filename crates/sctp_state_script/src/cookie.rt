@@ -3,8 +3,8 @@
 use crate::answer::{
     Answer, Line, Subject, low_half, low_word, run_commands, tell, tell_all, tell_hex,
 };
+use sctp_capabilities::{Capabilities, StateCookie};
 use sctp_serial::{Tsn, ZeroChecksumAlternateErrorDetectionMethod};
-use sctp_state::{Capabilities, StateCookie};
 use std::alloc::{AllocError, Global};
 
 pub fn run(alloc: Global, commands: &str, output: &mut String) -> Result<(), AllocError> {

@@ -12,7 +12,7 @@ use Rattle.sctp_state.specs.Timers.{Timer, timer}
 use Rattle.sctp_state.specs.Rtt.{Rtt, unsampled}
 use Rattle.sctp_state.specs.Errors.{ErrorCounter, no_errors}
 use Rattle.sctp_state.specs.Events.{Told, silent}
-use Rattle.sctp_state.specs.Capabilities.{Capabilities}
+use Rattle.sctp_capabilities.specs.Capabilities.{Capabilities}
 use Rattle.sctp_rx.specs.Tracker.{DataTracker, tracker}
 use Rattle.sctp_rx.specs.ReassemblyQueue.{Reassembly, reassembly}
 use Rattle.sctp_send_queue.specs.Queue.{Queue, queue}

@@ -6,7 +6,7 @@ use Rattle.sctp_state.specs.declared.api.handover.HandoverSocketState.{HandoverS
 use Rattle.sctp_state.specs.declared.api.handover.HandoverSocketState.TheVariants as handed
 use Rattle.sctp_state.specs.declared.api.errors.RestoreError.{RestoreError}
 use Rattle.sctp_state.specs.declared.api.errors.RestoreError.TheVariants.{SocketNotClosed, InvalidState}
-use Rattle.sctp_state.specs.Capabilities.{Capabilities, zero_checksum_enabled}
+use Rattle.sctp_capabilities.specs.Capabilities.{Capabilities, zero_checksum_enabled}
 use Rattle.sctp_state.specs.Events.{OnConnected, OnClosed}
 use Rattle.sctp_state.specs.Handover.{HandoverState, Receive, Transmission, closed_state, no_transmission}
 use Rattle.sctp_state.specs.Options.{Options}

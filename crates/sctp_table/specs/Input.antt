@@ -13,7 +13,7 @@ use Rattle.sctp_state.specs.declared.api.ErrorKind.TheVariants.{ParseFailed}
 use Rattle.sctp_state.specs.Numbers.{more}
 use Rattle.sctp_state.specs.Rtt.{rto}
 use Rattle.sctp_state.specs.Timers.{start, set_duration}
-use Rattle.sctp_state.specs.Capabilities.{Capabilities}
+use Rattle.sctp_capabilities.specs.Capabilities.{Capabilities}
 use Rattle.sctp_rx.specs.Tracker.{packet_end, is_ack_due}
 use Rattle.sctp_table.specs.Association.{Tcb, Phase, CookieEchoed, Established, ShutdownPending, ShutdownSent, ShutdownReceived, ShutdownAckSent, State, Closed, CookieWait, Open, Context, Standing, Endpoint, open_as, with_context, in_context, where_open}
 use Rattle.sctp_table.specs.Heartbeats.{on_heartbeat_ack}

@@ -8,13 +8,13 @@ use Rattle.sctp_packet.specs.Chunk.{InitTree, init_chunk, init_ack_chunk, abort_
 use Rattle.sctp_state.specs.declared.api.SctpImplementation.{SctpImplementation}
 use Rattle.sctp_state.specs.declared.api.SctpImplementation.TheVariants as implementations
 use Rattle.sctp_state.specs.declared.api.ErrorKind.TheVariants.{ParseFailed, ProtocolViolation, WrongSequence}
-use Rattle.sctp_state.specs.declared.state_cookie.StateCookieError.{StateCookieError}
+use Rattle.sctp_capabilities.specs.declared.state_cookie.StateCookieError.{StateCookieError}
 use Rattle.sctp_state.specs.declared.timer.BackoffAlgorithm.TheVariants.{Exponential}
 use Rattle.sctp_state.specs.Options.{Options}
 use Rattle.sctp_state.specs.Timers.{Timer, timer, start}
 use Rattle.sctp_state.specs.Events.{OnConnected, OnConnectionRestarted, OnAborted}
-use Rattle.sctp_state.specs.Capabilities.{Capabilities, announced, told_by, negotiated, zero_checksum_enabled}
-use Rattle.sctp_state.specs.Cookie.{Cookie, magic, cookie_bytes, read_cookie, refusal_text}
+use Rattle.sctp_capabilities.specs.Capabilities.{Capabilities, announced, told_by, negotiated, zero_checksum_enabled}
+use Rattle.sctp_capabilities.specs.Cookie.{Cookie, magic, cookie_bytes, read_cookie, refusal_text}
 use Rattle.sctp_send_queue.specs.Queue.{Queue}
 use Rattle.sctp_send_queue.specs.Restarted.{reset}
 use Rattle.sctp_send_queue.specs.Settings.{set_mode}

@@ -7,7 +7,7 @@ use Rattle.sctp_packet.specs.Packet.{HeaderTree}
 use Rattle.sctp_state.specs.declared.api.ErrorKind.{ErrorKind}
 use Rattle.sctp_state.specs.Numbers.{more}
 use Rattle.sctp_state.specs.Options.{Options}
-use Rattle.sctp_state.specs.Capabilities.{zero_checksum_enabled}
+use Rattle.sctp_capabilities.specs.Capabilities.{zero_checksum_enabled}
 use Rattle.sctp_state.specs.Events.{Event, SendPacket, OnError, tell}
 use Rattle.sctp_table.specs.Association.{Tcb, Context}
 

@@ -7,8 +7,8 @@ use Rattle.sctp_wire.specs.Item.{Item, item_bytes, Takes, Tiles}
 use Rattle.sctp_wire.specs.Parameter.{ParameterTree, IsParameter}
 use Rattle.sctp_packet.specs.Chunk.{ChunkTree, data_chunk, init_chunk, init_ack_chunk, heartbeat_request_chunk, cookie_echo_chunk, idata_chunk, re_config_chunk, sack_chunk, heartbeat_ack_chunk, abort_chunk, shutdown_chunk, shutdown_ack_chunk, error_chunk, cookie_ack_chunk, shutdown_complete_chunk, forward_tsn_chunk, i_forward_tsn_chunk, unknown_chunk}
 use Rattle.sctp_packet.specs.Grammar.{Each, IsChunk}
-use Rattle.sctp_state.specs.declared.state_cookie.StateCookieError.{StateCookieError}
-use Rattle.sctp_state.specs.Cookie.{Cookie, u32_in, cookie_from, tested, read_cookie}
+use Rattle.sctp_capabilities.specs.declared.state_cookie.StateCookieError.{StateCookieError}
+use Rattle.sctp_capabilities.specs.Cookie.{Cookie, u32_in, cookie_from, tested, read_cookie}
 use Rattle.std.specs.Prelude.{Bool, true, false, Result, Ok, Err}
 use Rattle.sctp_table_laws.specs.Sound.{AreRead, HasBytes, HasSomeCookie}
 use Rattle.sctp_table_laws.proofs.FairLemmas.{IsFairParameter}

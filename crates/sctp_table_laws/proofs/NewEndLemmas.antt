@@ -3,7 +3,7 @@ use Rattle.std.proofs.Common.{◌≡◌, ℕ, inr, Bool, true, false, bit_or, []
 use Rattle.std.specs.List.Sorted.{IsStrictlySortedBy}
 use Rattle.std.specs.Ordering.{nat_cmp}
 use Rattle.sctp_state.specs.Options.{Options}
-use Rattle.sctp_state.specs.Capabilities.{Capabilities, negotiated}
+use Rattle.sctp_capabilities.specs.Capabilities.{Capabilities, negotiated}
 use Rattle.sctp_send_queue.specs.Queue.{queue}
 use Rattle.sctp_send_queue.specs.Settings.{set_mode}
 use Rattle.sctp_send_queue.specs.Readiness as queued

@@ -10,10 +10,10 @@ use Rattle.sctp_wire.specs.Parameter.{parameter_value}
 use Rattle.sctp_packet.specs.Chunk.{ChunkTree, init_ack_chunk, cookie_ack_chunk}
 use Rattle.sctp_packet.specs.Written.{chunk_bytes, chunks_bytes, chunk_value, init_fields}
 use Rattle.sctp_state.specs.Options.{defaults}
-use Rattle.sctp_state.specs.Capabilities.{agreed}
-use Rattle.sctp_state.specs.Cookie.{Cookie, CookieFits, cookie_bytes, capability_bytes, read_cookie}
-use Rattle.sctp_state.specs.declared.state_cookie.StateCookieError.{StateCookieError}
-use Rattle.sctp_state.proofs.CookieLemmas.{read_cookie-bytes}
+use Rattle.sctp_capabilities.specs.Capabilities.{agreed}
+use Rattle.sctp_capabilities.specs.Cookie.{Cookie, CookieFits, cookie_bytes, capability_bytes, read_cookie}
+use Rattle.sctp_capabilities.specs.declared.state_cookie.StateCookieError.{StateCookieError}
+use Rattle.sctp_capabilities.proofs.CookieLemmas.{read_cookie-bytes}
 use Rattle.sctp_state.specs.Events.{Event, OnConnected}
 use Rattle.sctp_state.specs.declared.api.SctpImplementation.TheVariants.{DcsctpRs}
 use Rattle.sctp_table.specs.Association.{Identity, Tcb, tcb, State, CookieEchoed, Established, Closed, CookieWait, Open, Context, Endpoint, context, where_open}

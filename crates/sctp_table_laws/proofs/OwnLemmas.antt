@@ -8,9 +8,9 @@ use Rattle.std.proofs.lemmas.Bool.{and_parts}
 use Rattle.sctp_wire.specs.Parameter.{ParameterTree, state_cookie, supported_extensions, forward_tsn_supported, zero_checksum_acceptable}
 use Rattle.sctp_packet.specs.Grammar.{Each}
 use Rattle.sctp_state.specs.Options.{Options}
-use Rattle.sctp_state.specs.Capabilities.{where_enabled, extensions, announced, same_method}
-use Rattle.sctp_state.specs.Cookie.{Cookie, cookie_bytes}
-use Rattle.sctp_state.proofs.CookieLemmas.{length-cookie_bytes}
+use Rattle.sctp_capabilities.specs.Capabilities.{where_enabled, extensions, announced, same_method}
+use Rattle.sctp_capabilities.specs.Cookie.{Cookie, cookie_bytes}
+use Rattle.sctp_capabilities.proofs.CookieLemmas.{length-cookie_bytes}
 use Rattle.sctp_table_laws.specs.Sound.{HasBytes}
 use Rattle.sctp_table_laws.proofs.FairLemmas.{IsFairParameter}
 use Rattle.sctp_table_laws.proofs.HeardLemmas.{each_append, each_push}

@@ -8,7 +8,7 @@ use Rattle.sctp_packet.specs.Packet.{PacketTree}
 use Rattle.sctp_packet.specs.Grammar.{Each}
 use Rattle.sctp_packet.specs.ChunkText.{chunk_text}
 use Rattle.sctp_state.specs.declared.api.ErrorKind.TheVariants.{ParseFailed}
-use Rattle.sctp_state.specs.Capabilities.{Capabilities}
+use Rattle.sctp_capabilities.specs.Capabilities.{Capabilities}
 use Rattle.sctp_rx.specs.Tracker.{is_ack_due}
 use Rattle.sctp_table.specs.Association.{Tcb, CookieEchoed, Established, ShutdownPending, ShutdownSent, ShutdownReceived, ShutdownAckSent, State, Closed, CookieWait, Open, Context, Standing, Endpoint}
 use Rattle.sctp_table.specs.Heartbeats.{info_in, answered_if, is_last, no_info, answered_by, answered}

@@ -6,10 +6,10 @@ use Rattle.sctp_wire.specs.Cause.{missing_mandatory_parameter, cookie_received_w
 use Rattle.sctp_packet.specs.Chunk.{ChunkTree, InitTree, init_chunk, init_ack_chunk, abort_chunk, error_chunk, cookie_ack_chunk, shutdown_ack_chunk}
 use Rattle.sctp_packet.specs.Grammar.{Each}
 use Rattle.sctp_state.specs.declared.api.ErrorKind.TheVariants.{ParseFailed, ProtocolViolation, WrongSequence}
-use Rattle.sctp_state.specs.declared.state_cookie.StateCookieError.{StateCookieError}
+use Rattle.sctp_capabilities.specs.declared.state_cookie.StateCookieError.{StateCookieError}
 use Rattle.sctp_state.specs.Options.{Options}
-use Rattle.sctp_state.specs.Capabilities.{Capabilities, announced, negotiated, zero_checksum_enabled}
-use Rattle.sctp_state.specs.Cookie.{Cookie, cookie_bytes, read_cookie, refusal_text}
+use Rattle.sctp_capabilities.specs.Capabilities.{Capabilities, announced, negotiated, zero_checksum_enabled}
+use Rattle.sctp_capabilities.specs.Cookie.{Cookie, cookie_bytes, read_cookie, refusal_text}
 use Rattle.sctp_state.specs.Events.{OnConnected, OnConnectionRestarted, OnAborted}
 use Rattle.sctp_send_queue.specs.Queue.{Queue}
 use Rattle.sctp_table.specs.Association.{Identity, Tcb, tcb, Phase, CookieEchoed, Established, ShutdownPending, ShutdownSent, ShutdownReceived, ShutdownAckSent, State, Closed, CookieWait, Open, Context, Endpoint}

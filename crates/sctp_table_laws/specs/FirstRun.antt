@@ -5,8 +5,8 @@ use Rattle.rand_core.specs.Stream.{Stream, next_u32}
 use Rattle.sctp_serial.specs.Messages.{Message}
 use Rattle.sctp_packet.specs.Chunk.{ChunkTree, FragmentTree, InitTree, init_chunk, init_ack_chunk, data_chunk, sack_chunk, cookie_echo_chunk, cookie_ack_chunk}
 use Rattle.sctp_state.specs.Options.{SendOptions, defaults}
-use Rattle.sctp_state.specs.Capabilities.{announced}
-use Rattle.sctp_state.specs.Cookie.{cookie_bytes}
+use Rattle.sctp_capabilities.specs.Capabilities.{announced}
+use Rattle.sctp_capabilities.specs.Cookie.{cookie_bytes}
 use Rattle.sctp_state.specs.Events.{Event, SendPacket, OnConnected, OnBufferedAmountLow, OnLifecycleMessageFullySent, OnLifecycleMessageDelivered, OnLifecycleEnd, silent}
 use Rattle.sctp_table.specs.Association.{Endpoint, fresh}
 use Rattle.sctp_table.specs.Packets.{header_to}

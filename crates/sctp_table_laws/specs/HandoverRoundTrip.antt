@@ -8,7 +8,7 @@ use Rattle.rand_core.specs.Stream.{Stream as Words}
 use Rattle.sctp_serial.specs.Unwrapped.{words}
 use Rattle.sctp_state.specs.Numbers.{most_u32}
 use Rattle.sctp_state.specs.Options.{Options}
-use Rattle.sctp_state.specs.Capabilities.{Capabilities, zero_checksum_enabled, negotiated}
+use Rattle.sctp_capabilities.specs.Capabilities.{Capabilities, zero_checksum_enabled, negotiated}
 use Rattle.sctp_state.specs.Events.{Told, OnConnected, OnClosed}
 use Rattle.sctp_state.specs.Validity.{is_valid_state}
 use Rattle.sctp_rx.specs.Seen.{has_gap}

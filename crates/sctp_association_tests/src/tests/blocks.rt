@@ -2,9 +2,10 @@
 
 use crate::tests::{Seven, block, built};
 use sctp_association::{Context, OutgoingPacket, Phase, State, TransmissionControlBlock};
+use sctp_capabilities::Capabilities;
 use sctp_serial::{SocketTime, StreamId, Tsn};
 use sctp_state::api::handover::HandoverSocketState;
-use sctp_state::{Capabilities, Options, SocketEvent, SocketHandoverState};
+use sctp_state::{Options, SocketEvent, SocketHandoverState};
 use std::alloc::{AllocError, Global};
 
 fn opened(alloc: Global) -> State {

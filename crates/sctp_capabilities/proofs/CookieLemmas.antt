@@ -7,10 +7,10 @@ use Rattle.std.proofs.lemmas.Bool.{eq-eqb, ne_eqb}
 use Rattle.sctp_wire.specs.Fields.{be16, be32, be64}
 use Rattle.sctp_wire.specs.Serialize.{IsEncodable}
 use Rattle.sctp_wire.specs.Parameter.{state_cookie, parameter_item, parameter_value}
-use Rattle.sctp_state.specs.Capabilities.{Capabilities}
-use Rattle.sctp_state.specs.Cookie.{Cookie, CapabilitiesFit, CookieFits, SpellsCapabilities, SpellsCookie, magic, flag_byte, is_set, u16_in, u32_in, u64_in, capability_bytes, cookie_bytes, cookie_from, has_tags, read_cookie}
-use Rattle.sctp_state.specs.declared.state_cookie.StateCookieError.{StateCookieError}
-use Rattle.sctp_state.specs.declared.state_cookie.StateCookieError.TheVariants.{InvalidSize, InvalidMagic, InvalidVerificationTag}
+use Rattle.sctp_capabilities.specs.Capabilities.{Capabilities}
+use Rattle.sctp_capabilities.specs.Cookie.{Cookie, CapabilitiesFit, CookieFits, SpellsCapabilities, SpellsCookie, magic, flag_byte, is_set, u16_in, u32_in, u64_in, capability_bytes, cookie_bytes, cookie_from, has_tags, read_cookie}
+use Rattle.sctp_capabilities.specs.declared.state_cookie.StateCookieError.{StateCookieError}
+use Rattle.sctp_capabilities.specs.declared.state_cookie.StateCookieError.TheVariants.{InvalidSize, InvalidMagic, InvalidVerificationTag}
 
 -- ---- fields at their places
 

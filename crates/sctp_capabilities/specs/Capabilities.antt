@@ -3,7 +3,7 @@ use Rattle.std.specs.Prelude.{ℕ, ◌==◌, ◌&&◌, ◌||◌, not, min, Bool,
 use Rattle.std.specs.List.{list_any}
 use Rattle.sctp_wire.specs.Parameter.{ParameterTree, supported_extensions, forward_tsn_supported, zero_checksum_acceptable}
 use Rattle.sctp_state.specs.Options.{Options}
-use Rattle.sctp_state.specs.declared.capabilities.Capabilities as given
+use Rattle.sctp_capabilities.specs.declared.capabilities.Capabilities as given
 
 pub record Capabilities : Type 0 where
   pub partial_reliability : Bool

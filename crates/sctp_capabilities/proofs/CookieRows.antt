@@ -4,10 +4,10 @@ use Rattle.std.specs.Prelude.{codes}
 use Rattle.sctp_wire.specs.Fields.{be16, be32, be64}
 use Rattle.sctp_wire.specs.Parameter.{ParameterTree, state_cookie, supported_extensions, forward_tsn_supported, zero_checksum_acceptable}
 use Rattle.sctp_state.specs.Options.{Options, defaults}
-use Rattle.sctp_state.specs.Capabilities.{Capabilities, agreed, announced, negotiated, nothing, told_by, told_by_init, told_by_init_ack}
-use Rattle.sctp_state.specs.Cookie.{Cookie, capability_bytes, cookie_bytes, cookie_from, read_cookie}
+use Rattle.sctp_capabilities.specs.Capabilities.{Capabilities, agreed, announced, negotiated, nothing, told_by, told_by_init, told_by_init_ack}
+use Rattle.sctp_capabilities.specs.Cookie.{Cookie, capability_bytes, cookie_bytes, cookie_from, read_cookie}
 use Rattle.sctp_state.specs.Errors.{is_exhausted, no_errors, one_error}
-use Rattle.sctp_state.specs.declared.state_cookie.StateCookieError.TheVariants.{InvalidSize, InvalidMagic, InvalidVerificationTag}
+use Rattle.sctp_capabilities.specs.declared.state_cookie.StateCookieError.TheVariants.{InvalidSize, InvalidMagic, InvalidVerificationTag}
 
 -- ---- a cookie, by its bytes
 

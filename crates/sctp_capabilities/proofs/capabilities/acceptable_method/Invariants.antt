@@ -1,7 +1,7 @@
 use Rattle.std.proofs.Common.{◌≡◌, map, drop}
 use Rattle.sctp_parameter.specs.ParameterViews.{parameter_tree}
-use Rattle.sctp_state.specs.Capabilities.{method_in}
-use Rattle.sctp_state.proofs.capabilities.acceptable_method.Given as goal
+use Rattle.sctp_capabilities.specs.Capabilities.{method_in}
+use Rattle.sctp_capabilities.proofs.capabilities.acceptable_method.Given as goal
 
 -- no parameter so far names a method
 abbrev pub invariant-loop-parameter : goal.invariant-loop-parameter

@@ -4,13 +4,13 @@ ghost use Rattle.std.specs.Prelude.{◌≡◌, ◌||◌, map, IfOk};
 ghost use Rattle.std.specs.List.{list_any};
 ghost use Rattle.sctp_parameter.specs.ParameterViews.{parameter_tree};
 ghost use Rattle.sctp_state.specs.Options.{Options as Settings, options_of};
-ghost use Rattle.sctp_state.specs.Capabilities.{Capabilities as Value, capabilities_of, nothing, zero_checksum_enabled, extensions, announced, extensions_in, method_in, is_forward_tsn_supported, has_type, forward_tsn, told_by, told_by_init, told_by_init_ack, negotiated, agreed};
+ghost use Rattle.sctp_capabilities.specs.Capabilities.{Capabilities as Value, capabilities_of, nothing, zero_checksum_enabled, extensions, announced, extensions_in, method_in, is_forward_tsn_supported, has_type, forward_tsn, told_by, told_by_init, told_by_init_ack, negotiated, agreed};
 
-use crate::Options;
 use sctp_parameter::{
     ForwardTsnSupportedParameter, Parameter, SupportedExtensionsParameter,
     ZeroChecksumAcceptableParameter,
 };
+use sctp_state::Options;
 use sctp_wire::{
     ZERO_CHECKSUM_ALTERNATE_ERROR_DETECTION_METHOD_NONE, ZeroChecksumAlternateErrorDetectionMethod,
 };

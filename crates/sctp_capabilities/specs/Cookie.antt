@@ -4,10 +4,10 @@ use Rattle.std.specs.Prelude.{◌≡◌, ℕ, ◌==◌, ◌&&◌, ◌<◌, ◌^�
 use Rattle.std.specs.Int.{w16, w32, w64, from_be_bytes}
 use Rattle.std.specs.List.{starts_with}
 use Rattle.sctp_wire.specs.Fields.{be16, be32, be64}
-use Rattle.sctp_state.specs.Capabilities.{Capabilities, capabilities_of}
-use Rattle.sctp_state.specs.declared.state_cookie.StateCookie.{StateCookie}
-use Rattle.sctp_state.specs.declared.state_cookie.StateCookieError.{StateCookieError}
-use Rattle.sctp_state.specs.declared.state_cookie.StateCookieError.TheVariants.{InvalidSize, InvalidMagic, InvalidVerificationTag}
+use Rattle.sctp_capabilities.specs.Capabilities.{Capabilities, capabilities_of}
+use Rattle.sctp_capabilities.specs.declared.state_cookie.StateCookie.{StateCookie}
+use Rattle.sctp_capabilities.specs.declared.state_cookie.StateCookieError.{StateCookieError}
+use Rattle.sctp_capabilities.specs.declared.state_cookie.StateCookieError.TheVariants.{InvalidSize, InvalidMagic, InvalidVerificationTag}
 
 pub record Cookie : Type 0 where
   pub peer_tag : ℕ

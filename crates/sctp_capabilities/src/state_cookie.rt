@@ -2,8 +2,8 @@
 
 ghost use Rattle.std.specs.Prelude.{◌≡◌, ◌+◌, ◌≤◌, true, Some, Ok, Err, ◌++◌, length, IfOk, IfErr, IsOkAnd, OnOk};
 ghost use Rattle.sctp_wire.specs.Fields.{be32};
-ghost use Rattle.sctp_state.specs.Capabilities.{capabilities_of};
-ghost use Rattle.sctp_state.specs.Cookie.{Cookie, CapabilitiesFit, CookieFits, cookie_of, cookie_bytes, cookie_from, capability_bytes, has_tags, read_cookie, refusal_text, u16_in, u32_in, u64_in};
+ghost use Rattle.sctp_capabilities.specs.Capabilities.{capabilities_of};
+ghost use Rattle.sctp_capabilities.specs.Cookie.{Cookie, CapabilitiesFit, CookieFits, cookie_of, cookie_bytes, cookie_from, capability_bytes, has_tags, read_cookie, refusal_text, u16_in, u32_in, u64_in};
 
 use crate::Capabilities;
 use sctp_serial::{Tsn, ZeroChecksumAlternateErrorDetectionMethod};

@@ -1,7 +1,7 @@
 use Rattle.std.proofs.Common.{◌≡◌, map, drop}
 use Rattle.sctp_parameter.specs.ParameterViews.{parameter_tree}
-use Rattle.sctp_state.specs.Capabilities.{extensions_in}
-use Rattle.sctp_state.proofs.capabilities.supported_chunk_types.Given as goal
+use Rattle.sctp_capabilities.specs.Capabilities.{extensions_in}
+use Rattle.sctp_capabilities.proofs.capabilities.supported_chunk_types.Given as goal
 
 -- no parameter so far names chunk types
 abbrev pub invariant-loop-parameter : goal.invariant-loop-parameter

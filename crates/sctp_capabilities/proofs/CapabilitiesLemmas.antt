@@ -9,7 +9,7 @@ use Rattle.sctp_wire.specs.Fields.{be32}
 use Rattle.sctp_wire.specs.Serialize.{IsEncodable, inner_items, padded_item}
 use Rattle.sctp_wire.specs.Parameter.{ParameterTree, supported_extensions, forward_tsn_supported, zero_checksum_acceptable, parameter_item, parameter_value, parameter_is_whole}
 use Rattle.sctp_state.specs.Options.{Options}
-use Rattle.sctp_state.specs.Capabilities.{Capabilities, announced, i_data, re_config, forward_tsn, i_forward_tsn, where_enabled, extensions_in, method_in, is_forward_tsn_supported, has_type, same_method, negotiated, agreed, exchanged, told_with, told_by_init, told_by_init_ack}
+use Rattle.sctp_capabilities.specs.Capabilities.{Capabilities, announced, i_data, re_config, forward_tsn, i_forward_tsn, where_enabled, extensions_in, method_in, is_forward_tsn_supported, has_type, same_method, negotiated, agreed, exchanged, told_with, told_by_init, told_by_init_ack}
 
 pub list_any_map : {X Y : Type 0} (p : Y → Bool) (f : X → Y) (xs : List X) → list_any p (map f xs) ≡ list_any (λ x. p (f x)) xs
 list_any_map p f [] = refl

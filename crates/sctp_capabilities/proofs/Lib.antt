@@ -1,0 +1,3 @@
+pub mod CapabilitiesLemmas
+pub mod CookieLemmas
+mod CookieRows

@@ -1,0 +1,2 @@
+pub mod Capabilities
+pub mod Cookie
