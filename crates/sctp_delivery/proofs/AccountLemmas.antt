@@ -5,6 +5,8 @@ use Rattle.std.proofs.lemmas.Bool.{and_parts}
 use Rattle.sctp_rules.specs.State.{Message, Transfer, has}
 use Rattle.sctp_rules.specs.Rules.{Event, give_up, leave, after, run}
 use Rattle.sctp_tx_rules.specs.Led.{given_up_by, given_ups, recorded, delivered, ids_at}
+use Rattle.sctp_tx_rules.specs.Records.{are_distinct}
+use Rattle.sctp_tx_rules.proofs.RecordLemmas.{one_more}
 use Rattle.sctp_tx_rules.proofs.RestLemmas.{has_more, all_records}
 use Rattle.sctp_tx_rules.proofs.SackLemmas.{delivered_more, ids_more}
 use Rattle.sctp_table.specs.Association.{Endpoint}
@@ -47,6 +49,7 @@ module _ (message : ℕ → Message) (mixed : Bool) where
 -- where its records named these so far
 pub record Accounted (lifecycle : ℕ → Option ℕ) (s : Side) (gone : List ℕ) (x : Transfer) : Type 0 where
   pub gone_is : (p : ℕ) → x.sender.given_up p ≡ has p gone
+  pub once : are_distinct gone ≡ true
   pub told_is : delivered s.told ≡ ids_at lifecycle x.reports
 
 has_behind : (p : ℕ) (gone more : List ℕ) → has p (gone ++ more) ≡ (has p more || has p gone)
@@ -70,6 +73,9 @@ module _ (message : ℕ → Message) (lifecycle : ℕ → Option ℕ) (mixed : B
         goes_gone message mixed _ mid y c.goes p
         ∙ (ap (λ (ps : List ℕ). has p ps || mid.sender.given_up p) (sym c.gone)
         ∙ (ap (λ (b : Bool). has p (recorded (told_of e)) || b) (ap (λ (f : ℕ → Bool). f p) offers.given_up ∙ a.gone_is p) ∙ sym (has_behind p gone (recorded (told_of e)))));
+    once =
+        ap (λ (ps : List ℕ). are_distinct (gone ++ ps)) c.gone
+        ∙ one_more message mixed gone c.goes.events mid c.goes.may a.once (λ p. ap (λ (f : ℕ → Bool). f p) offers.given_up ∙ a.gone_is p);
     told_is =
         delivered_more s.told (told_of e).events
         ∙ (ap (λ (ids : List ℕ). ids ++ delivered (told_of e).events) a.told_is
@@ -82,5 +88,6 @@ module _ (message : ℕ → Message) (lifecycle : ℕ → Option ℕ) (mixed : B
   pub accounts_in : (y : Transfer) → GoesOn message mixed is_receiving x y → Accounted lifecycle s (gone ++ []) y
   accounts_in y g = accounts_still lifecycle s gone y (record {
     gone_is = λ p. goes_gone message mixed is_receiving x y g p ∙ (ap (λ (ps : List ℕ). has p ps || x.sender.given_up p) (none_given g.events g.all) ∙ a.gone_is p);
+    once = a.once;
     told_is = a.told_is ∙ ap (λ (ps : List ℕ). ids_at lifecycle ps) (sym (ap (λ (z : Transfer). z.reports) (sym g.leads) ∙ none_reported message mixed g.events x g.all));
   })

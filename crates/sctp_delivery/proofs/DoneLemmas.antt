@@ -11,6 +11,7 @@ use Rattle.sctp_rules.proofs.ClaimsLemmas.{claimed}
 use Rattle.sctp_rx_rules.specs.View.{ready_of}
 use Rattle.sctp_outstanding.specs.Items.{no_items}
 use Rattle.sctp_tx_rules.specs.Led.{id_of, ids_at}
+use Rattle.sctp_tx_rules.specs.Records.{are_distinct}
 use Rattle.sctp_tx_rules.proofs.RestLemmas.{rest_outgoing}
 use Rattle.sctp_table.specs.Association.{State, Closed, CookieWait, Open}
 use Rattle.sctp_course.specs.Course.{Side, state_of}
@@ -28,6 +29,7 @@ pub record Point (s : Side) (offers : List Offer) (ready : List messages.Message
   pub fits : Fits offers ready (take (length ready) places)
   pub skipped : SkippedAreGivenUp offers gone (take (length ready) places)
   pub reports : ReportsAreTrue offers s.told (take (length ready) places)
+  pub once : are_distinct gone ≡ true
   pub rest : IsAtRest s → AllAreDone offers gone (take (length ready) places)
 
 -- ---- ids and places
@@ -112,5 +114,6 @@ module _ (message : ℕ → Message) (lifecycle : ℕ → Option ℕ) (mixed : B
           fits = subst (λ (ps : List ℕ). Fits offers ready ps) (sym first) (places_fit message offers there mixed x ready kept few is);
           skipped = subst (λ (ps : List ℕ). SkippedAreGivenUp offers gone ps) (sym first) skipped_now;
           reports = subst (λ (ps : List ℕ). ReportsAreTrue offers s.told ps) (sym first) reports_now;
+          once = a.once;
           rest = λ r. subst (λ (ps : List ℕ). AllAreDone offers gone ps) (sym first) (rest_now (rests message lifecycle mixed (state_of s) (queue_of s) x kept sends r.none_waits r.none_kept));
         }

@@ -72,8 +72,8 @@ at_first message lifecycle mixed false short a b words_a words_b = first_flows m
 -- nor was anything told
 accounted_first : (lifecycle : ℕ → Option ℕ) (from_a : Bool) (a b : Options) (words_a words_b : Stream)
     → Accounted lifecycle (side_of from_a (course.start a b words_a words_b)) [] start
-accounted_first lifecycle true a b words_a words_b = record { gone_is = λ p. refl; told_is = refl }
-accounted_first lifecycle false a b words_a words_b = record { gone_is = λ p. refl; told_is = refl }
+accounted_first lifecycle true a b words_a words_b = record { gone_is = λ p. refl; once = refl; told_is = refl }
+accounted_first lifecycle false a b words_a words_b = record { gone_is = λ p. refl; once = refl; told_is = refl }
 
 -- ---- what each act keeps
 
@@ -103,6 +103,7 @@ delivered a b words_a words_b turns own other follows none bounds from_a =
       fits = λ early late is. (d.points early late is).fits;
       skipped = λ early late is. (d.points early late is).skipped;
       reports = λ early late is. (d.points early late is).reports;
+      once = λ early late is. (d.points early late is).once;
       rest = λ early late is. (d.points early late is).rest;
     }
 
@@ -163,6 +164,7 @@ delivered_then a b words_a words_b turns from_a last own other follows none k =
         fits = λ early late is. (d.points early late is).fits;
         skipped = λ early late is. (d.points early late is).skipped;
         reports = λ early late is. (d.points early late is).reports;
+        once = λ early late is. (d.points early late is).once;
         rest = λ early late is. (d.points early late is).rest;
       };
       reports = λ early late told before.

@@ -6,6 +6,7 @@ use Rattle.sctp_state.specs.Events.{Event}
 use Rattle.sctp_state.specs.Options.{Options, plainly}
 use Rattle.sctp_rules.specs.State.{has}
 use Rattle.sctp_tx_rules.specs.Led.{delivered}
+use Rattle.sctp_tx_rules.specs.Records.{are_distinct}
 use Rattle.sctp_table_laws.specs.Mapped.{Carried}
 use Rattle.sctp_course.specs.Course.{Pair, Turn, run, side_of, FollowsTheRules, HasNotEnded, AreGiven, start}
 use Rattle.sctp_course.specs.Handing.{readied, text, two_come}
@@ -66,6 +67,8 @@ pub record Delivers (from_a : Bool) (turns : List (Bool × Turn)) (w : Pair) : T
       → SkippedAreGivenUp (accepted from_a early w) (given_up from_a early w) (take (length (readied (not from_a) early w)) places)
   pub reports : (early late : List (Bool × Turn)) → turns ≡ early ++ late
       → ReportsAreTrue (accepted from_a early w) (side_of from_a (run early w)).told (take (length (readied (not from_a) early w)) places)
+  -- no two records of the sender name the same message
+  pub once : (early late : List (Bool × Turn)) → turns ≡ early ++ late → are_distinct (given_up from_a early w) ≡ true
   pub rest : (early late : List (Bool × Turn)) → turns ≡ early ++ late → IsAtRest (side_of from_a (run early w))
       → AllAreDone (accepted from_a early w) (given_up from_a early w) (take (length (readied (not from_a) early w)) places)
 

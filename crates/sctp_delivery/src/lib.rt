@@ -14,7 +14,7 @@ ghost use Rattle.sctp_delivery.specs.Skipping.{OneIsSkipped};
 /// ready stays ready or is handed out, and the places of the messages only grow at their back.
 ///
 /// Of the others, at each point: an ordered message that isn't ready, while a later one of its stream is, was given up, and a
-/// record of its sender names it (RFC 3758 section 3.5). A lifecycle id that the sender tells as delivered is that of a message
+/// record of its sender names it (RFC 3758 section 3.5). No two records name the same message. A lifecycle id that the sender tells as delivered is that of a message
 /// that is ready. And where nothing waits at the sender and it keeps no fragment, each message that it accepted is ready or was
 /// given up.
 ///

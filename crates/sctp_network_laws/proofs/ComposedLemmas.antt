@@ -24,8 +24,9 @@ use Rattle.sctp_network_laws.proofs.RunsLemmas.{runs_extends}
 use Rattle.sctp_network_laws.proofs.JoinedLemmas.{are_joined}
 use Rattle.sctp_network_laws.proofs.UpToEndLemmas.{IsOver, UpToEnd, up_to_end}
 use Rattle.sctp_network_laws.proofs.PrefixLemmas.{one_is_longer}
+use Rattle.sctp_tx_rules.specs.Records.{are_distinct}
 use Rattle.sctp_network_laws.proofs.PointsLemmas.{IsDeliveredAt}
-use Rattle.sctp_network_laws.proofs.LastingLemmas.{first_pair, r, IsKept, course_delivers, delivered_front, rests, prefix, prefix_then, delivered_beside, delivered_own, ends_delivering, b_parted, stands_first, behind_first, logged_first}
+use Rattle.sctp_network_laws.proofs.LastingLemmas.{first_pair, r, IsKept, course_delivers, delivered_front, once, rests, prefix, prefix_then, delivered_beside, delivered_own, ends_delivering, b_parted, stands_first, behind_first, logged_first}
 use Rattle.sctp_network_laws.proofs.ProperLemmas.{worlds_proper}
 
 pub led_on : (w v : World) (actions : List Action) → IsLed w → All ActionFits actions → Runs actions w v → IsInBytes v → IsLed v
@@ -180,6 +181,7 @@ module _ (w : World) (l : IsLed w) (rules : FollowsTheRules w) where
       fits = λ early late e st. (each early late e st).fits;
       skipped = λ early late e st. (each early late e st).skipped;
       reports = λ early late e st. (each early late e st).reports;
+      once = up.along_run (λ z. are_distinct (gone x z.log) ≡ true) (once u led u_rules up.stands x from);
       rest =
           up.along_run (λ z. is_at_rest x z ≡ true → AllAreDone (offers x z.log) (gone x z.log) (ready_places x z.log from.places))
           (rests u led u_rules up.stands x from);

@@ -12,6 +12,7 @@ use Rattle.sctp_table_laws.specs.Mapped.{Carried, map_event, as_written}
 use Rattle.sctp_rx.specs.Delivery as orders
 use Rattle.sctp_rules.specs.State.{has}
 use Rattle.sctp_tx_rules.specs.Led.{delivered}
+use Rattle.sctp_tx_rules.specs.Records.{are_distinct}
 use Rattle.sctp_tx_rules.proofs.SackLemmas.{delivered_more}
 use Rattle.sctp_course.specs.Course as course
 use Rattle.sctp_course.specs.Course.{Pair, Turn, goes, run, start, HasNotEnded, AreGiven, MayTurn}
@@ -43,7 +44,7 @@ use Rattle.sctp_network_laws.proofs.ReportedLemmas.{reported_told, reported_by_t
 use Rattle.sctp_network_laws.proofs.BetweenLemmas.{IsDelivered, same_delivered, offered_between}
 use Rattle.sctp_network_laws.proofs.BlockLemmas as block
 use Rattle.sctp_network_laws.proofs.BlockLemmas.{AreBlocks, offers_run, ready_run, handed_run, IsReached, nothing_yet, prefix_each, same_front}
-use Rattle.sctp_network_laws.proofs.PointsLemmas.{IsDeliveredAt, is_a_other, delivered_each, at_rest}
+use Rattle.sctp_network_laws.proofs.PointsLemmas.{IsDeliveredAt, is_a_other, delivered_each, once_at, at_rest}
 use Rattle.sctp_network_laws.proofs.DeliveredLemmas.{timely, turn_resets, turn_more, IsPoint, Delivering, delivering, along_each, stands_along}
 use Rattle.sctp_network_laws.proofs.ClosingLemmas.{IsParted, parted_of, IsFront, in_front, read_front, first_offers, first_hands, still_prefix, IsTelling, told_front}
 
@@ -225,6 +226,11 @@ module _ (w : World) (l : IsLed w) (rules : FollowsTheRules w) (none : Stands w.
       (λ u. is_at_rest x u ≡ true → AllAreDone (offers x u.log) (gone x u.log) (ready_places x u.log from.places))
       (λ u p. at_rest word_of_a word_of_b x r.turns first_pair from p.early p.late u p.split p.reached p.both)
       actions first_world w l.runs (d.points r.turns [] first_pair refl refl stand reached)
+
+  pub once : (x : End) (from : courses.Delivers (is_a x) r.turns first_pair) → AlongRun (λ u. are_distinct (gone x u.log) ≡ true) actions first_world w l.runs
+  once x from =
+      along_each (IsPoint word_of_a word_of_b r.turns first_pair) (λ u. are_distinct (gone x u.log) ≡ true)
+      (λ u p. once_at x r.turns first_pair from p.early p.late u.log p.split p.reached) actions first_world w l.runs (d.points r.turns [] first_pair refl refl stand reached)
 
   pub prefix : (x : End) (early late : List Entry) → w.log ≡ early ++ late → orders.Extends (handed_out x early) (ready x early)
   prefix x early late is =

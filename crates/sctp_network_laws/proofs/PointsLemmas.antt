@@ -11,6 +11,7 @@ use Rattle.sctp_table.specs.Calls.{keeps_items}
 use Rattle.sctp_table.specs.Shown as socket
 use Rattle.sctp_table_laws.specs.Mapped.{Carried, map_end, as_written}
 use Rattle.sctp_tx_rules.specs.Led.{delivered}
+use Rattle.sctp_tx_rules.specs.Records.{are_distinct}
 use Rattle.sctp_course.specs.Course as course
 use Rattle.sctp_course.specs.Course.{Pair, Turn, run, state_of}
 use Rattle.sctp_course.specs.Handing.{readied}
@@ -126,6 +127,9 @@ module _ (x : End) (all : List (Bool × Turn)) (c : Pair) (from : courses.Delive
       same_delivered (accepted (is_a x) done c) (offers x log) (readied (not (is_a x)) done c) (ready (other x) log) (given_up (is_a x) done c) (gone x log)
       (delivered (course.side_of (is_a x) (run done c)).told) (reported x log) from.places (r.offers_are x) (ready_so_far done log r) (r.gone_are x) (r.reported_are x)
       (record { fits = from.fits done rest e; skipped = from.skipped done rest e; reports = from.reports done rest e })
+
+  pub once_at : (done rest : List (Bool × Turn)) (log : List Entry) → all ≡ done ++ rest → IsReached c done log → are_distinct (gone x log) ≡ true
+  once_at done rest log e r = ap are_distinct (r.gone_are x) ∙ from.once done rest e
 
   pub delivered_each : (log early late : List Entry) → IsReached c [] [] → AreBlocks all c [] log → log ≡ early ++ late → IsDeliveredAt x from.places early
   delivered_each log early late r h is =

@@ -6,6 +6,7 @@ use Rattle.sctp_serial.specs.Messages.{Message}
 use Rattle.sctp_state.specs.Events.{GivenUp}
 use Rattle.sctp_rules.specs.State.{has}
 use Rattle.sctp_tx_rules.specs.Led.{delivered_by}
+use Rattle.sctp_tx_rules.specs.Records.{are_distinct}
 use Rattle.sctp_delivery.specs.Accepted.{Offer}
 use Rattle.sctp_delivery.specs.Windows.{numbered, IsWithin, Stamp, Stamps, no_stamps, IsYoung}
 use Rattle.sctp_delivery.specs.Delivery.{Fits, SkippedAreGivenUp, IsReady, AllAreDone}
@@ -106,14 +107,15 @@ ready_places x log places = take (length (ready (other x) log)) places
 
 -- Of what end x accepted: one list of places serves all along the log, until an end first tells that an association is over. At each
 -- point its beginning fits; an ordered message that isn't ready, while a later one of its stream is, was given up; and each id that
--- x told as delivered is that of a ready message. Between events, where nothing is queued at x and no item kept, each message is
--- ready or was given up.
+-- x told as delivered is that of a ready message. Between events, no two records of x name the same message; and where nothing is
+-- queued at x and no item kept, each message is ready or was given up.
 pub record Delivers (x : End) (actions : List Action) (w v : World) (runs : Runs actions w v) : Type 0 where
   pub places : List ℕ
   pub fits : (early late : List Entry) → v.log ≡ early ++ late → Stands early → Fits (offers x early) (ready (other x) early) (ready_places x early places)
   pub skipped : (early late : List Entry) → v.log ≡ early ++ late → Stands early → SkippedAreGivenUp (offers x early) (gone x early) (ready_places x early places)
   pub reports : (early late : List Entry) → v.log ≡ early ++ late → Stands early → (id : ℕ) → has id (reported x early) ≡ true
       → IsReady (offers x early) (ready_places x early places) id
+  pub once : AlongRun (λ u. Stands u.log → are_distinct (gone x u.log) ≡ true) actions w v runs
   pub rest : AlongRun (λ u. Stands u.log → is_at_rest x u ≡ true → AllAreDone (offers x u.log) (gone x u.log) (ready_places x u.log places)) actions w v runs
 
 -- what a run has to keep until then

@@ -143,7 +143,7 @@ plain_happens =
                                   (
                                     (inl refl, omega arith),
                                     (
-                                      (omega arith, refl),
+                                      (omega arith, refl, refl),
                                       (
                                         due_first,
                                         (

@@ -63,7 +63,7 @@ module _ (message : ℕ → Message) (mixed : Bool) (x : Transfer) (k : Kept mes
   pub unsent_dropped : (p : ℕ) (w : Waiting) → queue p ≡ Some w → w.begun ≡ false → Sends message mixed x (give_up p ∷ []) (put queue p None)
   unsent_dropped p w e b =
       let y = q.waits p w e b in
-      sends (give_up p ∷ []) _ ((y.below, not_partly (x.sender.partly p) refl), tt) (queued_drop message mixed x.sender k.outgoing queue q p w e b) refl
+      sends (give_up p ∷ []) _ ((y.below, not_partly (x.sender.partly p) refl, y.not_given), tt) (queued_drop message mixed x.sender k.outgoing queue q p w e b) refl
     where
       not_partly : (c : Bool) → x.sender.partly p ≡ c → x.sender.partly p ≡ false
       not_partly false h = h
@@ -74,8 +74,8 @@ module _ (message : ℕ → Message) (mixed : Bool) (x : Transfer) (k : Kept mes
   rest_dropped p w e b =
       let h = q.partly p w e b in
       let below = k.outgoing.begun_below p (k.outgoing.partly_begun p h) in
-      sends (close p ∷ give_up p ∷ []) _ (h, ((below, put_at x.sender.partly p false p refl), tt)) (queued_close message mixed x.sender k.outgoing queue q p w e b) refl
+      sends (close p ∷ give_up p ∷ []) _ (h, ((below, put_at x.sender.partly p false p refl, k.outgoing.partly_kept p h), tt)) (queued_close message mixed x.sender k.outgoing queue q p w e b) refl
 
-  -- a message whose end has its TSN is given up
-  pub sent_given_up : (p : ℕ) → p < x.sender.accepted → queue p ≡ None → Sends message mixed x (give_up p ∷ []) queue
-  sent_given_up p h e = sends (give_up p ∷ []) queue ((h, (q.gone p h e).not_partly), tt) (queued_give message mixed x.sender k.outgoing queue q p e) refl
+  -- a message whose end has its TSN is given up, once
+  pub sent_given_up : (p : ℕ) → p < x.sender.accepted → x.sender.given_up p ≡ false → queue p ≡ None → Sends message mixed x (give_up p ∷ []) queue
+  sent_given_up p h live e = sends (give_up p ∷ []) queue ((h, (q.gone p h e).not_partly, live), tt) (queued_give message mixed x.sender k.outgoing queue q p e) refl

@@ -149,7 +149,7 @@ module _ (message : ℕ → Message) (mixed : Bool) where
       × (mixed ≡ false → (q : ℕ) → x.sender.partly q ≡ false)
   IsAllowed x (number p bytes more) = (x.sender.partly p ≡ true) × (gathered p x.sender.numbered ++ (bytes ++ more) ≡ (message p).payload)
   IsAllowed x (close p) = x.sender.partly p ≡ true
-  IsAllowed x (give_up p) = (p < x.sender.accepted) × (x.sender.partly p ≡ false)
+  IsAllowed x (give_up p) = (p < x.sender.accepted) × (x.sender.partly p ≡ false) × (x.sender.given_up p ≡ false)
   IsAllowed x (data_comes t) = (t < count x.sender) × ((fragment x.sender t).placeholder ≡ false) × (x.receiver.seen t ≡ false)
   IsAllowed x (late_comes t) =
       (t < count x.sender) × (x.receiver.seen t ≡ false)

@@ -49,10 +49,10 @@ pub fn partly_sent_is_given_up()
         Sends message mixed x (close p ∷ give_up p ∷ []) (put queue p None) }
 {}
 
-/// A message is given up all of whose fragments have a TSN.
+/// A message is given up all of whose fragments have a TSN, and that was not given up before.
 pub fn sent_is_given_up()
     ensures sends { (message : ℕ → Message) (mixed : Bool) (x : Transfer) (queue : ℕ → Option Waiting) (p : ℕ) →
-        Kept message mixed x → Queued message x.sender queue → p < x.sender.accepted → queue p ≡ None →
+        Kept message mixed x → Queued message x.sender queue → p < x.sender.accepted → x.sender.given_up p ≡ false → queue p ≡ None →
         Sends message mixed x (give_up p ∷ []) queue }
 {}
 

@@ -193,7 +193,7 @@ module _ (message : ℕ → Message) (lifecycle : ℕ → Option ℕ) (mixed : B
 
     ended_row : GivesUp message lifecycle mixed x ms s p (give_up p ∷ [])
     ended_row =
-        let r = sent_given_up message mixed x k (queue_of message o ms) queue.queued p below out in
+        let r = sent_given_up message mixed x k (queue_of message o ms) queue.queued p below live out in
         let frame : ((r : ℕ) → r ≢ p → Frame o (gives_up o p) r) = (λ r d. record { number = refl; given_up = put_off o.given_up p true r d; parts_are = refl }) in
         record {
           may = r.may;

@@ -17,3 +17,4 @@ pub mod AcceptLemmas
 pub mod SendLemmas
 pub mod StartLemmas
 pub mod RestLemmas
+pub mod RecordLemmas

@@ -1,4 +1,5 @@
 pub mod Led
 pub mod Points
+pub mod Records
 pub mod Rows
 pub mod Shown

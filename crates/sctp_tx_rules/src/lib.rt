@@ -2,6 +2,7 @@
 //! queue, the items and the windows. Each law is the contract of a function with an empty body.
 #![tactic(auto)]
 
+ghost use Rattle.sctp_tx_rules.specs.Records.{AcceptingKeepsOne, LeavingKeepsOne, NewHaveNone, SendingKeepsOne, TakingKeepsOne, ValuesHaveOneRecord};
 ghost use Rattle.sctp_tx_rules.specs.Rows.{Accepts, BeginningsShow, CarryingStays, DiscardsShow, Expires, FastPacketsAreSent, GivesUp, LifetimesEnd, Loses, NewShow, OffersAreQueued, OthersAreNotShown, PacketsAreSent, PointsAreDue, Produces, RecordsAreExact, ResetsShow, RestIsRest, SacksAreHeard, SettingsShow, TimesOut};
 
 /// A new queue, and no item, show the start. Where messages were accepted and nothing was sent, an association may begin, in
@@ -54,6 +55,19 @@ pub fn messages_are_given_up()
 /// What a run of rules gives up are the messages that its records name.
 pub fn records_are_exact()
     ensures { RecordsAreExact }
+{}
+
+/// In one association each message that is given up has one record, whatever its cause: the records that the user took and those
+/// that wait name it once, and no other message. A new association has none; acceptance, SACKs, losses, timeouts, lifetimes and
+/// packets keep it, and so does taking a record. In the values: no two records name the same message, a fragment that is kept
+/// is given up exactly where its message has a record, and a message in the queue that isn't to be discarded has none.
+pub fn each_message_has_one_record()
+    ensures new { NewHaveNone }
+    ensures accepting { AcceptingKeepsOne }
+    ensures sending { SendingKeepsOne }
+    ensures leaving { LeavingKeepsOne }
+    ensures taking { TakingKeepsOne }
+    ensures values { ValuesHaveOneRecord }
 {}
 
 /// A forward point that is due may be sent: it passes fragments of messages given up alone, from the acknowledged ones on
