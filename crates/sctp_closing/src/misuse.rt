@@ -3,7 +3,7 @@
 ghost use Rattle.std.specs.Prelude.{◌≡◌, ◌++◌, codes, option_map, string_bytes, take, OnOk, IfOk};
 ghost use Rattle.sctp_packet.specs.ChunkText.{chunk_text};
 ghost use Rattle.sctp_packet.specs.ChunkView.{chunk_tree};
-ghost use Rattle.sctp_packet.specs.Views.{unknown_tree};
+ghost use Rattle.sctp_control_chunk.specs.Views.{unknown_tree};
 ghost use Rattle.sctp_wire.specs.Item.{item_bytes};
 ghost use Rattle.sctp_packet.specs.Written.{chunk_item};
 ghost use Rattle.sctp_capabilities.specs.Capabilities.{capabilities_of};

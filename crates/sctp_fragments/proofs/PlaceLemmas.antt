@@ -1,5 +1,5 @@
 -- Intervals by their place in a vector.
-use Rattle.std.proofs.Common.{◌≡◌, ℕ, zero, suc, ◌+◌, ◌-◌, ◌<◌, ◌≤◌, Bool, true, false, None, List, [], ◌∷◌, ◌++◌, length, get_or, ltb, not, take, drop, set, refl, ap, sym, subst, ◌∙◌, arith, append_assoc, drop-cons, map}
+use Rattle.std.proofs.Common.{◌≡◌, ℕ, zero, suc, ◌+◌, ◌-◌, ◌<◌, ◌≤◌, Bool, true, false, None, List, [], ◌∷◌, ◌++◌, length, get_or, ltb, not, take, drop, set, refl, ap, sym, subst, ◌∙◌, arith, append_assoc, drop-cons, map, length-append}
 use Rattle.std.specs.List.{remove}
 use Rattle.std.specs.Prelude.{Result, Ok, Err, OnErr}
 use Rattle.std.proofs.lemmas.Bool.Decides.{nat_tests}

@@ -2,9 +2,8 @@
 
 ghost use Rattle.std.specs.Prelude.{◌≡◌, ◌+◌, length, IfOk};
 ghost use Rattle.sctp_serial.specs.Messages.{message_of};
-ghost use Rattle.sctp_fragments.specs.Held.{bytes_of};
+ghost use Rattle.sctp_fragments.specs.Held.{bytes_of, message_of_run};
 ghost use Rattle.sctp_fragments.specs.Intervals.{held_of, run_of};
-ghost use Rattle.sctp_fragments.specs.Held.{message_of_run};
 
 use crate::interval::Interval;
 use crate::reassembly_key::ReassemblyKey;

@@ -7,7 +7,7 @@ ghost use Rattle.std.specs.Option.{option_map};
 ghost use Rattle.sctp_parameter.specs.ParameterViews.{parameter_tree};
 ghost use Rattle.sctp_packet.specs.Chunk.{init_ack_chunk};
 ghost use Rattle.sctp_packet.specs.ChunkView.{chunk_tree};
-ghost use Rattle.sctp_packet.specs.Views.{init_tree};
+ghost use Rattle.sctp_control_chunk.specs.Views.{init_tree};
 ghost use Rattle.sctp_capabilities.specs.Capabilities.{capabilities_of, negotiated, told_by};
 ghost use Rattle.sctp_capabilities.specs.Cookie.{cookie_of};
 ghost use Rattle.sctp_state.specs.Options.{IsValid, options_of};

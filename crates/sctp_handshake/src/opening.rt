@@ -5,7 +5,7 @@ ghost use Rattle.rand_core.specs.Stream.{next_u32};
 ghost use Rattle.sctp_wire.specs.Cause.{missing_mandatory_parameter};
 ghost use Rattle.sctp_parameter.specs.ParameterViews.{parameter_tree};
 ghost use Rattle.sctp_packet.specs.Chunk.{abort_chunk};
-ghost use Rattle.sctp_packet.specs.Views.{init_ack_tree, init_tree};
+ghost use Rattle.sctp_control_chunk.specs.Views.{init_ack_tree, init_tree};
 ghost use Rattle.sctp_table.specs.Packets.{add, emit, packet_to, rounded};
 ghost use Rattle.sctp_endpoint.specs.Views.{context_of, endpoint_of, identity_of, opened_endpoint_of, phase_of, standing_of, tcb_of};
 ghost use Rattle.sctp_table.specs.Opening as table;

@@ -2,13 +2,13 @@ pub use Rattle.sctp_chunk.specs.Chunk
 pub use Rattle.sctp_chunk.specs.Written
 pub use Rattle.sctp_chunk.specs.Grammar
 pub use Rattle.sctp_chunk.specs.Views
-pub use Rattle.sctp_chunk.specs.InitFront
+pub use Rattle.sctp_control_chunk.specs.InitFront
 pub mod Packet
 pub mod PacketView
 pub mod Builder
 pub mod Faults
 pub mod BuilderView
 pub mod ReadBack
-pub use Rattle.sctp_chunk.specs.ChunkView
+pub use Rattle.sctp_control_chunk.specs.ChunkView
 pub use Rattle.sctp_chunk.specs.ChunkText
 pub use Rattle.sctp_chunk.specs.Covered

@@ -15,9 +15,8 @@ use Rattle.sctp_chunk.specs.declared.forward_tsn.SkippedStream.{SkippedStream}
 use Rattle.sctp_chunk.specs.declared.forward_tsn.SkippedStream.TheVariants.{ForwardTsn, IForwardTsn}
 use Rattle.sctp_fragments.specs.Runs.{with_item, from_rank}
 use Rattle.sctp_fragments.specs.Key.{pair_rank}
-use Rattle.sctp_fragments.specs.Held.{Held, rank_of, intervals_of, is_complete, is_in_turn, left_by, without_first_of, NoneInTurn, NoneComplete}
+use Rattle.sctp_fragments.specs.Held.{Held, rank_of, intervals_of, is_complete, is_in_turn, left_by, without_first_of, NoneInTurn, NoneComplete, message_of_run}
 use Rattle.sctp_reassembly.specs.Delivery.{OrderedStream, UnorderedStream, OrderedDelivery, UnorderedDelivery, fresh_ordered, fresh_unordered, at_rest, preceded_by, delivering, deliver, deliver_within, ordered_arrival, ordered_forward, settled, unordered_arrival, unordered_forward, unordered_forward_tsn, held_from}
-use Rattle.sctp_fragments.specs.Held.{message_of_run}
 use Rattle.sctp_reassembly.specs.Streams.{Entries, Streams, Outcome, stream_at, opened, written, changed, is_named, forgotten, no_streams, is_far, held_as, place_of, ordered_number, unordered_number, with_ordered, with_unordered, unchanged, add_ordered, add_unordered, add_in_order, add, skip_ordered, skip_unordered, skip_of, skip, followed_by, skip_each, by_stream, dropped_to, forward, reset}
 use Rattle.sctp_reassembly.specs.Settled.{AreInOrder, IsSettledInOrder, IsSettled, AreSettled}
 use Rattle.sctp_reassembly.proofs.DeliverLemmas.{length_found}

@@ -3,9 +3,8 @@ use Rattle.std.specs.Prelude.{◌≡◌, ℕ, suc, ◌+◌, ◌==◌, ◌⊎◌,
 use Rattle.std.specs.List.{find, All}
 use Rattle.sctp_serial.specs.Messages.{Message}
 use Rattle.sctp_fragments.specs.Runs.{flat, IsMessage}
-use Rattle.sctp_fragments.specs.Held.{Held, rank_of, goes_on, begins, ends, is_in_turn}
+use Rattle.sctp_fragments.specs.Held.{Held, rank_of, goes_on, begins, ends, is_in_turn, message_of_run}
 use Rattle.sctp_reassembly.specs.Delivery.{OrderedDelivery}
-use Rattle.sctp_fragments.specs.Held.{message_of_run}
 
 -- the fragment under the key of a rank
 abbrev pub held_at : ℕ → List Held → Option Held

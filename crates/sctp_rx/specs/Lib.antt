@@ -4,11 +4,11 @@ pub use Rattle.sctp_tracker.specs.Tracker
 pub use Rattle.sctp_tracker.specs.Sack
 pub use Rattle.sctp_tracker.specs.Told
 pub use Rattle.sctp_tracker.specs.TrackerHandover
-pub use Rattle.sctp_reassembly.specs.Runs
-pub use Rattle.sctp_reassembly.specs.Key
-pub use Rattle.sctp_reassembly.specs.KeyLaws
-pub use Rattle.sctp_reassembly.specs.Held
-pub use Rattle.sctp_reassembly.specs.Intervals
+pub use Rattle.sctp_fragments.specs.Runs
+pub use Rattle.sctp_fragments.specs.Key
+pub use Rattle.sctp_fragments.specs.KeyLaws
+pub use Rattle.sctp_fragments.specs.Held
+pub use Rattle.sctp_fragments.specs.Intervals
 pub use Rattle.sctp_reassembly.specs.Delivery
 pub use Rattle.sctp_reassembly.specs.Streams
 pub use Rattle.sctp_reassembly.specs.ReassemblyQueue

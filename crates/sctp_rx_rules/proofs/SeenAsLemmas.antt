@@ -6,7 +6,7 @@ use Rattle.std.proofs.lemmas.List.{map-append}
 use Rattle.sctp_serial.specs.Unwrapped.{origin}
 use Rattle.sctp_rx.specs.Runs.{is_next, last_of, IsLinked, put_in}
 use Rattle.sctp_rx.specs.Held.{Held, rank_of, goes_on, is_complete, payload_of}
-use Rattle.sctp_rx.specs.Delivery.{message_of_run}
+use Rattle.sctp_rx.specs.Held.{message_of_run}
 use Rattle.sctp_rules.specs.State.{IsAmong}
 use Rattle.sctp_rules.specs.Reassembly.{joined, Chunk, Queue, KeyOf, next_of, nth, ReadyRun, RunTaken, Added}
 use Rattle.sctp_rx_rules.specs.View.{View, IsFiled, IsSeenAs, chunk_of_held, key_of_held, ready_of}
