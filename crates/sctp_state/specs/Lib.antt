@@ -13,3 +13,4 @@ pub mod Errors
 pub mod Validity
 pub mod Scheduler
 pub mod Thresholds
+pub mod ErrorNumbers
