@@ -6,9 +6,11 @@ mod data;
 mod flags;
 mod forward_tsn;
 mod raw;
+mod runs;
 mod sack;
 
 pub use data::{Data, DataChunk, IDataChunk};
 pub use forward_tsn::{ForwardTsnChunk, IForwardTsnChunk, SkippedStream};
 pub use raw::{RawChunk, write_chunk_header};
+pub use runs::are_runs;
 pub use sack::{GapAckBlock, SackChunk};

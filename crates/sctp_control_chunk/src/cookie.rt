@@ -70,7 +70,7 @@ impl CookieAckChunk {
     pub const TYPE: u8 = 11;
 
     /// What the chunk says; `InvalidType` where it is of another type, `InvalidLength` where it has a value.
-    pub fn try_from(raw: RawChunk<'_>) -> Result<CookieAckChunk, ChunkParseError>
+    pub fn try_from(_alloc: Global, raw: RawChunk<'_>) -> Result<CookieAckChunk, ChunkParseError>
         ensures ok { IfOk result (λ c. IsChunk (raw_chunk raw.entry) (cookie_ack_tree c)) }
         ensures refused { IfErr result (RefusesChunkAs 11 (raw_chunk raw.entry)) }
     {

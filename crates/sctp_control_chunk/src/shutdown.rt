@@ -12,7 +12,7 @@ use crate::flags::reflected_text;
 use sctp_chunk::RawChunk;
 use sctp_serial::Tsn;
 use sctp_wire::{ChunkParseError, SerializableTlv, ends_here, push_u32, u32_at};
-use std::alloc::AllocError;
+use std::alloc::{AllocError, Global};
 use std::fmt;
 
 const FLAG_REFLECTED: u8 = 1;
@@ -28,7 +28,7 @@ impl ShutdownChunk {
     pub const TYPE: u8 = 7;
 
     /// What the chunk says; `InvalidType` where it is of another type, `InvalidLength` where its value has not four bytes.
-    pub fn try_from(raw: RawChunk<'_>) -> Result<ShutdownChunk, ChunkParseError>
+    pub fn try_from(_alloc: Global, raw: RawChunk<'_>) -> Result<ShutdownChunk, ChunkParseError>
         ensures ok { IfOk result (λ c. IsChunk (raw_chunk raw.entry) (shutdown_tree c)) }
         ensures refused { IfErr result (RefusesChunkAs 7 (raw_chunk raw.entry)) }
     {
@@ -75,7 +75,7 @@ impl ShutdownAckChunk {
     pub const TYPE: u8 = 8;
 
     /// What the chunk says; `InvalidType` where it is of another type, `InvalidLength` where it has a value.
-    pub fn try_from(raw: RawChunk<'_>) -> Result<ShutdownAckChunk, ChunkParseError>
+    pub fn try_from(_alloc: Global, raw: RawChunk<'_>) -> Result<ShutdownAckChunk, ChunkParseError>
         ensures ok { IfOk result (λ c. IsChunk (raw_chunk raw.entry) (shutdown_ack_tree c)) }
         ensures refused { IfErr result (RefusesChunkAs 8 (raw_chunk raw.entry)) }
     {
@@ -120,7 +120,7 @@ impl ShutdownCompleteChunk {
     pub const TYPE: u8 = 14;
 
     /// What the chunk says; `InvalidType` where it is of another type, `InvalidLength` where it has a value.
-    pub fn try_from(raw: RawChunk<'_>) -> Result<ShutdownCompleteChunk, ChunkParseError>
+    pub fn try_from(_alloc: Global, raw: RawChunk<'_>) -> Result<ShutdownCompleteChunk, ChunkParseError>
         ensures ok { IfOk result (λ c. IsChunk (raw_chunk raw.entry) (shutdown_complete_tree c)) }
         ensures refused { IfErr result (RefusesChunkAs 14 (raw_chunk raw.entry)) }
     {

@@ -1,5 +1,5 @@
 -- A walk through items and blocks.
-use Rattle.std.proofs.Common.{◌≡◌, ℕ, zero, suc, ◌+◌, ◌<◌, ◌≤◌, Bool, false, cond, List, [], ◌∷◌, length, drop, slice_index_or, min, refl, ap, sym, subst, ◌∙◌, arith}
+use Rattle.std.proofs.Common.{◌≡◌, ℕ, zero, suc, ◌+◌, ◌<◌, ◌≤◌, Bool, true, false, IsTrue, cond, List, [], ◌∷◌, length, drop, slice_index_or, min, refl, ap, sym, subst, ◌∙◌, arith}
 use Rattle.std.specs.Prelude.{nat_le, slice_get}
 use Rattle.std.proofs.Math.Seq.{drop-cons}
 use Rattle.std.proofs.lemmas.Bool.Decides.{nat_tests}
@@ -8,7 +8,7 @@ use Rattle.sctp_chunk.specs.Covered.{is_covered, AreRuns}
 use Rattle.sctp_outstanding.specs.Item.{Item}
 use Rattle.sctp_outstanding.specs.Items.{Kept, change_at}
 use Rattle.sctp_outstanding.specs.Sack.{settled, is_new_at, new_bytes_at, newly_of, bytes_of}
-use Rattle.sctp_outstanding.specs.Passes.{IsCursor, settle_from, acked_from, below_from}
+use Rattle.sctp_outstanding.specs.Passes.{IsCursor, IsWalk, settle_from, acked_from, below_from}
 
 -- ---- blocks
 
@@ -74,8 +74,28 @@ below-done bs (suc k) offset place most (i ∷ is) h = below-done bs k offset pl
 
 -- ---- a cursor goes on
 
-pub cursor-on : (bs : List GapAckBlock) (offset from : ℕ) → IsCursor bs offset from → IsCursor bs (offset + 1) from
+cursor-on : (bs : List GapAckBlock) (offset from : ℕ) → IsCursor bs offset from → IsCursor bs (offset + 1) from
 cursor-on bs offset from h = record { within = h.within; same = λ o le. h.same o (omega (arith, le)); lowest = h.lowest; runs = h.runs }
+
+pub walk-on : (b : Bool) (bs : List GapAckBlock) (offset from : ℕ) → IsWalk b bs offset from → IsWalk b bs (offset + 1) from
+walk-on true bs offset from h = cursor-on bs offset from h
+walk-on false bs offset from h = tt
+
+pub walk-start : (b : Bool) (bs : List GapAckBlock) → (IsTrue b → AreRuns 0 bs) → IsWalk b bs 1 0
+walk-start true bs h = record { within = omega arith; same = λ o le. refl; lowest = 0; runs = h refl }
+walk-start false bs h = tt
+
+pub walk-in : (b : Bool) (bs : List GapAckBlock) (offset from : ℕ) → b ≡ true → IsWalk b bs offset from → IsCursor bs offset from
+walk-in true bs offset from e h = h
+walk-in false bs offset from e h = cc
+
+pub walk-of : (b : Bool) (bs : List GapAckBlock) (offset from : ℕ) → b ≡ true → IsCursor bs offset from → IsWalk b bs offset from
+walk-of true bs offset from e h = h
+walk-of false bs offset from e h = tt
+
+pub walk-off : (b : Bool) (bs : List GapAckBlock) (offset from : ℕ) → b ≡ false → IsWalk b bs offset from
+walk-off true bs offset from e = cc
+walk-off false bs offset from e = tt
 
 -- ---- one item more
 

@@ -1,5 +1,5 @@
 -- How far a walk through items and blocks has come. Each says that what is done and what is left give the whole.
-use Rattle.std.specs.Prelude.{◌≡◌, ℕ, zero, suc, ◌+◌, ◌≤◌, Bool, Option, Some, None, List, [], ◌∷◌, drop, length, slice_get}
+use Rattle.std.specs.Prelude.{◌≡◌, ℕ, zero, suc, ◌+◌, ◌≤◌, Bool, true, false, Option, Some, None, List, [], ◌∷◌, drop, length, slice_get}
 use Rattle.sctp_chunk.specs.declared.sack.GapAckBlock.{GapAckBlock}
 use Rattle.sctp_chunk.specs.Covered.{is_covered, AreRuns}
 use Rattle.sctp_outstanding.specs.Item.{Item}
@@ -12,6 +12,11 @@ pub record IsCursor (blocks : List GapAckBlock) (offset from : ℕ) : Type 0 whe
   pub same : (o : ℕ) → offset ≤ o → is_covered (drop from blocks) o ≡ is_covered blocks o
   pub lowest : ℕ
   pub runs : AreRuns lowest (drop from blocks)
+
+-- blocks that aren't runs are searched whole
+abbrev pub IsWalk : (is_in_runs : Bool) → List GapAckBlock → (offset from : ℕ) → Type 0
+IsWalk true blocks offset from = IsCursor blocks offset from
+IsWalk false blocks offset from = Unit {0}
 
 -- how many of the first k items are acknowledged
 abbrev pub acked_before : (k : ℕ) → List Item → ℕ

@@ -18,7 +18,11 @@ highest_end (b ∷ bs) = max b.end (highest_end bs)
 abbrev pub bound : ℕ
 bound = origin + 2 ^ 62
 
--- its cumulative TSN lies from the own point to the highest TSN, and no block reaches above that
+-- a cumulative TSN from the own point to the highest TSN
+abbrev pub is_in_range : (cumulative : ℕ) → Items → Bool
+is_in_range cumulative s = nat_le s.acked cumulative && (nat_lt cumulative (next_number s) && nat_lt cumulative bound)
+
+-- its cumulative TSN is such a one, and no block reaches above the highest TSN
 abbrev pub is_valid : (cumulative : ℕ) → List GapAckBlock → Items → Bool
 is_valid cumulative blocks s = nat_le s.acked cumulative && (nat_lt (cumulative + highest_end blocks) (next_number s) && nat_lt cumulative bound)
 

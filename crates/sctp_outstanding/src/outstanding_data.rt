@@ -5,7 +5,6 @@ ghost use Rattle.std.specs.Duration.{as_nanos};
 ghost use Rattle.sctp_chunk.specs.Views.{fragment_tree, forward_tsn_tree, i_forward_tsn_tree};
 ghost use Rattle.sctp_chunk.specs.Chunk.{forward_tsn_chunk, i_forward_tsn_chunk};
 ghost use Rattle.sctp_outstanding.specs.Entries.{ssn_skip, mid_skip};
-ghost use Rattle.sctp_chunk.specs.Covered.{AreRuns};
 ghost use Rattle.sctp_serial.specs.Unwrapped.{origin};
 ghost use Rattle.sctp_state.specs.Events.{give_up, tell_all};
 ghost use Rattle.sctp_outstanding.specs.Views.{discard_of, point_of};
@@ -14,7 +13,7 @@ ghost use Rattle.sctp_outstanding.specs.Items.{first_sent, inserted, begin_reset
 ghost use Rattle.sctp_outstanding.specs.Interrupted.{Same, SomeNacked, SomeExpired, SomeHeard};
 ghost use Rattle.sctp_outstanding.specs.Forward.{is_forward_due, entry_at, stops, passes_of, forward_point};
 ghost use Rattle.std.specs.List.{list_any};
-ghost use Rattle.sctp_outstanding.specs.Sack.{sample, sample_at, is_valid, staying, leaving, left_bytes, reports, hear, acked_bytes, highest_end};
+ghost use Rattle.sctp_outstanding.specs.Sack.{sample, sample_at, is_in_range, is_valid, staying, leaving, left_bytes, reports, hear, acked_bytes, highest_end};
 ghost use Rattle.sctp_state.specs.Events.{first_of};
 
 mod handover;
@@ -501,11 +500,11 @@ impl OutstandingData {
         Ok(bytes)
     }
 
-    /// Takes a SACK: items up to its cumulative TSN leave, in order, and it is told of each message whose end leaves
-    /// whether it was delivered; those in blocks are acknowledged, and those that no block covers any more are in flight
-    /// again; each that is in flight or missing below the highest one newly acknowledged by a block is reported missing,
-    /// and is lost by the third report. Without memory nothing changes, or only some of the first of these reports are
-    /// done.
+    /// Takes a SACK, with blocks of any kind: items up to its cumulative TSN leave, in order, and it is told of each message
+    /// whose end leaves whether it was delivered; those in blocks are acknowledged, and those that no block covers any more
+    /// are in flight again; each that is in flight or missing below the highest one newly acknowledged by a block is
+    /// reported missing, and is lost by the third report. Without memory nothing changes, or only some of the first of these
+    /// reports are done.
     pub fn handle_sack(
         &mut self,
         cumulative_tsn: Tsn,
@@ -513,8 +512,7 @@ impl OutstandingData {
         is_in_fast_recovery: bool,
         events: &mut Events,
     ) -> Result<AckInfo, AllocError>
-        requires valid { IsTrue (is_valid (number_of self.old cumulative_tsn.0) blocks.now self.old.items) }
-        requires runs { AreRuns 0 blocks.now }
+        requires valid { IsTrue (is_in_range (number_of self.old cumulative_tsn.0) self.old.items) }
         ensures items { let n = number_of self.old cumulative_tsn.0 in OnOk result (self.new ≡ record self.old { items = (hear n blocks.now is_in_fast_recovery self.old.items events.old).items }) }
         ensures told { let n = number_of self.old cumulative_tsn.0 in OnOk result (events.new ≡ (hear n blocks.now is_in_fast_recovery self.old.items events.old).told) }
         ensures lossy { let n = number_of self.old cumulative_tsn.0 in IfOk result (λ info. info.has_packet_loss ≡ (hear n blocks.now is_in_fast_recovery self.old.items events.old).is_lossy) }

@@ -2,15 +2,15 @@
 
 ghost use Rattle.std.specs.Prelude.{◌≡◌, ℕ, ◌+◌, ◌-◌, ◌<◌, ◌≤◌, ◌^◌, ◌&&◌, nat_le, min, length, take, drop, sum_by, slice_get, slice_index_or, if◌then◌else◌};
 ghost use Rattle.sctp_chunk.specs.declared.sack.GapAckBlock.{GapAckBlock};
-ghost use Rattle.sctp_chunk.specs.Covered.{AreRuns, is_covered};
+ghost use Rattle.sctp_chunk.specs.Covered.{is_covered};
 ghost use Rattle.sctp_outstanding.specs.Item.{chunk_size};
 ghost use Rattle.sctp_outstanding.specs.Items.{change_at};
 ghost use Rattle.sctp_outstanding.specs.Sack.{open_size, left_part, settle, newly_acked, below_highest, settled, new_bytes_at, is_new_at, highest_end};
-ghost use Rattle.sctp_outstanding.specs.Passes.{IsCursor, acked_at};
+ghost use Rattle.sctp_outstanding.specs.Passes.{IsCursor, IsWalk, acked_at};
 
 use crate::item::Item;
 use crate::kept::{Change, Kept};
-use sctp_chunk::GapAckBlock;
+use sctp_chunk::{GapAckBlock, are_runs};
 
 /// What a SACK acknowledged.
 #[derive(Clone, Copy, Debug, PartialEq, Eq)]
@@ -70,6 +70,29 @@ fn is_covered_at(blocks: &[GapAckBlock], at: usize, offset: usize) -> bool
     at < blocks.len() && blocks[at].start as usize <= offset
 }
 
+// Whether one of the blocks covers the offset.
+fn is_covered(blocks: &[GapAckBlock], offset: usize) -> bool
+    ensures { result ≡ is_covered blocks.now offset }
+{
+    blocks
+        .iter()
+        .any(|block| block.start as usize <= offset && offset <= block.end as usize)
+}
+
+// Whether a block covers the offset, and the first block that may cover the next one. Only in runs is it searched from
+// `from` on.
+fn look(blocks: &[GapAckBlock], is_in_runs: bool, from: usize, offset: usize) -> (usize, bool)
+    requires { IsWalk is_in_runs blocks.now offset from }
+    ensures cursor { IsWalk is_in_runs blocks.now offset result.0 }
+    ensures covered { result.1 ≡ is_covered blocks.now offset }
+{
+    if !is_in_runs {
+        return (from, is_covered(blocks, offset));
+    }
+    let block = skip_blocks(blocks, from, offset);
+    (block, is_covered_at(blocks, block, offset))
+}
+
 /// What blocks newly acknowledged.
 #[derive(Clone, Copy)]
 pub struct Covered {
@@ -93,27 +116,39 @@ fn open_at(kept: &Kept, place: usize) -> Option<usize>
 // Where the walk stands in the blocks, and what it found.
 #[derive(Clone, Copy)]
 struct Walk {
+    // Whether the blocks are runs.
+    is_in_runs: bool,
     block: usize,
     covered: Covered,
+}
+
+// A walk that begins.
+fn walk_through(blocks: &[GapAckBlock]) -> Walk
+    ensures cursor { IsWalk result.is_in_runs blocks.now 1 result.block }
+    ensures bytes { result.covered.bytes ≡ 0 }
+    ensures below { result.covered.below ≡ 0 }
+{
+    Walk {
+        is_in_runs: are_runs(0, blocks),
+        block: 0,
+        covered: Covered { bytes: 0, below: 0 },
+    }
 }
 
 // Settles the item at the place.
 fn settle_at(kept: &mut Kept, blocks: &[GapAckBlock], place: usize, walk: Walk) -> Walk
     requires small { place + 1 < 2 ^ 64 }
     requires within { place < length kept.old.items }
-    requires cursor { IsCursor blocks.now (place + 1) walk.block }
-    ensures cursor { IsCursor blocks.now (place + 1) result.block }
+    requires cursor { IsWalk walk.is_in_runs blocks.now (place + 1) walk.block }
+    ensures cursor { IsWalk result.is_in_runs blocks.now (place + 1) result.block }
     ensures items { kept.new ≡ record kept.old { items = change_at place (settled (is_covered blocks.now (place + 1))) kept.old.items } }
     ensures bytes { result.covered.bytes ≡ min (walk.covered.bytes + new_bytes_at blocks.now kept.old.is_interleaved place kept.old.items) (2 ^ 64 - 1) }
     ensures below { result.covered.below ≡ (if is_new_at blocks.now place kept.old.items then place else walk.covered.below) }
 {
-    let block = skip_blocks(blocks, walk.block, place + 1);
-    if !is_covered_at(blocks, block, place + 1) {
+    let (block, is_covered) = look(blocks, walk.is_in_runs, walk.block, place + 1);
+    if !is_covered {
         kept.change(place, Change::Uncover);
-        return Walk {
-            block,
-            covered: walk.covered,
-        };
+        return Walk { block, ..walk };
     }
     let found = open_at(kept, place);
     kept.change(place, Change::Ack);
@@ -124,7 +159,11 @@ fn settle_at(kept: &mut Kept, blocks: &[GapAckBlock], place: usize, walk: Walk) 
         },
         None => walk.covered,
     };
-    Walk { block, covered }
+    Walk {
+        block,
+        covered,
+        ..walk
+    }
 }
 
 // One where the item at the place is acknowledged.
@@ -139,17 +178,14 @@ fn acked_at(kept: &Kept, place: usize) -> usize
 }
 
 /// Acknowledges the items that blocks cover, and has those in flight again that no block covers any more. Behind the last
-/// block it looks no further than to the last item that was acknowledged.
+/// block it looks no further than to the last item that was acknowledged. Blocks that are runs are walked along with the
+/// items, others are searched for each item.
 pub fn settle_all(kept: &mut Kept, blocks: &[GapAckBlock]) -> Covered
-    requires { AreRuns 0 blocks.now }
     ensures items { kept.new ≡ record kept.old { items = settle blocks.now 1 kept.old.items } }
     ensures bytes { result.bytes ≡ min (newly_acked blocks.now kept.old.is_interleaved 1 kept.old.items) (2 ^ 64 - 1) }
     ensures below { result.below ≡ below_highest blocks.now 1 0 0 kept.old.items }
 {
-    let mut walk = Walk {
-        block: 0,
-        covered: Covered { bytes: 0, below: 0 },
-    };
+    let mut walk = walk_through(blocks);
     let end = highest_end(blocks) as usize;
     let mut acked = 0;
     for place in 0..kept.len() {

@@ -4,7 +4,7 @@ ghost use Rattle.std.specs.Prelude.{◌≡◌, ◌≤◌, ◌↔◌, IsTrue, Lis
 ghost use Rattle.sctp_chunk.specs.declared.sack.GapAckBlock.{GapAckBlock};
 ghost use Rattle.sctp_chunk.specs.Covered.{SameOffsets, IsMaximalRun, AreRuns, AreValid, Ascend};
 
-use sctp_chunk::{GapAckBlock, SackChunk};
+use sctp_chunk::{GapAckBlock, SackChunk, are_runs};
 
 /// The chunk with its gap ack blocks as the maximal runs of the offsets that they cover, ascending; the other fields stay.
 /// A block whose start is above its end covers nothing. It takes no memory, and n log n comparisons for n blocks.
@@ -32,20 +32,7 @@ pub fn validate_sack(sack: &SackChunk) -> bool
     ensures runs { IsTrue result ↔ AreRuns 2 sack.now.gap_ack_blocks.items }
     ensures valid { IsTrue result ↔ AreValid sack.now.gap_ack_blocks.items }
 {
-    are_runs(&sack.gap_ack_blocks)
-}
-
-fn are_runs(blocks: &[GapAckBlock]) -> bool
-    ensures { IsTrue result ↔ AreRuns 2 blocks.now }
-{
-    let mut lowest = 2;
-    for block in blocks {
-        if u32::from(block.start) < lowest || block.end < block.start {
-            return false;
-        }
-        lowest = u32::from(block.end) + 2;
-    }
-    true
+    are_runs(2, &sack.gap_ack_blocks)
 }
 
 fn clean(blocks: &mut Vec<GapAckBlock>)

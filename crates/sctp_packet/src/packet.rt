@@ -9,7 +9,7 @@ ghost use Rattle.sctp_chunk.specs.Grammar.{IsChunk, RefusesChunk};
 ghost use Rattle.sctp_control_chunk.specs.ChunkView.{chunk_tree};
 ghost use Rattle.sctp_packet.specs.Packet.{Accepts, Refuses, FitsHeader, joined_bytes, checksum_field};
 ghost use Rattle.sctp_packet.specs.PacketView.{header_tree, packet_tree};
-ghost use Rattle.sctp_packet.specs.Faults.{IsPacketFault};
+ghost use Rattle.sctp_packet.specs.Faults.{IsPacketFault, fault_number};
 
 use sctp_control_chunk::Chunk;
 use sctp_wire::{ChunkParseError, Policy, first_u16, first_u32, items_from_bytes};
@@ -39,6 +39,21 @@ pub enum PacketParseError {
     /// There was no memory for what was read.
     #[error("out of memory")]
     Memory,
+}
+
+impl PacketParseError {
+    /// The number of the fault, 1 to 5 in the order above. That of a chunk's fault is `ChunkParseError`'s own.
+    pub fn number(&self) -> u8
+        ensures { result ≡ fault_number self.now }
+    {
+        match self {
+            PacketParseError::TooShort => 1,
+            PacketParseError::TooLong => 2,
+            PacketParseError::InvalidChecksum => 3,
+            PacketParseError::Chunk(_) => 4,
+            PacketParseError::Memory => 5,
+        }
+    }
 }
 
 impl From<ChunkParseError> for PacketParseError {

@@ -2,8 +2,9 @@
 use Rattle.std.proofs.Common.{◌≡◌, ℕ, Bool, List, [], ◌∷◌, refl, sym, ap, subst, ◌∙◌}
 use Rattle.sctp_packet.specs.Chunk.{ChunkTree, FragmentTree, data_chunk}
 use Rattle.sctp_packet.specs.Packet.{PacketTree}
+use Rattle.sctp_packet.specs.Faults.{fault_number}
 use Rattle.sctp_packet.proofs.LawLemmas.{one_packet_lem, never_both_lem, one_reason_lem}
-use Rattle.sctp_probe.specs.Probe.{Answer, replied, refused, other, Probes, IsMessage, default_policy, packet_word, number_of, reply_bytes}
+use Rattle.sctp_probe.specs.Probe.{Answer, replied, refused, other, Probes, IsMessage, default_policy, packet_word, reply_bytes}
 
 same_chunk : (t u : ℕ) (i j : Bool) (f g : FragmentTree) (xs ys : List ChunkTree) → xs ≡ ys → xs ≡ data_chunk t i f ∷ [] → ys ≡ data_chunk u j g ∷ [] → (t ≡ u) × (f ≡ g)
 same_chunk t u i j f g xs ys s h k = (cc, cc)
@@ -25,7 +26,7 @@ one_answer_lem bytes (replied s p m r) other h k =
     absurd (k.no_message h.tsn h.fragment (subst (λ (x : PacketTree). IsMessage x.chunks h.tsn h.fragment) (one_packet_lem bytes h.packet k.packet h.accepted.packet k.accepted.packet) h.message))
 one_answer_lem bytes (refused n) (replied s p m r) h k = absurd (never_both_lem default_policy (packet_word bytes) bytes h.fault k.packet h.is_fault h.refused k.accepted)
 one_answer_lem bytes (refused n) (refused n') h k =
-    ap refused (h.number ∙ ap number_of (one_reason_lem default_policy (packet_word bytes) bytes h.fault k.fault h.is_fault k.is_fault h.refused k.refused) ∙ sym k.number)
+    ap refused (h.number ∙ ap fault_number (one_reason_lem default_policy (packet_word bytes) bytes h.fault k.fault h.is_fault k.is_fault h.refused k.refused) ∙ sym k.number)
 one_answer_lem bytes (refused n) other h k = absurd (never_both_lem default_policy (packet_word bytes) bytes h.fault k.packet h.is_fault h.refused k.accepted)
 one_answer_lem bytes other (replied s p m r) h k =
     absurd (h.no_message k.tsn k.fragment (subst (λ (x : PacketTree). IsMessage x.chunks k.tsn k.fragment) (one_packet_lem bytes k.packet h.packet k.accepted.packet h.accepted.packet) k.message))

@@ -6,6 +6,7 @@ use Rattle.sctp_wire.specs.Checksum.{with_zero_field}
 use Rattle.sctp_wire.specs.declared.checksum.Policy.{Policy}
 use Rattle.sctp_packet.specs.declared.packet.PacketParseError.{PacketParseError}
 use Rattle.sctp_packet.specs.declared.packet.PacketParseError.TheVariants as faults
+use Rattle.sctp_packet.specs.Faults.{fault_number}
 use Rattle.sctp_packet.specs.Chunk.{ChunkTree, FragmentTree, data_chunk, sack_chunk}
 use Rattle.sctp_packet.specs.Written.{chunks_bytes}
 use Rattle.sctp_packet.specs.Packet.{HeaderTree, PacketTree, IsFault, Accepts, Refuses, unsummed_bytes, packet_bytes}
@@ -66,18 +67,10 @@ pub data Answer : Type 0 where
   refused : ℕ → Answer
   other : Answer
 
--- the number of a fault
-abbrev pub number_of : PacketParseError → ℕ
-number_of faults.TooShort = 1
-number_of faults.TooLong = 2
-number_of faults.InvalidChecksum = 3
-number_of (faults.Chunk fault) = 4
-number_of faults.Memory = 5
-
 -- how a fault is reported
 abbrev pub refusal_of : PacketParseError → ProbeError
 refusal_of faults.Memory = errors.Memory
-refusal_of fault = errors.Refused (number_of fault)
+refusal_of fault = errors.Refused (fault_number fault)
 
 pub record Replies (bytes : List ℕ) (stream ppid : ℕ) (payload reply : List ℕ) : Type 0 where
   pub packet : PacketTree
@@ -99,7 +92,7 @@ pub record RefusesAs (bytes : List ℕ) (n : ℕ) : Type 0 where
   pub fault : PacketParseError
   pub is_fault : IsFault fault
   pub refused : Refuses default_policy (packet_word bytes) bytes fault
-  pub number : n ≡ number_of fault
+  pub number : n ≡ fault_number fault
 
 -- the answer to the bytes
 abbrev pub Probes : List ℕ → Answer → Type 0

@@ -36,11 +36,8 @@ fn refusal(fault: PacketParseError) -> ProbeError
     ensures { result ≡ refusal_of fault }
 {
     match fault {
-        PacketParseError::TooShort => ProbeError::Refused(1),
-        PacketParseError::TooLong => ProbeError::Refused(2),
-        PacketParseError::InvalidChecksum => ProbeError::Refused(3),
-        PacketParseError::Chunk(_) => ProbeError::Refused(4),
         PacketParseError::Memory => ProbeError::Memory,
+        fault => ProbeError::Refused(fault.number()),
     }
 }
 

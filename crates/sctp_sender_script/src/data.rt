@@ -4,7 +4,7 @@ use crate::Answer;
 use crate::fragment::{bytes, chunks_text, point_text, sack};
 use crate::line::Line;
 use sctp_outstanding::OutstandingData;
-use sctp_packet::{Data, clean_sack};
+use sctp_packet::Data;
 use sctp_serial::{Fsn, Mid, PpId, SocketTime, Ssn, StreamKey};
 use sctp_state::{Events, SocketHandoverState};
 use std::alloc::{AllocError, Global};
@@ -51,8 +51,8 @@ fn hear(
     line: &Line<'_>,
 ) -> Result<Answer, AllocError> {
     let tsn = line.tsn(0);
-    let clean = clean_sack(sack(alloc, tsn, line.short(1), line.short(2))?);
-    let blocks = clean.gap_ack_blocks.as_slice();
+    let chunk = sack(alloc, tsn, line.short(1), line.short(2))?;
+    let blocks = chunk.gap_ack_blocks.as_slice();
     if !data.is_sack_valid(tsn, blocks) {
         return Ok(Answer::Refused);
     }

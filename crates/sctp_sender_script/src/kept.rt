@@ -8,7 +8,7 @@ use sctp_outstanding::kept::{Change, Kept, placeholder};
 use sctp_outstanding::sack::{highest_end, settle_all, take_out};
 use sctp_outstanding::telling::tell_left;
 use sctp_outstanding::totals::Totals;
-use sctp_packet::{Data, GapAckBlock, clean_sack};
+use sctp_packet::{Data, GapAckBlock};
 use sctp_serial::{
     Fsn, LifecycleId, Mid, OutgoingMessageId, PpId, SocketTime, Ssn, StreamId, StreamKey, Tsn,
 };
@@ -61,8 +61,8 @@ fn counts(alloc: Global, kept: &Kept) -> Result<Answer, AllocError> {
 
 /// `settle FIRST LAST`: a block covers these places, from 1 on. The bytes newly covered, and how many items stand below.
 fn settle(alloc: Global, kept: &mut Kept, line: &Line<'_>) -> Result<Answer, AllocError> {
-    let clean = clean_sack(sack(alloc, Tsn(0), line.short(0), line.short(1))?);
-    let covered = settle_all(kept, &clean.gap_ack_blocks);
+    let chunk = sack(alloc, Tsn(0), line.short(0), line.short(1))?;
+    let covered = settle_all(kept, &chunk.gap_ack_blocks);
     Ok(Answer::Two(covered.bytes as u64, covered.below as u64))
 }
 

@@ -3,7 +3,7 @@
 use crate::Answer;
 use crate::fragment::{chunks_text, millis_of, point_text, sack};
 use crate::line::Line;
-use sctp_packet::{Chunk, clean_sack};
+use sctp_packet::Chunk;
 use sctp_send_queue::SendQueue;
 use sctp_state::Events;
 use sctp_tx::RetransmissionQueue;
@@ -39,8 +39,8 @@ fn hear(
     events: &mut Events,
     line: &Line<'_>,
 ) -> Result<Answer, AllocError> {
-    let clean = clean_sack(sack(alloc, line.tsn(1), line.short(2), line.short(3))?);
-    let result = sender.handle_sack(line.moment(0), &clean, events)?;
+    let chunk = sack(alloc, line.tsn(1), line.short(2), line.short(3))?;
+    let result = sender.handle_sack(line.moment(0), &chunk, events)?;
     Ok(Answer::Text(format!(in alloc; "{result:?}")?))
 }
 

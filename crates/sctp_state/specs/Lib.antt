@@ -11,3 +11,4 @@ pub mod Errors
 pub mod Validity
 pub mod Scheduler
 pub mod Thresholds
+pub mod ErrorNumbers

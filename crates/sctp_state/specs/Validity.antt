@@ -1,5 +1,5 @@
 -- Which records a socket can take up: those that one could have written.
-use Rattle.std.specs.Prelude.{ℕ, ◌+◌, ◌%◌, ◌^◌, ◌==◌, ◌&&◌, ◌||◌, not, nat_lt, nat_le, Bool, true, List, [], ◌∷◌, length, map}
+use Rattle.std.specs.Prelude.{ℕ, ℤ, pos, negsuc, ◌+◌, ◌%◌, ◌^◌, ◌==◌, ◌&&◌, ◌||◌, not, nat_lt, nat_le, Bool, true, false, List, [], ◌∷◌, length, map}
 use Rattle.std.specs.List.{count_by, list_all, list_any, sum_by}
 use Rattle.sctp_state.specs.Numbers.{most_u32}
 use Rattle.sctp_state.specs.Handover.{HandoverState, OutstandingData, Receive, StreamMessage, Transmission}
@@ -80,13 +80,21 @@ abbrev pub is_in_one_state : OutstandingData → Bool
 is_in_one_state d =
     not (d.acked && d.is_abandoned) && (not (d.acked && d.is_to_be_retransmitted) && not (d.is_abandoned && d.is_to_be_retransmitted))
 
-abbrev pub are_in_one_state : List OutstandingData → Bool
-are_in_one_state ds = list_all is_in_one_state ds
+-- a span since a moment that is past
+abbrev pub is_past : ℤ → Bool
+is_past (pos n) = true
+is_past (negsuc n) = false
+
+abbrev pub is_valid_item : OutstandingData → Bool
+is_valid_item d = is_past d.time_since_sent_ms && is_in_one_state d
+
+abbrev pub are_valid_items : List OutstandingData → Bool
+are_valid_items ds = list_all is_valid_item ds
 
 abbrev pub has_valid_items : Transmission → Bool
 has_valid_items t =
     nat_lt (length t.outstanding_data) (2 ^ 30)
-    && ((t.next_tsn == (t.last_cumulative_tsn_ack + 1 + length t.outstanding_data) % 2 ^ 32) && are_in_one_state t.outstanding_data)
+    && ((t.next_tsn == (t.last_cumulative_tsn_ack + 1 + length t.outstanding_data) % 2 ^ 32) && are_valid_items t.outstanding_data)
 
 -- ---- all of it
 

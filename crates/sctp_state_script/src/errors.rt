@@ -1,4 +1,4 @@
-//! `errors`: why calls fail, in words. A command is the name of a call and of an error.
+//! `errors`: why calls fail, in words and by number. A command is the name of a call and of an error.
 
 use crate::answer::{Answer, Line, Subject, run_commands, tell};
 use sctp_state::{
@@ -35,6 +35,11 @@ impl Subject for Errors {
     }
 }
 
+fn tell_number(output: &mut String, number: u8) -> Result<Answer, AllocError> {
+    write!(output, " ({number})")?;
+    Ok(Answer::Done)
+}
+
 /// `too-large LENGTH LIMIT`
 fn too_large(numbers: [u64; 4], output: &mut String) -> Result<Answer, AllocError> {
     let [len, limit, _, _] = numbers;
@@ -42,7 +47,8 @@ fn too_large(numbers: [u64; 4], output: &mut String) -> Result<Answer, AllocErro
         len: len as usize,
         limit: limit as usize,
     };
-    tell(output, &error)
+    tell(output, &error)?;
+    tell_number(output, error.number())
 }
 
 fn send(name: &str, output: &mut String) -> Result<Answer, AllocError> {
@@ -54,23 +60,29 @@ fn send(name: &str, output: &mut String) -> Result<Answer, AllocError> {
         "failed" => SendError::Failed,
         _ => return Ok(Answer::Unknown),
     };
-    tell(output, &error)
+    tell(output, &error)?;
+    tell_number(output, error.number())
 }
 
 fn batch(alloc: Global, name: &str, output: &mut String) -> Result<Answer, AllocError> {
     match name {
         "refused" => refused_batch(alloc, output),
-        "memory" => tell(output, &BatchFault::Memory),
-        "failed" => tell(output, &BatchFault::Failed),
+        "memory" => tell_batch(output, &BatchFault::Memory),
+        "failed" => tell_batch(output, &BatchFault::Failed),
         _ => Ok(Answer::Unknown),
     }
+}
+
+fn tell_batch(output: &mut String, fault: &BatchFault) -> Result<Answer, AllocError> {
+    tell(output, fault)?;
+    tell_number(output, fault.number())
 }
 
 // The second message of a batch is empty.
 fn refused_batch(alloc: Global, output: &mut String) -> Result<Answer, AllocError> {
     let errors = vec![in alloc; (1usize, SendError::EmptyPayload)]?;
     let fault = BatchFault::Refused(BatchSendError(errors));
-    let outcome = tell(output, &fault);
+    let outcome = tell_batch(output, &fault);
     drop(fault);
     outcome
 }
@@ -81,7 +93,8 @@ fn call(name: &str, output: &mut String) -> Result<Answer, AllocError> {
         "failed" => CallError::Failed,
         _ => return Ok(Answer::Unknown),
     };
-    tell(output, &error)
+    tell(output, &error)?;
+    tell_number(output, error as u8)
 }
 
 fn reset(name: &str, output: &mut String) -> Result<Answer, AllocError> {
@@ -92,7 +105,8 @@ fn reset(name: &str, output: &mut String) -> Result<Answer, AllocError> {
         "failed" => ResetStreamsError::Failed,
         _ => return Ok(Answer::Unknown),
     };
-    tell(output, &error)
+    tell(output, &error)?;
+    tell_number(output, error as u8)
 }
 
 fn hand_over(name: &str, output: &mut String) -> Result<Answer, AllocError> {
@@ -102,7 +116,8 @@ fn hand_over(name: &str, output: &mut String) -> Result<Answer, AllocError> {
         "failed" => HandoverError::Failed,
         _ => return Ok(Answer::Unknown),
     };
-    tell(output, &error)
+    tell(output, &error)?;
+    tell_number(output, error.number())
 }
 
 fn restore(name: &str, output: &mut String) -> Result<Answer, AllocError> {
@@ -113,5 +128,6 @@ fn restore(name: &str, output: &mut String) -> Result<Answer, AllocError> {
         "failed" => RestoreError::Failed,
         _ => return Ok(Answer::Unknown),
     };
-    tell(output, &error)
+    tell(output, &error)?;
+    tell_number(output, error as u8)
 }

@@ -81,7 +81,9 @@ fn send(
         "message" => add_message(alloc, &mut tx.queued_messages, line.numbers)?,
         "acked" => add_acked(alloc, &mut tx.outstanding_data)?,
         "stream-count" => return Ok(Answer::Number(tx.streams.len() as u128)),
-        "abandoned" => return Ok(abandon(&mut tx.outstanding_data, first)),
+        "abandoned" | "sent-later" => {
+            return Ok(change_item(&mut tx.outstanding_data, line.name, first == 1));
+        }
         name => return Ok(change_last(&mut tx.queued_messages, name, first)),
     }
     Ok(Answer::Done)
@@ -122,15 +124,17 @@ fn add_acked(alloc: Global, items: &mut Vec<HandoverOutstandingData>) -> Result<
     Ok(())
 }
 
-/// `abandoned FLAG`: whether the message of the last fragment was given up.
-fn abandon(items: &mut Vec<HandoverOutstandingData>, flag: u64) -> Answer {
-    match items.last_mut() {
-        Some(item) => {
-            item.is_abandoned = flag == 1;
-            Answer::Done
-        }
-        None => Answer::Refused,
+/// `abandoned FLAG`, `sent-later FLAG`: whether the message of the last fragment was given up, and whether that fragment was
+/// first sent after the handover.
+fn change_item(items: &mut Vec<HandoverOutstandingData>, name: &str, flag: bool) -> Answer {
+    let Some(item) = items.last_mut() else {
+        return Answer::Refused;
+    };
+    match name {
+        "abandoned" => item.is_abandoned = flag,
+        _ => item.time_since_sent_ms = if flag { -1 } else { 0 },
     }
+    Answer::Done
 }
 
 /// `last-offset OFFSET`, `last-id ID`: of the last queued message.

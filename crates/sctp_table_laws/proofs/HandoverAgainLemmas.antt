@@ -13,7 +13,7 @@ use Rattle.sctp_state.specs.Numbers.{most_u32}
 use Rattle.sctp_capabilities.specs.Capabilities.{Capabilities, zero_checksum_enabled, same_method}
 use Rattle.sctp_state.specs.Handover.{HandoverState, Transmission}
 use Rattle.sctp_state.specs.Scheduler.{Scheduler, scheduler, enable_message_interleaving}
-use Rattle.sctp_state.specs.Validity.{rises_from, outgoing_ids, ordered_ids, unordered_ids, has_small_numbers, is_valid_reception, are_valid_messages, message_ids_differ, first_alone_is_partly_sent, partly_sent_count, has_valid_queue, are_in_one_state, has_valid_items, payload_fits, queued_bytes, outstanding_bytes, is_valid_transmission, is_valid_state}
+use Rattle.sctp_state.specs.Validity.{rises_from, outgoing_ids, ordered_ids, unordered_ids, has_small_numbers, is_valid_reception, are_valid_messages, message_ids_differ, first_alone_is_partly_sent, partly_sent_count, has_valid_queue, are_valid_items, has_valid_items, payload_fits, queued_bytes, outstanding_bytes, is_valid_transmission, is_valid_state}
 use Rattle.sctp_rx.specs.Delivery.{OrderedStream, UnorderedStream}
 use Rattle.sctp_rx.specs.Seen.{has_gap}
 use Rattle.sctp_rx.specs.Tracker.{placed}
@@ -127,12 +127,12 @@ queue_valid now mode q same h =
 
 items_valid : (now first acked : ℕ) (is : List Item) → length is < 2 ^ 30
     → (nat_lt (length (item_records now is)) (2 ^ 30)
-    && ((wire words first (acked + 1 + length is) == (wire words first acked + 1 + length (item_records now is)) % 2 ^ 32) && are_in_one_state (item_records now is))) ≡ true
+    && ((wire words first (acked + 1 + length is) == (wire words first acked + 1 + length (item_records now is)) % 2 ^ 32) && are_valid_items (item_records now is))) ≡ true
 items_valid now first acked is h =
     let next : Bool = wire words first (acked + 1 + length is) == (wire words first acked + 1 + length (item_records now is)) % 2 ^ 32 in
     let few : length (item_records now is) < 2 ^ 30 = omega (arith, h, count_items now is) in
-    and_from (nat_lt (length (item_records now is)) (2 ^ 30)) (next && are_in_one_state (item_records now is)) (lt-ltb (length (item_records now is)) (2 ^ 30) few)
-    (and_from next (are_in_one_state (item_records now is)) (next_is first acked (length is) (length (item_records now is)) (count_items now is)) (in_one_state now is))
+    and_from (nat_lt (length (item_records now is)) (2 ^ 30)) (next && are_valid_items (item_records now is)) (lt-ltb (length (item_records now is)) (2 ^ 30) few)
+    (and_from next (are_valid_items (item_records now is)) (next_is first acked (length is) (length (item_records now is)) (count_items now is)) (in_one_state now is))
 
 open_window : (n : ℕ) → 0 < n → nat_lt 0 (min n most_u32) ≡ true
 open_window n h =

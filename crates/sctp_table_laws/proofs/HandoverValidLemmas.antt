@@ -12,7 +12,7 @@ use Rattle.std.proofs.lemmas.Bool.{and_from, and_parts, eq-eqb, or_from, or_righ
 use Rattle.sctp_serial.specs.Unwrapped.{words, wire}
 use Rattle.sctp_state.specs.declared.api.handover.HandoverOutgoingStream.{HandoverOutgoingStream}
 use Rattle.sctp_state.specs.Handover.{StreamMessage, OutstandingData}
-use Rattle.sctp_state.specs.Validity.{rises_from, outgoing_ids, has_stream, is_valid_message, are_valid_messages, has_message_id, message_ids_differ, is_partly_sent, has_partly_sent, first_alone_is_partly_sent, partly_sent_count, is_in_one_state, are_in_one_state, queued_bytes, outstanding_bytes}
+use Rattle.sctp_state.specs.Validity.{rises_from, outgoing_ids, has_stream, is_valid_message, are_valid_messages, has_message_id, message_ids_differ, is_partly_sent, has_partly_sent, first_alone_is_partly_sent, partly_sent_count, is_in_one_state, is_valid_item, are_valid_items, queued_bytes, outstanding_bytes}
 use Rattle.sctp_outstanding.specs.declared.item.ItemState.{ItemState}
 use Rattle.sctp_outstanding.specs.declared.item.ItemState.TheVariants.{InFlight, Missing, Queued as Lost, QueuedFast, Acked, GivenUp}
 use Rattle.sctp_outstanding.specs.Item.{Item, has_ack, is_gone, waits}
@@ -351,9 +351,9 @@ one_state QueuedFast = refl
 one_state Acked = refl
 one_state GivenUp = refl
 
-pub in_one_state : (now : ℕ) (is : List Item) → are_in_one_state (item_records now is) ≡ true
+pub in_one_state : (now : ℕ) (is : List Item) → are_valid_items (item_records now is) ≡ true
 in_one_state now [] = refl
-in_one_state now (i ∷ is) = and_from (is_in_one_state (item_record now i)) (are_in_one_state (item_records now is)) (one_state i.state) (in_one_state now is)
+in_one_state now (i ∷ is) = and_from (is_valid_item (item_record now i)) (are_valid_items (item_records now is)) (one_state i.state) (in_one_state now is)
 
 pub count_items : (now : ℕ) (is : List Item) → length (item_records now is) ≡ length is
 count_items now [] = refl

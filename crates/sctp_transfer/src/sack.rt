@@ -3,7 +3,6 @@
 ghost use Rattle.std.specs.Prelude.{◌≡◌, OnOk};
 ghost use Rattle.std.specs.Option.{option_map};
 ghost use Rattle.std.specs.Duration.{as_nanos};
-ghost use Rattle.sctp_packet.specs.Covered.{AreRuns};
 ghost use Rattle.sctp_table.specs.Acknowledging.{cleaned, heard, on_sack, on_sack_open, sampled};
 ghost use Rattle.sctp_tx.specs.Retransmission.{answer_of};
 ghost use Rattle.sctp_endpoint.specs.Views.{context_of, opened_of, phase_of, sack_of, standing_of, tcb_of};
@@ -18,7 +17,6 @@ use std::time::Duration;
 
 /// The chunk with its blocks as the maximal runs of the offsets that they cover.
 fn cleaned(sack: SackChunk) -> SackChunk
-    ensures runs { AreRuns 0 result.gap_ack_blocks.items }
     ensures blocks { result.gap_ack_blocks.items ≡ cleaned sack.gap_ack_blocks.items }
     ensures kept { result ≡ record sack { gap_ack_blocks = result.gap_ack_blocks } }
 {

@@ -2,7 +2,6 @@
 
 ghost use Rattle.std.specs.Prelude.{◌≡◌, ◌-◌, ◌==◌, min, ◌^◌, ◌<◌, ◌≤◌, ◌++◌, ◌∷◌, [], suc, nat_lt, length, map, is_some, true, false, IsTrue, OnOk, OnErr, IfOk, IfSome, Ok};
 ghost use Rattle.std.specs.Duration.{as_nanos};
-ghost use Rattle.sctp_chunk.specs.Covered.{AreRuns};
 ghost use Rattle.sctp_state.specs.Options.{options_of, IsValid};
 ghost use Rattle.sctp_state.specs.Timers.{is_due, next_expiry, set_duration};
 ghost use Rattle.sctp_outstanding.specs.Items.{number_of, written, next_number, flight_bytes, flight_payload, flight_items, fast_items, begin_reset};
@@ -184,16 +183,15 @@ impl RetransmissionQueue {
         self.outstanding.unacked_items()
     }
 
-    /// A SACK, whose blocks are maximal runs. What it acknowledges for good leaves, and is told; the windows and t3-rtx
-    /// follow (RFC 9260 sections 6.2.1, 6.3.2 and 7.2). Without memory the items may have heard a part of it, and nothing
-    /// else changes.
+    /// Any SACK: one whose cumulative TSN or blocks lie out of range is `Invalid`, and changes nothing. What it acknowledges
+    /// for good leaves, and is told; the windows and t3-rtx follow (RFC 9260 sections 6.2.1, 6.3.2 and 7.2). Without memory
+    /// the items may have heard a part of it, and nothing else changes.
     pub fn handle_sack(
         &mut self,
         now: SocketTime,
         sack: &SackChunk,
         events: &mut Events,
     ) -> Result<HandleSackResult, AllocError>
-        requires runs { AreRuns 0 sack.now.gap_ack_blocks.items }
         ensures queue { let n = number_of self.old.outstanding sack.now.cumulative_tsn_ack.0 in let blocks = sack.now.gap_ack_blocks.items in
             OnOk result (self.new ≡ sender_if (is_valid n blocks self.old.outstanding.items) now n sack.now.a_rwnd blocks self.old events.old) }
         ensures told { let n = number_of self.old.outstanding sack.now.cumulative_tsn_ack.0 in let blocks = sack.now.gap_ack_blocks.items in
@@ -223,7 +221,6 @@ impl RetransmissionQueue {
         events: &mut Events,
     ) -> Result<usize, AllocError>
         requires valid { IsTrue (is_valid (number_of self.old.outstanding sack.now.cumulative_tsn_ack.0) sack.now.gap_ack_blocks.items self.old.outstanding.items) }
-        requires runs { AreRuns 0 sack.now.gap_ack_blocks.items }
         ensures queue { let n = number_of self.old.outstanding sack.now.cumulative_tsn_ack.0 in let blocks = sack.now.gap_ack_blocks.items in
             OnOk result (self.new ≡ heard now n sack.now.a_rwnd blocks self.old events.old) }
         ensures told { let n = number_of self.old.outstanding sack.now.cumulative_tsn_ack.0 in let blocks = sack.now.gap_ack_blocks.items in

@@ -1,6 +1,8 @@
-//! Why calls fail. `Memory` is answered where a growth was refused; afterwards each changing call answers `Failed`.
+//! Why calls fail, each reason with its number. `Memory` is answered where a growth was refused; afterwards each changing
+//! call answers `Failed`.
 
 ghost use Rattle.std.specs.Prelude.{◌≡◌};
+ghost use Rattle.sctp_state.specs.ErrorNumbers.{batch_number, handover_number, send_number};
 
 use crate::api::handover::HandoverReadiness;
 use std::alloc::AllocError;
@@ -10,10 +12,10 @@ use thiserror::Error;
 #[derive(Debug, Drop, Error, PartialEq)]
 pub enum CallError {
     #[error("out of memory")]
-    Memory,
+    Memory = 1,
     /// An earlier call found too little memory.
     #[error("socket has failed")]
-    Failed,
+    Failed = 2,
 }
 
 impl From<AllocError> for CallError {
@@ -45,6 +47,22 @@ pub enum SendError {
     Failed,
 }
 
+impl SendError {
+    /// The number of the reason, 1 to 6 in the order above.
+    pub fn number(&self) -> u8
+        ensures { result ≡ send_number self.now }
+    {
+        match self {
+            SendError::EmptyPayload => 1,
+            SendError::MessageTooLarge { .. } => 2,
+            SendError::ShuttingDown => 3,
+            SendError::ResourceExhaustion => 4,
+            SendError::Memory => 5,
+            SendError::Failed => 6,
+        }
+    }
+}
+
 impl From<AllocError> for SendError {
     ghost use Rattle.sctp_state.specs.declared.api.errors.SendError.TheVariants.{Memory};
 
@@ -56,12 +74,12 @@ impl From<AllocError> for SendError {
 }
 
 /// Which messages of a batch weren't accepted, by their places in it, and why. The others were.
-#[derive(Debug, Drop, Error)]
+#[derive(Debug, Drop, Error, PartialEq)]
 #[error("batch send failed with errors: {0:?}")]
 pub struct BatchSendError(pub Vec<(usize, SendError)>);
 
 /// Why the sending of a batch fails.
-#[derive(Debug, Drop, Error)]
+#[derive(Debug, Drop, Error, PartialEq)]
 pub enum BatchFault {
     /// Some messages weren't accepted.
     #[error(transparent)]
@@ -70,6 +88,19 @@ pub enum BatchFault {
     Memory,
     #[error("socket has failed")]
     Failed,
+}
+
+impl BatchFault {
+    /// The number of the reason, 1 to 3 in the order above.
+    pub fn number(&self) -> u8
+        ensures { result ≡ batch_number self.now }
+    {
+        match self {
+            BatchFault::Refused(_) => 1,
+            BatchFault::Memory => 2,
+            BatchFault::Failed => 3,
+        }
+    }
 }
 
 impl From<AllocError> for BatchFault {
@@ -86,13 +117,13 @@ impl From<AllocError> for BatchFault {
 #[derive(Debug, Drop, Error, PartialEq)]
 pub enum ResetStreamsError {
     #[error("socket is not connected")]
-    NotConnected,
+    NotConnected = 1,
     #[error("peer does not support stream resetting")]
-    NotSupported,
+    NotSupported = 2,
     #[error("out of memory")]
-    Memory,
+    Memory = 3,
     #[error("socket has failed")]
-    Failed,
+    Failed = 4,
 }
 
 impl From<AllocError> for ResetStreamsError {
@@ -117,6 +148,19 @@ pub enum HandoverError {
     Failed,
 }
 
+impl HandoverError {
+    /// The number of the reason, 1 to 3 in the order above.
+    pub fn number(&self) -> u8
+        ensures { result ≡ handover_number self.now }
+    {
+        match self {
+            HandoverError::NotReady(_) => 1,
+            HandoverError::Memory => 2,
+            HandoverError::Failed => 3,
+        }
+    }
+}
+
 impl From<AllocError> for HandoverError {
     ghost use Rattle.sctp_state.specs.declared.api.errors.HandoverError.TheVariants.{Memory};
 
@@ -131,14 +175,14 @@ impl From<AllocError> for HandoverError {
 #[derive(Debug, Drop, Error, PartialEq)]
 pub enum RestoreError {
     #[error("cannot restore state: socket is not closed")]
-    SocketNotClosed,
+    SocketNotClosed = 1,
     /// The record is none that a socket could have written.
     #[error("handover state is invalid")]
-    InvalidState,
+    InvalidState = 2,
     #[error("out of memory")]
-    Memory,
+    Memory = 3,
     #[error("socket has failed")]
-    Failed,
+    Failed = 4,
 }
 
 impl From<AllocError> for RestoreError {

@@ -95,7 +95,7 @@ pub struct HandoverOutstandingData {
     pub is_unordered: bool,
     /// 0 means that there is none.
     pub lifecycle_id: u64,
-    /// Milliseconds from its first sending to the handover, rounded down.
+    /// Milliseconds from its first sending to the handover, rounded down: 0 or more.
     pub time_since_sent_ms: i32,
     /// How often it was sent again.
     pub retransmission_count: u16,

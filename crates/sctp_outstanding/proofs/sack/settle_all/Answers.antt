@@ -6,7 +6,7 @@ use Rattle.sctp_chunk.specs.Covered.{is_covered}
 use Rattle.sctp_outstanding.specs.Passes.{acked_from, acked_before}
 use Rattle.sctp_outstanding.proofs.TotalsLemmas.{length-change}
 use Rattle.sctp_outstanding.proofs.RestLemmas.{counted, settled-end, acked-end, below-end}
-use Rattle.sctp_outstanding.proofs.SackLemmas.{settle-step, acked-step, below-step, summed, cursor-on, settle-done, acked-done, below-done, kept-as}
+use Rattle.sctp_outstanding.proofs.SackLemmas.{settle-step, acked-step, below-step, summed, walk-on, settle-done, acked-done, below-done, kept-as}
 use Rattle.sctp_outstanding.proofs.sack.settle_all.Goals as goal
 
 pub loop-place-preserved : goal.loop-place-preserved
@@ -23,7 +23,7 @@ loop-place-preserved c =
     record {
       mode = ap (λ (x : Kept). x.is_interleaved) c.settle_at-walk.ensures.items ∙ c.loop-place.invariant.mode;
       len = ap (λ xs. length xs) there ∙ length-change k (settled (is_covered bs (k + 1))) is ∙ c.loop-place.invariant.len;
-      cursor = cursor-on bs (k + 1) c.settle_at-walk.result.block c.settle_at-walk.ensures.cursor;
+      cursor = walk-on c.settle_at-walk.result.is_in_runs bs (k + 1) c.settle_at-walk.result.block c.settle_at-walk.ensures.cursor;
       items = settle-step bs k is js there ∙ c.loop-place.invariant.items;
       acked = counted (settled (is_covered bs (k + 1))) k is js c.loop-place.acked c.acked_at-acked.result _ there c.loop-place.invariant.acked c.acked_at-acked.ensures.acked refl;
       few = omega (arith, c.loop-place.invariant.few, c.acked_at-acked.ensures.few);

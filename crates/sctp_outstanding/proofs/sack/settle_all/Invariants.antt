@@ -1,13 +1,13 @@
 use Rattle.std.proofs.Common.{◌≡◌, ◌+◌, ◌-◌, ◌^◌, ◌<◌, ◌≤◌, min, length}
 use Rattle.sctp_outstanding.specs.Sack.{settle, newly_acked, below_highest}
-use Rattle.sctp_outstanding.specs.Passes.{IsCursor, settle_from, acked_from, below_from, acked_before}
+use Rattle.sctp_outstanding.specs.Passes.{IsWalk, settle_from, acked_from, below_from, acked_before}
 use Rattle.sctp_outstanding.proofs.sack.settle_all.Given as goal
 
 abbrev pub invariant-loop-place : goal.invariant-loop-place
 invariant-loop-place l = record {
   mode : l.kept.is_interleaved ≡ l.initial.kept.is_interleaved;
   len : length l.kept.items ≡ length l.initial.kept.items;
-  cursor : IsCursor l.blocks (l.place + 1) l.walk.block;
+  cursor : IsWalk l.walk.is_in_runs l.blocks (l.place + 1) l.walk.block;
   items : settle_from l.blocks l.place (l.place + 1) l.kept.items ≡ settle l.blocks 1 l.initial.kept.items;
   acked : l.acked ≡ acked_before l.place l.kept.items;
   few : l.acked ≤ l.place;

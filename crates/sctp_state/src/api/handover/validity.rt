@@ -2,7 +2,7 @@
 
 ghost use Rattle.std.specs.Prelude.{◌≡◌, ℕ, ◌+◌, ◌-◌, ◌^◌, ◌≤◌, min, map, not};
 ghost use Rattle.sctp_state.specs.Handover.{stream_message_of, outstanding_data_of, transmission_of, receive_of, handover_state_of};
-ghost use Rattle.sctp_state.specs.Validity.{rises_from, outgoing_ids, ordered_ids, unordered_ids, has_small_numbers, is_valid_reception, has_stream, is_valid_message, are_valid_messages, has_message_id, message_ids_differ, has_partly_sent, first_alone_is_partly_sent, partly_sent_count, has_valid_queue, is_in_one_state, are_in_one_state, has_valid_items, queued_bytes, outstanding_bytes, payload_fits, is_valid_transmission, is_valid_connection, is_valid_state};
+ghost use Rattle.sctp_state.specs.Validity.{rises_from, outgoing_ids, ordered_ids, unordered_ids, has_small_numbers, is_valid_reception, has_stream, is_valid_message, are_valid_messages, has_message_id, message_ids_differ, has_partly_sent, first_alone_is_partly_sent, partly_sent_count, has_valid_queue, is_in_one_state, is_past, is_valid_item, are_valid_items, has_valid_items, queued_bytes, outstanding_bytes, payload_fits, is_valid_transmission, is_valid_connection, is_valid_state};
 
 use crate::api::handover::{
     HandoverOrderedStream, HandoverOutgoingStream, HandoverOutstandingData, HandoverReceive,
@@ -75,7 +75,7 @@ impl HandoverTransmission {
             return false;
         }
         let next = self.last_cumulative_tsn_ack.wrapping_add(1 + count as u32);
-        self.next_tsn == next && are_in_one_state(&self.outstanding_data)
+        self.next_tsn == next && are_valid_items(&self.outstanding_data)
     }
 
     fn payload_fits(&self) -> bool
@@ -231,11 +231,23 @@ fn is_in_one_state(item: &HandoverOutstandingData) -> bool
         && !(item.is_abandoned && item.is_to_be_retransmitted)
 }
 
-fn are_in_one_state(items: &[HandoverOutstandingData]) -> bool
-    ensures { result ≡ are_in_one_state (map outstanding_data_of items.now) }
+fn is_past(millis: i32) -> bool
+    ensures { result ≡ is_past millis }
+{
+    0 <= millis
+}
+
+fn is_valid_item(item: &HandoverOutstandingData) -> bool
+    ensures { result ≡ is_valid_item (outstanding_data_of item.now) }
+{
+    is_past(item.time_since_sent_ms) && is_in_one_state(item)
+}
+
+fn are_valid_items(items: &[HandoverOutstandingData]) -> bool
+    ensures { result ≡ are_valid_items (map outstanding_data_of items.now) }
 {
     'items: for item in items {
-        if !is_in_one_state(item) {
+        if !is_valid_item(item) {
             return false;
         }
     }

@@ -1,6 +1,0 @@
-use Rattle.std.proofs.Common.{◌≤◌, ◌↔◌, ◌+◌, ◌^◌, drop}
-use Rattle.sctp_chunk.specs.Covered.{AreRuns}
-use Rattle.sctp_packet.proofs.chunk_validators.are_runs.Given as goal
-
-abbrev pub invariant-loop-block : goal.invariant-loop-block
-invariant-loop-block l = (AreRuns 2 l.blocks ↔ AreRuns l.lowest (drop l.block-index l.blocks)) × (l.lowest ≤ 2 ^ 16 + 1)
