@@ -4,7 +4,8 @@ use Rattle.std.specs.Prelude.{All}
 use Rattle.std.specs.List.{flat_map}
 use Rattle.std.proofs.lemmas.List.Elements.{All-nil, All-cons, All-head, All-tail}
 use Rattle.sctp_state.specs.Events.{Event, SendPacket, OnConnected, OnClosed, OnConnectionRestarted, OnAborted, OnError, OnBufferedAmountLow, OnTotalBufferedAmountLow, OnStreamsResetFailed, OnStreamsResetPerformed, OnIncomingStreamReset, OnLifecycleMessageFullySent, OnLifecycleMessageMaybeExpired, OnLifecycleMessageExpired, OnLifecycleMessageDelivered, OnLifecycleEnd}
-use Rattle.sctp_table.specs.Laws.{Packing, endings}
+use Rattle.sctp_table.specs.Association.{Packing}
+use Rattle.sctp_table.specs.Laws.{endings}
 use Rattle.sctp_table_laws.specs.Mapped.{Carried, map_event}
 use Rattle.sctp_table_laws.specs.ReadBack.{ReadsBack, CanBeRead, as_carried}
 use Rattle.sctp_course.specs.Course as course

@@ -8,9 +8,9 @@ use Rattle.sctp_packet.specs.Packet.{PacketTree, IsPacket, Accepts}
 use Rattle.sctp_packet.proofs.LawLemmas.{one_packet_lem, never_both_lem}
 use Rattle.sctp_state.specs.Options.{Options, defaults}
 use Rattle.sctp_state.specs.Events.{Event, SendPacket, OnConnected, OnClosed, OnConnectionRestarted, OnAborted, OnError, OnBufferedAmountLow, OnTotalBufferedAmountLow, OnStreamsResetFailed, OnStreamsResetPerformed, OnIncomingStreamReset, OnLifecycleMessageFullySent, OnLifecycleMessageMaybeExpired, OnLifecycleMessageExpired, OnLifecycleMessageDelivered, OnLifecycleEnd}
-use Rattle.sctp_table.specs.Association.{Context, Endpoint}
+use Rattle.sctp_table.specs.Association.{Context, Endpoint, Packing}
 use Rattle.sctp_table.specs.Input.{refusal, on_packet}
-use Rattle.sctp_table.specs.Laws.{Packing, called}
+use Rattle.sctp_table.specs.Laws.{called}
 use Rattle.sctp_table.specs.Laws as table
 use Rattle.sctp_table.specs.Hearing.{Hears, heard, not_read, Judges, taken, refused, unread, policy_of}
 use Rattle.sctp_table.specs.Wire.{written, word_at}
@@ -93,7 +93,7 @@ all_such word_of most m (bytes ∷ packets) h =
     All-cons (CanBeReadBack word_of) bytes packets (such_reads_back word_of most bytes m (All-head (IsOfSuch (written word_of) most) bytes packets h))
     (all_such word_of most m packets (All-tail (IsOfSuch (written word_of) most) bytes packets h))
 
-told_read_back : (word_of : List ℕ → ℕ) (c d : Context (List ℕ)) → c.pack ≡ written word_of → c.options.mtu ≤ 65535 → c.told.events ≡ [] → TellsWhatCanBeRead c d
+told_read_back : (word_of : List ℕ → ℕ) (c d : Context (List ℕ)) → c.pack ≡ writing word_of → c.options.mtu ≤ 65535 → c.told.events ≡ [] → TellsWhatCanBeRead c d
     → All (CanBeReadBack word_of) (packets_in d.told.events)
 told_read_back word_of c d own m none w =
     let events : d.told.events ≡ w.events = w.behind ∙ ap (λ (es : List (Event (List ℕ))). es ++ w.events) none in

@@ -16,9 +16,9 @@ use Rattle.sctp_packet.specs.Written.{chunks_bytes}
 use Rattle.sctp_packet.proofs.LawLemmas.{one_packet_lem, never_both_lem}
 use Rattle.sctp_state.specs.Options.{Options}
 use Rattle.sctp_state.specs.Events.{Event, GivenUp, Told, silent}
-use Rattle.sctp_table.specs.Association.{Context, Endpoint}
+use Rattle.sctp_table.specs.Association.{Context, Endpoint, Packing}
 use Rattle.sctp_table.specs.Input.{refusal}
-use Rattle.sctp_table.specs.Laws.{Call, Packet, NoPacket, called, Packing}
+use Rattle.sctp_table.specs.Laws.{Call, Packet, NoPacket, called}
 use Rattle.sctp_table.specs.Hearing.{Hears, heard, not_read, Judges, taken, refused, unread, policy_of}
 use Rattle.sctp_table.specs.Wire.{field_of, word_in, word_at, written}
 use Rattle.sctp_table_laws.proofs.LawsLemmas.{stays_within}
@@ -216,7 +216,7 @@ module _ (word_of : List ℕ → ℕ) (x : End) (log : List Entry) (first : Entr
         (was_now (news_of x side (map_end written_of (called call own))))
         after (is ∙ (ap (λ (z : PacketTree). called (Packet z) side.socket) same ∙ mapped_after call)) news logged
 
-    module _ (by : List ℕ → ℕ) (is_own : side.socket.standing.context.pack ≡ written by) where
+    module _ (by : List ℕ → ℕ) (is_own : side.socket.standing.context.pack ≡ writing by) where
       same_pack : written by ≡ written word_of
       same_pack =
           sym is_own ∙ (ap (λ (z : Endpoint (List ℕ)). z.standing.context.pack) g.image.socket

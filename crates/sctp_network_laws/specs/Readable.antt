@@ -28,7 +28,7 @@ pub record CanBeReadBack (word_of : List ℕ → ℕ) (bytes : List ℕ) : Type 
 
 -- an end that is sound, of whose tellings none is left, and whose packets can be read back
 pub record IsReadableSide (word_of : List ℕ → ℕ) (side : Side) : Type 0 where
-  pub own : side.socket.standing.context.pack ≡ written word_of
+  pub own : side.socket.standing.context.pack ≡ writing word_of
   pub sound : IsSound side.socket
   pub taken : side.socket.standing.context.told.events ≡ []
   pub packets : All (CanBeReadBack word_of) side.packets

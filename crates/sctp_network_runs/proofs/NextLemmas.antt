@@ -12,9 +12,8 @@ use Rattle.sctp_packet.specs.declared.packet.PacketParseError.TheVariants.{Inval
 use Rattle.sctp_packet.proofs.PacketLemmas.{length_joined}
 use Rattle.sctp_state.specs.Options.{Options}
 use Rattle.sctp_state.specs.Events.{Event}
-use Rattle.sctp_table.specs.Association.{Endpoint}
+use Rattle.sctp_table.specs.Association.{Endpoint, Packing}
 use Rattle.sctp_table.specs.Input.{refusal, on_packet, on_no_packet}
-use Rattle.sctp_table.specs.Laws.{Packing}
 use Rattle.sctp_table.specs.Hearing.{Hears, heard, not_read, policy_of}
 use Rattle.sctp_table.specs.Wire.{field_of, word_at, written}
 use Rattle.sctp_table_laws.specs.Mapped.{Carried, as_written}
@@ -71,7 +70,7 @@ module _ (writes : List ℕ → ℕ) (p : Carried) (reads : Readable p) (s : End
   hears = hears_by (lets_through (policy_of s.standing.context.options) (word_at by packet) sum) refl
 
 own_pack : (word_of : List ℕ → ℕ) (x : End) (log : List Entry) (others : List (List ℕ)) (side : Side) (end : course.Side) → Good word_of x log others side end
-    → side.socket.standing.context.pack ≡ written word_of
+    → side.socket.standing.context.pack ≡ writing word_of
 own_pack word_of x log others side end g =
     ap (λ (z : Endpoint (List ℕ)). z.standing.context.pack) g.image.socket
     ∙ ap (λ (k : Packing Carried). (λ (header : HeaderTree) (is_summed : Bool) (chunks : List ChunkTree). as_written word_of (k header is_summed chunks))) g.packing

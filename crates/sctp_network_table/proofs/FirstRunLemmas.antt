@@ -5,8 +5,7 @@ use Rattle.rand_core.specs.Stream.{Stream}
 use Rattle.sctp_serial.specs.Messages.{Message}
 use Rattle.sctp_state.specs.Options.{defaults, plainly}
 use Rattle.sctp_state.specs.Events.{OnConnected}
-use Rattle.sctp_table.specs.Association.{Endpoint, fresh}
-use Rattle.sctp_table.specs.Laws.{Packing}
+use Rattle.sctp_table.specs.Association.{Endpoint, fresh, Packing}
 use Rattle.sctp_table.specs.Shown.{Association}
 use Rattle.sctp_table.specs.Hearing.{Hears}
 use Rattle.sctp_table.specs.Wire.{written}
@@ -46,10 +45,10 @@ given_to_b k w v p s there hears g =
 
 -- An end reads with its own checksum function; where the packet was written with one that makes equal packets, it leads on.
 pub takes_on : (f : List ℕ → ℕ) (p : Carried) (before after : Packing (List ℕ) → Endpoint (List ℕ)) → ((g : List ℕ → ℕ) → Leads g p (before (written g)) (after (written g)))
-    → (before (written f)).standing.context.pack ≡ written f → (t : Endpoint (List ℕ)) → Takes (as_written f p) (before (written f)) t → t ≡ after (written f)
+    → (before (written f)).standing.context.pack ≡ writing f → (t : Endpoint (List ℕ)) → Takes (as_written f p) (before (written f)) t → t ≡ after (written f)
 takes_on f p before after leads own t k =
     let one : written f ≡ written k.word_of = sym own ∙ k.own in
-    leads k.word_of t (subst (λ (pack : Packing (List ℕ)). Hears k.word_of (pack p.header p.is_summed p.chunks) (before pack) t) one k.hears)
+    leads k.word_of t (subst (λ (pack : Packing (List ℕ)). Hears k.word_of (pack.write p.header p.is_summed p.chunks) (before pack) t) one k.hears)
     ∙ ap after (sym one)
 
 pub same_self : (a : Association) → same_association (Some a) (Some a) ≡ true

@@ -177,7 +177,7 @@ tells_time x now w = recorded x (time_entry x now (side_of x w).socket) (after_t
 -- an end makes of bytes what its checksum function says
 pub record Takes (bytes : List ℕ) (s t : Endpoint (List ℕ)) : Type 0 where
   pub word_of : List ℕ → ℕ
-  pub own : s.standing.context.pack ≡ written word_of
+  pub own : s.standing.context.pack ≡ writing word_of
   pub hears : Hears word_of bytes s t
 
 -- an end takes bytes: what becomes of it and of the log, behind the first entry
@@ -201,7 +201,7 @@ IsJudged word_of bytes s is_refused = Judges word_of bytes s.standing.context.op
 -- bytes from elsewhere: they are told to an end that refuses them, and else skipped
 pub data ComesTo (x : End) (bytes : List ℕ) (old new : Side) (log longer : List Entry) : Type 0 where
   told : (t : Told x (Foreign x (clock old.socket) (Some bytes)) bytes old new log longer) → IsJudged t.takes.word_of bytes old.socket true → ComesTo x bytes old new log longer
-  skipped : (word_of : List ℕ → ℕ) → old.socket.standing.context.pack ≡ written word_of → IsJudged word_of bytes old.socket false
+  skipped : (word_of : List ℕ → ℕ) → old.socket.standing.context.pack ≡ writing word_of → IsJudged word_of bytes old.socket false
       → new ≡ old → longer ≡ log ++ Foreign x (clock old.socket) None ∷ [] → ComesTo x bytes old new log longer
 
 pub record Comes (x : End) (bytes : List ℕ) (w v : World) : Type 0 where
@@ -242,7 +242,7 @@ IsShort mtu bytes = length bytes ≤ mtu
 -- an end of whose tellings none is left
 pub record IsShortSide (mtu : ℕ) (side : Side) : Type 0 where
   pub word_of : List ℕ → ℕ
-  pub own : side.socket.standing.context.pack ≡ written word_of
+  pub own : side.socket.standing.context.pack ≡ writing word_of
   pub limit : side.socket.standing.context.options.mtu ≡ mtu
   pub enough : 12 ≤ mtu  -- for a header
   pub taken : side.socket.standing.context.told.events ≡ []
