@@ -156,12 +156,12 @@ module _ (word_of : List ℕ → ℕ) where
   told_readable : (sender : List ℕ → ℕ) (x : End) (first : Entry) (bytes : List ℕ) (old new : Side) (log more : List Entry) → Told x first bytes old new log more
       → CanBeReadBack sender bytes → AreBytes bytes → IsReadableSide word_of old → IsReadableSide word_of new
   told_readable sender x first bytes old new log more t r small h =
-      subst (IsReadableSide word_of) (sym t.side) (given_to sender t.takes.word_of bytes old t.after t.takes.hears r small h)
+      subst (IsReadableSide word_of) (sym t.side) (given_to sender old.socket.standing.context.pack.word_of bytes old t.after t.takes r small h)
 
   came_readable : (x : End) (bytes : List ℕ) (old new : Side) (log more : List Entry) → ComesTo x bytes old new log more → IsReadableSide word_of old → IsReadableSide word_of new
   came_readable x bytes old new log more (told t j) h =
-      subst (IsReadableSide word_of) (sym t.side) (refused_by t.takes.word_of bytes old t.after t.takes.hears j h)
-  came_readable x bytes old new log more (skipped own_word own j is logged) h = subst (IsReadableSide word_of) (sym is) h
+      subst (IsReadableSide word_of) (sym t.side) (refused_by old.socket.standing.context.pack.word_of bytes old t.after t.takes j h)
+  came_readable x bytes old new log more (skipped j is logged) h = subst (IsReadableSide word_of) (sym is) h
 
 -- ---- both ends
 
@@ -229,7 +229,7 @@ told_before x first bytes old new log more t packet h =
 
 came_before : (x : End) (bytes : List ℕ) (old new : Side) (log more : List Entry) → ComesTo x bytes old new log more → WereBytes old new
 came_before x bytes old new log more (told t j) = told_before x _ bytes old new log more t
-came_before x bytes old new log more (skipped word_of own j is logged) = same_before old new is
+came_before x bytes old new log more (skipped j is logged) = same_before old new is
 
 one_before : (action : Action) (w v : World) → Happens action w v → Before w v
 one_before (CallOf A call) w v e = subst (Before w) (sym e) (record { a = settled_before w.a (after_call call w.a.socket); b = same_before w.b w.b refl })

@@ -22,7 +22,7 @@ use Rattle.sctp_table.specs.Laws.{Call, Packet, NoPacket, called}
 use Rattle.sctp_table.specs.Hearing.{Hears, heard, not_read, Judges, taken, refused, unread, policy_of}
 use Rattle.sctp_table.specs.Wire.{field_of, word_in, word_at, written}
 use Rattle.sctp_table_laws.proofs.LawsLemmas.{stays_within}
-use Rattle.sctp_table_laws.specs.Mapped.{Carried, map_end, as_written}
+use Rattle.sctp_table_laws.specs.Mapped.{Mapping, Carried, map_end, as_written, as_bytes}
 use Rattle.sctp_table_laws.specs.HeardBack.{IsHearable}
 use Rattle.sctp_table_laws.specs.Sound.{IsSound, ArgumentFits}
 use Rattle.sctp_table_laws.specs.ReadBack.{TellsWhatCanBeRead, as_carried, AreBytes}
@@ -115,8 +115,8 @@ any_longer x ps log more e = list_any-append (asks x ps) log more ∙ or_left (l
 
 module _ (word_of : List ℕ → ℕ) (x : End) (log : List Entry) (first : Entry) (others : List (List ℕ)) (side : Side) (end beside : course.Side)
     (is_first : IsFirst first) (g : Good word_of x log others side end) (new : Side) (longer : List Entry) where
-  abbrev written_of : Carried → List ℕ
-  written_of = as_written word_of
+  abbrev written_of : Mapping Carried (List ℕ)
+  written_of = as_bytes word_of
 
   abbrev own : Endpoint Carried
   own = end.end
@@ -216,17 +216,12 @@ module _ (word_of : List ℕ → ℕ) (x : End) (log : List Entry) (first : Entr
         (was_now (news_of x side (map_end written_of (called call own))))
         after (is ∙ (ap (λ (z : PacketTree). called (Packet z) side.socket) same ∙ mapped_after call)) news logged
 
-    module _ (by : List ℕ → ℕ) (is_own : side.socket.standing.context.pack ≡ writing by) where
-      same_pack : written by ≡ written word_of
-      same_pack =
-          sym is_own ∙ (ap (λ (z : Endpoint (List ℕ)). z.standing.context.pack) g.image.socket
-          ∙ ap (λ (k : Packing Carried). (λ (header : HeaderTree) (is_summed : Bool) (chunks : List ChunkTree). written_of (k header is_summed chunks))) g.packing)
-
+    module _ (by : List ℕ → ℕ) (is_own : by ≡ word_of) where
       same_options : side.socket.standing.context.options ≡ own.standing.context.options
       same_options = ap (λ (z : Endpoint (List ℕ)). z.standing.context.options) g.image.socket
 
       same_word : word_at by packet ≡ word_at word_of packet
-      same_word = read_alike by word_of p.header sum p.chunks same_pack
+      same_word = ap (λ (f : List ℕ → ℕ). word_at f packet) is_own
 
       abbrev passes : Bool
       passes = is_let_through word_of word_beside own.standing.context.options p
