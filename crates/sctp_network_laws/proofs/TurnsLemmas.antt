@@ -20,7 +20,7 @@ use Rattle.sctp_table.specs.Association.{Context, Endpoint, Packing}
 use Rattle.sctp_table.specs.Input.{refusal}
 use Rattle.sctp_table.specs.Laws.{Call, Packet, NoPacket, called}
 use Rattle.sctp_table.specs.Hearing.{Hears, heard, not_read, Judges, taken, refused, unread, policy_of}
-use Rattle.sctp_table.specs.Wire.{field_of, word_in, word_at, written}
+use Rattle.sctp_table.specs.Wire.{field_of, word_in, word_at}
 use Rattle.sctp_table_laws.proofs.LawsLemmas.{stays_within}
 use Rattle.sctp_table_laws.specs.Mapped.{Mapping, Carried, map_end, as_written, as_bytes}
 use Rattle.sctp_table_laws.specs.HeardBack.{IsHearable}
@@ -71,30 +71,11 @@ tag_at : (h : HeaderTree) (word : ℕ) (cs : List ChunkTree) → FitsHeader h �
 unfolding packet_bytes header_bytes be16 be32
 tag_at h word cs fits = from_be_bytes-to_be_bytes_4 h.verification_tag fits.verification_tag
 
--- ---- one checksum function
-
-summed : (h : HeaderTree) (word : ℕ) (cs : List ChunkTree) → with_zero_field (take 8 (packet_bytes h word cs)) (drop 12 (packet_bytes h word cs)) ≡ unsummed_bytes h (chunks_bytes cs)
-unfolding packet_bytes unsummed_bytes header_bytes be16 be32
-summed h word cs = refl
+-- ---- what a packet's field says
 
 pub field_in : (h : HeaderTree) (word : ℕ) (cs : List ChunkTree) → word < 2 ^ 32 → checksum_field (packet_bytes h word cs) ≡ word
 unfolding packet_bytes
 field_in h word cs small = field_at h word (chunks_bytes cs) small
-
-small_word : (n : ℕ) → n % 2 ^ 32 < 2 ^ 32
-small_word n = omega arith
-
--- what is written alike has one word
-word_alike : (f g : List ℕ → ℕ) (h : HeaderTree) (cs : List ChunkTree) → written f ≡ written g → word_in f h cs ≡ word_in g h cs
-word_alike f g h cs e =
-    sym (field_in h (word_in f h cs) cs (small_word (f (unsummed_bytes h (chunks_bytes cs)))))
-    ∙ (ap (λ (k : HeaderTree → Bool → List ChunkTree → List ℕ). checksum_field (k h true cs)) e
-    ∙ field_in h (word_in g h cs) cs (small_word (g (unsummed_bytes h (chunks_bytes cs)))))
-
-read_alike : (f g : List ℕ → ℕ) (h : HeaderTree) (field : ℕ) (cs : List ChunkTree) → written f ≡ written g → word_at f (packet_bytes h field cs) ≡ word_at g (packet_bytes h field cs)
-read_alike f g h field cs e =
-    ap (λ (bytes : List ℕ). f bytes % 2 ^ 32) (summed h field cs)
-    ∙ (word_alike f g h cs e ∙ sym (ap (λ (bytes : List ℕ). g bytes % 2 ^ 32) (summed h field cs)))
 
 not_true : (b : Bool) → (b ≡ true → ⊥) → b ≡ false
 not_true true f = absurd (f refl)

@@ -18,7 +18,7 @@ use Rattle.sctp_delivery.specs.GivenUp as giving
 use Rattle.sctp_delivery.specs.GivenUp.{given_up_at}
 use Rattle.sctp_delivery.specs.Proper.{gone_given, gone_if, gone_by, gone_at}
 use Rattle.sctp_network_table.specs.Judge.{End, A, B, Entry, Given, Foreign, Call, given_up_by, given_up}
-use Rattle.sctp_network_table.specs.World.{Side, World, Action, CallOf, Give, GiveForeign, TellTime, ComesTo, told, skipped, Gives, Happens, step_of, calls, call_entry, tells_time, time_entry}
+use Rattle.sctp_network_table.specs.World.{Side, World, Action, CallOf, Give, GiveForeign, TellTime, ComesTo, told, skipped, Gives, Happens, step_of, calls, call_entry, tells_time, time_entry, Takes}
 use Rattle.sctp_network_laws.specs.Courses.{ActionFits, IsInBytes, is_a, end_of, IsTurnOf}
 use Rattle.sctp_network_laws.specs.Delivered.{gone}
 use Rattle.sctp_network_laws.proofs.EventLemmas.{Readable}

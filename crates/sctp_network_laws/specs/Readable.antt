@@ -5,7 +5,7 @@ use Rattle.sctp_wire.specs.declared.checksum.Policy.{Policy}
 use Rattle.sctp_packet.specs.Grammar.{Each}
 use Rattle.sctp_packet.specs.Packet.{PacketTree, Accepts, lets_through}
 use Rattle.sctp_state.specs.Options.{Options}
-use Rattle.sctp_table.specs.Wire.{written, field_of}
+use Rattle.sctp_table.specs.Wire.{writing, field_of}
 use Rattle.sctp_table_laws.specs.Mapped.{Carried, as_written}
 use Rattle.sctp_table_laws.specs.HeardBack.{as_heard}
 use Rattle.sctp_table_laws.specs.Sound.{OptionsFit, IsSound, ArgumentFits}
