@@ -2,9 +2,8 @@
 -- moments, any foreign bytes that are refused.
 use Rattle.std.specs.Prelude.{◌≡◌, ℕ, ◌==◌, ◌||◌, ◌^◌, ◌<◌, Bool, true, false, Option, Some, None, List, [], ◌∷◌, ◌++◌, map, slice_get, ⊤, ◌⊎◌}
 use Rattle.rand_core.specs.Stream.{Stream}
-use Rattle.sctp_packet.specs.Chunk.{ChunkTree}
 use Rattle.sctp_packet.specs.Grammar.{carried}
-use Rattle.sctp_packet.specs.Packet.{HeaderTree, PacketTree}
+use Rattle.sctp_packet.specs.Packet.{PacketTree}
 use Rattle.sctp_state.specs.Options.{Options, IsValid}
 use Rattle.sctp_state.specs.Capabilities.{agreed, exchanged}
 use Rattle.sctp_state.specs.Events.{Event, SendPacket, OnConnected, silent}

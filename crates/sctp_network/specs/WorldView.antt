@@ -1,5 +1,5 @@
 -- What the program's values of a world say.
-use Rattle.std.specs.Prelude.{◌≡◌, ℕ, Bool, Option, Some, None, List, [], ◌∷◌, map}
+use Rattle.std.specs.Prelude.{ℕ, Bool, Option, Some, None, List, [], ◌∷◌, map}
 use Rattle.std.specs.Option.{option_map}
 use Rattle.rand_core.specs.Stream.{Stream}
 use Rattle.sctp_serial.specs.Messages.{Message, message_of}

@@ -11,7 +11,7 @@ use Rattle.sctp_state.specs.Events.{Event, GivenUp, SendPacket, OnConnected}
 use Rattle.sctp_table.specs.Association.{State, Closed, CookieWait, Open, Endpoint}
 use Rattle.sctp_table.specs.Input.{refusal}
 use Rattle.sctp_table.specs.Shown.{Association, association_in}
-use Rattle.sctp_table_laws.specs.Mapped.{Mapping, Carried, as_written, as_bytes}
+use Rattle.sctp_table_laws.specs.Mapped.{Mapping, Carried, as_bytes}
 use Rattle.sctp_course.specs.Course as course
 use Rattle.sctp_course.specs.Course.{Pair, Turn, Calls, Gives, Refuses, has_connected, emitted, given, foreign_if, turned, goes, start, state_of}
 use Rattle.sctp_course.specs.Agreement as agreement

@@ -11,7 +11,7 @@ use Rattle.sctp_table.specs.Association.{Endpoint}
 use Rattle.sctp_table.specs.Shown.{Association}
 use Rattle.sctp_table.specs.Laws as table
 use Rattle.sctp_table.specs.Laws.{TakeMessage, endings}
-use Rattle.sctp_table_laws.specs.Mapped.{Mapping, Carried, map_event, map_end, as_written, as_bytes}
+use Rattle.sctp_table_laws.specs.Mapped.{Mapping, Carried, map_event, map_end, as_bytes}
 use Rattle.sctp_course.specs.Course as course
 use Rattle.sctp_course.specs.Course.{Pair, Turn, Calls, Gives, Refuses}
 use Rattle.sctp_course.specs.Handing.{handed_by, handed_at}

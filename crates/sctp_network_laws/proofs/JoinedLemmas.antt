@@ -5,7 +5,7 @@ use Rattle.sctp_state.specs.Options.{Options, IsValid}
 use Rattle.sctp_table.specs.Association.{Identity, Tcb, Phase, State, Closed, CookieWait, Open, Endpoint}
 use Rattle.sctp_table.specs.Laws.{endings}
 use Rattle.sctp_table.specs.Shown.{Association, association_in}
-use Rattle.sctp_table_laws.specs.Mapped.{as_written, as_bytes}
+use Rattle.sctp_table_laws.specs.Mapped.{as_bytes}
 use Rattle.sctp_table_laws.specs.Sound.{OptionsFit}
 use Rattle.sctp_course.specs.Course as course
 use Rattle.sctp_course.specs.Course.{Pair, AreGiven, AreCrossed, EndsAreJoined, run, start}

@@ -8,7 +8,7 @@ use Rattle.sctp_serial.specs.Messages.{Message}
 use Rattle.sctp_state.specs.Events.{Event, GivenUp}
 use Rattle.sctp_state.specs.Options.{Options}
 use Rattle.sctp_table.specs.Laws.{endings}
-use Rattle.sctp_table_laws.specs.Mapped.{Mapping, Carried, map_event, as_written, as_bytes}
+use Rattle.sctp_table_laws.specs.Mapped.{Mapping, Carried, map_event, as_bytes}
 use Rattle.sctp_rx.specs.Delivery as orders
 use Rattle.sctp_rules.specs.State.{has}
 use Rattle.sctp_tx_rules.specs.Led.{delivered}

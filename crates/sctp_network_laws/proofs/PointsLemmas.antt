@@ -9,7 +9,7 @@ use Rattle.sctp_outstanding.specs.Item.{Item}
 use Rattle.sctp_table.specs.Association.{State, Closed, CookieWait, Open, Endpoint}
 use Rattle.sctp_table.specs.Calls.{keeps_items}
 use Rattle.sctp_table.specs.Shown as socket
-use Rattle.sctp_table_laws.specs.Mapped.{Mapping, Carried, map_end, as_written, as_bytes}
+use Rattle.sctp_table_laws.specs.Mapped.{Mapping, Carried, map_end, as_bytes}
 use Rattle.sctp_tx_rules.specs.Led.{delivered}
 use Rattle.sctp_course.specs.Course as course
 use Rattle.sctp_course.specs.Course.{Pair, Turn, run, state_of}

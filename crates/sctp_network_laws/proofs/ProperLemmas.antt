@@ -10,7 +10,7 @@ use Rattle.sctp_state.specs.Options.{Options}
 use Rattle.sctp_state.specs.Events.{GivenUp}
 use Rattle.sctp_table.specs.Association.{Endpoint}
 use Rattle.sctp_table.specs.Laws as table
-use Rattle.sctp_table_laws.specs.Mapped.{Mapping, Carried, map_end, as_written, as_bytes}
+use Rattle.sctp_table_laws.specs.Mapped.{Mapping, Carried, map_end, as_bytes}
 use Rattle.sctp_course.specs.Course as course
 use Rattle.sctp_course.specs.Course.{Pair, Turn, Calls, turned, goes, start}
 use Rattle.sctp_delivery.specs.Accepted.{Offer, accepted_in}

@@ -2,7 +2,7 @@
 use Rattle.std.proofs.Common.{◌≡◌, ℕ, ◌+◌, List, [], ◌∷◌, ◌++◌, refl, sym, ap, ◌∙◌, append-nil}
 use Rattle.std.proofs.lemmas.Grind.{flat_map-append}
 use Rattle.sctp_state.specs.Events.{Event, SendPacket, OnConnected, OnClosed, OnConnectionRestarted, OnAborted, OnError, OnBufferedAmountLow, OnTotalBufferedAmountLow, OnStreamsResetFailed, OnStreamsResetPerformed, OnIncomingStreamReset, OnLifecycleMessageFullySent, OnLifecycleMessageMaybeExpired, OnLifecycleMessageExpired, OnLifecycleMessageDelivered, OnLifecycleEnd}
-use Rattle.sctp_table_laws.specs.Mapped.{Mapping, Carried, as_written, as_bytes}
+use Rattle.sctp_table_laws.specs.Mapped.{Mapping, Carried, as_bytes}
 use Rattle.sctp_tx_rules.specs.Led.{delivered_by, delivered}
 use Rattle.sctp_course.specs.Course as course
 use Rattle.sctp_network_table.specs.Judge.{End, A, B, same_end, all_unless, Entry, Called, Given, Foreign, Timed, Associated, Emitted, Happened, GaveUp, BecameReady}

@@ -6,7 +6,7 @@ use Rattle.std.proofs.lemmas.List.Elements.{All-nil, All-head, All-tail}
 use Rattle.rand_core.specs.Stream.{Stream}
 use Rattle.sctp_state.specs.Options.{Options}
 use Rattle.sctp_table.specs.Association.{Endpoint}
-use Rattle.sctp_table_laws.specs.Mapped.{as_written, as_bytes}
+use Rattle.sctp_table_laws.specs.Mapped.{as_bytes}
 use Rattle.sctp_table_laws.specs.Sound.{OptionsFit}
 use Rattle.sctp_table_laws.specs.ReadBack.{as_carried}
 use Rattle.sctp_table_laws.proofs.SoundLawsLemmas.{is_new}

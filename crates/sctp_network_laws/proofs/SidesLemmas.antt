@@ -9,7 +9,7 @@ use Rattle.std.proofs.lemmas.Bool.{or_left}
 use Rattle.sctp_state.specs.Events.{Event, GivenUp}
 use Rattle.sctp_table.specs.Association.{Endpoint}
 use Rattle.sctp_table.specs.Shown.{Association}
-use Rattle.sctp_table_laws.specs.Mapped.{Mapping, Carried, map_end, as_written, as_bytes}
+use Rattle.sctp_table_laws.specs.Mapped.{Mapping, Carried, map_end, as_bytes}
 use Rattle.sctp_table_laws.specs.Sound.{IsSound}
 use Rattle.sctp_table_laws.specs.ReadBack.{as_carried}
 use Rattle.sctp_course.specs.Course as course

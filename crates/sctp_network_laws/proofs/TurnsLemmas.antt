@@ -1,5 +1,5 @@
 -- What an end makes of a call, a packet or bytes from elsewhere is a turn of the course.
-use Rattle.std.proofs.Common.{◌≡◌, inl, inr, ℕ, zero, suc, ◌≤◌, ◌<◌, ◌^◌, ◌%◌, ◌==◌, ◌||◌, ◌&&◌, Bool, true, false, Option, Some, None, List, [], ◌∷◌, ◌++◌, length, take, drop, slice_get, refl, sym, ap, subst, ◌∙◌, append-nil, arith}
+use Rattle.std.proofs.Common.{◌≡◌, inl, inr, ℕ, zero, suc, ◌≤◌, ◌<◌, ◌^◌, ◌==◌, ◌||◌, ◌&&◌, Bool, true, false, Option, Some, None, List, [], ◌∷◌, ◌++◌, length, take, drop, slice_get, refl, sym, ap, subst, ◌∙◌, append-nil}
 use Rattle.std.specs.Prelude.{All}
 use Rattle.std.specs.Int.{w32, from_be_bytes}
 use Rattle.std.specs.List.{list_any}
@@ -9,18 +9,17 @@ use Rattle.std.proofs.lemmas.List.Folds.{list_any-append}
 use Rattle.std.proofs.lemmas.Bool.{eqb-true, or_left, or_right}
 use Rattle.sctp_wire.specs.Fields.{be16, be32}
 use Rattle.sctp_packet.specs.Chunk.{ChunkTree}
-use Rattle.sctp_packet.specs.Packet.{HeaderTree, PacketTree, FitsHeader, IsPacket, Accepts, lets_through, checksum_field, header_bytes, unsummed_bytes, packet_bytes}
+use Rattle.sctp_packet.specs.Packet.{HeaderTree, PacketTree, FitsHeader, IsPacket, Accepts, lets_through, checksum_field, header_bytes, packet_bytes}
 use Rattle.sctp_packet.proofs.PacketLemmas.{field_at}
-use Rattle.sctp_wire.specs.Checksum.{with_zero_field}
 use Rattle.sctp_packet.specs.Written.{chunks_bytes}
 use Rattle.sctp_packet.proofs.LawLemmas.{one_packet_lem, never_both_lem}
 use Rattle.sctp_state.specs.Options.{Options}
 use Rattle.sctp_state.specs.Events.{Event, GivenUp, Told, silent}
-use Rattle.sctp_table.specs.Association.{Context, Endpoint, Packing}
+use Rattle.sctp_table.specs.Association.{Context, Endpoint}
 use Rattle.sctp_table.specs.Input.{refusal}
 use Rattle.sctp_table.specs.Laws.{Call, Packet, NoPacket, called}
 use Rattle.sctp_table.specs.Hearing.{Hears, heard, not_read, Judges, taken, refused, unread, policy_of}
-use Rattle.sctp_table.specs.Wire.{field_of, word_in, word_at}
+use Rattle.sctp_table.specs.Wire.{field_of, word_at}
 use Rattle.sctp_table_laws.proofs.LawsLemmas.{stays_within}
 use Rattle.sctp_table_laws.specs.Mapped.{Mapping, Carried, map_end, as_written, as_bytes}
 use Rattle.sctp_table_laws.specs.HeardBack.{IsHearable}

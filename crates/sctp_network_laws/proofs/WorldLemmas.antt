@@ -9,7 +9,6 @@ use Rattle.sctp_state.specs.Events.{GivenUp}
 use Rattle.sctp_packet.specs.Packet.{PacketTree}
 use Rattle.sctp_table.specs.Input.{refusal}
 use Rattle.sctp_table.specs.Laws as table
-use Rattle.sctp_table.specs.Hearing.{Hears}
 use Rattle.sctp_table_laws.specs.Mapped.{Carried, as_written}
 use Rattle.sctp_table_laws.specs.ReadBack.{AreBytes}
 use Rattle.sctp_course.specs.Course as course

@@ -12,22 +12,21 @@ use Rattle.sctp_packet.specs.declared.packet.PacketParseError.TheVariants.{Inval
 use Rattle.sctp_packet.proofs.PacketLemmas.{length_joined}
 use Rattle.sctp_state.specs.Options.{Options}
 use Rattle.sctp_state.specs.Events.{Event}
-use Rattle.sctp_table.specs.Association.{Endpoint, Packing}
+use Rattle.sctp_table.specs.Association.{Endpoint}
 use Rattle.sctp_table.specs.Input.{refusal, on_packet, on_no_packet}
 use Rattle.sctp_table.specs.Hearing.{Hears, heard, not_read, policy_of}
-use Rattle.sctp_table.specs.Wire.{field_of, word_at, written}
+use Rattle.sctp_table.specs.Wire.{field_of, word_at}
 use Rattle.sctp_table_laws.specs.Mapped.{Carried, as_written}
 use Rattle.sctp_table_laws.specs.HeardBack.{IsHearable, as_heard}
 use Rattle.sctp_table_laws.specs.ReadBack.{AreBytes}
 use Rattle.sctp_table_laws.proofs.HeardBackLemmas.{is_accepted}
 use Rattle.sctp_course.specs.Course as course
 use Rattle.sctp_course.specs.Course.{Pair, Turn, Calls, Refuses, emitted, given, foreign_if, turned, goes, run, start}
-use Rattle.sctp_network_table.specs.Judge.{End, A, B, Call, Entry, Given}
+use Rattle.sctp_network_table.specs.Judge.{End, A, B, Call, Given}
 use Rattle.sctp_network_table.specs.World.{Side, World, Action, CallOf, Give, GiveForeign, TellTime, Gives, Happens, Runs, clock, recorded, calls, tells_time, fresh_world}
 use Rattle.sctp_network_laws.specs.Courses.{ActionFits, IsInBytes, is_a, end_of, is_let_through, hearing, IsHearing, IsTurnOf, AreTurnsOf}
 use Rattle.sctp_network_runs.specs.Worlds.{is_foreign, NoneIsForeign, EmitsBytes, BothEmitBytes, CoursesHaveWorlds}
 use Rattle.sctp_network_laws.proofs.EventLemmas.{Readable, packets_both}
-use Rattle.sctp_network_laws.proofs.SidesLemmas.{Good}
 use Rattle.sctp_network_laws.proofs.TurnsLemmas.{field_in, get_all}
 use Rattle.sctp_network_laws.proofs.WorldLemmas.{Both, all_front, Stepped, steps}
 use Rattle.sctp_network_laws.proofs.RunsLemmas.{fresh_both}

@@ -7,7 +7,7 @@ use Rattle.sctp_packet.specs.Packet.{HeaderTree, packet_bytes}
 use Rattle.sctp_packet.proofs.PacketLemmas.{length_joined}
 use Rattle.sctp_state.specs.Events.{Event, SendPacket}
 use Rattle.sctp_table.specs.Association.{Context, Endpoint, Packing}
-use Rattle.sctp_table.specs.Wire.{field_of, written, writing}
+use Rattle.sctp_table.specs.Wire.{field_of, writing}
 use Rattle.sctp_table.specs.Laws.{Call, Connect, Close, Shutdown, Send, SendMany, TakeMessage, SetLowThreshold, SetPriority, SetMaxMessageSize, Advance, HandOver, Restore, Packet, NoPacket, called, IsWithin, IsShort, StaysWithin, HasAtMost, SendsAtMost, ended_in_call, TellsEndings, ResetStreams}
 use Rattle.sctp_table_laws.proofs.StepsLemmas.{Goes}
 use Rattle.sctp_table_laws.proofs.RowStepsLemmas.{steps_close, steps_shutdown}

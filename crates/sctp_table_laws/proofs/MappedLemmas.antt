@@ -1,7 +1,5 @@
 -- The law: each call commutes with a map of packets.
-use Rattle.std.proofs.Common.{◌≡◌, ℕ, Bool, List, refl}
-use Rattle.sctp_packet.specs.Chunk.{ChunkTree}
-use Rattle.sctp_packet.specs.Packet.{HeaderTree}
+use Rattle.std.proofs.Common.{◌≡◌, ℕ, List, refl}
 use Rattle.sctp_state.specs.Options.{Options}
 use Rattle.sctp_table.specs.Wire.{writing}
 use Rattle.sctp_table.specs.Association.{Packing, Endpoint, in_context, context}

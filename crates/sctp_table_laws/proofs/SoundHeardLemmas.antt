@@ -12,7 +12,7 @@ use Rattle.sctp_state.specs.Options.{Options, defaults}
 use Rattle.sctp_state.specs.Events.{Event, SendPacket}
 use Rattle.sctp_table.specs.Association.{Context, Endpoint, Packing}
 use Rattle.sctp_table.specs.Input.{on_packet}
-use Rattle.sctp_table.specs.Wire.{field_of, written, writing}
+use Rattle.sctp_table.specs.Wire.{field_of, writing}
 use Rattle.sctp_table.specs.Hearing.{Hears}
 use Rattle.sctp_table.specs.Laws.{Call, called}
 use Rattle.sctp_table_laws.specs.Mapped.{Carried, as_written}
