@@ -1,6 +1,6 @@
 //! Two ends and all packets between them.
 
-ghost use Rattle.std.specs.Prelude.{⊥, ◌≡◌, List, ℕ, true, false, Some, None, [], ◌∷◌, drop, length, map, option_map, slice_get, IfOk, IfErr, OnOk, Ok, Err};
+ghost use Rattle.std.specs.Prelude.{◌≡◌, List, ℕ, true, false, Some, None, [], ◌∷◌, drop, length, map, option_map, slice_get, IfOk, IfErr, OnOk, Ok, Err};
 ghost use Rattle.sctp_packet.specs.Grammar.{Each};
 ghost use Rattle.sctp_state.specs.Options.{IsValid, options_of};
 ghost use Rattle.sctp_network.specs.declared.world.WorldError.TheVariants.{Memory as no_memory};
