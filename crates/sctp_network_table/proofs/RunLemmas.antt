@@ -1,5 +1,5 @@
 -- Events one after the other.
-use Rattle.std.proofs.Common.{⊥, ◌≡◌, List, [], ◌∷◌, ◌++◌, refl, sym, ap, subst, ◌∙◌, append_assoc}
+use Rattle.std.proofs.Common.{◌≡◌, List, [], ◌∷◌, ◌++◌, refl, sym, ap, subst, ◌∙◌, append_assoc}
 use Rattle.std.proofs.lemmas.List.{append-nil}
 use Rattle.sctp_network_table.specs.World.{Action, World, Happens, Runs, Lacks, RunsUpToLack, RunsUpToWant}
 
