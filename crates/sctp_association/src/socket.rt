@@ -12,7 +12,7 @@ ghost use Rattle.sctp_calls.specs.Metrics.{metrics_in, metrics_of};
 ghost use Rattle.sctp_association.specs.Socket.{Ends, Worked, association_of, batch_ending, ending_of, endpoint, handover_ending, readiness_in, refusal_in, refusals_in, reset_refusal_in, resetting_ending, restore_ending, restore_refusal_in, sending_ending};
 ghost use Rattle.sctp_table.specs.Hearing.{Hears, Judges};
 ghost use Rattle.sctp_table.specs.Shown.{association_in, is_at_rest};
-ghost use Rattle.sctp_table.specs.Wire.{written};
+ghost use Rattle.sctp_table.specs.Wire.{writing};
 ghost use Rattle.sctp_table.specs.Calls as calls;
 ghost use Rattle.sctp_table.specs.Closing as closing;
 ghost use Rattle.sctp_table.specs.Handover as handover;
@@ -75,7 +75,7 @@ impl<R: Rng + Drop, C: Checksum + Drop> Socket<R, C> {
         checksum: C,
     ) -> Result<Socket<R, C>, CallError>
         requires { IsValid (options_of options.now) }
-        ensures ok { IfOk result (λ s. endpoint R.stream C.word_of s ≡ fresh (options_of options.now) (written (C.word_of checksum)) (R.stream rng)) }
+        ensures ok { IfOk result (λ s. endpoint R.stream C.word_of s ≡ fresh (options_of options.now) (writing (C.word_of checksum)) (R.stream rng)) }
         ensures working { IfOk result (λ s. s.has_failed ≡ false) }
         ensures memory { IfErr result (λ e. e ≡ CallError.Memory) }
     {

@@ -6,9 +6,8 @@ use Rattle.sctp_packet.specs.Chunk.{ChunkTree, FragmentTree, init_chunk, init_ac
 use Rattle.sctp_state.specs.Options.{Options}
 use Rattle.sctp_state.specs.Events.{Event, SendPacket}
 use Rattle.sctp_table.specs.Packets.{Packet, fits, added_if, add, add_all, header_to}
-use Rattle.sctp_table.specs.Association.{Tcb}
+use Rattle.sctp_table.specs.Association.{Tcb, Packing}
 use Rattle.sctp_table.specs.Sending.{data_chunk_of, data_chunks}
-use Rattle.sctp_table.specs.Laws.{Packing}
 use Rattle.sctp_table_laws.specs.Mapped.{Carried}
 use Rattle.sctp_course.specs.Acts.{Making, is_plain}
 use Rattle.sctp_course.specs.Course.{as_carried, packets_in, has_connected}
@@ -84,11 +83,11 @@ module _ (g : Setting) (x y : Past) (v : View) (o : Options) (pack : Packing Car
       (inv_silent more (light_packets more light) (light_connected more light))
 
   -- the packet goes out, and another one is begun
-  pub inv_emitted : (h : Options) (is_summed : Bool) (new : ℕ) → Inv g x y v o pack (es ++ SendPacket (pack (header_to h tag) is_summed chunks) ∷ []) new []
+  pub inv_emitted : (h : Options) (is_summed : Bool) (new : ℕ) → Inv g x y v o pack (es ++ SendPacket (pack.write (header_to h tag) is_summed chunks) ∷ []) new []
   inv_emitted h is_summed new =
-      let p : Carried = pack (header_to h tag) is_summed chunks in
-      let is : p ≡ as_carried (header_to h tag) is_summed chunks = ap (λ (f : Packing Carried). f (header_to h tag) is_summed chunks) i.packing in
-      let said : Said x y (as_carried (header_to h tag) is_summed chunks) = record { says = i.made; shape = i.shape } in
+      let p : Carried = pack.write (header_to h tag) is_summed chunks in
+      let is : p ≡ as_carried.write (header_to h tag) is_summed chunks = ap (λ (f : Packing Carried). f.write (header_to h tag) is_summed chunks) i.packing in
+      let said : Said x y (as_carried.write (header_to h tag) is_summed chunks) = record { says = i.made; shape = i.shape } in
       record {
         stands = i.stands;
         size = i.size;

@@ -6,10 +6,9 @@ use Rattle.std.proofs.lemmas.Bool.{and_parts}
 use Rattle.sctp_packet.specs.Chunk.{ChunkTree, FragmentTree, init_chunk, init_ack_chunk, cookie_echo_chunk, cookie_ack_chunk}
 use Rattle.sctp_state.specs.Options.{Options}
 use Rattle.sctp_state.specs.Events.{Event, SendPacket, OnConnected}
-use Rattle.sctp_table.specs.Association.{Tcb, State}
+use Rattle.sctp_table.specs.Association.{Tcb, State, Packing}
 use Rattle.sctp_table.specs.Packets.{header_to}
 use Rattle.sctp_table.specs.Sending.{data_chunk_of, data_chunks}
-use Rattle.sctp_table.specs.Laws.{Packing}
 use Rattle.sctp_table_laws.specs.Mapped.{Carried}
 use Rattle.sctp_course.specs.Acts.{Making, is_plain}
 use Rattle.sctp_course.specs.Course.{as_carried, packets_in, has_connected}
@@ -120,11 +119,11 @@ module _ (g : Setting) (v : View) (o : Options) (pack : Packing Carried) (es : L
   inv_light more now behind light = inv_told more now behind (light_packets more light) (light_connected more light)
 
   -- the packet goes out, and another one is begun
-  pub inv_emitted : (h : Options) (is_summed : Bool) (new : ℕ) → Inv g v o pack (es ++ SendPacket (pack (header_to h tag) is_summed chunks) ∷ []) new []
+  pub inv_emitted : (h : Options) (is_summed : Bool) (new : ℕ) → Inv g v o pack (es ++ SendPacket (pack.write (header_to h tag) is_summed chunks) ∷ []) new []
   inv_emitted h is_summed new =
-      let p : Carried = pack (header_to h tag) is_summed chunks in
+      let p : Carried = pack.write (header_to h tag) is_summed chunks in
       let now : List (Event Carried) = es ++ SendPacket p ∷ [] in
-      let is : p ≡ as_carried (header_to h tag) is_summed chunks = ap (λ (f : Packing Carried). f (header_to h tag) is_summed chunks) i.packing in
+      let is : p ≡ as_carried.write (header_to h tag) is_summed chunks = ap (λ (f : Packing Carried). f.write (header_to h tag) is_summed chunks) i.packing in
       let uttered : UttersAll g v p = subst (UttersAll g v) (sym is) i.made in
       record {
         stands = i.stands;

@@ -5,13 +5,13 @@ use Rattle.sctp_packet.specs.Chunk.{ChunkTree, cookie_echo_chunk, cookie_ack_chu
 use Rattle.sctp_state.specs.Options.{Options}
 use Rattle.sctp_capabilities.specs.Cookie.{Cookie}
 use Rattle.sctp_state.specs.Events.{Event, OnConnected, OnError, OnClosed}
-use Rattle.sctp_table.specs.Association.{Tcb, Phase, CookieEchoed, Established, ShutdownPending, State, Closed, CookieWait, Open, Context}
+use Rattle.sctp_table.specs.Association.{Tcb, Phase, CookieEchoed, Established, ShutdownPending, State, Closed, CookieWait, Open, Context, Packing}
 use Rattle.sctp_table.specs.Packets.{Packet, add, add_all}
 use Rattle.sctp_table.specs.Requests.{Outcome, Unsettled, Done, Denied, outcome, request_chunk}
 use Rattle.sctp_table.specs.Resets.{on_outcome}
 use Rattle.sctp_table.specs.Sending.{is_small, data_chunks, selective_ack, fast_most}
 use Rattle.sctp_table.specs.Opening.{word, drew_word, long_word, tcb_by}
-use Rattle.sctp_table.specs.Laws.{Packing, Call, Shutdown}
+use Rattle.sctp_table.specs.Laws.{Call, Shutdown}
 use Rattle.sctp_tx.specs.Retransmission.{Sender}
 use Rattle.sctp_tx.specs.Resent.{resent_fast}
 use Rattle.sctp_tx.specs.ForwardPoints.{chunk_if, forward_chunk}

@@ -13,9 +13,9 @@ use Rattle.sctp_capabilities.specs.Cookie.{Cookie, CapabilitiesFit, CookieFits, 
 use Rattle.sctp_capabilities.proofs.CapabilitiesLemmas.{told_with-options, negotiated-told_by_init, negotiated-told_by_init_ack}
 use Rattle.sctp_capabilities.proofs.CookieLemmas.{both_tags, read_cookie-bytes}
 use Rattle.sctp_state.specs.Events.{Event, OnConnected}
-use Rattle.sctp_table.specs.Association.{Identity, Tcb, Phase, CookieEchoed, Closed, CookieWait, Open}
+use Rattle.sctp_table.specs.Association.{Identity, Tcb, Phase, CookieEchoed, Closed, CookieWait, Open, Packing}
 use Rattle.sctp_table.specs.Opening.{word, drew_word, init_of, init_ack_of, cookie_for, agreed_by, cookie_in, Verdict, RestartDetected, SimultaneousInit, MaintainExisting, by_tags, compared, tcb_by}
-use Rattle.sctp_table.specs.Laws.{Packing, Call, Connect, Shutdown, Restore}
+use Rattle.sctp_table.specs.Laws.{Call, Connect, Shutdown, Restore}
 use Rattle.sctp_table_laws.specs.Mapped.{Carried}
 use Rattle.sctp_course.specs.Acts.{Making, end_of, drawn_tag, drawn_first, IsHeard, IsEchoed, connects, echoes, before_opening, after_opening}
 use Rattle.sctp_course.specs.Course.{has_connected, AreGiven}

@@ -16,7 +16,7 @@ use Rattle.sctp_tx.specs.Resent.{resent, resent_fast, send_fast, resent_by}
 use Rattle.sctp_tx.specs.ForwardPoints.{expired, chunk_if, forward_chunk}
 use Rattle.sctp_tx.specs.Sending as fragments
 use Rattle.sctp_tx.specs.Sending.{Filling, appended, turned_if, turned, fill, discard_all, without_discards, filled_with, send}
-use Rattle.sctp_table.specs.Association.{Tcb, tcb, Phase, CookieEchoed, Established, ShutdownPending, Closed, CookieWait, Open, Context}
+use Rattle.sctp_table.specs.Association.{Tcb, tcb, Phase, CookieEchoed, Established, ShutdownPending, Closed, CookieWait, Open, Context, Packing}
 use Rattle.sctp_table.specs.Packets.{Packet, add, add_all, header_to, room}
 use Rattle.sctp_table.specs.Requests.{Outcome, Unsettled, Done, Denied, outcome, request_chunk}
 use Rattle.sctp_table.specs.Resets.{on_outcome}
@@ -24,7 +24,7 @@ use Rattle.sctp_table.specs.Sending.{is_small, selective_ack, data_chunk_of, dat
 use Rattle.sctp_table.specs.Acknowledging.{cleaned}
 use Rattle.sctp_table.specs.Opening.{init_of, init_ack_of, agreed_by, names, long_word, tcb_by}
 use Rattle.sctp_table.specs.Input.{misused}
-use Rattle.sctp_table.specs.Laws.{Call, Packing, Restore, ending}
+use Rattle.sctp_table.specs.Laws.{Call, Restore, ending}
 use Rattle.sctp_table_laws.specs.Mapped.{Carried}
 use Rattle.sctp_course.specs.Acts.{Making, in_open, end_of, is_plain, may_shut, point_of, IsHeard, IsEchoed, fragments_of, PacketAct, begins, adds_plain, emits, complains, counts, before_packets, after_packets, OpeningAct, connects, adds_init, answers_new, answers_waiting, answers_echoed, answers_again, echoes, adds_cookie, establishes, opens, restarts, opens_again, maintains, adds_cookie_ack, before_opening, after_opening, ClosingAct, closes, shuts, shuts_on, before_closing, after_closing, DataAct, takes_data, takes_idata, takes_forward, takes_iforward, before_data, after_data, SackAct, takes_sack, samples, counts_errors, before_sack, after_sack, SendingAct, asks, adds_ack, expires, adds_forward, forwards_later, asks_no_reset, asks_reset, adds_request, sends, sends_fast, before_sending, after_sending, TimeAct, advances, delay_ends, times_out, beats, times_init, times_cookie, times_request, wakes_request, before_time, timeout_of, after_time, CallAct, accepts, refuses, takes_message, sets_low_threshold, sets_priority, sets_max_message_size, before_call, after_call, ResetAct, prepares, defers, performs, processes, takes_response, adds_responses, before_reset, after_reset, HandoverAct, leaves, takes_up, before_handover, after_handover, InputAct, ends_packet, before_input, after_input, Keeps}
 use Rattle.sctp_course.specs.Course.{as_carried, packets_in, AreGiven}
@@ -124,10 +124,10 @@ module _ (g : Setting) (v : View) (o : Options) (pack : Packing Carried) (es : L
     made = i.made;
   }
 
-  inv_emitted : (h : Options) (tag : ℕ) (is_summed : Bool) → Inv g v o pack (es ++ SendPacket (pack (header_to h tag) is_summed chunks) ∷ []) []
+  inv_emitted : (h : Options) (tag : ℕ) (is_summed : Bool) → Inv g v o pack (es ++ SendPacket (pack.write (header_to h tag) is_summed chunks) ∷ []) []
   inv_emitted h tag is_summed =
-      let p : Carried = pack (header_to h tag) is_summed chunks in
-      let is : p ≡ as_carried (header_to h tag) is_summed chunks = ap (λ (f : Packing Carried). f (header_to h tag) is_summed chunks) i.packing in
+      let p : Carried = pack.write (header_to h tag) is_summed chunks in
+      let is : p ≡ as_carried.write (header_to h tag) is_summed chunks = ap (λ (f : Packing Carried). f.write (header_to h tag) is_summed chunks) i.packing in
       record {
         able = i.able;
         size = i.size;

@@ -14,9 +14,9 @@ use Rattle.sctp_state.specs.Options.{Options}
 use Rattle.sctp_send_queue.specs.Queue.{Queue}
 use Rattle.sctp_send_queue.specs.InOrder.{IsInOrder, HasRests}
 use Rattle.sctp_send_queue.specs.TakenUp.{is_numbered_as_sent}
-use Rattle.sctp_table.specs.Association.{Tcb, State, Closed, CookieWait, Open, Context, Endpoint, fresh}
+use Rattle.sctp_table.specs.Association.{Tcb, State, Closed, CookieWait, Open, Context, Endpoint, fresh, Packing}
 use Rattle.sctp_table.specs.Handover.{readiness}
-use Rattle.sctp_table.specs.Laws.{Packing, Call, Send, SendMany, Restore, Packet, called}
+use Rattle.sctp_table.specs.Laws.{Call, Send, SendMany, Restore, Packet, called}
 use Rattle.sctp_table_laws.specs.HandoverRoundTrip.{IsConnected, IsNumberedOnce, Fits, standing, GoesOn}
 use Rattle.sctp_table_laws.specs.Lifecycles.{is_restore}
 

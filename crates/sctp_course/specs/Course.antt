@@ -2,13 +2,12 @@
 -- moments, any foreign bytes that are refused.
 use Rattle.std.specs.Prelude.{◌≡◌, ℕ, ◌==◌, ◌||◌, ◌^◌, ◌<◌, Bool, true, false, Option, Some, None, List, [], ◌∷◌, ◌++◌, map, slice_get, ⊤, ◌⊎◌}
 use Rattle.rand_core.specs.Stream.{Stream}
-use Rattle.sctp_packet.specs.Chunk.{ChunkTree}
 use Rattle.sctp_packet.specs.Grammar.{carried}
-use Rattle.sctp_packet.specs.Packet.{HeaderTree, PacketTree}
+use Rattle.sctp_packet.specs.Packet.{PacketTree}
 use Rattle.sctp_state.specs.Options.{Options, IsValid}
 use Rattle.sctp_capabilities.specs.Capabilities.{agreed, exchanged}
 use Rattle.sctp_state.specs.Events.{Event, SendPacket, OnConnected, silent}
-use Rattle.sctp_table.specs.Association.{Identity, Tcb, Phase, State, Open, Endpoint, fresh}
+use Rattle.sctp_table.specs.Association.{Identity, Tcb, Phase, State, Open, Packing, Endpoint, fresh}
 use Rattle.sctp_table.specs.Input.{refusal}
 use Rattle.sctp_table.specs.Laws.{Call, Connect, Shutdown, Restore, Packet, called, endings}
 use Rattle.sctp_table_laws.specs.Mapped.{Carried}
@@ -24,8 +23,8 @@ pub record Pair : Type 0 where
   pub a : Side
   pub b : Side
 
-abbrev pub as_carried : HeaderTree → (is_summed : Bool) → List ChunkTree → Carried
-as_carried header is_summed chunks = record { header = header; is_summed = is_summed; chunks = chunks }
+abbrev pub as_carried : Packing Carried
+as_carried = record { write = λ header is_summed chunks. record { header = header; is_summed = is_summed; chunks = chunks }; word_of = λ bytes. 0 }
 
 abbrev pub new_side : Options → Stream → Side
 new_side o words = record { end = fresh o as_carried words; told = []; is_asked = false }

@@ -11,10 +11,9 @@ use Rattle.sctp_tx.specs.Retransmission.{Sender}
 use Rattle.sctp_rx.specs.Seen.{Seen, contains}
 use Rattle.sctp_rx.specs.Tracker.{Tracker, IsTracker}
 use Rattle.sctp_rules.specs.State.{Message, Transfer, count}
-use Rattle.sctp_table.specs.Association.{Tcb, Phase}
+use Rattle.sctp_table.specs.Association.{Tcb, Phase, Packing}
 use Rattle.sctp_table.specs.Packets.{Packet, add_all, header_to, emit_if}
 use Rattle.sctp_table.specs.Requests.{Requests}
-use Rattle.sctp_table.specs.Laws.{Packing}
 use Rattle.sctp_table_laws.specs.Mapped.{Carried}
 use Rattle.sctp_course.specs.Acts.{Making, is_plain, with_chunk, with_packet, in_open}
 use Rattle.sctp_course.specs.Course.{as_carried, packets_in}
@@ -173,8 +172,8 @@ module _ (message : ℕ → Message) (lifecycle : ℕ → Option ℕ) (mixed : B
   goes_emitted m packing x claim =
       let first = first_in m.state in
       let header = header_to m.context.options m.packet.tag in
-      let p : Carried = m.context.pack header m.packet.is_summed m.packet.chunks in
-      let is : p ≡ as_carried header m.packet.is_summed m.packet.chunks = ap (λ (f : Packing Carried). f header m.packet.is_summed m.packet.chunks) packing in
+      let p : Carried = m.context.pack.write header m.packet.is_summed m.packet.chunks in
+      let is : p ≡ as_carried.write header m.packet.is_summed m.packet.chunks = ap (λ (f : Packing Carried). f.write header m.packet.is_summed m.packet.chunks) packing in
       let Q : Carried → Type 0 = λ q. Says first x q.chunks in
       let says : Q p = subst Q (sym is) claim.made in (
         x,

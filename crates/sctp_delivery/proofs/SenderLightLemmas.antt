@@ -15,13 +15,13 @@ use Rattle.sctp_tx_rules.specs.Led.{recorded, delivered}
 use Rattle.sctp_tx_rules.specs.Shown.{Shows}
 use Rattle.sctp_tx_rules.proofs.SackLemmas.{delivered_more}
 use Rattle.sctp_tx_rules.proofs.AcceptLemmas.{with_settings}
-use Rattle.sctp_table.specs.Association.{Identity, Tcb, Phase, ShutdownPending, State, Closed, CookieWait, Open, Context}
+use Rattle.sctp_table.specs.Association.{Identity, Tcb, Phase, ShutdownPending, State, Closed, CookieWait, Open, Context, Packing}
 use Rattle.sctp_table.specs.Packets.{Packet, emptied, header_to, emit_if}
 use Rattle.sctp_table.specs.Requests.{Request, Requests, Outcome, Unsettled, nothing_to_do, performed, in_progress, outcome, answered, answered_in, processed}
 use Rattle.sctp_table.specs.Resets.{on_outcome}
 use Rattle.sctp_table.specs.Data.{taken, forwarded}
 use Rattle.sctp_table.specs.Input.{at_end}
-use Rattle.sctp_table.specs.Laws.{Call, Packing}
+use Rattle.sctp_table.specs.Laws.{Call}
 use Rattle.sctp_table_laws.specs.Mapped.{Carried}
 use Rattle.sctp_course.specs.Acts.{Making, is_plain, with_chunk, with_packet, with_context, in_open, PacketAct, begins, adds_plain, emits, complains, counts, before_packets, after_packets, ClosingAct, closes, shuts, shuts_on, before_closing, after_closing, DataAct, takes_data, takes_idata, takes_forward, takes_iforward, before_data, after_data, CallAct, accepts, refuses, takes_message, sets_low_threshold, sets_priority, sets_max_message_size, before_call, after_call, ResetAct, prepares, defers, performs, processes, takes_response, adds_responses, before_reset, after_reset, InputAct, ends_packet, before_input, after_input}
 use Rattle.sctp_course.specs.Course.{packets_in}
@@ -133,8 +133,8 @@ module _ (message : ℕ → Message) (lifecycle : ℕ → Option ℕ) (mixed : B
       reported = reports_then lifecycle from x x [] m.context.told.events (emit_if true m.packet m.context).told.events claim.reported
           (reports_none lifecycle x x m.context.told.events (emit_if true m.packet m.context).told.events refl
           (delivered_more m.context.told.events (SendPacket _ ∷ []) ∙ append-nil (delivered m.context.told.events)));
-      told = goes_out m (m.context.pack (header_to m.context.options m.packet.tag) m.packet.is_summed m.packet.chunks)
-          (ap (λ (pack : Packing Carried). (pack (header_to m.context.options m.packet.tag) m.packet.is_summed m.packet.chunks).chunks) inv.packing) x claim;
+      told = goes_out m (m.context.pack.write (header_to m.context.options m.packet.tag) m.packet.is_summed m.packet.chunks)
+          (ap (λ (pack : Packing Carried). (pack.write (header_to m.context.options m.packet.tag) m.packet.is_summed m.packet.chunks).chunks) inv.packing) x claim;
       made = All-nil (SaysOut message mixed (first_out m.state) from.acknowledged x);
     },
   )

@@ -5,13 +5,12 @@ use Rattle.sctp_state.specs.declared.api.SocketState.{SocketState}
 use Rattle.sctp_state.specs.declared.api.errors.ResetStreamsError.{ResetStreamsError}
 use Rattle.sctp_state.specs.declared.api.errors.SendError.{SendError}
 use Rattle.sctp_state.specs.Options.{SendOptions}
-use Rattle.sctp_table.specs.Association.{Tcb, Phase, CookieEchoed, Established, ShutdownPending, ShutdownSent, ShutdownReceived, ShutdownAckSent, State, Closed, CookieWait, Open, Context, Standing, with_context, where_open}
+use Rattle.sctp_table.specs.Association.{Tcb, Phase, CookieEchoed, Established, ShutdownPending, ShutdownSent, ShutdownReceived, ShutdownAckSent, State, Closed, CookieWait, Open, Context, Standing, with_context, where_open, Packing}
 use Rattle.sctp_table.specs.Sending.{Sent, is_alone, open_with, send_buffered, send_in}
 use Rattle.sctp_table.specs.Calls.{shown_phase, shown_state, refusal, offered, offer, sent_if, send, offer_all, send_many, taken_in, take_message}
 use Rattle.sctp_table.specs.Requests.{Request}
 use Rattle.sctp_table.specs.Resets.{reset_refusal, prepared, prepare_all, reset_if, reset_streams}
 use Rattle.sctp_table.specs.Handover.{is_strict, pending, receiving, readiness_open, readiness_in, readiness, left_in, left_if, hand_over}
-use Rattle.sctp_table.specs.Laws.{Packing}
 use Rattle.sctp_send_queue.specs.Readiness as queued
 use Rattle.sctp_tx.specs.Handover as sender
 use Rattle.sctp_draws.specs.NamedChunks.{Names, AreNames}

@@ -5,13 +5,12 @@ use Rattle.sctp_packet.specs.Chunk.{abort_chunk, shutdown_ack_chunk, shutdown_co
 use Rattle.sctp_state.specs.declared.api.ErrorKind.TheVariants.{TooManyRetries, ProtocolViolation}
 use Rattle.sctp_state.specs.Events.{Event, OnClosed, OnAborted}
 use Rattle.sctp_rx.specs.Tracker.{is_ack_due}
-use Rattle.sctp_table.specs.Association.{Tcb, Phase, CookieEchoed, Established, ShutdownPending, ShutdownSent, ShutdownReceived, ShutdownAckSent, State, Closed, CookieWait, Open, Context, Standing, where_open}
+use Rattle.sctp_table.specs.Association.{Tcb, Phase, CookieEchoed, Established, ShutdownPending, ShutdownSent, ShutdownReceived, ShutdownAckSent, State, Closed, CookieWait, Open, Context, Standing, where_open, Packing}
 use Rattle.sctp_table.specs.Packets.{Packet, add, packet_to, new_packet, emit}
 use Rattle.sctp_table.specs.Sending.{Sent, asked, acknowledged, selective_ack, is_alone, open_with, send_with}
 use Rattle.sctp_table.specs.Closing.{closed, send_shutdown_ack, Onward, shut, open_onward, shutdown_in, shutdown, shut_by_peer, on_shutdown, completed, out_of_the_blue, on_shutdown_ack_open, on_shutdown_ack_in, on_shutdown_ack, on_shutdown_complete, abort, close_in, close, too_many, violated, on_abort, on_error}
 use Rattle.sctp_table.specs.Input.{ended_if, at_end, ended, repeats}
 use Rattle.sctp_table.specs.Opening.{on_cookie_ack}
-use Rattle.sctp_table.specs.Laws.{Packing}
 use Rattle.sctp_draws.specs.NamedChunks.{Names, AreNames}
 use Rattle.sctp_draws.specs.Names.{named_packet, named_phase, named_tcb, named_state, named_standing, plain}
 use Rattle.sctp_draws.proofs.WritingLemmas.{Knows, named_add, named_emit, named_emit_chunk}

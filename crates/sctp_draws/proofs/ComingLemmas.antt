@@ -10,12 +10,11 @@ use Rattle.sctp_capabilities.specs.declared.state_cookie.StateCookieError.{State
 use Rattle.sctp_capabilities.specs.Cookie.{Cookie, read_cookie}
 use Rattle.sctp_state.specs.Events.{OnConnectionRestarted, OnAborted}
 use Rattle.sctp_outstanding.specs.Items.{next_number}
-use Rattle.sctp_table.specs.Association.{Tcb, Phase, CookieEchoed, Established, ShutdownPending, ShutdownSent, ShutdownReceived, ShutdownAckSent, State, Closed, CookieWait, Open, Context, Standing, with_context}
+use Rattle.sctp_table.specs.Association.{Tcb, Phase, CookieEchoed, Established, ShutdownPending, ShutdownSent, ShutdownReceived, ShutdownAckSent, State, Closed, CookieWait, Open, Context, Standing, with_context, Packing}
 use Rattle.sctp_table.specs.Packets.{Packet, add, packet_to, new_packet, rounded, say, complain, emit}
 use Rattle.sctp_table.specs.Sending.{Sent, open_with}
 use Rattle.sctp_table.specs.Closing.{closed}
 use Rattle.sctp_table.specs.Opening.{tsn_from, tag_from, answer, next_first, on_init_open, on_init_in, on_init, cookie_in, without_cookie, echo, names, echoed, on_init_ack_in, on_init_ack, connected, Verdict, EstablishNew, RestartDetected, SimultaneousInit, MaintainExisting, Discard, InvalidTag, judged, cookie_ack, anew, kept, keep, too_late, restarts, restarts_in, restart, on_verdict, on_read_cookie, on_cookie_echo}
-use Rattle.sctp_table.specs.Laws.{Packing}
 use Rattle.sctp_draws.specs.NamedChunks.{Names, AreNames, flipped, moved, named_parameter, named_init}
 use Rattle.sctp_draws.specs.Names.{named_tcb, named_phase, named_state, named_standing, named_cookie, plain, with_words}
 use Rattle.sctp_draws.specs.Laws.{TiesTell}

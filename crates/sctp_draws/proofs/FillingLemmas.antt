@@ -18,12 +18,11 @@ use Rattle.sctp_tx.specs.Resent.{mixes, resent_fast}
 use Rattle.sctp_tx.specs.ForwardPoints.{point_of, forward_chunk, chunk_if}
 use Rattle.sctp_tx.specs.Sending as fragments
 use Rattle.sctp_tx.specs.Sending.{send}
-use Rattle.sctp_table.specs.Association.{Tcb, Context}
+use Rattle.sctp_table.specs.Association.{Tcb, Context, Packing}
 use Rattle.sctp_table.specs.Heartbeats.{beating_if}
 use Rattle.sctp_table.specs.Requests.{Request, Requests, request_chunk, started}
 use Rattle.sctp_table.specs.Packets.{Packet, emptied, room, fits, add, add_all, has_chunks, new_packet, emit}
 use Rattle.sctp_table.specs.Sending.{Filling, window, selective_ack, asked, acknowledged, ack_if, goes_along, with_ack, forward_later, forward_added_if, forward_if, tested, tested_if, with_forward, most_streams, last_assigned, begun, request_started, add_request, carrying, request_of, request_at_most, request_if, with_request, data_chunk_of, is_small, filled, with_data, filled_as, emitted, Turned, turned_if, turned, go_on, burst, is_alone, Sent, sent, sent_by, send_with, send_buffered, fast_most, fast_packet, fast_if, send_lost}
-use Rattle.sctp_table.specs.Laws.{Packing}
 use Rattle.sctp_draws.specs.NamedChunks.{Names, AreNames, moved, moved_tsn, named_chunk, named_chunks}
 use Rattle.sctp_draws.specs.Names.{named_packet, named_sender, named_request, named_requests, named_tcb, plain}
 use Rattle.sctp_draws.proofs.MovedLemmas.{moved_wire, sum_moved}

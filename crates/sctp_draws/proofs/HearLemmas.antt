@@ -10,7 +10,7 @@ use Rattle.sctp_outstanding.specs.Items.{number_of}
 use Rattle.sctp_outstanding.specs.Sack.{is_valid}
 use Rattle.sctp_rx.specs.Tracker.{written}
 use Rattle.sctp_tx.specs.Retransmission.{SackAnswer, Invalid, Valid, sender_if, told_if, answer_if}
-use Rattle.sctp_table.specs.Association.{Tcb, Phase, CookieEchoed, Established, ShutdownPending, ShutdownSent, ShutdownReceived, ShutdownAckSent, State, Closed, CookieWait, Open, Context, Standing, Endpoint, in_context, where_open}
+use Rattle.sctp_table.specs.Association.{Tcb, Phase, CookieEchoed, Established, ShutdownPending, ShutdownSent, ShutdownReceived, ShutdownAckSent, State, Closed, CookieWait, Open, Context, Standing, Endpoint, in_context, where_open, Packing}
 use Rattle.sctp_table.specs.Heartbeats.{info_in, is_last, answered_if, answered_by, answered, on_heartbeat_ack}
 use Rattle.sctp_table.specs.Packets.{add, packet_to, new_packet}
 use Rattle.sctp_table.specs.Sending.{is_alone, send_lost}
@@ -20,7 +20,6 @@ use Rattle.sctp_table.specs.Acknowledging.{cleaned, sampled, heard, on_sack_in, 
 use Rattle.sctp_table.specs.Acknowledging as acks
 use Rattle.sctp_table.specs.Opening.{on_cookie_ack, stands, connected}
 use Rattle.sctp_table.specs.Input.{misused, violation, is_reported, echoed, echoed_in, complained, on_unknown_if, on_unknown, on_heartbeat, Heard, on_standing, on_chunk, goes_on, heard_if, hear, hear_rest, hear_all, has_data, repeats, repeats_if, ended, handled}
-use Rattle.sctp_table.specs.Laws.{Packing}
 use Rattle.sctp_draws.specs.NamedChunks.{Names, AreNames, flipped, moved, named_sack, named_chunk, named_chunks}
 use Rattle.sctp_draws.specs.Names.{named_state, named_standing, named_end, plain}
 use Rattle.sctp_draws.specs.Laws.{is_flowing}

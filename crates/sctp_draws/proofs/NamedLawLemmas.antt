@@ -2,14 +2,14 @@
 use Rattle.std.proofs.Common.{◌≡◌, ℕ, Option, is_some, List, [], refl, ap, ◌∙◌}
 use Rattle.rand_core.specs.Stream.{Stream}
 use Rattle.sctp_packet.specs.Chunk.{ChunkTree}
-use Rattle.sctp_table.specs.Association.{Context, Standing, Endpoint}
+use Rattle.sctp_table.specs.Association.{Context, Standing, Endpoint, Packing}
 use Rattle.sctp_table.specs.Input.{refusal, counts, taken_if}
-use Rattle.sctp_table.specs.Laws.{Packing, Call, Connect, Close, Shutdown, Send, SendMany, ResetStreams, TakeMessage, SetLowThreshold, SetPriority, SetMaxMessageSize, Advance, HandOver, Restore, Packet, NoPacket, called}
+use Rattle.sctp_table.specs.Laws.{Call, Connect, Close, Shutdown, Send, SendMany, ResetStreams, TakeMessage, SetLowThreshold, SetPriority, SetMaxMessageSize, Advance, HandOver, Restore, Packet, NoPacket, called}
 use Rattle.sctp_table_laws.specs.Mapped.{Carried, map_context, map_standing}
 use Rattle.sctp_table_laws.proofs.MappedLemmas.{maps_called}
 use Rattle.sctp_draws.specs.NamedChunks.{Names, AreNames, flipped, named_chunks}
 use Rattle.sctp_draws.specs.Names.{named_state, named_standing, with_words}
-use Rattle.sctp_draws.specs.Images.{as_carried, named_carried, image}
+use Rattle.sctp_draws.specs.Images.{as_carried, named_carried, as_named, image}
 use Rattle.sctp_draws.specs.NamedCalls.{named_call, CallIsNamed, EachCallIsNamed, EachRefusalIsNamed}
 use Rattle.sctp_draws.proofs.WritingLemmas.{Knows}
 use Rattle.sctp_draws.proofs.TagLemmas.{refused_named}
@@ -40,16 +40,19 @@ module _ {P : Type 0} (n : Names) (are : AreNames n) (pack : Packing P) where
 
 -- packets that are named as they are told are written by one who knows the names
 abbrev naming : Names → Packing Carried → Packing Carried
-naming n pack header is_summed chunks = named_carried n (pack header is_summed chunks)
+naming n pack = record {
+  write = λ header is_summed chunks. named_carried n (pack.write header is_summed chunks);
+  word_of = as_carried.word_of;
+}
 
-knows : (n : Names) (c : Context Carried) → c.pack ≡ as_carried → Knows n as_carried (map_context (named_carried n) c)
+knows : (n : Names) (c : Context Carried) → c.pack ≡ as_carried → Knows n as_carried (map_context (as_named n) c)
 knows n c k = ap (λ (w : Packing Carried). naming n w) k
 
 pub each_call : EachCallIsNamed
 each_call n are call s w v k is =
-    let u : Standing Carried = map_standing (named_carried n) s in
+    let u : Standing Carried = map_standing (as_named n) s in
     call_named n are as_carried call u w v is (knows n s.context k)
-    ∙ ap (λ (e : Endpoint Carried). named_standing n as_carried e.standing) (maps_called (named_carried n) call (with_words w s))
+    ∙ ap (λ (e : Endpoint Carried). named_standing n as_carried e.standing) (maps_called (as_named n) call (with_words w s))
 
 pub each_refusal : EachRefusalIsNamed
 each_refusal n are p s w v text e =

@@ -10,9 +10,8 @@ use Rattle.sctp_rx.specs.ReassemblyQueue.{Reassembly, fragment_waits, point_wait
 use Rattle.sctp_rx.specs.ReassemblyQueue as reassembly
 use Rattle.sctp_outstanding.specs.Items.{Outstanding}
 use Rattle.sctp_outstanding.specs.Items as items
-use Rattle.sctp_table.specs.Association.{Tcb, Phase, State, Closed, CookieWait, Open, Context, Standing}
+use Rattle.sctp_table.specs.Association.{Tcb, Phase, State, Closed, CookieWait, Open, Context, Standing, Packing}
 use Rattle.sctp_table.specs.Data.{is_full, takes, added_unless, taken, taken_if, on_data_in, on_data_if, on_data, skipped_if, forwarded, forwarded_if, forwarded_in, on_forward}
-use Rattle.sctp_table.specs.Laws.{Packing}
 use Rattle.sctp_draws.specs.NamedChunks.{Names, moved}
 use Rattle.sctp_draws.specs.Names.{named_phase, named_tracker, named_reassembly, named_outstanding, named_tcb, named_state, named_standing, plain}
 use Rattle.sctp_draws.proofs.MovedLemmas.{moved_nearest}

@@ -5,14 +5,13 @@ use Rattle.sctp_rx.specs.Tracker.{written}
 use Rattle.sctp_state.specs.Errors.{is_exhausted}
 use Rattle.sctp_state.specs.Rtt.{rto}
 use Rattle.sctp_state.specs.Timers.{Timer, is_due, is_running, expire}
-use Rattle.sctp_table.specs.Association.{Tcb, Phase, CookieEchoed, Established, ShutdownPending, ShutdownSent, ShutdownReceived, ShutdownAckSent, State, Closed, CookieWait, Open, Context, Standing}
+use Rattle.sctp_table.specs.Association.{Tcb, Phase, CookieEchoed, Established, ShutdownPending, ShutdownSent, ShutdownReceived, ShutdownAckSent, State, Closed, CookieWait, Open, Context, Standing, Packing}
 use Rattle.sctp_table.specs.Packets.{Packet, fits, add, packet_to, new_packet, emit}
 use Rattle.sctp_table.specs.Requests.{Request, Requests, lasting, expired, woken, awake, is_unanswered}
 use Rattle.sctp_table.specs.Sending.{Sent, add_request, cookie_if, send_cookie}
 use Rattle.sctp_table.specs.Closing.{send_shutdown, send_shutdown_ack, too_many}
 use Rattle.sctp_table.specs.Heartbeats.{counted_on, heartbeat, beat_if, unanswered_if}
 use Rattle.sctp_table.specs.Time.{Ticking, tick_ack, t3_if, tick_t3, tick_interval, tick_timeout, request_again, errs_if, requests_again, unanswered, requests_if, tick_requests, ticking, ticked, Left, left, standing_if, standing_left, ended_if, ended, ended_or_sent, goes_on, settled_if, settled, t2_expired, t2_if, tick_t2, waits_if, echoed_again, t1_expired, t1_if, tick_cookie, Waited, waited, waiting_if, standing_waited, init_expired, init_if, tick_init, tick_open, tick_in, advance_if, advance}
-use Rattle.sctp_table.specs.Laws.{Packing}
 use Rattle.sctp_draws.specs.NamedChunks.{Names, AreNames, moved}
 use Rattle.sctp_draws.specs.Names.{named_request, named_requests, named_phase, named_tcb, named_state, named_standing, plain}
 use Rattle.sctp_draws.proofs.WritingLemmas.{Knows, named_emit, named_emit_chunk, emit_stays}

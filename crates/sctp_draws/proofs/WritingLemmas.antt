@@ -5,9 +5,8 @@ use Rattle.sctp_packet.specs.Chunk.{ChunkTree}
 use Rattle.sctp_packet.specs.Written.{chunk_value, chunk_is_whole, chunk_bytes, chunks_bytes}
 use Rattle.sctp_state.specs.Numbers.{more}
 use Rattle.sctp_state.specs.Events.{SendPacket}
-use Rattle.sctp_table.specs.Association.{Tcb, Context}
+use Rattle.sctp_table.specs.Association.{Tcb, Context, Packing}
 use Rattle.sctp_table.specs.Packets.{Packet, fits, added_if, add, add_all, is_some_chunk, has_chunks, new_packet, say, header_to, emit_if, emit, emit_chunk}
-use Rattle.sctp_table.specs.Laws.{Packing}
 use Rattle.sctp_draws.specs.NamedChunks.{Names, AreNames, named_chunk, named_chunks}
 use Rattle.sctp_draws.specs.Names.{named_packet, named_tcb, under, plain}
 use Rattle.sctp_draws.proofs.SizeLemmas.{same_value, size_named, sizes_named, whole_named}
@@ -58,7 +57,7 @@ Knows n pack c = c.pack ≡ under n pack
 
 -- a packet that this one writes goes out
 abbrev sent_by : {P : Type 0} → Packing P → Packet → Context P → Packing P → Context P
-sent_by pack p c w = record (say (SendPacket (w (header_to c.options p.tag) p.is_summed p.chunks)) (plain pack c)) {
+sent_by pack p c w = record (say (SendPacket (w.write (header_to c.options p.tag) p.is_summed p.chunks)) (plain pack c)) {
   counts = record c.counts { tx_packets = more c.counts.tx_packets };
 }
 

@@ -7,8 +7,8 @@ use Rattle.sctp_wire.specs.Cause.{CauseTree}
 use Rattle.sctp_packet.specs.Chunk.{ChunkTree, FragmentTree, InitTree, SackTree, data_chunk, idata_chunk, init_chunk, init_ack_chunk, sack_chunk, heartbeat_request_chunk, heartbeat_ack_chunk, abort_chunk, shutdown_chunk, shutdown_ack_chunk, error_chunk, cookie_echo_chunk, cookie_ack_chunk, shutdown_complete_chunk, re_config_chunk, forward_tsn_chunk, i_forward_tsn_chunk, unknown_chunk}
 use Rattle.sctp_serial.specs.Messages.{Message}
 use Rattle.sctp_state.specs.Options.{SendOptions}
-use Rattle.sctp_capabilities.specs.Cookie.{Cookie, cookie_bytes}
-use Rattle.sctp_table.specs.Association.{Identity, Tcb, Phase, State, Closed, Open, Context, Standing, Endpoint, where_open}
+use Rattle.sctp_state.specs.Cookie.{Cookie, cookie_bytes}
+use Rattle.sctp_table.specs.Association.{Identity, Tcb, Phase, State, Closed, Open, Context, Standing, Endpoint, where_open, Packing}
 use Rattle.sctp_table.specs.Packets.{Packet}
 use Rattle.sctp_table.specs.Sending.{sent, send_with}
 use Rattle.sctp_table.specs.Opening.{tsn_from, tag_from, connect, judged, cookie_for, answer, anew, echo, maker, on_cookie_ack}
@@ -18,7 +18,6 @@ use Rattle.sctp_table.specs.Data.{on_data, on_forward}
 use Rattle.sctp_table.specs.Acknowledging.{on_sack}
 use Rattle.sctp_table.specs.Input.{refusal, ended, handled}
 use Rattle.sctp_table.specs.Time.{advance}
-use Rattle.sctp_table.specs.Laws.{Packing}
 use Rattle.sctp_draws.specs.NamedChunks.{Names, AreNames, flipped, moved, named_init, named_sack, named_chunks}
 use Rattle.sctp_draws.specs.Names.{named_cookie, named_identity, named_packet, named_tcb, named_state, named_standing, named_end, plain, under, with_words}
 

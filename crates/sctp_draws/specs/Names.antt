@@ -7,10 +7,9 @@ use Rattle.sctp_rx.specs.Tracker.{DataTracker}
 use Rattle.sctp_rx.specs.ReassemblyQueue.{Reassembly}
 use Rattle.sctp_outstanding.specs.Items.{Outstanding}
 use Rattle.sctp_tx.specs.Retransmission.{Sender}
-use Rattle.sctp_table.specs.Association.{Identity, Tcb, Phase, CookieEchoed, Established, ShutdownPending, ShutdownSent, ShutdownReceived, ShutdownAckSent, State, Closed, CookieWait, Open, Context, Standing, Endpoint}
+use Rattle.sctp_table.specs.Association.{Identity, Tcb, Phase, CookieEchoed, Established, ShutdownPending, ShutdownSent, ShutdownReceived, ShutdownAckSent, State, Closed, CookieWait, Open, Context, Standing, Endpoint, Packing}
 use Rattle.sctp_table.specs.Requests.{Request, Requests}
 use Rattle.sctp_table.specs.Packets.{Packet}
-use Rattle.sctp_table.specs.Laws.{Packing}
 use Rattle.sctp_draws.specs.NamedChunks.{Names, moved, named_chunks, named_header}
 
 -- a packet that is put together
@@ -78,7 +77,10 @@ named_state n (Open phase t) = Open (named_phase n phase) (named_tcb n t)
 
 -- a writer that knows the names
 abbrev pub under : {P : Type 0} → Names → Packing P → Packing P
-under n pack header is_summed chunks = pack (named_header n header) is_summed (named_chunks n chunks)
+under n pack = record {
+  write = λ header is_summed chunks. pack.write (named_header n header) is_summed (named_chunks n chunks);
+  word_of = pack.word_of;
+}
 
 -- with this writer; nothing else in a context is drawn, and what was told stays
 abbrev pub plain : {P : Type 0} → Packing P → Context P → Context P

@@ -4,24 +4,24 @@ use Rattle.std.specs.Prelude.{⊤, option_map}
 use Rattle.rand_core.specs.Stream.{Stream}
 use Rattle.sctp_state.specs.declared.api.ErrorKind.TheVariants.{ParseFailed}
 use Rattle.sctp_state.specs.Events.{Event, SendPacket, OnError, OnAborted, GivenUp}
-use Rattle.sctp_table.specs.Association.{State, Closed, CookieWait, Open, Context, Standing, Endpoint}
+use Rattle.sctp_table.specs.Association.{State, Closed, CookieWait, Open, Context, Standing, Endpoint, Packing}
 use Rattle.sctp_table.specs.Shown.{Association, association_in}
 use Rattle.sctp_table.specs.Opening.{complains}
 use Rattle.sctp_table.specs.Input.{counts, counted}
-use Rattle.sctp_table.specs.Laws.{Packing, Call, called}
+use Rattle.sctp_table.specs.Laws.{Call, called}
 use Rattle.sctp_table_laws.specs.Mapped.{Carried, map_event, map_context}
 use Rattle.sctp_course.specs.Course.{Side, took, state_of}
 use Rattle.sctp_draws.specs.NamedChunks.{Names, AreNames, moved}
 use Rattle.sctp_draws.specs.Names.{named_state, plain, with_words}
 use Rattle.sctp_draws.specs.NamedCalls.{named_call, CallIsNamed, EachCallIsNamed}
-use Rattle.sctp_draws.specs.Images.{as_carried, named_carried, image}
+use Rattle.sctp_draws.specs.Images.{as_carried, named_carried, as_named, image}
 use Rattle.sctp_draws_course.specs.Alike.{IsImage, IsAlike, AreTold, AreAlike}
 
 abbrev pub standing : State → Context Carried → Standing Carried
 standing s c = record { state = s; context = c }
 
 abbrev pub told_under : Names → List (Event Carried) → List (Event Carried)
-told_under n es = map (map_event (named_carried n)) es
+told_under n es = map (map_event (as_named n)) es
 
 -- an end that has told nothing is its image where its state is
 pub is_image : (n : Names) (s t : Standing Carried) → s.context.pack ≡ as_carried → s.context.told.events ≡ [] → t.state ≡ named_state n s.state
@@ -29,7 +29,7 @@ pub is_image : (n : Names) (s t : Standing Carried) → s.context.pack ≡ as_ca
 is_image n s t packing quiet state context =
     let c : Context Carried = s.context in
     let told : told_under n c.told.events ≡ c.told.events = ap (λ (es : List (Event Carried)). told_under n es) quiet ∙ sym quiet in
-    let back : c ≡ plain as_carried (map_context (named_carried n) c) =
+    let back : c ≡ plain as_carried (map_context (as_named n) c) =
     ap (λ (w : Packing Carried). record c { pack = w }) packing
     ∙ ap (λ (es : List (Event Carried)). record c { told = record { events = es; gone = c.told.gone }; pack = as_carried }) (sym told) in
     ap (λ (st : State). standing st t.context) state ∙ ap (λ (d : Context Carried). standing (named_state n s.state) d) (context ∙ back)
@@ -51,7 +51,7 @@ told_both (e ∷ es) [] gs hs p q = absurd p
 told_both (e ∷ es) (f ∷ fs) gs hs p q = (p.0, told_both es fs gs hs p.1 q)
 
 module _ (n : Names) (are : AreNames n) where
-  event_under : (e : Event Carried) → IsAlike e (map_event (named_carried n) e)
+  event_under : (e : Event Carried) → IsAlike e (map_event (as_named n) e)
   event_under (SendPacket p) = (named_carried n p, refl, record { names = n; are = are; is = refl })
   event_under (OnError kind text) = (text, refl)
   event_under (OnAborted kind text) = (text, refl)

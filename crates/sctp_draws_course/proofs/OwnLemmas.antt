@@ -10,12 +10,12 @@ use Rattle.sctp_state.specs.Events.{Event, SendPacket, OnConnected, OnConnection
 use Rattle.sctp_state.specs.Events as events
 use Rattle.sctp_state.specs.Options.{Options}
 use Rattle.sctp_state.specs.Handover.{HandoverState}
-use Rattle.sctp_table.specs.Association.{Tcb, Phase, CookieEchoed, Established, ShutdownPending, ShutdownSent, ShutdownReceived, ShutdownAckSent, State, Closed, CookieWait, Open, Context, Endpoint}
+use Rattle.sctp_table.specs.Association.{Tcb, Phase, CookieEchoed, Established, ShutdownPending, ShutdownSent, ShutdownReceived, ShutdownAckSent, State, Closed, CookieWait, Open, Context, Endpoint, Packing}
 use Rattle.sctp_table.specs.Packets.{Packet, add, add_all, header_to}
 use Rattle.sctp_table.specs.Requests.{Outcome, Unsettled, Done, Denied, outcome}
 use Rattle.sctp_table.specs.Resets.{on_outcome}
 use Rattle.sctp_table.specs.Sending.{is_alone, data_chunk_of, data_chunks, fast_most, is_small}
-use Rattle.sctp_table.specs.Laws.{Call, Connect, Shutdown, Restore, Packing, called}
+use Rattle.sctp_table.specs.Laws.{Call, Connect, Shutdown, Restore, called}
 use Rattle.sctp_table_laws.specs.Mapped.{Carried}
 use Rattle.sctp_tx.specs.Resent.{resent_fast}
 use Rattle.sctp_tx.specs.ForwardPoints.{forward_chunk, chunk_if}
@@ -130,10 +130,10 @@ module _ (P : ChunkTree → Type 0) (pack : Packing Carried) (es : List (Event C
   told_made : (cs : List ChunkTree) → All P cs → Told P pack es cs
   told_made cs k = record { packing = h.packing; told = h.told; made = k }
 
-  told_emitted : (o : Options) (tag : ℕ) (is_summed : Bool) → Told P pack (es ++ SendPacket (pack (header_to o tag) is_summed chunks) ∷ []) []
+  told_emitted : (o : Options) (tag : ℕ) (is_summed : Bool) → Told P pack (es ++ SendPacket (pack.write (header_to o tag) is_summed chunks) ∷ []) []
   told_emitted o tag is_summed =
-      let p : Carried = pack (header_to o tag) is_summed chunks in
-      let is : p ≡ as_carried (header_to o tag) is_summed chunks = ap (λ (f : Packing Carried). f (header_to o tag) is_summed chunks) h.packing in
+      let p : Carried = pack.write (header_to o tag) is_summed chunks in
+      let is : p ≡ as_carried.write (header_to o tag) is_summed chunks = ap (λ (f : Packing Carried). f.write (header_to o tag) is_summed chunks) h.packing in
       record {
         packing = h.packing;
         told = each_both P es (SendPacket p ∷ []) h.told (subst (λ (q : Carried). All P q.chunks) (sym is) h.made, tt);

@@ -10,11 +10,11 @@ use Rattle.sctp_packet.specs.Packet.{PacketTree, HeaderTree}
 use Rattle.sctp_capabilities.specs.Capabilities.{zero_checksum_enabled}
 use Rattle.sctp_state.specs.Events.{Event, SendPacket, OnError}
 use Rattle.sctp_state.specs.declared.api.ErrorKind.TheVariants.{ParseFailed}
-use Rattle.sctp_table.specs.Association.{Tcb, Phase, CookieEchoed, Established, ShutdownPending, ShutdownSent, ShutdownReceived, ShutdownAckSent, State, Closed, CookieWait, Open, Context, Endpoint}
+use Rattle.sctp_table.specs.Association.{Tcb, Phase, CookieEchoed, Established, ShutdownPending, ShutdownSent, ShutdownReceived, ShutdownAckSent, State, Closed, CookieWait, Open, Context, Endpoint, Packing}
 use Rattle.sctp_table.specs.Packets.{Packet, fits, added_if, emit_if, has_chunks, packet_to, header_to}
 use Rattle.sctp_table.specs.Opening.{tag_from, tsn_from, word, drew_word, init_ack_of, agreed_by, answer, complains}
 use Rattle.sctp_table.specs.Input.{refusal, counts, taken_if, handled, ended_if}
-use Rattle.sctp_table.specs.Laws.{Call, Restore, Packet as Given, Packing, called, endings, is_closed}
+use Rattle.sctp_table.specs.Laws.{Call, Restore, Packet as Given, called, endings, is_closed}
 use Rattle.sctp_table_laws.specs.Mapped.{Carried}
 use Rattle.sctp_course.specs.Acts.{is_opened, IsHeard}
 use Rattle.sctp_course.specs.Course.{as_carried}
@@ -121,8 +121,8 @@ answer_tells : (P : ChunkTree → Type 0) (b is_summed : Bool) (tag limit : ℕ)
 answer_tells P true is_summed tag limit chunk c packing quiet h =
     let header : HeaderTree = header_to c.options tag in
     let all : All P (chunk ∷ []) = All-cons P chunk [] h (All-nil P) in
-    each_both P c.told.events (SendPacket (c.pack header is_summed (chunk ∷ [])) ∷ []) (subst (EachChunk P) (sym quiet) tt)
-    (subst (λ (pack : Packing Carried). All P (pack header is_summed (chunk ∷ [])).chunks) (sym packing) all, tt)
+    each_both P c.told.events (SendPacket (c.pack.write header is_summed (chunk ∷ [])) ∷ []) (subst (EachChunk P) (sym quiet) tt)
+    (subst (λ (pack : Packing Carried). All P (pack.write header is_summed (chunk ∷ [])).chunks) (sym packing) all, tt)
 answer_tells P false is_summed tag limit chunk c packing quiet h = subst (EachChunk P) (sym quiet) tt
 
 module _ (p : PacketTree) (e : Endpoint Carried) (packing : e.standing.context.pack ≡ as_carried) (quiet : e.standing.context.told.events ≡ []) (i : InitTree)

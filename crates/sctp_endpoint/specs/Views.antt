@@ -23,7 +23,7 @@ use Rattle.sctp_table.specs.Sending.{Filling, Sent}
 use Rattle.sctp_table.specs.Time.{Left, Ticking, Waited, left, standing_if, waited}
 use Rattle.sctp_table.specs.Resets.{Handling, Handled, handled}
 use Rattle.sctp_table.specs.Input.{Heard}
-use Rattle.sctp_table.specs.Wire.{written}
+use Rattle.sctp_table.specs.Wire.{writing}
 
 abbrev pub identity_of : given_identity.Identity → Identity
 identity_of i = record {
@@ -85,7 +85,7 @@ context_of word_of c = record {
   counts = c.counts;
   peer = c.peer;
   told = c.told;
-  pack = written (word_of c.checksum);
+  pack = writing (word_of c.checksum);
 }
 
 abbrev pub filling_of : {C : Type 0} → (C → List ℕ → ℕ) → Packet → given_tcb.TransmissionControlBlock → ContextValue C → Filling (List ℕ)

@@ -7,7 +7,7 @@ ghost use Rattle.sctp_state.specs.Options.{IsValid, options_of};
 ghost use Rattle.sctp_table.specs.Association.{context};
 ghost use Rattle.sctp_table.specs.Packets.{complain, emit, emit_chunk, emptied, say};
 ghost use Rattle.sctp_endpoint.specs.Views.{context_of, tcb_of};
-ghost use Rattle.sctp_table.specs.Wire.{written};
+ghost use Rattle.sctp_table.specs.Wire.{writing};
 ghost use Rattle.sctp_table.specs.Closing as closing;
 ghost use Rattle.sctp_table.specs.Heartbeats as heartbeats;
 
@@ -74,7 +74,7 @@ impl<C: Checksum> Context<C> {
     /// A new end, at moment zero.
     pub fn new(alloc: Global, options: Options, checksum: C) -> Context<C>
         requires { IsValid (options_of options) }
-        ensures { context_of C.word_of result ≡ context (options_of options) (written (C.word_of checksum)) }
+        ensures { context_of C.word_of result ≡ context (options_of options) (writing (C.word_of checksum)) }
     {
         Context {
             alloc,

@@ -1,5 +1,5 @@
 -- What the program's values of a world say.
-use Rattle.std.specs.Prelude.{◌≡◌, ℕ, Bool, Option, Some, None, List, [], ◌∷◌, map}
+use Rattle.std.specs.Prelude.{ℕ, Bool, Option, Some, None, List, [], ◌∷◌, map}
 use Rattle.std.specs.Option.{option_map}
 use Rattle.rand_core.specs.Stream.{Stream}
 use Rattle.sctp_serial.specs.Messages.{Message, message_of}
@@ -18,7 +18,7 @@ use Rattle.sctp_network.specs.declared.world.log.Event.TheVariants as events
 use Rattle.sctp_network.specs.declared.world.log.Entry as given_entry
 use Rattle.sctp_network.specs.declared.world.log.Entry.TheVariants as entries
 use Rattle.sctp_network_table.specs.Judge.{End, A, B, Call, Connect, Shutdown, Close, Send, SendMany, Receive, Reset, SetPriority, SetMaxMessageSize, SetLowThreshold, HandOver, Answer, Done, Sent, SentMany, Received, AskedReset, HandedOver, NotReady, Entry, Called, Given, Foreign, Timed, Associated, Emitted, Happened, GaveUp, BecameReady}
-use Rattle.sctp_network_table.specs.World.{Action, CallOf, Give, GiveForeign, TellTime, Side, Told, World}
+use Rattle.sctp_network_table.specs.World.{Action, CallOf, Give, GiveForeign, TellTime, Side, World}
 
 abbrev pub end_tree : given_end.End → End
 end_tree ends.A = A
@@ -91,7 +91,3 @@ side_in stream word_of side = record { socket = endpoint stream word_of side.soc
 -- the two ends and the log, with all that their generators will answer
 abbrev pub world_of : {R C : Type 0} → (R → Stream) → (C → List ℕ → ℕ) → WorldValue R C → World
 world_of stream word_of w = record { a = side_in stream word_of w.a; b = side_in stream word_of w.b; log = w.log }
-
--- an end takes bytes, by this checksum function
-abbrev pub ToldBy : (word_of : List ℕ → ℕ) → End → Entry → List ℕ → (old new : Side) → (log longer : List Entry) → Type 0
-ToldBy word_of x first bytes old new log longer = (t : Told x first bytes old new log longer) × (t.takes.word_of ≡ word_of)

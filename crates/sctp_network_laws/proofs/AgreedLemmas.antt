@@ -11,7 +11,7 @@ use Rattle.sctp_state.specs.Events.{Event, GivenUp, SendPacket, OnConnected}
 use Rattle.sctp_table.specs.Association.{State, Closed, CookieWait, Open, Endpoint}
 use Rattle.sctp_table.specs.Input.{refusal}
 use Rattle.sctp_table.specs.Shown.{Association, association_in}
-use Rattle.sctp_table_laws.specs.Mapped.{Carried, as_written}
+use Rattle.sctp_table_laws.specs.Mapped.{Mapping, Carried, as_bytes}
 use Rattle.sctp_course.specs.Course as course
 use Rattle.sctp_course.specs.Course.{Pair, Turn, Calls, Gives, Refuses, has_connected, emitted, given, foreign_if, turned, goes, start, state_of}
 use Rattle.sctp_course.specs.Agreement as agreement
@@ -88,7 +88,7 @@ data Adds (x : End) (old : Side) (log longer : List Entry) : Type 0 where
 
 comes_adds : (x : End) (bytes : List ℕ) (old new : Side) (log longer : List Entry) → ComesTo x bytes old new log longer → Adds x old log longer
 comes_adds x bytes old new log longer (told t judged) = news _ t.after (record { told = λ y. refl; quiet = λ y o. refl; gone = λ y. refl }) refl t.logged
-comes_adds x bytes old new log longer (skipped by own judged stays logged) = none _ (record { told = λ y. refl; quiet = λ y o. refl; gone = λ y. refl }) refl logged
+comes_adds x bytes old new log longer (skipped judged stays logged) = none _ (record { told = λ y. refl; quiet = λ y o. refl; gone = λ y. refl }) refl logged
 
 event_adds : (action : Action) (w u : World) → Happens action w u → Adds (end_of action) (side_of (end_of action) w) w.log u.log
 event_adds (CallOf A call) w u e =
@@ -178,8 +178,8 @@ told_grows (Refuses p) x y = by (refusal p.header.verification_tag p.chunks (sta
 
 module _ (word_of : List ℕ → ℕ) (x : End) (log longer more : List Entry) (others others_now : List (List ℕ)) (side new : Side) (end beside : course.Side) (t : Turn)
     (logged : longer ≡ log ++ more) (g : Good word_of x log others side end) (h : Good word_of x longer others_now new (turned t end beside)) where
-  abbrev f : Carried → List ℕ
-  f = as_written word_of
+  abbrev f : Mapping Carried (List ℕ)
+  f = as_bytes word_of
 
   abbrev since : List (Event Carried)
   since = told_since end (turned t end beside)

@@ -11,7 +11,7 @@ use Rattle.sctp_table.specs.Association.{Endpoint}
 use Rattle.sctp_table.specs.Shown.{Association}
 use Rattle.sctp_table.specs.Laws as table
 use Rattle.sctp_table.specs.Laws.{TakeMessage, endings}
-use Rattle.sctp_table_laws.specs.Mapped.{Carried, map_event, map_end, as_written}
+use Rattle.sctp_table_laws.specs.Mapped.{Mapping, Carried, map_event, map_end, as_bytes}
 use Rattle.sctp_course.specs.Course as course
 use Rattle.sctp_course.specs.Course.{Pair, Turn, Calls, Gives, Refuses}
 use Rattle.sctp_course.specs.Handing.{handed_by, handed_at}
@@ -59,7 +59,7 @@ none_over : (x y : End) (gs : List GivenUp) → flat_map (ended_by y) (gone_entr
 none_over x y [] = refl
 none_over x y (g ∷ gs) = none_over x y gs
 
-module _ (f : Carried → List ℕ) (x : End) (own : course.Side) (w u : World) (is : (side_of x w).socket ≡ map_end f own.end) (turn : Turn) where
+module _ (f : Mapping Carried (List ℕ)) (x : End) (own : course.Side) (w u : World) (is : (side_of x w).socket ≡ map_end f own.end) (turn : Turn) where
   abbrev s : Endpoint (List ℕ)
   s = (side_of x w).socket
 
@@ -105,7 +105,7 @@ module _ (f : Carried → List ℕ) (x : End) (own : course.Side) (w u : World) 
 
   foreign_parted : (bytes : List ℕ) → turns.accepted_in turn own ≡ [] → handed_by turn own ≡ [] → ComesTo x bytes (side_of x w) (side_of x u) w.log u.log → IsParted x turn own w.log u.log
   foreign_parted bytes h k (told t judged) = parted_by (Foreign x (clock s) (Some bytes)) (foreign_begins f x own turn (clock s) (Some bytes) h k) (λ y. refl) t.after t.logged
-  foreign_parted bytes h k (skipped by is_own judged stays logged) = record {
+  foreign_parted bytes h k (skipped judged stays logged) = record {
     first = Foreign x (clock s) None;
     begins = foreign_begins f x own turn (clock s) None h k;
     no_end = λ y. refl;
@@ -123,18 +123,18 @@ module _ (f : Carried → List ℕ) (x : End) (own : course.Side) (w u : World) 
 module _ (word_of_a word_of_b : List ℕ → ℕ) where
   pub parted_of : (action : Action) (w u : World) (c : Pair) (turn : Turn) → Happens action w u → IsTurnOf word_of_a word_of_b action turn c → Both word_of_a word_of_b w c
       → IsParted (end_of action) turn (course.side_of (is_a (end_of action)) c) w.log u.log
-  parted_of (CallOf A call) w u c turn e is h = call_parted (as_written word_of_a) A c.a w u h.a.image.socket turn call is e
-  parted_of (CallOf B call) w u c turn e is h = call_parted (as_written word_of_b) B c.b w u h.b.image.socket turn call is e
+  parted_of (CallOf A call) w u c turn e is h = call_parted (as_bytes word_of_a) A c.a w u h.a.image.socket turn call is e
+  parted_of (CallOf B call) w u c turn e is h = call_parted (as_bytes word_of_b) B c.b w u h.b.image.socket turn call is e
   parted_of (Give n A) w u c turn g is h =
-      give_parted (as_written word_of_a) A c.a w u h.a.image.socket turn n (given_accepts word_of_a word_of_b n c.a c.b c.a turn is) (given_hands word_of_a word_of_b n c.a c.b c.a turn is) g
+      give_parted (as_bytes word_of_a) A c.a w u h.a.image.socket turn n (given_accepts word_of_a word_of_b n c.a c.b c.a turn is) (given_hands word_of_a word_of_b n c.a c.b c.a turn is) g
   parted_of (Give n B) w u c turn g is h =
-      give_parted (as_written word_of_b) B c.b w u h.b.image.socket turn n (given_accepts word_of_b word_of_a n c.b c.a c.b turn is) (given_hands word_of_b word_of_a n c.b c.a c.b turn is) g
+      give_parted (as_bytes word_of_b) B c.b w u h.b.image.socket turn n (given_accepts word_of_b word_of_a n c.b c.a c.b turn is) (given_hands word_of_b word_of_a n c.b c.a c.b turn is) g
   parted_of (GiveForeign A bytes) w u c turn g is h =
-      foreign_parted (as_written word_of_a) A c.a w u h.a.image.socket turn bytes (foreign_accepts bytes c.a turn is) (foreign_hands bytes c.a turn is) g.comes
+      foreign_parted (as_bytes word_of_a) A c.a w u h.a.image.socket turn bytes (foreign_accepts bytes c.a turn is) (foreign_hands bytes c.a turn is) g.comes
   parted_of (GiveForeign B bytes) w u c turn g is h =
-      foreign_parted (as_written word_of_b) B c.b w u h.b.image.socket turn bytes (foreign_accepts bytes c.b turn is) (foreign_hands bytes c.b turn is) g.comes
-  parted_of (TellTime A now) w u c turn e is h = time_parted (as_written word_of_a) A c.a w u h.a.image.socket turn now is e
-  parted_of (TellTime B now) w u c turn e is h = time_parted (as_written word_of_b) B c.b w u h.b.image.socket turn now is e
+      foreign_parted (as_bytes word_of_b) B c.b w u h.b.image.socket turn bytes (foreign_accepts bytes c.b turn is) (foreign_hands bytes c.b turn is) g.comes
+  parted_of (TellTime A now) w u c turn e is h = time_parted (as_bytes word_of_a) A c.a w u h.a.image.socket turn now is e
+  parted_of (TellTime B now) w u c turn e is h = time_parted (as_bytes word_of_b) B c.b w u h.b.image.socket turn now is e
 
 -- ---- a beginning in front of the end
 
@@ -226,13 +226,13 @@ entry_of x n (SendPacket bytes) = (n + 1, judge.Emitted x n, λ es. refl)
 entry_of x n e = (n, judge.Happened x e, λ es. refl)
 
 -- a beginning of them is that of a beginning of the events
-pub record IsTelling (f : Carried → List ℕ) (x : End) (n : ℕ) (es : List (Event Carried)) (front : List Entry) : Type 0 where
+pub record IsTelling (f : Mapping Carried (List ℕ)) (x : End) (n : ℕ) (es : List (Event Carried)) (front : List Entry) : Type 0 where
   pub some : List (Event Carried)
   pub more : List (Event Carried)
   pub split : es ≡ some ++ more
   pub are : front ≡ told_entries x n (mapped f some)
 
-pub told_front : (f : Carried → List ℕ) (x : End) (n : ℕ) (es : List (Event Carried)) (front behind : List Entry) → told_entries x n (mapped f es) ≡ front ++ behind
+pub told_front : (f : Mapping Carried (List ℕ)) (x : End) (n : ℕ) (es : List (Event Carried)) (front behind : List Entry) → told_entries x n (mapped f es) ≡ front ++ behind
     → IsTelling f x n es front
 told_front f x n es [] behind h = record { some = []; more = es; split = refl; are = refl }
 told_front f x n [] (k ∷ front) behind h = cc

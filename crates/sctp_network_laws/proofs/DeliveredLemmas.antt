@@ -9,7 +9,7 @@ use Rattle.sctp_state.specs.Options.{Options, SendOptions}
 use Rattle.sctp_table.specs.Association.{State, Endpoint}
 use Rattle.sctp_table.specs.Laws as table
 use Rattle.sctp_table.specs.Shown.{Association, association_in}
-use Rattle.sctp_table_laws.specs.Mapped.{Carried, map_end, as_written}
+use Rattle.sctp_table_laws.specs.Mapped.{Mapping, Carried, map_end, as_written, as_bytes}
 use Rattle.sctp_course.specs.Course as course
 use Rattle.sctp_course.specs.Course.{Pair, Turn, Calls, emitted, turned, goes, run, state_of, start, HasNotEnded, AreGiven}
 use Rattle.sctp_course.specs.Handing.{handed_by}
@@ -55,7 +55,7 @@ pub time_log : (x : End) (now : ℕ) (w : World) → (tells_time x now w).log �
 time_log A now w = refl
 time_log B now w = refl
 
-module _ (f : Carried → List ℕ) (x : End) (own beside next : course.Side) (w u : World) (is : (side_of x w).socket ≡ map_end f own.end) (is_next : (side_of x u).socket ≡ map_end f next.end)
+module _ (f : Mapping Carried (List ℕ)) (x : End) (own beside next : course.Side) (w u : World) (is : (side_of x w).socket ≡ map_end f own.end) (is_next : (side_of x u).socket ≡ map_end f next.end)
     (stands : (a : Association) → association_in (state_of own) ≡ Some a → association_in (state_of next) ≡ Some a) (turn : Turn)
     (gave_up : gone x u.log ≡ gone x w.log ++ given_up_by turn own beside) (reports : reported x u.log ≡ delivered next.told) where
   abbrev s : Endpoint (List ℕ)
@@ -80,7 +80,7 @@ module _ (f : Carried → List ℕ) (x : End) (own beside next : course.Side) (w
 
   foreign_told : (bytes : List ℕ) → turns.accepted_in turn own ≡ [] → handed_by turn own ≡ [] → ComesTo x bytes (side_of x w) (side_of x u) w.log u.log → IsTold x turn own beside next w.log u.log
   foreign_told bytes h k (told t judged) = goes_told (Foreign x (clock s) (Some bytes)) (foreign_begins f x own turn (clock s) (Some bytes) h k) t.after t.side t.logged
-  foreign_told bytes h k (skipped by is_own judged stays logged) =
+  foreign_told bytes h k (skipped judged stays logged) =
       skipped_told f x turn own beside next w.log u.log (side_of x w) (side_of x u) is is_next stands gave_up reports (Foreign x (clock s) None) (foreign_begins f x own turn (clock s) None h k) stays logged
 
 module _ (word_of_a word_of_b : List ℕ → ℕ) where
@@ -89,51 +89,51 @@ module _ (word_of_a word_of_b : List ℕ → ℕ) where
       → ((x : End) → gone x u.log ≡ gone x w.log ++ given_up_at (is_a x) (is_a (end_of action)) turn c)
       → IsBlock (is_a (end_of action), turn) c w.log u.log
   block_of (CallOf A call) w u c turn e is h k stands gives_up =
-      call_told (as_written word_of_a) A c.a c.b (turned turn c.a c.b) w u h.a.image.socket k.a.image.socket stands turn (gives_up A)
+      call_told (as_bytes word_of_a) A c.a c.b (turned turn c.a c.b) w u h.a.image.socket k.a.image.socket stands turn (gives_up A)
       (reported_is word_of_a A u.log u.b.packets u.a (turned turn c.a c.b) k.a) call is e
   block_of (CallOf B call) w u c turn e is h k stands gives_up =
-      call_told (as_written word_of_b) B c.b c.a (turned turn c.b c.a) w u h.b.image.socket k.b.image.socket stands turn (gives_up B)
+      call_told (as_bytes word_of_b) B c.b c.a (turned turn c.b c.a) w u h.b.image.socket k.b.image.socket stands turn (gives_up B)
       (reported_is word_of_b B u.log u.a.packets u.b (turned turn c.b c.a) k.b) call is e
   block_of (Give n A) w u c turn g is h k stands gives_up =
-      give_told (as_written word_of_a) A c.a c.b (turned turn c.a c.b) w u h.a.image.socket k.a.image.socket stands turn (gives_up A)
+      give_told (as_bytes word_of_a) A c.a c.b (turned turn c.a c.b) w u h.a.image.socket k.a.image.socket stands turn (gives_up A)
       (reported_is word_of_a A u.log u.b.packets u.a (turned turn c.a c.b) k.a) n
       (given_accepts word_of_a word_of_b n c.a c.b c.a turn is) (given_hands word_of_a word_of_b n c.a c.b c.a turn is) g
   block_of (Give n B) w u c turn g is h k stands gives_up =
-      give_told (as_written word_of_b) B c.b c.a (turned turn c.b c.a) w u h.b.image.socket k.b.image.socket stands turn (gives_up B)
+      give_told (as_bytes word_of_b) B c.b c.a (turned turn c.b c.a) w u h.b.image.socket k.b.image.socket stands turn (gives_up B)
       (reported_is word_of_b B u.log u.a.packets u.b (turned turn c.b c.a) k.b) n
       (given_accepts word_of_b word_of_a n c.b c.a c.b turn is) (given_hands word_of_b word_of_a n c.b c.a c.b turn is) g
   block_of (GiveForeign A bytes) w u c turn g is h k stands gives_up =
-      foreign_told (as_written word_of_a) A c.a c.b (turned turn c.a c.b) w u h.a.image.socket k.a.image.socket stands turn (gives_up A)
+      foreign_told (as_bytes word_of_a) A c.a c.b (turned turn c.a c.b) w u h.a.image.socket k.a.image.socket stands turn (gives_up A)
       (reported_is word_of_a A u.log u.b.packets u.a (turned turn c.a c.b) k.a) bytes
       (foreign_accepts bytes c.a turn is) (foreign_hands bytes c.a turn is) g.comes
   block_of (GiveForeign B bytes) w u c turn g is h k stands gives_up =
-      foreign_told (as_written word_of_b) B c.b c.a (turned turn c.b c.a) w u h.b.image.socket k.b.image.socket stands turn (gives_up B)
+      foreign_told (as_bytes word_of_b) B c.b c.a (turned turn c.b c.a) w u h.b.image.socket k.b.image.socket stands turn (gives_up B)
       (reported_is word_of_b B u.log u.a.packets u.b (turned turn c.b c.a) k.b) bytes
       (foreign_accepts bytes c.b turn is) (foreign_hands bytes c.b turn is) g.comes
   block_of (TellTime A now) w u c turn e is h k stands gives_up =
-      time_told (as_written word_of_a) A c.a c.b (turned turn c.a c.b) w u h.a.image.socket k.a.image.socket stands turn (gives_up A)
+      time_told (as_bytes word_of_a) A c.a c.b (turned turn c.a c.b) w u h.a.image.socket k.a.image.socket stands turn (gives_up A)
       (reported_is word_of_a A u.log u.b.packets u.a (turned turn c.a c.b) k.a) now is e
   block_of (TellTime B now) w u c turn e is h k stands gives_up =
-      time_told (as_written word_of_b) B c.b c.a (turned turn c.b c.a) w u h.b.image.socket k.b.image.socket stands turn (gives_up B)
+      time_told (as_bytes word_of_b) B c.b c.a (turned turn c.b c.a) w u h.b.image.socket k.b.image.socket stands turn (gives_up B)
       (reported_is word_of_b B u.log u.a.packets u.b (turned turn c.b c.a) k.b) now is e
 
   -- ---- windows
 
-  state_same : (f : Carried → List ℕ) (side : Side) (end : course.Side) → side.socket ≡ map_end f end.end → side.socket.standing.state ≡ state_of end
+  state_same : (f : Mapping Carried (List ℕ)) (side : Side) (end : course.Side) → side.socket ≡ map_end f end.end → side.socket.standing.state ≡ state_of end
   state_same f side end e = ap (λ (z : Endpoint (List ℕ)). z.standing.state) e
 
   pub stamp_same : (w : World) (c : Pair) → Both word_of_a word_of_b w c → stamp w ≡ windows.stamp c
   stamp_same w c h =
-      ap (λ (s : State). record { a = numbered s; b = numbered w.b.socket.standing.state }) (state_same (as_written word_of_a) w.a c.a h.a.image.socket)
-      ∙ ap (λ (s : State). record { a = numbered (state_of c.a); b = numbered s }) (state_same (as_written word_of_b) w.b c.b h.b.image.socket)
+      ap (λ (s : State). record { a = numbered s; b = numbered w.b.socket.standing.state }) (state_same (as_bytes word_of_a) w.a c.a h.a.image.socket)
+      ∙ ap (λ (s : State). record { a = numbered (state_of c.a); b = numbered s }) (state_same (as_bytes word_of_b) w.b c.b h.b.image.socket)
 
-  within_same : (f : Carried → List ℕ) (side : Side) (end : course.Side) → side.socket ≡ map_end f end.end → SideIsWithin side → IsWithin (state_of end) (windows.queue_of end)
+  within_same : (f : Mapping Carried (List ℕ)) (side : Side) (end : course.Side) → side.socket ≡ map_end f end.end → SideIsWithin side → IsWithin (state_of end) (windows.queue_of end)
   within_same f side end e h = subst (λ (z : Endpoint (List ℕ)). IsWithin z.standing.state z.standing.context.queue) e h
 
   are_within : (w : World) (c : Pair) → Both word_of_a word_of_b w c → AreWithin w → windows.AreWithin c
   are_within w c h k = record {
-    a = within_same (as_written word_of_a) w.a c.a h.a.image.socket k.a;
-    b = within_same (as_written word_of_b) w.b c.b h.b.image.socket k.b;
+    a = within_same (as_bytes word_of_a) w.a c.a h.a.image.socket k.a;
+    b = within_same (as_bytes word_of_b) w.b c.b h.b.image.socket k.b;
   }
 
   many_same : (f : Carried → List ℕ) (side : Side) (end : course.Side) → side.packets ≡ map f (emitted end) → length side.packets ≡ length (emitted end)

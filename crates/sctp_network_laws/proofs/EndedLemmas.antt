@@ -203,7 +203,7 @@ module _ (l : ℕ) where
   own_told x first bytes old new log longer t handed_in none k =
       subst (λ (side : Side). Counted l x side longer) (sym t.side)
       (subst (λ (entries : List Entry). Counted l x (settled old t.after) entries) (sym t.logged)
-      (own_goes x old first t.after 0 log (heard_within t.takes.word_of bytes old.socket t.after t.takes.hears) handed_in none k))
+      (own_goes x old first t.after 0 log (heard_within old.socket.standing.context.pack.word_of bytes old.socket t.after t.takes) handed_in none k))
 
   other_told : (x z : End) → same_end x z ≡ false → (side : Side) (first : Entry) (bytes : List ℕ) (old new : Side) (log longer : List Entry) → Told z first bytes old new log longer
       → handed_by l x first ≡ 0 → ended_by l x first ≡ 0 → Counted l x side log → Counted l x side longer
@@ -220,14 +220,14 @@ module _ (l : ℕ) where
 
   own_came : (x : End) (bytes : List ℕ) (old new : Side) (log longer : List Entry) → ComesTo x bytes old new log longer → Counted l x old log → Counted l x new longer
   own_came x bytes old new log longer (told t j) k = own_told x _ bytes old new log longer t refl refl k
-  own_came x bytes old new log longer (skipped word_of own j is logged) k =
+  own_came x bytes old new log longer (skipped j is logged) k =
       subst (λ (side : Side). Counted l x side longer) (sym is)
       (subst (λ (entries : List Entry). Counted l x old entries) (sym logged) (one_more x old _ log refl refl k))
 
   other_came : (x z : End) → same_end x z ≡ false → (side : Side) (bytes : List ℕ) (old new : Side) (log longer : List Entry) → ComesTo z bytes old new log longer
       → Counted l x side log → Counted l x side longer
   other_came x z apart side bytes old new log longer (told t j) k = other_told x z apart side _ bytes old new log longer t refl refl k
-  other_came x z apart side bytes old new log longer (skipped word_of own j is logged) k =
+  other_came x z apart side bytes old new log longer (skipped j is logged) k =
       subst (λ (entries : List Entry). Counted l x side entries) (sym logged) (one_more x side _ log refl refl k)
 
   -- ---- both ends

@@ -4,8 +4,9 @@ use Rattle.std.specs.Prelude.{All}
 use Rattle.std.specs.List.{flat_map}
 use Rattle.std.proofs.lemmas.List.Elements.{All-nil, All-cons, All-head, All-tail}
 use Rattle.sctp_state.specs.Events.{Event, SendPacket, OnConnected, OnClosed, OnConnectionRestarted, OnAborted, OnError, OnBufferedAmountLow, OnTotalBufferedAmountLow, OnStreamsResetFailed, OnStreamsResetPerformed, OnIncomingStreamReset, OnLifecycleMessageFullySent, OnLifecycleMessageMaybeExpired, OnLifecycleMessageExpired, OnLifecycleMessageDelivered, OnLifecycleEnd}
-use Rattle.sctp_table.specs.Laws.{Packing, endings}
-use Rattle.sctp_table_laws.specs.Mapped.{Carried, map_event}
+use Rattle.sctp_table.specs.Association.{Packing}
+use Rattle.sctp_table.specs.Laws.{endings}
+use Rattle.sctp_table_laws.specs.Mapped.{Mapping, Carried, map_event}
 use Rattle.sctp_table_laws.specs.ReadBack.{ReadsBack, CanBeRead, as_carried}
 use Rattle.sctp_course.specs.Course as course
 use Rattle.sctp_course.specs.Course.{has_connected}
@@ -35,13 +36,13 @@ packets_both (OnLifecycleMessageExpired id ∷ es) fs = packets_both es fs
 packets_both (OnLifecycleMessageDelivered id ∷ es) fs = packets_both es fs
 packets_both (OnLifecycleEnd id ∷ es) fs = packets_both es fs
 
-module _ (f : Carried → List ℕ) where
+module _ (f : Mapping Carried (List ℕ)) where
   abbrev pub mapped : List (Event Carried) → List (Event (List ℕ))
   mapped es = map (map_event f) es
 
-  pub packets_mapped : (es : List (Event Carried)) → packets_in (mapped es) ≡ map f (course.packets_in es)
+  pub packets_mapped : (es : List (Event Carried)) → packets_in (mapped es) ≡ map f.of (course.packets_in es)
   packets_mapped [] = refl
-  packets_mapped (SendPacket p ∷ es) = ap (λ (ps : List (List ℕ)). f p ∷ ps) (packets_mapped es)
+  packets_mapped (SendPacket p ∷ es) = ap (λ (ps : List (List ℕ)). f.of p ∷ ps) (packets_mapped es)
   packets_mapped (OnConnected ∷ es) = packets_mapped es
   packets_mapped (OnClosed ∷ es) = packets_mapped es
   packets_mapped (OnConnectionRestarted ∷ es) = packets_mapped es
@@ -177,7 +178,7 @@ all_readable most pack small is (OnLifecycleEnd id ∷ es) h = all_readable most
 
 -- ---- what is read off them
 
-module _ (f : Carried → List ℕ) (x : End) where
+module _ (f : Mapping Carried (List ℕ)) (x : End) where
   pub connected_told : (n : ℕ) (es : List (Event Carried)) → 1 ≤ length (flat_map (connected_by x) (told_entries x n (mapped f es))) → has_connected es ≡ true
   connected_told n [] h = absurd (omega (arith, h))
   connected_told n (SendPacket p ∷ es) h = connected_told (n + 1) es h

@@ -5,7 +5,7 @@ use Rattle.sctp_state.specs.Options.{Options, IsValid}
 use Rattle.sctp_table.specs.Association.{Identity, Tcb, Phase, State, Closed, CookieWait, Open, Endpoint}
 use Rattle.sctp_table.specs.Laws.{endings}
 use Rattle.sctp_table.specs.Shown.{Association, association_in}
-use Rattle.sctp_table_laws.specs.Mapped.{as_written}
+use Rattle.sctp_table_laws.specs.Mapped.{as_bytes}
 use Rattle.sctp_table_laws.specs.Sound.{OptionsFit}
 use Rattle.sctp_course.specs.Course as course
 use Rattle.sctp_course.specs.Course.{Pair, AreGiven, AreCrossed, EndsAreJoined, run, start}
@@ -36,7 +36,7 @@ crossed_of i j c = made_same j.my_tag j.my_first j.peer_tag j.peer_first i.peer_
 module _ (word_of : List ℕ → ℕ) (x : End) (log : List Entry) (others : List (List ℕ)) (side : Side) (end : course.Side) (g : Good word_of x log others side end) where
   pub none_ended : times_ended x log ≡ 0 → endings end.told ≡ 0
   none_ended h =
-      ended_told (as_written word_of) x 0 end.told
+      ended_told (as_bytes word_of) x 0 end.told
       (ap (λ (l : List Entry). length (flat_map (ended_by x) l)) (sym g.image.told) ∙ (ap (λ (l : List End). length l) (sym (ended_by_told x log)) ∙ h))
 
   state_of : side.socket.standing.state ≡ end.end.standing.state

@@ -8,7 +8,7 @@ use Rattle.sctp_serial.specs.Messages.{Message}
 use Rattle.sctp_state.specs.Events.{Event, GivenUp}
 use Rattle.sctp_state.specs.Options.{Options}
 use Rattle.sctp_table.specs.Laws.{endings}
-use Rattle.sctp_table_laws.specs.Mapped.{Carried, map_event, as_written}
+use Rattle.sctp_table_laws.specs.Mapped.{Mapping, Carried, map_event, as_bytes}
 use Rattle.sctp_rx.specs.Delivery as orders
 use Rattle.sctp_rules.specs.State.{has}
 use Rattle.sctp_tx_rules.specs.Led.{delivered}
@@ -82,12 +82,12 @@ module _ (word_of_a word_of_b : List ℕ → ℕ) where
   word_of A = word_of_a
   word_of B = word_of_b
 
-  told_image : (x : End) (w : World) (c : Pair) → Both word_of_a word_of_b w c → told_in x w.log ≡ told_entries x 0 (mapped (as_written (word_of x)) (course.side_of (is_a x) c).told)
+  told_image : (x : End) (w : World) (c : Pair) → Both word_of_a word_of_b w c → told_in x w.log ≡ told_entries x 0 (mapped (as_bytes (word_of x)) (course.side_of (is_a x) c).told)
   told_image A w c h = h.a.image.told
   told_image B w c h = h.b.image.told
 
 -- in entries that follow
-module _ (f : Carried → List ℕ) (x : End) (log early late : List Entry) (past events : List (Event Carried)) (before : told_in x log ≡ told_entries x 0 (mapped f past))
+module _ (f : Mapping Carried (List ℕ)) (x : End) (log early late : List Entry) (past events : List (Event Carried)) (before : told_in x log ≡ told_entries x 0 (mapped f past))
     (whole : told_in x (log ++ (early ++ late)) ≡ told_entries x 0 (mapped f (past ++ events))) where
   abbrev n : ℕ
   n = 0 + length (packets_in (mapped f past))
@@ -322,8 +322,8 @@ module _ (w : World) (l : IsLed w) (rules : FollowsTheRules w) (none : Stands w.
       abbrev told_now : List (Event Carried)
       told_now = (told_by step.turn own_side (course.side_of (not (is_a x)) c)).events
 
-      abbrev f : Carried → List ℕ
-      f = as_written (word_of word_of_a word_of_b x)
+      abbrev f : Mapping Carried (List ℕ)
+      f = as_bytes (word_of word_of_a word_of_b x)
 
       before_told : told_in x w.log ≡ told_entries x 0 (mapped f own_side.told)
       before_told = told_image word_of_a word_of_b x w c r.both

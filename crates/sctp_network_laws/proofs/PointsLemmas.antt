@@ -9,7 +9,7 @@ use Rattle.sctp_outstanding.specs.Item.{Item}
 use Rattle.sctp_table.specs.Association.{State, Closed, CookieWait, Open, Endpoint}
 use Rattle.sctp_table.specs.Calls.{keeps_items}
 use Rattle.sctp_table.specs.Shown as socket
-use Rattle.sctp_table_laws.specs.Mapped.{Carried, map_end, as_written}
+use Rattle.sctp_table_laws.specs.Mapped.{Mapping, Carried, map_end, as_bytes}
 use Rattle.sctp_tx_rules.specs.Led.{delivered}
 use Rattle.sctp_tx_rules.specs.Records.{are_distinct}
 use Rattle.sctp_course.specs.Course as course
@@ -108,7 +108,7 @@ none_kept Closed e = refl
 none_kept (CookieWait tag first t1) e = refl
 none_kept (Open phase t) e = none_of t.sender.outstanding.items.kept e
 
-rests : (f : Carried → List ℕ) (side : Side) (end : course.Side) → side.socket ≡ map_end f end.end → socket.is_at_rest side.socket.standing.state side.socket.standing.context.queue ≡ true
+rests : (f : Mapping Carried (List ℕ)) (side : Side) (end : course.Side) → side.socket ≡ map_end f end.end → socket.is_at_rest side.socket.standing.state side.socket.standing.context.queue ≡ true
     → IsAtRest end
 rests f side end e h =
     let there : socket.is_at_rest (state_of end) (queue_of end) ≡ true =
@@ -139,8 +139,8 @@ module _ (x : End) (all : List (Bool × Turn)) (c : Pair) (from : courses.Delive
 
 module _ (word_of_a word_of_b : List ℕ → ℕ) where
   rests_at : (x : End) (u : World) (c : Pair) → Both word_of_a word_of_b u c → is_at_rest x u ≡ true → IsAtRest (course.side_of (is_a x) c)
-  rests_at A u c h e = rests (as_written word_of_a) u.a c.a h.a.image.socket e
-  rests_at B u c h e = rests (as_written word_of_b) u.b c.b h.b.image.socket e
+  rests_at A u c h e = rests (as_bytes word_of_a) u.a c.a h.a.image.socket e
+  rests_at B u c h e = rests (as_bytes word_of_b) u.b c.b h.b.image.socket e
 
   pub at_rest : (x : End) (all : List (Bool × Turn)) (c : Pair) (from : courses.Delivers (is_a x) all c) (done rest : List (Bool × Turn)) (u : World) → all ≡ done ++ rest
       → IsReached c done u.log → Both word_of_a word_of_b u (run done c) → is_at_rest x u ≡ true → AllAreDone (offers x u.log) (gone x u.log) (ready_places x u.log from.places)

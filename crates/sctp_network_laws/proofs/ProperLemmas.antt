@@ -10,7 +10,7 @@ use Rattle.sctp_state.specs.Options.{Options}
 use Rattle.sctp_state.specs.Events.{GivenUp}
 use Rattle.sctp_table.specs.Association.{Endpoint}
 use Rattle.sctp_table.specs.Laws as table
-use Rattle.sctp_table_laws.specs.Mapped.{Carried, map_end, as_written}
+use Rattle.sctp_table_laws.specs.Mapped.{Mapping, Carried, map_end, as_bytes}
 use Rattle.sctp_course.specs.Course as course
 use Rattle.sctp_course.specs.Course.{Pair, Turn, Calls, turned, goes, start}
 use Rattle.sctp_delivery.specs.Accepted.{Offer, accepted_in}
@@ -157,7 +157,7 @@ call_still : (call : Call) → moves (Calls (step_of call)) ≡ false
 call_still Connect = refl
 call_still call = refl
 
-module _ (f : Carried → List ℕ) (x : End) (own beside : course.Side) (turn : Turn) (w u : World) (is : (side_of x w).socket ≡ map_end f own.end)
+module _ (f : Mapping Carried (List ℕ)) (x : End) (own beside : course.Side) (turn : Turn) (w u : World) (is : (side_of x w).socket ≡ map_end f own.end)
     (is_next : (side_of x u).socket ≡ map_end f (turned turn own beside).end) where
   abbrev s : Endpoint (List ℕ)
   s = (side_of x w).socket
@@ -203,7 +203,7 @@ module _ (f : Carried → List ℕ) (x : End) (own beside : course.Side) (turn :
   foreign_marks bytes still none (told t judged) =
       still_marks (Foreign x (worlds.clock s) (Some bytes)) (news_of x (side_of x w) t.after) still t.logged (quiet_news t.after)
       (record { right = λ y all now. tt; takes = λ y. refl; ticks = λ y m. refl; gone = λ y. refl }) (sym none) refl
-  foreign_marks bytes still none (skipped by is_own judged stays logged) =
+  foreign_marks bytes still none (skipped judged stays logged) =
       still_marks (Foreign x (worlds.clock s) None) [] still logged refl
       (record { right = λ y all now. tt; takes = λ y. refl; ticks = λ y m. refl; gone = λ y. refl }) (sym none) refl
 
@@ -237,20 +237,20 @@ module _ (word_of_a word_of_b : List ℕ → ℕ) where
   marks_of : (action : Action) (w u : World) (c : Pair) (turn : Turn) → Happens action w u → IsTurnOf word_of_a word_of_b action turn c → Both word_of_a word_of_b w c
       → Both word_of_a word_of_b u (goes (is_a (end_of action)) turn c)
       → Marks (end_of action) turn (course.side_of (is_a (end_of action)) c) (course.side_of (is_a (end_of action)) (goes (is_a (end_of action)) turn c)) w.log u.log
-  marks_of (CallOf A call) w u c turn e is h k = call_marks (as_written word_of_a) A c.a c.b turn w u h.a.image.socket k.a.image.socket call is e
-  marks_of (CallOf B call) w u c turn e is h k = call_marks (as_written word_of_b) B c.b c.a turn w u h.b.image.socket k.b.image.socket call is e
+  marks_of (CallOf A call) w u c turn e is h k = call_marks (as_bytes word_of_a) A c.a c.b turn w u h.a.image.socket k.a.image.socket call is e
+  marks_of (CallOf B call) w u c turn e is h k = call_marks (as_bytes word_of_b) B c.b c.a turn w u h.b.image.socket k.b.image.socket call is e
   marks_of (Give n A) w u c turn g is h k =
-      give_marks (as_written word_of_a) A c.a c.b turn w u h.a.image.socket k.a.image.socket n (ap moves is.heard ∙ hearing_moves _ n _)
+      give_marks (as_bytes word_of_a) A c.a c.b turn w u h.a.image.socket k.a.image.socket n (ap moves is.heard ∙ hearing_moves _ n _)
       (given_accepts word_of_a word_of_b n c.a c.b c.a turn is) g
   marks_of (Give n B) w u c turn g is h k =
-      give_marks (as_written word_of_b) B c.b c.a turn w u h.b.image.socket k.b.image.socket n (ap moves is.heard ∙ hearing_moves _ n _)
+      give_marks (as_bytes word_of_b) B c.b c.a turn w u h.b.image.socket k.b.image.socket n (ap moves is.heard ∙ hearing_moves _ n _)
       (given_accepts word_of_b word_of_a n c.b c.a c.b turn is) g
   marks_of (GiveForeign A bytes) w u c turn g is h k =
-      foreign_marks (as_written word_of_a) A c.a c.b turn w u h.a.image.socket k.a.image.socket bytes (foreign_moves bytes turn is) (foreign_accepts bytes c.a turn is) g.comes
+      foreign_marks (as_bytes word_of_a) A c.a c.b turn w u h.a.image.socket k.a.image.socket bytes (foreign_moves bytes turn is) (foreign_accepts bytes c.a turn is) g.comes
   marks_of (GiveForeign B bytes) w u c turn g is h k =
-      foreign_marks (as_written word_of_b) B c.b c.a turn w u h.b.image.socket k.b.image.socket bytes (foreign_moves bytes turn is) (foreign_accepts bytes c.b turn is) g.comes
-  marks_of (TellTime A now) w u c turn e is h k = time_marks (as_written word_of_a) A c.a c.b turn w u h.a.image.socket k.a.image.socket now is e
-  marks_of (TellTime B now) w u c turn e is h k = time_marks (as_written word_of_b) B c.b c.a turn w u h.b.image.socket k.b.image.socket now is e
+      foreign_marks (as_bytes word_of_b) B c.b c.a turn w u h.b.image.socket k.b.image.socket bytes (foreign_moves bytes turn is) (foreign_accepts bytes c.b turn is) g.comes
+  marks_of (TellTime A now) w u c turn e is h k = time_marks (as_bytes word_of_a) A c.a c.b turn w u h.a.image.socket k.a.image.socket now is e
+  marks_of (TellTime B now) w u c turn e is h k = time_marks (as_bytes word_of_b) B c.b c.a turn w u h.b.image.socket k.b.image.socket now is e
 
 -- ---- either end, at such an event
 

@@ -8,12 +8,12 @@ use Rattle.sctp_packet.specs.Packet.{PacketTree, IsPacket, Accepts}
 use Rattle.sctp_packet.proofs.LawLemmas.{one_packet_lem, never_both_lem}
 use Rattle.sctp_state.specs.Options.{Options, defaults}
 use Rattle.sctp_state.specs.Events.{Event, SendPacket, OnConnected, OnClosed, OnConnectionRestarted, OnAborted, OnError, OnBufferedAmountLow, OnTotalBufferedAmountLow, OnStreamsResetFailed, OnStreamsResetPerformed, OnIncomingStreamReset, OnLifecycleMessageFullySent, OnLifecycleMessageMaybeExpired, OnLifecycleMessageExpired, OnLifecycleMessageDelivered, OnLifecycleEnd}
-use Rattle.sctp_table.specs.Association.{Context, Endpoint}
+use Rattle.sctp_table.specs.Association.{Context, Endpoint, Packing}
 use Rattle.sctp_table.specs.Input.{refusal, on_packet}
-use Rattle.sctp_table.specs.Laws.{Packing, called}
+use Rattle.sctp_table.specs.Laws.{called}
 use Rattle.sctp_table.specs.Laws as table
 use Rattle.sctp_table.specs.Hearing.{Hears, heard, not_read, Judges, taken, refused, unread, policy_of}
-use Rattle.sctp_table.specs.Wire.{written, word_at}
+use Rattle.sctp_table.specs.Wire.{writing, word_at}
 use Rattle.sctp_table_laws.proofs.LawsLemmas.{stays_within}
 use Rattle.sctp_table_laws.specs.Mapped.{Carried, as_written}
 use Rattle.sctp_table_laws.specs.HeardBack.{IsHearable, as_heard}
@@ -53,7 +53,7 @@ module _ (word_of : List ℕ → ℕ) where
   longer : (most : ℕ) (p : Carried) → most ≤ 65535 → ReadsBack most p → ReadsBack 65535 p
   longer most p m r = record { header = r.header; chunks = r.chunks; cookies = r.cookies; short = omega (arith, r.short, m) }
 
-  such_reads_back : (most : ℕ) (bytes : List ℕ) → most ≤ 65535 → IsOfSuch (written word_of) most bytes → CanBeReadBack word_of bytes
+  such_reads_back : (most : ℕ) (bytes : List ℕ) → most ≤ 65535 → IsOfSuch (writing word_of) most bytes → CanBeReadBack word_of bytes
   such_reads_back most bytes m w = reads_back_as bytes w.carried w.made (longer most w.carried m w.reads_back)
 
   -- what is heard of it fits
@@ -87,13 +87,13 @@ module _ (pack : Packing (List ℕ)) (most : ℕ) where
   packets_of (OnLifecycleMessageDelivered id ∷ es) h = packets_of es (All-tail (CanBeRead pack most) (OnLifecycleMessageDelivered id) es h)
   packets_of (OnLifecycleEnd id ∷ es) h = packets_of es (All-tail (CanBeRead pack most) (OnLifecycleEnd id) es h)
 
-all_such : (word_of : List ℕ → ℕ) (most : ℕ) → most ≤ 65535 → (packets : List (List ℕ)) → All (IsOfSuch (written word_of) most) packets → All (CanBeReadBack word_of) packets
+all_such : (word_of : List ℕ → ℕ) (most : ℕ) → most ≤ 65535 → (packets : List (List ℕ)) → All (IsOfSuch (writing word_of) most) packets → All (CanBeReadBack word_of) packets
 all_such word_of most m [] h = All-nil (CanBeReadBack word_of)
 all_such word_of most m (bytes ∷ packets) h =
-    All-cons (CanBeReadBack word_of) bytes packets (such_reads_back word_of most bytes m (All-head (IsOfSuch (written word_of) most) bytes packets h))
-    (all_such word_of most m packets (All-tail (IsOfSuch (written word_of) most) bytes packets h))
+    All-cons (CanBeReadBack word_of) bytes packets (such_reads_back word_of most bytes m (All-head (IsOfSuch (writing word_of) most) bytes packets h))
+    (all_such word_of most m packets (All-tail (IsOfSuch (writing word_of) most) bytes packets h))
 
-told_read_back : (word_of : List ℕ → ℕ) (c d : Context (List ℕ)) → c.pack ≡ written word_of → c.options.mtu ≤ 65535 → c.told.events ≡ [] → TellsWhatCanBeRead c d
+told_read_back : (word_of : List ℕ → ℕ) (c d : Context (List ℕ)) → c.pack ≡ writing word_of → c.options.mtu ≤ 65535 → c.told.events ≡ [] → TellsWhatCanBeRead c d
     → All (CanBeReadBack word_of) (packets_in d.told.events)
 told_read_back word_of c d own m none w =
     let events : d.told.events ≡ w.events = w.behind ∙ ap (λ (es : List (Event (List ℕ))). es ++ w.events) none in
@@ -156,12 +156,12 @@ module _ (word_of : List ℕ → ℕ) where
   told_readable : (sender : List ℕ → ℕ) (x : End) (first : Entry) (bytes : List ℕ) (old new : Side) (log more : List Entry) → Told x first bytes old new log more
       → CanBeReadBack sender bytes → AreBytes bytes → IsReadableSide word_of old → IsReadableSide word_of new
   told_readable sender x first bytes old new log more t r small h =
-      subst (IsReadableSide word_of) (sym t.side) (given_to sender t.takes.word_of bytes old t.after t.takes.hears r small h)
+      subst (IsReadableSide word_of) (sym t.side) (given_to sender old.socket.standing.context.pack.word_of bytes old t.after t.takes r small h)
 
   came_readable : (x : End) (bytes : List ℕ) (old new : Side) (log more : List Entry) → ComesTo x bytes old new log more → IsReadableSide word_of old → IsReadableSide word_of new
   came_readable x bytes old new log more (told t j) h =
-      subst (IsReadableSide word_of) (sym t.side) (refused_by t.takes.word_of bytes old t.after t.takes.hears j h)
-  came_readable x bytes old new log more (skipped own_word own j is logged) h = subst (IsReadableSide word_of) (sym is) h
+      subst (IsReadableSide word_of) (sym t.side) (refused_by old.socket.standing.context.pack.word_of bytes old t.after t.takes j h)
+  came_readable x bytes old new log more (skipped j is logged) h = subst (IsReadableSide word_of) (sym is) h
 
 -- ---- both ends
 
@@ -229,7 +229,7 @@ told_before x first bytes old new log more t packet h =
 
 came_before : (x : End) (bytes : List ℕ) (old new : Side) (log more : List Entry) → ComesTo x bytes old new log more → WereBytes old new
 came_before x bytes old new log more (told t j) = told_before x _ bytes old new log more t
-came_before x bytes old new log more (skipped word_of own j is logged) = same_before old new is
+came_before x bytes old new log more (skipped j is logged) = same_before old new is
 
 one_before : (action : Action) (w v : World) → Happens action w v → Before w v
 one_before (CallOf A call) w v e = subst (Before w) (sym e) (record { a = settled_before w.a (after_call call w.a.socket); b = same_before w.b w.b refl })
@@ -264,7 +264,7 @@ runs_readable f g (action ∷ actions) w v r fits small h =
 -- ---- a new world
 
 fresh_readable : (word_of : List ℕ → ℕ) (o : Options) (words : Stream) → OptionsFit o → IsReadableSide word_of (fresh_side o words word_of)
-fresh_readable word_of o words fits = record { own = refl; sound = is_new o (written word_of) words fits; taken = refl; packets = All-nil (CanBeReadBack word_of) }
+fresh_readable word_of o words fits = record { own = refl; sound = is_new o (writing word_of) words fits; taken = refl; packets = All-nil (CanBeReadBack word_of) }
 
 pub new_readable : NewWorldsAreReadable
 new_readable oa ob a b f g fits_a fits_b = record { a = fresh_readable f oa a fits_a; b = fresh_readable g ob b fits_b }

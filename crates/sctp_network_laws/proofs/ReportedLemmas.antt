@@ -2,7 +2,7 @@
 use Rattle.std.proofs.Common.{◌≡◌, ℕ, ◌+◌, List, [], ◌∷◌, ◌++◌, refl, sym, ap, ◌∙◌, append-nil}
 use Rattle.std.proofs.lemmas.Grind.{flat_map-append}
 use Rattle.sctp_state.specs.Events.{Event, SendPacket, OnConnected, OnClosed, OnConnectionRestarted, OnAborted, OnError, OnBufferedAmountLow, OnTotalBufferedAmountLow, OnStreamsResetFailed, OnStreamsResetPerformed, OnIncomingStreamReset, OnLifecycleMessageFullySent, OnLifecycleMessageMaybeExpired, OnLifecycleMessageExpired, OnLifecycleMessageDelivered, OnLifecycleEnd}
-use Rattle.sctp_table_laws.specs.Mapped.{Carried, as_written}
+use Rattle.sctp_table_laws.specs.Mapped.{Mapping, Carried, as_bytes}
 use Rattle.sctp_tx_rules.specs.Led.{delivered_by, delivered}
 use Rattle.sctp_course.specs.Course as course
 use Rattle.sctp_network_table.specs.Judge.{End, A, B, same_end, all_unless, Entry, Called, Given, Foreign, Timed, Associated, Emitted, Happened, GaveUp, BecameReady}
@@ -18,7 +18,7 @@ own_more : (x : End) (ids more rest : List ℕ) → more ≡ rest → all_unless
 own_more A ids more rest e = ap (λ (l : List ℕ). ids ++ l) e
 own_more B ids more rest e = ap (λ (l : List ℕ). ids ++ l) e
 
-pub reported_told : (f : Carried → List ℕ) (x : End) (n : ℕ) (es : List (Event Carried)) → reported x (told_entries x n (mapped f es)) ≡ delivered es
+pub reported_told : (f : Mapping Carried (List ℕ)) (x : End) (n : ℕ) (es : List (Event Carried)) → reported x (told_entries x n (mapped f es)) ≡ delivered es
 reported_told f x n [] = refl
 reported_told f x n (SendPacket p ∷ es) = reported_told f x (n + 1) es
 reported_told f x n (OnConnected ∷ es) = own_more x [] _ _ (reported_told f x n es)
@@ -66,4 +66,4 @@ reported_by_told x (e ∷ log) =
 pub reported_is : (word_of : List ℕ → ℕ) (x : End) (log : List Entry) (others : List (List ℕ)) (side : Side) (end : course.Side) → Good word_of x log others side end
     → reported x log ≡ delivered end.told
 reported_is word_of x log others side end g =
-    reported_by_told x log ∙ (ap (reported x) g.image.told ∙ reported_told (as_written word_of) x 0 end.told)
+    reported_by_told x log ∙ (ap (reported x) g.image.told ∙ reported_told (as_bytes word_of) x 0 end.told)

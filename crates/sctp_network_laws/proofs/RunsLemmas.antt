@@ -6,7 +6,7 @@ use Rattle.std.proofs.lemmas.List.Elements.{All-nil, All-head, All-tail}
 use Rattle.rand_core.specs.Stream.{Stream}
 use Rattle.sctp_state.specs.Options.{Options}
 use Rattle.sctp_table.specs.Association.{Endpoint}
-use Rattle.sctp_table_laws.specs.Mapped.{as_written}
+use Rattle.sctp_table_laws.specs.Mapped.{as_bytes}
 use Rattle.sctp_table_laws.specs.Sound.{OptionsFit}
 use Rattle.sctp_table_laws.specs.ReadBack.{as_carried}
 use Rattle.sctp_table_laws.proofs.SoundLawsLemmas.{is_new}
@@ -57,11 +57,11 @@ grows_log w u more logged a b = record {
 
 comes_a : (bytes : List ℕ) (w u : World) → ComesTo A bytes w.a u.a w.log u.log → u.b ≡ w.b → Extends w u
 comes_a bytes w u (told t judged) same = grows_a w u _ t.after t.logged t.side same
-comes_a bytes w u (skipped by own judged stays logged) same = grows_log w u _ logged stays same
+comes_a bytes w u (skipped judged stays logged) same = grows_log w u _ logged stays same
 
 comes_b : (bytes : List ℕ) (w u : World) → ComesTo B bytes w.b u.b w.log u.log → u.a ≡ w.a → Extends w u
 comes_b bytes w u (told t judged) same = grows_b w u _ t.after t.logged t.side same
-comes_b bytes w u (skipped by own judged stays logged) same = grows_log w u _ logged same stays
+comes_b bytes w u (skipped judged stays logged) same = grows_log w u _ logged same stays
 
 pub happens_extends : (action : Action) (w u : World) → Happens action w u → Extends w u
 happens_extends (CallOf A call) w u e = grows_a w u _ (after_call call w.a.socket) (ap (λ (z : World). z.log) e) (ap (λ (z : World). z.a) e) (ap (λ (z : World). z.b) e)
@@ -82,7 +82,7 @@ runs_extends (action ∷ actions) w v r = extends_then w r.0 v (happens_extends 
 module _ (word_of : List ℕ → ℕ) (x : End) (log : List Entry) (others : List (List ℕ)) (side : Side) (end : course.Side) (g : Good word_of x log others side end) where
   connected_of : 1 ≤ times_connected x log → has_connected end.told ≡ true
   connected_of h =
-      connected_told (as_written word_of) x 0 end.told
+      connected_told (as_bytes word_of) x 0 end.told
       (subst (λ (l : List Entry). 1 ≤ length (flat_map (connected_by x) l)) g.image.told (subst (λ (l : List End). 1 ≤ length l) (connected_by_told x log) h))
 
   not_true : (b : Bool) → (b ≡ true → ⊥) → b ≡ false

@@ -9,7 +9,7 @@ use Rattle.std.proofs.lemmas.Bool.{or_left}
 use Rattle.sctp_state.specs.Events.{Event, GivenUp}
 use Rattle.sctp_table.specs.Association.{Endpoint}
 use Rattle.sctp_table.specs.Shown.{Association}
-use Rattle.sctp_table_laws.specs.Mapped.{Carried, map_end, as_written}
+use Rattle.sctp_table_laws.specs.Mapped.{Mapping, Carried, map_end, as_bytes}
 use Rattle.sctp_table_laws.specs.Sound.{IsSound}
 use Rattle.sctp_table_laws.specs.ReadBack.{as_carried}
 use Rattle.sctp_course.specs.Course as course
@@ -123,8 +123,8 @@ from_zero m n e = omega (arith, e)
 
 -- an end that goes on
 module _ (word_of : List ℕ → ℕ) (x : End) (log : List Entry) (first : Entry) (others : List (List ℕ)) (side : Side) (end : course.Side) (s : Endpoint Carried) (asked : Bool) where
-  abbrev f : Carried → List ℕ
-  f = as_written word_of
+  abbrev f : Mapping Carried (List ℕ)
+  f = as_bytes word_of
 
   abbrev after : Endpoint (List ℕ)
   after = map_end f s
@@ -135,17 +135,17 @@ module _ (word_of : List ℕ → ℕ) (x : End) (log : List Entry) (first : Entr
   abbrev now : course.Side
   now = record (took s end) { is_asked = asked }
 
-  packets_now : side.packets ≡ map f (emitted end) → side.packets ++ packets_in (mapped f events) ≡ map f (emitted now)
+  packets_now : side.packets ≡ map f.of (emitted end) → side.packets ++ packets_in (mapped f events) ≡ map f.of (emitted now)
   packets_now e =
       ap (λ (ps : List (List ℕ)). ps ++ packets_in (mapped f events)) e
-      ∙ ap (λ (ps : List (List ℕ)). map f (emitted end) ++ ps) (packets_mapped f events)
+      ∙ ap (λ (ps : List (List ℕ)). map f.of (emitted end) ++ ps) (packets_mapped f events)
       ∙ sym (map-append f (emitted end) (course.packets_in events))
-      ∙ ap (map f) (sym (packets_both end.told events))
+      ∙ ap (map f.of) (sym (packets_both end.told events))
 
-  numbered : side.packets ≡ map f (emitted end) → length side.packets ≡ 0 + length (packets_in (mapped f end.told))
+  numbered : side.packets ≡ map f.of (emitted end) → length side.packets ≡ 0 + length (packets_in (mapped f end.told))
   numbered e = from_zero _ _ (ap length (e ∙ sym (packets_mapped f end.told)))
 
-  told_now : side.packets ≡ map f (emitted end) → IsFirst first → told_in x log ≡ told_entries x 0 (mapped f end.told)
+  told_now : side.packets ≡ map f.of (emitted end) → IsFirst first → told_in x log ≡ told_entries x 0 (mapped f end.told)
       → told_in x (log ++ first ∷ news_of x side after) ≡ told_entries x 0 (mapped f now.told)
   told_now e k told =
       told_both x log (first ∷ news_of x side after)

@@ -10,7 +10,7 @@ use Rattle.sctp_table.specs.Calls.{shown_state, refusal, ready_in}
 use Rattle.sctp_table.specs.Handover.{readiness}
 use Rattle.sctp_table.specs.Shown.{Association, association_in}
 use Rattle.sctp_table.specs.Laws as table
-use Rattle.sctp_table_laws.specs.Mapped.{Carried, map_end}
+use Rattle.sctp_table_laws.specs.Mapped.{Mapping, Carried, map_end}
 use Rattle.sctp_course.specs.Course as course
 use Rattle.sctp_course.specs.Course.{Turn, Calls, Gives, Refuses}
 use Rattle.sctp_course.specs.Handing as handing
@@ -61,7 +61,7 @@ none_new (m ∷ ms) = none_new ms
 -- ---- calls
 
 -- what a call's entry says is what the turn does
-module _ (f : Carried → List ℕ) (x : End) (end : course.Side) (s : Endpoint (List ℕ)) (is : s ≡ map_end f end.end) where
+module _ (f : Mapping Carried (List ℕ)) (x : End) (end : course.Side) (s : Endpoint (List ℕ)) (is : s ≡ map_end f end.end) where
   call_offers : (call : Call) → offers_in call (answer_to call s) ≡ accepted_by (step_of call) end
   call_offers (Send m o) = ap (λ (z : Endpoint (List ℕ)). offers_in (Send m o) (answer_to (Send m o) z)) is ∙ one_offer (refusal m (shown_state end.end.standing.state) end.end.standing.context) m o
   call_offers (SendMany ms o) =
@@ -148,7 +148,7 @@ pub record BeginsWith (x : End) (turn : Turn) (own : course.Side) (first : Entry
   pub gone : (y : End) → judge.given_up_by y first ≡ []
   pub reported : (y : End) → reported_by y first ≡ []
 
-module _ (f : Carried → List ℕ) (x : End) (turn : Turn) (own beside next : course.Side) (log longer : List Entry) (side new : Side)
+module _ (f : Mapping Carried (List ℕ)) (x : End) (turn : Turn) (own beside next : course.Side) (log longer : List Entry) (side new : Side)
     (is : side.socket ≡ map_end f own.end) (is_next : new.socket ≡ map_end f next.end)
     (stands : (a : Association) → association_in (course.state_of own) ≡ Some a → association_in (course.state_of next) ≡ Some a)
     (gave_up : gone x longer ≡ gone x log ++ given_up_by turn own beside) (reports : reported x longer ≡ delivered next.told)
@@ -222,7 +222,7 @@ module _ (f : Carried → List ℕ) (x : End) (turn : Turn) (own beside next : c
 
 -- ---- first entries
 
-module _ (f : Carried → List ℕ) (x : End) (own : course.Side) where
+module _ (f : Mapping Carried (List ℕ)) (x : End) (own : course.Side) where
   pub call_begins : (s : Endpoint (List ℕ)) → s ≡ map_end f own.end → (call : Call) → BeginsWith x (Calls (step_of call)) own (call_entry x call s)
   call_begins s is call = record {
     offers = ap (λ (b : Bool). all_unless b (offers_in call (answer_to call s))) (same_itself x) ∙ call_offers f x own s is call;

@@ -1,5 +1,5 @@
 -- What an end makes of a call, a packet or bytes from elsewhere is a turn of the course.
-use Rattle.std.proofs.Common.{◌≡◌, inl, inr, ℕ, zero, suc, ◌≤◌, ◌<◌, ◌^◌, ◌%◌, ◌==◌, ◌||◌, ◌&&◌, Bool, true, false, Option, Some, None, List, [], ◌∷◌, ◌++◌, length, take, drop, slice_get, refl, sym, ap, subst, ◌∙◌, append-nil, arith}
+use Rattle.std.proofs.Common.{◌≡◌, inl, inr, ℕ, zero, suc, ◌≤◌, ◌<◌, ◌^◌, ◌==◌, ◌||◌, ◌&&◌, Bool, true, false, Option, Some, None, List, [], ◌∷◌, ◌++◌, length, take, drop, slice_get, refl, sym, ap, subst, ◌∙◌, append-nil}
 use Rattle.std.specs.Prelude.{All}
 use Rattle.std.specs.Int.{w32, from_be_bytes}
 use Rattle.std.specs.List.{list_any}
@@ -9,20 +9,19 @@ use Rattle.std.proofs.lemmas.List.Folds.{list_any-append}
 use Rattle.std.proofs.lemmas.Bool.{eqb-true, or_left, or_right}
 use Rattle.sctp_wire.specs.Fields.{be16, be32}
 use Rattle.sctp_packet.specs.Chunk.{ChunkTree}
-use Rattle.sctp_packet.specs.Packet.{HeaderTree, PacketTree, FitsHeader, IsPacket, Accepts, lets_through, checksum_field, header_bytes, unsummed_bytes, packet_bytes}
+use Rattle.sctp_packet.specs.Packet.{HeaderTree, PacketTree, FitsHeader, IsPacket, Accepts, lets_through, checksum_field, header_bytes, packet_bytes}
 use Rattle.sctp_packet.proofs.PacketLemmas.{field_at}
-use Rattle.sctp_wire.specs.Checksum.{with_zero_field}
 use Rattle.sctp_packet.specs.Written.{chunks_bytes}
 use Rattle.sctp_packet.proofs.LawLemmas.{one_packet_lem, never_both_lem}
 use Rattle.sctp_state.specs.Options.{Options}
 use Rattle.sctp_state.specs.Events.{Event, GivenUp, Told, silent}
 use Rattle.sctp_table.specs.Association.{Context, Endpoint}
 use Rattle.sctp_table.specs.Input.{refusal}
-use Rattle.sctp_table.specs.Laws.{Call, Packet, NoPacket, called, Packing}
+use Rattle.sctp_table.specs.Laws.{Call, Packet, NoPacket, called}
 use Rattle.sctp_table.specs.Hearing.{Hears, heard, not_read, Judges, taken, refused, unread, policy_of}
-use Rattle.sctp_table.specs.Wire.{field_of, word_in, word_at, written}
+use Rattle.sctp_table.specs.Wire.{field_of, word_at}
 use Rattle.sctp_table_laws.proofs.LawsLemmas.{stays_within}
-use Rattle.sctp_table_laws.specs.Mapped.{Carried, map_end, as_written}
+use Rattle.sctp_table_laws.specs.Mapped.{Mapping, Carried, map_end, as_written, as_bytes}
 use Rattle.sctp_table_laws.specs.HeardBack.{IsHearable}
 use Rattle.sctp_table_laws.specs.Sound.{IsSound, ArgumentFits}
 use Rattle.sctp_table_laws.specs.ReadBack.{TellsWhatCanBeRead, as_carried, AreBytes}
@@ -71,30 +70,11 @@ tag_at : (h : HeaderTree) (word : ℕ) (cs : List ChunkTree) → FitsHeader h �
 unfolding packet_bytes header_bytes be16 be32
 tag_at h word cs fits = from_be_bytes-to_be_bytes_4 h.verification_tag fits.verification_tag
 
--- ---- one checksum function
-
-summed : (h : HeaderTree) (word : ℕ) (cs : List ChunkTree) → with_zero_field (take 8 (packet_bytes h word cs)) (drop 12 (packet_bytes h word cs)) ≡ unsummed_bytes h (chunks_bytes cs)
-unfolding packet_bytes unsummed_bytes header_bytes be16 be32
-summed h word cs = refl
+-- ---- what a packet's field says
 
 pub field_in : (h : HeaderTree) (word : ℕ) (cs : List ChunkTree) → word < 2 ^ 32 → checksum_field (packet_bytes h word cs) ≡ word
 unfolding packet_bytes
 field_in h word cs small = field_at h word (chunks_bytes cs) small
-
-small_word : (n : ℕ) → n % 2 ^ 32 < 2 ^ 32
-small_word n = omega arith
-
--- what is written alike has one word
-word_alike : (f g : List ℕ → ℕ) (h : HeaderTree) (cs : List ChunkTree) → written f ≡ written g → word_in f h cs ≡ word_in g h cs
-word_alike f g h cs e =
-    sym (field_in h (word_in f h cs) cs (small_word (f (unsummed_bytes h (chunks_bytes cs)))))
-    ∙ (ap (λ (k : HeaderTree → Bool → List ChunkTree → List ℕ). checksum_field (k h true cs)) e
-    ∙ field_in h (word_in g h cs) cs (small_word (g (unsummed_bytes h (chunks_bytes cs)))))
-
-read_alike : (f g : List ℕ → ℕ) (h : HeaderTree) (field : ℕ) (cs : List ChunkTree) → written f ≡ written g → word_at f (packet_bytes h field cs) ≡ word_at g (packet_bytes h field cs)
-read_alike f g h field cs e =
-    ap (λ (bytes : List ℕ). f bytes % 2 ^ 32) (summed h field cs)
-    ∙ (word_alike f g h cs e ∙ sym (ap (λ (bytes : List ℕ). g bytes % 2 ^ 32) (summed h field cs)))
 
 not_true : (b : Bool) → (b ≡ true → ⊥) → b ≡ false
 not_true true f = absurd (f refl)
@@ -115,8 +95,8 @@ any_longer x ps log more e = list_any-append (asks x ps) log more ∙ or_left (l
 
 module _ (word_of : List ℕ → ℕ) (x : End) (log : List Entry) (first : Entry) (others : List (List ℕ)) (side : Side) (end beside : course.Side)
     (is_first : IsFirst first) (g : Good word_of x log others side end) (new : Side) (longer : List Entry) where
-  abbrev written_of : Carried → List ℕ
-  written_of = as_written word_of
+  abbrev written_of : Mapping Carried (List ℕ)
+  written_of = as_bytes word_of
 
   abbrev own : Endpoint Carried
   own = end.end
@@ -216,17 +196,12 @@ module _ (word_of : List ℕ → ℕ) (x : End) (log : List Entry) (first : Entr
         (was_now (news_of x side (map_end written_of (called call own))))
         after (is ∙ (ap (λ (z : PacketTree). called (Packet z) side.socket) same ∙ mapped_after call)) news logged
 
-    module _ (by : List ℕ → ℕ) (is_own : side.socket.standing.context.pack ≡ written by) where
-      same_pack : written by ≡ written word_of
-      same_pack =
-          sym is_own ∙ (ap (λ (z : Endpoint (List ℕ)). z.standing.context.pack) g.image.socket
-          ∙ ap (λ (k : Packing Carried). (λ (header : HeaderTree) (is_summed : Bool) (chunks : List ChunkTree). written_of (k header is_summed chunks))) g.packing)
-
+    module _ (by : List ℕ → ℕ) (is_own : by ≡ word_of) where
       same_options : side.socket.standing.context.options ≡ own.standing.context.options
       same_options = ap (λ (z : Endpoint (List ℕ)). z.standing.context.options) g.image.socket
 
       same_word : word_at by packet ≡ word_at word_of packet
-      same_word = read_alike by word_of p.header sum p.chunks same_pack
+      same_word = ap (λ (f : List ℕ → ℕ). word_at f packet) is_own
 
       abbrev passes : Bool
       passes = is_let_through word_of word_beside own.standing.context.options p

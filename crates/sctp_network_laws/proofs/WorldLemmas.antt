@@ -9,7 +9,6 @@ use Rattle.sctp_state.specs.Events.{GivenUp}
 use Rattle.sctp_packet.specs.Packet.{PacketTree}
 use Rattle.sctp_table.specs.Input.{refusal}
 use Rattle.sctp_table.specs.Laws as table
-use Rattle.sctp_table.specs.Hearing.{Hears}
 use Rattle.sctp_table_laws.specs.Mapped.{Carried, as_written}
 use Rattle.sctp_table_laws.specs.ReadBack.{AreBytes}
 use Rattle.sctp_course.specs.Course as course
@@ -18,7 +17,7 @@ use Rattle.sctp_delivery.specs.GivenUp as giving
 use Rattle.sctp_delivery.specs.GivenUp.{given_up_at}
 use Rattle.sctp_delivery.specs.Proper.{gone_given, gone_if, gone_by, gone_at}
 use Rattle.sctp_network_table.specs.Judge.{End, A, B, Entry, Given, Foreign, Call, given_up_by, given_up}
-use Rattle.sctp_network_table.specs.World.{Side, World, Action, CallOf, Give, GiveForeign, TellTime, ComesTo, told, skipped, Gives, Happens, step_of, calls, call_entry, tells_time, time_entry}
+use Rattle.sctp_network_table.specs.World.{Side, World, Action, CallOf, Give, GiveForeign, TellTime, ComesTo, told, skipped, Gives, Happens, step_of, calls, call_entry, tells_time, time_entry, Takes}
 use Rattle.sctp_network_laws.specs.Courses.{ActionFits, IsInBytes, is_a, end_of, IsTurnOf}
 use Rattle.sctp_network_laws.specs.Delivered.{gone}
 use Rattle.sctp_network_laws.proofs.EventLemmas.{Readable}
@@ -219,14 +218,16 @@ module _ (word_of_a word_of_b : List ℕ → ℕ) where
       let went = given_goes word_of_a A w.log (Given A w.a.socket.standing.context.now n) w.b.packets w.a c.a c.b (record { told = λ y. refl; quiet = λ y o. refl; gone = λ y. refl }) h.a u.a u.log
       word_of_b n w.a.socket.standing.context.now found.0 (get_all Readable (emitted c.b) n found.0 found.1 h.b.readable) found.1
       (g.there ∙ ap Some found.2) (subst AreBytes found.2 (get_all AreBytes w.b.packets n g.bytes g.there small.b)) refl
-      g.told.takes.word_of g.told.takes.own g.told.after (subst (λ (bytes : List ℕ). Hears g.told.takes.word_of bytes w.a.socket g.told.after) found.2 g.told.takes.hears) g.told.side g.told.logged in
+      w.a.socket.standing.context.pack.word_of (ap (λ (z : Endpoint (List ℕ)). z.standing.context.pack.word_of) h.a.image.socket) g.told.after
+      (subst (λ (bytes : List ℕ). Takes bytes w.a.socket g.told.after) found.2 g.told.takes) g.told.side g.told.logged in
       stepped_a (Give n A) w u c refl h went.0 went.1 went.2 g.other_side
   step_give B n w u c small g h =
       let found = found_at (as_written word_of_a) (emitted c.a) n g.bytes (ap (λ (ps : List (List ℕ)). slice_get ps n) (sym h.a.image.packets) ∙ g.there) in
       let went = given_goes word_of_b B w.log (Given B w.b.socket.standing.context.now n) w.a.packets w.b c.b c.a (record { told = λ y. refl; quiet = λ y o. refl; gone = λ y. refl }) h.b u.b u.log
       word_of_a n w.b.socket.standing.context.now found.0 (get_all Readable (emitted c.a) n found.0 found.1 h.a.readable) found.1
       (g.there ∙ ap Some found.2) (subst AreBytes found.2 (get_all AreBytes w.a.packets n g.bytes g.there small.a)) refl
-      g.told.takes.word_of g.told.takes.own g.told.after (subst (λ (bytes : List ℕ). Hears g.told.takes.word_of bytes w.b.socket g.told.after) found.2 g.told.takes.hears) g.told.side g.told.logged in
+      w.b.socket.standing.context.pack.word_of (ap (λ (z : Endpoint (List ℕ)). z.standing.context.pack.word_of) h.b.image.socket) g.told.after
+      (subst (λ (bytes : List ℕ). Takes bytes w.b.socket g.told.after) found.2 g.told.takes) g.told.side g.told.logged in
       stepped_b (Give n B) w u c refl h went.0 went.1 went.2 g.other_side
 
   -- ---- bytes from elsewhere
@@ -235,22 +236,22 @@ module _ (word_of_a word_of_b : List ℕ → ℕ) where
       → Stepped word_of_a word_of_b (GiveForeign A bytes) w u c
   foreign_a bytes w u c (told t judged) same h =
       let went = foreign_goes word_of_a A w.log (Foreign A w.a.socket.standing.context.now (Some bytes)) w.b.packets w.a c.a c.b (record { told = λ y. refl; quiet = λ y o. refl; gone = λ y. refl }) h.a u.a u.log
-      t.takes.word_of bytes judged t.after t.takes.hears t.side t.logged in
+      w.a.socket.standing.context.pack.word_of bytes judged t.after t.takes t.side t.logged in
       stepped_a (GiveForeign A bytes) w u c refl h went.0 went.1 went.2 same
-  foreign_a bytes w u c (skipped by is_own judged stays logged) same h =
+  foreign_a bytes w u c (skipped judged stays logged) same h =
       let went = skipped_goes word_of_a A w.log (Foreign A w.a.socket.standing.context.now None) w.b.packets w.a c.a c.b (record { told = λ y. refl; quiet = λ y o. refl; gone = λ y. refl }) h.a u.a u.log
-      by bytes false refl judged stays logged in
+      w.a.socket.standing.context.pack.word_of bytes false refl judged stays logged in
       stepped_a (GiveForeign A bytes) w u c refl h went.0 went.1 went.2 same
 
   foreign_b : (bytes : List ℕ) (w u : World) (c : Pair) → ComesTo B bytes w.b u.b w.log u.log → u.a ≡ w.a → Both word_of_a word_of_b w c
       → Stepped word_of_a word_of_b (GiveForeign B bytes) w u c
   foreign_b bytes w u c (told t judged) same h =
       let went = foreign_goes word_of_b B w.log (Foreign B w.b.socket.standing.context.now (Some bytes)) w.a.packets w.b c.b c.a (record { told = λ y. refl; quiet = λ y o. refl; gone = λ y. refl }) h.b u.b u.log
-      t.takes.word_of bytes judged t.after t.takes.hears t.side t.logged in
+      w.b.socket.standing.context.pack.word_of bytes judged t.after t.takes t.side t.logged in
       stepped_b (GiveForeign B bytes) w u c refl h went.0 went.1 went.2 same
-  foreign_b bytes w u c (skipped by is_own judged stays logged) same h =
+  foreign_b bytes w u c (skipped judged stays logged) same h =
       let went = skipped_goes word_of_b B w.log (Foreign B w.b.socket.standing.context.now None) w.a.packets w.b c.b c.a (record { told = λ y. refl; quiet = λ y o. refl; gone = λ y. refl }) h.b u.b u.log
-      by bytes false refl judged stays logged in
+      w.b.socket.standing.context.pack.word_of bytes false refl judged stays logged in
       stepped_b (GiveForeign B bytes) w u c refl h went.0 went.1 went.2 same
 
   pub steps : (action : Action) (w u : World) (c : Pair) → ActionFits action → IsInBytes w → Happens action w u → Both word_of_a word_of_b w c

@@ -8,7 +8,7 @@ use Rattle.sctp_state.specs.Events.{silent}
 use Rattle.sctp_table.specs.Laws as table
 use Rattle.sctp_table.specs.Hearing.{policy_of}
 use Rattle.sctp_table.specs.Wire.{field_of, word_at}
-use Rattle.sctp_table_laws.specs.Mapped.{Carried, map_event, map_end, as_written}
+use Rattle.sctp_table_laws.specs.Mapped.{Carried, map_event, map_end, as_written, as_bytes}
 use Rattle.sctp_table_laws.specs.Sound.{OptionsFit, ArgumentFits}
 use Rattle.sctp_table_laws.specs.ReadBack.{AreBytes}
 use Rattle.sctp_course.specs.Course as course
@@ -108,10 +108,10 @@ told_in x log = flat_map (told_by x) log
 
 -- A side is the course's side with each packet written: its socket, its packets, and in the log all that it told, in order.
 pub record IsImage (word_of : List ℕ → ℕ) (x : End) (log : List Entry) (side : Side) (end : course.Side) : Type 0 where
-  pub socket : side.socket ≡ map_end (as_written word_of) end.end
+  pub socket : side.socket ≡ map_end (as_bytes word_of) end.end
   pub quiet : end.end.standing.context.told ≡ silent  -- nothing told is left
   pub packets : side.packets ≡ map (as_written word_of) (emitted end)
-  pub told : told_in x log ≡ told_entries x 0 (map (map_event (as_written word_of)) end.told)
+  pub told : told_in x log ≡ told_entries x 0 (map (map_event (as_bytes word_of)) end.told)
 
 pub record AreImages (word_of_a word_of_b : List ℕ → ℕ) (w : World) (c : Pair) : Type 0 where
   pub a : IsImage word_of_a A w.log w.a c.a

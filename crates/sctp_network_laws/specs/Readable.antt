@@ -5,7 +5,7 @@ use Rattle.sctp_wire.specs.declared.checksum.Policy.{Policy}
 use Rattle.sctp_packet.specs.Grammar.{Each}
 use Rattle.sctp_packet.specs.Packet.{PacketTree, Accepts, lets_through}
 use Rattle.sctp_state.specs.Options.{Options}
-use Rattle.sctp_table.specs.Wire.{written, field_of}
+use Rattle.sctp_table.specs.Wire.{writing, field_of}
 use Rattle.sctp_table_laws.specs.Mapped.{Carried, as_written}
 use Rattle.sctp_table_laws.specs.HeardBack.{as_heard}
 use Rattle.sctp_table_laws.specs.Sound.{OptionsFit, IsSound, ArgumentFits}
@@ -28,7 +28,7 @@ pub record CanBeReadBack (word_of : List ℕ → ℕ) (bytes : List ℕ) : Type 
 
 -- an end that is sound, of whose tellings none is left, and whose packets can be read back
 pub record IsReadableSide (word_of : List ℕ → ℕ) (side : Side) : Type 0 where
-  pub own : side.socket.standing.context.pack ≡ written word_of
+  pub own : side.socket.standing.context.pack ≡ writing word_of
   pub sound : IsSound side.socket
   pub taken : side.socket.standing.context.told.events ≡ []
   pub packets : All (CanBeReadBack word_of) side.packets

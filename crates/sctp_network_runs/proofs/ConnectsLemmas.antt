@@ -50,7 +50,7 @@ none_in_block x side s first e = ap (λ (l : List Entry). l ++ ruled (news_of x 
 
 comes : (x : End) (bytes : List ℕ) (old new : Side) (log longer : List Entry) → ComesTo x bytes old new log longer → AddsNoRuled log longer
 comes x bytes old new log longer (told t judged) = (_, t.logged, none_in_block x old t.after (Foreign x (clock old.socket) (Some bytes)) refl)
-comes x bytes old new log longer (skipped by own judged stays logged) = (_, logged, refl)
+comes x bytes old new log longer (skipped judged stays logged) = (_, logged, refl)
 
 adds : (action : Action) (w u : World) → asks_rules action ≡ false → Happens action w u → AddsNoRuled w.log u.log
 adds (CallOf x call) w u k e = (

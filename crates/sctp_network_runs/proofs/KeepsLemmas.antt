@@ -6,7 +6,7 @@ use Rattle.std.proofs.lemmas.List.Elements.{All-head, All-tail}
 use Rattle.sctp_table.specs.Association.{Endpoint}
 use Rattle.sctp_table.specs.Laws.{NoPacket}
 use Rattle.sctp_table.specs.Wire.{field_of}
-use Rattle.sctp_table_laws.specs.Mapped.{Carried, map_end, as_written}
+use Rattle.sctp_table_laws.specs.Mapped.{Mapping, Carried, map_end, as_bytes}
 use Rattle.sctp_course.specs.Course as course
 use Rattle.sctp_course.specs.Course.{Pair, Turn, Calls, goes, state_of}
 use Rattle.sctp_delivery.specs.Windows as windows
@@ -41,13 +41,13 @@ given_timely f g n own beside turn now stamps is k t =
     (subst (λ (z : Turn). is_of_none z ≡ false) is.heard k) (subst (λ (z : Turn). windows.IsTimely z now stamps) is.heard t)
 
 module _ (word_of_a word_of_b : List ℕ → ℕ) where
-  within_of : (f : Carried → List ℕ) (side : Side) (end : course.Side) → side.socket ≡ map_end f end.end → IsWithin (state_of end) (windows.queue_of end) → SideIsWithin side
+  within_of : (f : Mapping Carried (List ℕ)) (side : Side) (end : course.Side) → side.socket ≡ map_end f end.end → IsWithin (state_of end) (windows.queue_of end) → SideIsWithin side
   within_of f side end e h = subst (λ (z : Endpoint (List ℕ)). IsWithin z.standing.state z.standing.context.queue) (sym e) h
 
   are_within : (w : World) (c : Pair) → Both word_of_a word_of_b w c → windows.AreWithin c → AreWithin w
   are_within w c h k = record {
-    a = within_of (as_written word_of_a) w.a c.a h.a.image.socket k.a;
-    b = within_of (as_written word_of_b) w.b c.b h.b.image.socket k.b;
+    a = within_of (as_bytes word_of_a) w.a c.a h.a.image.socket k.a;
+    b = within_of (as_bytes word_of_b) w.b c.b h.b.image.socket k.b;
   }
 
   timely : (action : Action) (w : World) (c : Pair) (turn : Turn) (s : Stamps) → Both word_of_a word_of_b w c → is_of_none turn ≡ false → IsTurnOf word_of_a word_of_b action turn c

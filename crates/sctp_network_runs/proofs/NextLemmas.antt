@@ -14,21 +14,19 @@ use Rattle.sctp_state.specs.Options.{Options}
 use Rattle.sctp_state.specs.Events.{Event}
 use Rattle.sctp_table.specs.Association.{Endpoint}
 use Rattle.sctp_table.specs.Input.{refusal, on_packet, on_no_packet}
-use Rattle.sctp_table.specs.Laws.{Packing}
 use Rattle.sctp_table.specs.Hearing.{Hears, heard, not_read, policy_of}
-use Rattle.sctp_table.specs.Wire.{field_of, word_at, written}
+use Rattle.sctp_table.specs.Wire.{field_of, word_at}
 use Rattle.sctp_table_laws.specs.Mapped.{Carried, as_written}
 use Rattle.sctp_table_laws.specs.HeardBack.{IsHearable, as_heard}
 use Rattle.sctp_table_laws.specs.ReadBack.{AreBytes}
 use Rattle.sctp_table_laws.proofs.HeardBackLemmas.{is_accepted}
 use Rattle.sctp_course.specs.Course as course
 use Rattle.sctp_course.specs.Course.{Pair, Turn, Calls, Refuses, emitted, given, foreign_if, turned, goes, run, start}
-use Rattle.sctp_network_table.specs.Judge.{End, A, B, Call, Entry, Given}
+use Rattle.sctp_network_table.specs.Judge.{End, A, B, Call, Given}
 use Rattle.sctp_network_table.specs.World.{Side, World, Action, CallOf, Give, GiveForeign, TellTime, Gives, Happens, Runs, clock, recorded, calls, tells_time, fresh_world}
 use Rattle.sctp_network_laws.specs.Courses.{ActionFits, IsInBytes, is_a, end_of, is_let_through, hearing, IsHearing, IsTurnOf, AreTurnsOf}
 use Rattle.sctp_network_runs.specs.Worlds.{is_foreign, NoneIsForeign, EmitsBytes, BothEmitBytes, CoursesHaveWorlds}
 use Rattle.sctp_network_laws.proofs.EventLemmas.{Readable, packets_both}
-use Rattle.sctp_network_laws.proofs.SidesLemmas.{Good}
 use Rattle.sctp_network_laws.proofs.TurnsLemmas.{field_in, get_all}
 use Rattle.sctp_network_laws.proofs.WorldLemmas.{Both, all_front, Stepped, steps}
 use Rattle.sctp_network_laws.proofs.RunsLemmas.{fresh_both}
@@ -70,12 +68,6 @@ module _ (writes : List ℕ → ℕ) (p : Carried) (reads : Readable p) (s : End
   hears : (t : Endpoint (List ℕ)) × Hears by packet s t
   hears = hears_by (lets_through (policy_of s.standing.context.options) (word_at by packet) sum) refl
 
-own_pack : (word_of : List ℕ → ℕ) (x : End) (log : List Entry) (others : List (List ℕ)) (side : Side) (end : course.Side) → Good word_of x log others side end
-    → side.socket.standing.context.pack ≡ written word_of
-own_pack word_of x log others side end g =
-    ap (λ (z : Endpoint (List ℕ)). z.standing.context.pack) g.image.socket
-    ∙ ap (λ (k : Packing Carried). (λ (header : HeaderTree) (is_summed : Bool) (chunks : List ChunkTree). as_written word_of (k header is_summed chunks))) g.packing
-
 there_in : (f : Carried → List ℕ) (packets : List (List ℕ)) (ps : List Carried) (n : ℕ) (p : Carried) → packets ≡ map f ps → slice_get ps n ≡ Some p → slice_get packets n ≡ Some (f p)
 there_in f packets ps n p e there = ap (λ (l : List (List ℕ)). slice_get l n) e ∙ (slice_get-map f ps n ∙ ap (option_map f) there)
 
@@ -107,14 +99,14 @@ next_time x now w = one_there (tells_time x now w)
 module _ (word_of_a word_of_b : List ℕ → ℕ) where
   give_a : (n : ℕ) (w : World) (c : Pair) → Both word_of_a word_of_b w c → (p : Carried) → slice_get (emitted c.b) n ≡ Some p → (u : World) × Gives A n w u
   give_a n w c h p there =
-      let t = hears word_of_b p (get_all Readable (emitted c.b) n p there h.b.readable) w.a.socket word_of_a in (
+      let t = hears word_of_b p (get_all Readable (emitted c.b) n p there h.b.readable) w.a.socket w.a.socket.standing.context.pack.word_of in (
         recorded A (Given A (clock w.a.socket) n) t.0 w,
         record {
           bytes = as_written word_of_b p;
           there = there_in (as_written word_of_b) w.b.packets (emitted c.b) n p h.b.image.packets there;
           told = record {
             after = t.0;
-            takes = record { word_of = word_of_a; own = own_pack word_of_a A w.log w.b.packets w.a c.a h.a; hears = t.1 };
+            takes = t.1;
             side = refl;
             logged = refl;
           };
@@ -124,14 +116,14 @@ module _ (word_of_a word_of_b : List ℕ → ℕ) where
 
   give_b : (n : ℕ) (w : World) (c : Pair) → Both word_of_a word_of_b w c → (p : Carried) → slice_get (emitted c.a) n ≡ Some p → (u : World) × Gives B n w u
   give_b n w c h p there =
-      let t = hears word_of_a p (get_all Readable (emitted c.a) n p there h.a.readable) w.b.socket word_of_b in (
+      let t = hears word_of_a p (get_all Readable (emitted c.a) n p there h.a.readable) w.b.socket w.b.socket.standing.context.pack.word_of in (
         recorded B (Given B (clock w.b.socket) n) t.0 w,
         record {
           bytes = as_written word_of_a p;
           there = there_in (as_written word_of_a) w.a.packets (emitted c.a) n p h.a.image.packets there;
           told = record {
             after = t.0;
-            takes = record { word_of = word_of_b; own = own_pack word_of_b B w.log w.a.packets w.b c.b h.b; hears = t.1 };
+            takes = t.1;
             side = refl;
             logged = refl;
           };

@@ -12,7 +12,7 @@ use Rattle.sctp_table.specs.Association.{State, Closed, CookieWait, Open, Endpoi
 use Rattle.sctp_table.specs.Calls.{keeps_items}
 use Rattle.sctp_table.specs.Laws.{endings}
 use Rattle.sctp_table.specs.Shown as socket
-use Rattle.sctp_table_laws.specs.Mapped.{Carried, map_end, as_written}
+use Rattle.sctp_table_laws.specs.Mapped.{Mapping, Carried, map_end, as_bytes}
 use Rattle.sctp_table_laws.specs.Sound.{OptionsFit}
 use Rattle.sctp_course.specs.Course as course
 use Rattle.sctp_course.specs.Course.{Pair, Turn, run, start, HasNotEnded, state_of}
@@ -43,7 +43,7 @@ use Rattle.sctp_network_runs.proofs.KeepsLemmas.{AllAreHeard, keeps}
 
 -- ---- no association is over
 
-module _ (f : Carried → List ℕ) (x : End) where
+module _ (f : Mapping Carried (List ℕ)) (x : End) where
   none_behind : (k : ℕ) → 0 + k ≡ 0 → k ≡ 0
   none_behind k e = omega (arith, e)
 
@@ -73,7 +73,7 @@ none_over : (word_of : List ℕ → ℕ) (x : End) (log : List Entry) (others : 
     → endings end.told ≡ 0 → times_ended x log ≡ 0
 none_over word_of x log others side end g h =
     ap (λ (l : List End). length l) (ended_by_told x log)
-    ∙ (ap (λ (l : List Entry). length (flat_map (ended_by x) l)) g.image.told ∙ none_told (as_written word_of) x 0 end.told h)
+    ∙ (ap (λ (l : List Entry). length (flat_map (ended_by x) l)) g.image.told ∙ none_told (as_bytes word_of) x 0 end.told h)
 
 -- ---- rest
 
@@ -82,7 +82,7 @@ none_kept Closed e = refl
 none_kept (CookieWait tag first t1) e = refl
 none_kept (Open phase t) e = ap (λ (items : List Item). not (length items == 0)) e
 
-rests_as : (f : Carried → List ℕ) (side : Side) (end : course.Side) → side.socket ≡ map_end f end.end → IsAtRest end
+rests_as : (f : Mapping Carried (List ℕ)) (side : Side) (end : course.Side) → side.socket ≡ map_end f end.end → IsAtRest end
     → socket.is_at_rest side.socket.standing.state side.socket.standing.context.queue ≡ true
 rests_as f side end e h =
     ap (λ (z : Endpoint (List ℕ)). socket.is_at_rest z.standing.state z.standing.context.queue) e
@@ -155,7 +155,7 @@ module _ (a b : Options) (words_a words_b : Stream) (word_of_a word_of_b : List 
   }
 
   pub at_rest_a : IsAtRest (run turns first_pair).a → is_at_rest A there ≡ true
-  at_rest_a h = rests_as (as_written word_of_a) there.a (run turns first_pair).a reached.both.a.image.socket h
+  at_rest_a h = rests_as (as_bytes word_of_a) there.a (run turns first_pair).a reached.both.a.image.socket h
 
   abbrev as_ran : Ran word_of_a word_of_b actions first_world there first_pair
   as_ran = ran word_of_a word_of_b actions first_world there first_pair fit reached.runs small first_both

@@ -63,8 +63,8 @@ module _ (a b : Stream) (f : List ℕ → ℕ) (m : Message) (o : SendOptions) w
   }
 
   module _ (small : IsSmall m) where
-    leads : (g : List ℕ → ℕ) → LeadsOn g a b m o
-    leads g = leads_on g a b m o small
+    leads : LeadsOn f a b m o
+    leads = leads_on f a b m o small
 
     pub to_sent : (v : World) → v ≡ calls A (Send m o) (opened a b f) → v ≡ sent_world None true
     to_sent v e =
@@ -81,7 +81,7 @@ module _ (a b : Stream) (f : List ℕ → ℕ) (m : Message) (o : SendOptions) w
     pub to_taken : (v : World) → Gives B 2 (sent_world None true) v → v ≡ taken_world true
     to_taken v g =
         given_to_b 2 (sent_world None true) v packet _ (ap (λ (ps : List (List ℕ)). slice_get ps 0) (packets_sent o.lifecycle_id packet))
-        (λ t k. takes_on f (data_packet a b m o) (λ p. quiet (accepting p a b)) (λ p. taking p a b m o) (λ h. (leads h).message) (ap (λ (s : Endpoint (List ℕ)). s.standing.context.pack) accepted_it) t
+        (λ t k. takes_on f (data_packet a b m o) (quiet (accepting (pack a b f) a b)) (taking (pack a b f) a b m o) leads.message (ap (λ (s : Endpoint (List ℕ)). s.standing.context.pack) accepted_it) t
         (subst (λ (s : Endpoint (List ℕ)). Takes packet s t) (sym accepted_it) k) ∙ takes_it (pack a b f) a b m o small) g
         ∙ ap taken_world (same_self (association b a))
 
@@ -91,7 +91,7 @@ module _ (a b : Stream) (f : List ℕ → ℕ) (m : Message) (o : SendOptions) w
     pub to_rest : (v : World) → Gives A 2 (taken_world true) v → is_at_rest A v ≡ true
     to_rest v g =
         ap (is_at_rest A) (given_to_a 2 (taken_world true) v answer _ refl
-        (λ t k. takes_on f (sack_packet a m) (λ p. quiet (sending p a b m o)) (λ p. resting p a b m o) (λ h. (leads h).sack) (ap (λ (s : Endpoint (List ℕ)). s.standing.context.pack) has_sent) t
+        (λ t k. takes_on f (sack_packet a m) (quiet (sending (pack a b f) a b m o)) (resting (pack a b f) a b m o) leads.sack (ap (λ (s : Endpoint (List ℕ)). s.standing.context.pack) has_sent) t
         (subst (λ (s : Endpoint (List ℕ)). Takes answer s t) (sym has_sent) k)) g)
         ∙ (it_rests (pack a b f) a b m o small).at_rest
 

@@ -5,11 +5,10 @@ use Rattle.rand_core.specs.Stream.{Stream}
 use Rattle.sctp_serial.specs.Messages.{Message}
 use Rattle.sctp_state.specs.Options.{defaults, plainly}
 use Rattle.sctp_state.specs.Events.{OnConnected}
-use Rattle.sctp_table.specs.Association.{Endpoint, fresh}
-use Rattle.sctp_table.specs.Laws.{Packing}
+use Rattle.sctp_table.specs.Association.{Endpoint, fresh, Packing}
 use Rattle.sctp_table.specs.Shown.{Association}
 use Rattle.sctp_table.specs.Hearing.{Hears}
-use Rattle.sctp_table.specs.Wire.{written}
+use Rattle.sctp_table.specs.Wire.{writing}
 use Rattle.sctp_table_laws.specs.Mapped.{Carried, as_written}
 use Rattle.sctp_table_laws.specs.FirstRun.{init_packet, init_ack_packet, cookie_echo_packet, cookie_ack_packet, quiet, asking, answering, echoing, accepting, opening, association, IsSmall, Leads, LeadsOn}
 use Rattle.sctp_table_laws.proofs.OpeningRunLemmas.{same, waiting, answered, echoed, opened_a, opened_b, asks, answers, echoes, accepts, opens}
@@ -44,13 +43,11 @@ given_to_b k w v p s there hears g =
     same_world v (recorded B (Given B (clock w.b.socket) k) s w) g.other_side (g.told.side ∙ ap (settled w.b) e)
     (g.told.logged ∙ ap (λ (t : Endpoint (List ℕ)). w.log ++ Given B (clock w.b.socket) k ∷ news_of B w.b t) e)
 
--- An end reads with its own checksum function; where the packet was written with one that makes equal packets, it leads on.
-pub takes_on : (f : List ℕ → ℕ) (p : Carried) (before after : Packing (List ℕ) → Endpoint (List ℕ)) → ((g : List ℕ → ℕ) → Leads g p (before (written g)) (after (written g)))
-    → (before (written f)).standing.context.pack ≡ written f → (t : Endpoint (List ℕ)) → Takes (as_written f p) (before (written f)) t → t ≡ after (written f)
+-- an end reads with the checksum by which the packet was written
+pub takes_on : (f : List ℕ → ℕ) (p : Carried) (before after : Endpoint (List ℕ)) → Leads f p before after → before.standing.context.pack ≡ writing f
+    → (t : Endpoint (List ℕ)) → Takes (as_written f p) before t → t ≡ after
 takes_on f p before after leads own t k =
-    let one : written f ≡ written k.word_of = sym own ∙ k.own in
-    leads k.word_of t (subst (λ (pack : Packing (List ℕ)). Hears k.word_of (pack p.header p.is_summed p.chunks) (before pack) t) one k.hears)
-    ∙ ap after (sym one)
+    leads t (subst (λ (pack : Packing (List ℕ)). Hears pack.word_of (as_written f p) before t) own k)
 
 pub same_self : (a : Association) → same_association (Some a) (Some a) ≡ true
 same_self a =
@@ -70,13 +67,13 @@ some_small = record { some = omega arith; few = omega arith; stream = omega arit
 
 module _ (a b : Stream) (f : List ℕ → ℕ) where
   abbrev pub pack : Packing (List ℕ)
-  pack = written f
+  pack = writing f
 
   abbrev pub bytes_of : Carried → List ℕ
   bytes_of p = as_written f p
 
-  leads : (g : List ℕ → ℕ) → LeadsOn g a b some_message plainly
-  leads g = leads_on g a b some_message plainly some_small
+  leads : LeadsOn f a b some_message plainly
+  leads = leads_on f a b some_message plainly some_small
 
   abbrev first_log : List Entry
   first_log = Called A 0 Connect Done ∷ Emitted A 0 ∷ []
@@ -123,7 +120,7 @@ module _ (a b : Stream) (f : List ℕ → ℕ) where
   pub to_second : (v : World) → Gives B 0 first v → v ≡ second
   to_second v g =
       given_to_b 0 first v (bytes_of (init_packet a)) _ refl
-      (λ t k. takes_on f (init_packet a) (λ p. fresh defaults p b) (λ p. answering p a b) (λ h. (leads h).init) refl t k ∙ answers pack a b) g
+      (λ t k. takes_on f (init_packet a) (fresh defaults pack b) (answering pack a b) leads.init refl t k ∙ answers pack a b) g
 
   asked : quiet (asking pack a b) ≡ waiting pack a
   asked = ap quiet (asks pack a b)
@@ -131,7 +128,7 @@ module _ (a b : Stream) (f : List ℕ → ℕ) where
   pub to_third : (v : World) → Gives A 0 second v → v ≡ third
   to_third v g =
       given_to_a 0 second v (bytes_of (init_ack_packet a b)) _ refl
-      (λ t k. takes_on f (init_ack_packet a b) (λ p. quiet (asking p a b)) (λ p. echoing p a b) (λ h. (leads h).init_ack) (ap (λ (s : Endpoint (List ℕ)). s.standing.context.pack) asked) t
+      (λ t k. takes_on f (init_ack_packet a b) (quiet (asking pack a b)) (echoing pack a b) leads.init_ack (ap (λ (s : Endpoint (List ℕ)). s.standing.context.pack) asked) t
       (subst (λ (s : Endpoint (List ℕ)). Takes (bytes_of (init_ack_packet a b)) s t) (sym asked) k) ∙ echoes pack a b) g
 
   replied : quiet (answering pack a b) ≡ answered pack b
@@ -140,7 +137,7 @@ module _ (a b : Stream) (f : List ℕ → ℕ) where
   pub to_fourth : (v : World) → Gives B 1 third v → v ≡ fourth
   to_fourth v g =
       given_to_b 1 third v (bytes_of (cookie_echo_packet a b)) _ refl
-      (λ t k. takes_on f (cookie_echo_packet a b) (λ p. quiet (answering p a b)) (λ p. accepting p a b) (λ h. (leads h).cookie_echo) (ap (λ (s : Endpoint (List ℕ)). s.standing.context.pack) replied) t
+      (λ t k. takes_on f (cookie_echo_packet a b) (quiet (answering pack a b)) (accepting pack a b) leads.cookie_echo (ap (λ (s : Endpoint (List ℕ)). s.standing.context.pack) replied) t
       (subst (λ (s : Endpoint (List ℕ)). Takes (bytes_of (cookie_echo_packet a b)) s t) (sym replied) k) ∙ accepts pack a b) g
 
   has_echoed : quiet (echoing pack a b) ≡ echoed pack a b
@@ -149,7 +146,7 @@ module _ (a b : Stream) (f : List ℕ → ℕ) where
   pub to_opened : (v : World) → Gives A 1 fourth v → v ≡ opened
   to_opened v g =
       given_to_a 1 fourth v (bytes_of (cookie_ack_packet a)) _ refl
-      (λ t k. takes_on f (cookie_ack_packet a) (λ p. quiet (echoing p a b)) (λ p. opening p a b) (λ h. (leads h).cookie_ack) (ap (λ (s : Endpoint (List ℕ)). s.standing.context.pack) has_echoed) t
+      (λ t k. takes_on f (cookie_ack_packet a) (quiet (echoing pack a b)) (opening pack a b) leads.cookie_ack (ap (λ (s : Endpoint (List ℕ)). s.standing.context.pack) has_echoed) t
       (subst (λ (s : Endpoint (List ℕ)). Takes (bytes_of (cookie_ack_packet a)) s t) (sym has_echoed) k) ∙ opens pack a b) g
       ∙ ap (λ (t : Bool). record fourth {
         a = record { socket = opened_a pack a b; packets = bytes_of (init_packet a) ∷ bytes_of (cookie_echo_packet a b) ∷ [] };

@@ -65,11 +65,11 @@ heard_short mtu word_of bytes side after (not_read fault is_fault refuses is) h 
 taken_short : (mtu : ℕ) (x : End) (first : Entry) (bytes : List ℕ) (old new : Side) (log longer : List Entry) → Told x first bytes old new log longer → IsShortSide mtu old
     → IsShortSide mtu new
 taken_short mtu x first bytes old new log longer t h =
-    subst (IsShortSide mtu) (sym t.side) (heard_short mtu t.takes.word_of bytes old t.after t.takes.hears h)
+    subst (IsShortSide mtu) (sym t.side) (heard_short mtu old.socket.standing.context.pack.word_of bytes old t.after t.takes h)
 
 came_short : (mtu : ℕ) (x : End) (bytes : List ℕ) (old new : Side) (log longer : List Entry) → ComesTo x bytes old new log longer → IsShortSide mtu old → IsShortSide mtu new
 came_short mtu x bytes old new log longer (told t j) h = taken_short mtu x _ bytes old new log longer t h
-came_short mtu x bytes old new log longer (skipped word_of own j is l) h = subst (IsShortSide mtu) (sym is) h
+came_short mtu x bytes old new log longer (skipped j is l) h = subst (IsShortSide mtu) (sym is) h
 
 -- ---- the world
 

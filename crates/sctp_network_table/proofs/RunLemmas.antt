@@ -1,7 +1,7 @@
 -- Events one after the other.
 use Rattle.std.proofs.Common.{◌≡◌, List, [], ◌∷◌, ◌++◌, refl, sym, ap, subst, ◌∙◌, append_assoc}
 use Rattle.std.proofs.lemmas.List.{append-nil}
-use Rattle.sctp_network_table.specs.World.{Action, World, Happens, Runs, Lacks, RunsUpToLack}
+use Rattle.sctp_network_table.specs.World.{Action, World, Happens, Runs, Lacks, RunsUpToLack, RunsUpToWant}
 
 pub Runs-snoc : (front : List Action) (action : Action) (w u v : World) → Runs front w u → Happens action u v → Runs (front ++ action ∷ []) w v
 Runs-snoc [] action w u v runs happens = (v, subst (λ (x : World). Happens action x v) runs happens, refl)
@@ -33,6 +33,18 @@ lacking all rest more action w u v done next lacks same = record {
   split = done.1 ∙ ap (λ (r : List Action). done.0 ++ r) next;
   runs = subst (λ (x : World). Runs done.0 w x) (sym same) done.2;
   lacks = subst (λ (x : World). Lacks action x) (sym same) lacks;
+}
+
+pub wanting : (all rest more : List Action) (action : Action) (w u : World)
+    → (front : List Action) × (all ≡ front ++ rest) × Runs front w u → rest ≡ action ∷ more → (Lacks action u → ⊥) → RunsUpToWant all w
+wanting all rest more action w u done next there = record {
+  before = done.0;
+  action = action;
+  rest = more;
+  split = done.1 ∙ ap (λ (r : List Action). done.0 ++ r) next;
+  reached = u;
+  runs = done.2;
+  there = there;
 }
 
 pub finished : (all rest : List Action) (w u : World) → (front : List Action) × (all ≡ front ++ rest) × Runs front w u → rest ≡ [] → Runs all w u

@@ -13,7 +13,7 @@ use Rattle.sctp_table.specs.Laws.{called}
 use Rattle.sctp_table.specs.Shown.{Association, association_in}
 use Rattle.sctp_table.specs.Hearing.{Hears, Judges}
 use Rattle.sctp_table.specs.Shown as socket
-use Rattle.sctp_table.specs.Wire.{written}
+use Rattle.sctp_table.specs.Wire.{writing}
 use Rattle.sctp_network_table.specs.Judge.{End, A, B, same_association, Call, Connect, Shutdown, Close, Send, SendMany, Receive, Reset, SetPriority, SetMaxMessageSize, SetLowThreshold, HandOver, Answer, Done, Sent, SentMany, Received, AskedReset, HandedOver, NotReady, Entry, Called, Given, Foreign, Timed, Associated, Emitted, Happened, GaveUp, BecameReady}
 
 -- an end, with the packets that it ever sent
@@ -27,7 +27,7 @@ pub record World : Type 0 where
   pub log : List Entry
 
 abbrev pub fresh_side : Options → Stream → (List ℕ → ℕ) → Side
-fresh_side o words word_of = record { socket = fresh o (written word_of) words; packets = [] }
+fresh_side o words word_of = record { socket = fresh o (writing word_of) words; packets = [] }
 
 abbrev pub fresh_world : (options_a options_b : Options) (words_a words_b : Stream) (word_of_a word_of_b : List ℕ → ℕ) → World
 fresh_world options_a options_b words_a words_b word_of_a word_of_b =
@@ -174,11 +174,9 @@ tells_time x now w = recorded x (time_entry x now (side_of x w).socket) (after_t
 
 -- ---- packets
 
--- an end makes of bytes what its checksum function says
-pub record Takes (bytes : List ℕ) (s t : Endpoint (List ℕ)) : Type 0 where
-  pub word_of : List ℕ → ℕ
-  pub own : s.standing.context.pack ≡ written word_of
-  pub hears : Hears word_of bytes s t
+-- an end makes of bytes what its own checksum says
+abbrev pub Takes : (bytes : List ℕ) → (s t : Endpoint (List ℕ)) → Type 0
+Takes bytes s t = Hears s.standing.context.pack.word_of bytes s t
 
 -- an end takes bytes: what becomes of it and of the log, behind the first entry
 pub record Told (x : End) (first : Entry) (bytes : List ℕ) (old new : Side) (log longer : List Entry) : Type 0 where
@@ -194,15 +192,14 @@ pub record Gives (x : End) (packet : ℕ) (w v : World) : Type 0 where
   pub told : Told x (Given x (clock (side_of x w).socket) packet) bytes (side_of x w) (side_of x v) w.log v.log
   pub other_side : side_of (other x) v ≡ side_of (other x) w
 
--- the end would refuse the bytes, or not, by this checksum function
-abbrev pub IsJudged : (word_of : List ℕ → ℕ) → (bytes : List ℕ) → Endpoint (List ℕ) → (is_refused : Bool) → Type 0
-IsJudged word_of bytes s is_refused = Judges word_of bytes s.standing.context.options s.standing.state is_refused
+-- the end would refuse the bytes, or not, by its own checksum
+abbrev pub IsJudged : (bytes : List ℕ) → Endpoint (List ℕ) → (is_refused : Bool) → Type 0
+IsJudged bytes s is_refused = Judges s.standing.context.pack.word_of bytes s.standing.context.options s.standing.state is_refused
 
 -- bytes from elsewhere: they are told to an end that refuses them, and else skipped
 pub data ComesTo (x : End) (bytes : List ℕ) (old new : Side) (log longer : List Entry) : Type 0 where
-  told : (t : Told x (Foreign x (clock old.socket) (Some bytes)) bytes old new log longer) → IsJudged t.takes.word_of bytes old.socket true → ComesTo x bytes old new log longer
-  skipped : (word_of : List ℕ → ℕ) → old.socket.standing.context.pack ≡ written word_of → IsJudged word_of bytes old.socket false
-      → new ≡ old → longer ≡ log ++ Foreign x (clock old.socket) None ∷ [] → ComesTo x bytes old new log longer
+  told : (t : Told x (Foreign x (clock old.socket) (Some bytes)) bytes old new log longer) → IsJudged bytes old.socket true → ComesTo x bytes old new log longer
+  skipped : IsJudged bytes old.socket false → new ≡ old → longer ≡ log ++ Foreign x (clock old.socket) None ∷ [] → ComesTo x bytes old new log longer
 
 pub record Comes (x : End) (bytes : List ℕ) (w v : World) : Type 0 where
   pub comes : ComesTo x bytes (side_of x w) (side_of x v) w.log v.log
@@ -234,6 +231,16 @@ pub record RunsUpToLack (actions : List Action) (w v : World) : Type 0 where
   pub runs : Runs before w v
   pub lacks : Lacks action v
 
+-- a run up to an event that the world can meet: the packet is there, if it names one
+pub record RunsUpToWant (actions : List Action) (w : World) : Type 0 where
+  pub before : List Action
+  pub action : Action
+  pub rest : List Action
+  pub split : actions ≡ before ++ action ∷ rest
+  pub reached : World
+  pub runs : Runs before w reached
+  pub there : Lacks action reached → ⊥
+
 -- ---- no packet is larger than its sender's mtu
 
 abbrev pub IsShort : (mtu : ℕ) → List ℕ → Type 0
@@ -242,7 +249,7 @@ IsShort mtu bytes = length bytes ≤ mtu
 -- an end of whose tellings none is left
 pub record IsShortSide (mtu : ℕ) (side : Side) : Type 0 where
   pub word_of : List ℕ → ℕ
-  pub own : side.socket.standing.context.pack ≡ written word_of
+  pub own : side.socket.standing.context.pack ≡ writing word_of
   pub limit : side.socket.standing.context.options.mtu ≡ mtu
   pub enough : 12 ≤ mtu  -- for a header
   pub taken : side.socket.standing.context.told.events ≡ []

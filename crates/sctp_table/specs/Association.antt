@@ -93,6 +93,11 @@ heartbeats o = record {
   counter = 0;
 }
 
+-- how packets of chunks go out, and the word that its checksum makes of bytes
+pub record Packing (P : Type 0) : Type 0 where
+  pub write : HeaderTree → (is_summed : Bool) → List ChunkTree → P
+  pub word_of : List ℕ → ℕ
+
 pub record Context (P : Type 0) : Type 0 where
   pub options : Options
   pub now : ℕ
@@ -103,7 +108,7 @@ pub record Context (P : Type 0) : Type 0 where
   pub counts : Counts
   pub peer : SctpImplementation
   pub told : Told P  -- and not taken yet
-  pub pack : HeaderTree → (is_summed : Bool) → List ChunkTree → P  -- how a packet of these chunks goes out
+  pub pack : Packing P
 
 -- an end
 pub record Standing (P : Type 0) : Type 0 where
@@ -115,7 +120,7 @@ pub record Endpoint (P : Type 0) : Type 0 where
   pub standing : Standing P
   pub words : Stream
 
-abbrev pub context : {P : Type 0} → Options → (HeaderTree → Bool → List ChunkTree → P) → Context P
+abbrev pub context : {P : Type 0} → Options → Packing P → Context P
 context o pack = record {
   options = o;
   now = 0;
@@ -129,7 +134,7 @@ context o pack = record {
   pack = pack;
 }
 
-abbrev pub fresh : {P : Type 0} → Options → (HeaderTree → Bool → List ChunkTree → P) → Stream → Endpoint P
+abbrev pub fresh : {P : Type 0} → Options → Packing P → Stream → Endpoint P
 fresh o pack words = record { standing = record { state = Closed; context = context o pack }; words = words }
 
 -- in this phase

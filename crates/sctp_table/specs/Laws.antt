@@ -7,14 +7,14 @@ use Rattle.sctp_packet.specs.Packet.{HeaderTree, PacketTree}
 use Rattle.sctp_state.specs.Options.{SendOptions}
 use Rattle.sctp_state.specs.Handover.{HandoverState}
 use Rattle.sctp_state.specs.Events.{Event, SendPacket, OnClosed, OnAborted}
-use Rattle.sctp_table.specs.Association.{State, Closed, CookieWait, Open, Context, Endpoint, in_context}
+use Rattle.sctp_table.specs.Association.{State, Closed, CookieWait, Open, Packing, Context, Endpoint, in_context}
 use Rattle.sctp_table.specs.Opening.{connect}
 use Rattle.sctp_table.specs.Closing.{close, shutdown}
 use Rattle.sctp_table.specs.Calls.{send, send_many, set_low_threshold, set_priority, set_max_message_size, take_message}
 use Rattle.sctp_table.specs.Resets.{reset_streams}
 use Rattle.sctp_table.specs.Time.{advance}
 use Rattle.sctp_table.specs.Handover.{hand_over, restore}
-use Rattle.sctp_table.specs.Wire.{written}
+use Rattle.sctp_table.specs.Wire.{writing}
 use Rattle.sctp_table.specs.Input.{refusal, Heard, hear, has_data, repeats_if, counts, on_standing, on_packet, on_no_packet}
 
 -- ---- the calls that change an end, but for those that take what was told
@@ -55,16 +55,12 @@ called NoPacket s = on_no_packet s
 
 -- ---- packets
 
--- how packets go out
-abbrev pub Packing : Type 0 → Type 0
-Packing P = HeaderTree → (is_summed : Bool) → List ChunkTree → P
-
 -- a packet whose chunks and common header are at most so many bytes
 pub record IsWithin {P : Type 0} (pack : Packing P) (most : ℕ) (p : P) : Type 0 where
   pub header : HeaderTree
   pub is_summed : Bool
   pub chunks : List ChunkTree
-  pub made : p ≡ pack header is_summed chunks
+  pub made : p ≡ pack.write header is_summed chunks
   pub short : 12 + length (chunks_bytes chunks) ≤ most
 
 -- only packets are asked for it
@@ -154,7 +150,7 @@ EachCallStaysWithin =
 -- by its bytes
 abbrev pub EachCallSendsAtMost : Type 0
 EachCallSendsAtMost =
-    (word_of : List ℕ → ℕ) (call : Call) (s : Endpoint (List ℕ)) → s.standing.context.pack ≡ written word_of → 12 ≤ s.standing.context.options.mtu
+    (word_of : List ℕ → ℕ) (call : Call) (s : Endpoint (List ℕ)) → s.standing.context.pack ≡ writing word_of → 12 ≤ s.standing.context.options.mtu
     → SendsAtMost s.standing.context.options.mtu s.standing.context (called call s).standing.context
 
 -- as many endings as the call ends associations

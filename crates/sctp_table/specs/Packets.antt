@@ -79,7 +79,7 @@ abbrev pub header_to : Options → ℕ → HeaderTree
 header_to o tag = record { source_port = o.local_port; destination_port = o.remote_port; verification_tag = tag }
 
 abbrev pub emit_if : {P : Type 0} → (has_chunks : Bool) → Packet → Context P → Context P
-emit_if true p c = record (say (SendPacket (c.pack (header_to c.options p.tag) p.is_summed p.chunks)) c) {
+emit_if true p c = record (say (SendPacket (c.pack.write (header_to c.options p.tag) p.is_summed p.chunks)) c) {
   counts = record c.counts { tx_packets = more c.counts.tx_packets };
 }
 emit_if false p c = c

@@ -9,7 +9,7 @@ use Rattle.sctp_serial.specs.Messages.{Message}
 use Rattle.sctp_state.specs.Options.{SendOptions, defaults}
 use Rattle.sctp_state.specs.Handover.{HandoverState}
 use Rattle.sctp_state.specs.Events.{Event, SendPacket, GivenUp, silent}
-use Rattle.sctp_table.specs.Association.{Standing, Endpoint, fresh}
+use Rattle.sctp_table.specs.Association.{Packing, Standing, Endpoint, fresh}
 use Rattle.sctp_table.specs.Opening.{connect}
 use Rattle.sctp_table.specs.Closing.{close, shutdown}
 use Rattle.sctp_table.specs.Calls.{send, ready_in, take_message}
@@ -22,8 +22,8 @@ pub record Sent : Type 0 where
   pub header : HeaderTree
   pub chunks : List ChunkTree
 
-abbrev pub sent : HeaderTree → Bool → List ChunkTree → Sent
-sent header is_summed chunks = record { header = header; chunks = chunks }
+abbrev pub sent : Packing Sent
+sent = record { write = λ header is_summed chunks. record { header = header; chunks = chunks }; word_of = λ bytes. 0 }
 
 -- what is seen of a conversation: packets by their sizes
 pub data Line : Type 0 where

@@ -4,6 +4,7 @@ use Rattle.sctp_wire.specs.Checksum.{with_zero_field}
 use Rattle.sctp_packet.specs.Chunk.{ChunkTree}
 use Rattle.sctp_packet.specs.Written.{chunks_bytes}
 use Rattle.sctp_packet.specs.Packet.{HeaderTree, unsummed_bytes, packet_bytes}
+use Rattle.sctp_table.specs.Association.{Packing}
 
 -- the 32 bits of a packet's word
 abbrev pub word_in : (word_of : List ℕ → ℕ) → HeaderTree → List ChunkTree → ℕ
@@ -16,6 +17,10 @@ field_of word_of header false chunks = 0
 
 abbrev pub written : (word_of : List ℕ → ℕ) → HeaderTree → (is_summed : Bool) → List ChunkTree → List ℕ
 written word_of header is_summed chunks = packet_bytes header (field_of word_of header is_summed chunks) chunks
+
+-- how an end with this checksum's word of bytes writes
+abbrev pub writing : (word_of : List ℕ → ℕ) → Packing (List ℕ)
+writing word_of = record { write = written word_of; word_of = word_of }
 
 -- the 32 bits of the word of these bytes, with the checksum's field as zeros
 abbrev pub word_at : (word_of : List ℕ → ℕ) → List ℕ → ℕ

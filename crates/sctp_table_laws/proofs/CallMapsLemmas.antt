@@ -10,7 +10,7 @@ use Rattle.sctp_send_queue.specs.Settings.{Changed}
 use Rattle.sctp_table.specs.Association.{Context, Standing, with_context, where_open}
 use Rattle.sctp_table.specs.Sending.{send_in}
 use Rattle.sctp_table.specs.Calls.{shown_state, refusal, refusal_of, refusal_events, ended, refused, offered, offer, sent_if, send, offer_all, send_many, set_low_threshold}
-use Rattle.sctp_table_laws.specs.Mapped.{map_event, map_context, map_standing}
+use Rattle.sctp_table_laws.specs.Mapped.{Mapping, map_event, map_context, map_standing}
 use Rattle.sctp_table_laws.proofs.ToldMapsLemmas.{maps_tell_all, maps_threshold}
 use Rattle.sctp_table_laws.proofs.SendingMapsLemmas.{maps_send_in}
 use Rattle.sctp_table_laws.proofs.RowMapsLemmas.{maps_where_open}
@@ -23,7 +23,7 @@ telling c t = record c { told = t }
 abbrev changed_to : {P : Type 0} → Context P → Changed P → Context P
 changed_to c x = record c { queue = x.queue; told = x.told }
 
-module _ {P Q : Type 0} (f : P → Q) where
+module _ {P Q : Type 0} (f : Mapping P Q) where
   maps_refusal : (l : Option ℕ) (e : SendError) → map (map_event f) (ended l ++ refusal_events e) ≡ ended l ++ refusal_events e
   maps_refusal None EmptyPayload = refl
   maps_refusal None (MessageTooLarge len limit) = refl

@@ -3,10 +3,9 @@ use Rattle.std.proofs.Common.{Some, [], ◌∷◌, refl, ap, ◌∙◌}
 use Rattle.rand_core.specs.Stream.{Stream}
 use Rattle.sctp_serial.specs.Messages.{Message}
 use Rattle.sctp_state.specs.Options.{SendOptions}
-use Rattle.sctp_table.specs.Association.{Endpoint}
+use Rattle.sctp_table.specs.Association.{Endpoint, Packing}
 use Rattle.sctp_table.specs.Calls.{refusal_of}
 use Rattle.sctp_table.specs.Shown.{is_at_rest}
-use Rattle.sctp_table.specs.Laws.{Packing}
 use Rattle.sctp_table_laws.specs.FirstRun.{quiet, sending, taking, resting, IsSmall, association, Crosses, Rests}
 use Rattle.sctp_table_laws.proofs.OpeningRunLemmas.{opens, shows_by}
 use Rattle.sctp_table_laws.proofs.SendRunLemmas.{accepts_message, sent_end, sends}

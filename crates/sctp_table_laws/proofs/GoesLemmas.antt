@@ -7,9 +7,9 @@ use Rattle.sctp_packet.specs.Written.{chunk_item, chunk_is_whole, chunk_bytes, c
 use Rattle.sctp_packet.proofs.BuilderLemmas.{holds_more}
 use Rattle.sctp_state.specs.declared.api.ErrorKind.{ErrorKind}
 use Rattle.sctp_state.specs.Events.{Event, SendPacket, OnError, Told, tell}
-use Rattle.sctp_table.specs.Association.{Tcb, Context}
+use Rattle.sctp_table.specs.Association.{Tcb, Context, Packing}
 use Rattle.sctp_table.specs.Packets.{Packet, room, fits, added_if, add, add_all, has_chunks, rounded, new_packet, complain, header_to, emit_if, emit, emit_chunk}
-use Rattle.sctp_table.specs.Laws.{Packing, IsWithin, IsShort, ending}
+use Rattle.sctp_table.specs.Laws.{IsWithin, IsShort, ending}
 use Rattle.sctp_table_laws.proofs.StepsLemmas.{Tells, most_bytes, Goes}
 use Rattle.sctp_table_laws.proofs.TellsLemmas.{split_and, tells_nothing, tells_one, tells_through}
 
@@ -123,14 +123,14 @@ module _ {P : Type 0} where
   goes_emitted : (b : Bool) (p : Packet) (c : Context P) → IsSmall (most_bytes c) p → Goes 0 c (emit_if b p c)
   goes_emitted true p c h =
       let header = header_to c.options p.tag in
-      let short : IsWithin c.pack (most_bytes c) (c.pack header p.is_summed p.chunks) = record {
+      let short : IsWithin c.pack (most_bytes c) (c.pack.write header p.is_summed p.chunks) = record {
         header = header;
         is_summed = p.is_summed;
         chunks = p.chunks;
         made = refl;
         short = h.short;
       } in
-      goes_said 0 c (emit_if true p c) (SendPacket (c.pack header p.is_summed p.chunks)) refl refl refl short refl
+      goes_said 0 c (emit_if true p c) (SendPacket (c.pack.write header p.is_summed p.chunks)) refl refl refl short refl
   goes_emitted false p c h = goes_same c
 
   pub goes_emit : (p : Packet) (c : Context P) → IsSmall (most_bytes c) p → Goes 0 c (emit p c)

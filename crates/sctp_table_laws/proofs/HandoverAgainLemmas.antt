@@ -38,10 +38,9 @@ use Rattle.sctp_send_queue.proofs.AgainLemmas as queue_back
 use Rattle.sctp_send_queue.proofs.InOrderLemmas.{hears_mode}
 use Rattle.sctp_send_queue.proofs.TakenUpLemmas.{restored_in_order, written_as_sent}
 use Rattle.sctp_tx.specs.Handover as sender
-use Rattle.sctp_table.specs.Association.{Tcb, Context}
+use Rattle.sctp_table.specs.Association.{Tcb, Context, Packing}
 use Rattle.sctp_table.specs.Requests.{Request}
 use Rattle.sctp_table.specs.Handover.{is_strict, receiving, pending, request_readiness, block_readiness, readiness, handover_state, handed_over, method_if, left_if, restored_unless, invalid_unless}
-use Rattle.sctp_table.specs.Laws.{Packing}
 use Rattle.sctp_table_laws.specs.HandoverRoundTrip.{IsConnected, IsQueue, Fits, queue_bytes, item_bytes, standing, successor, block_again, context_again, ItemsComeBack, QueueComesBack, ordered_again, unordered_again, ReceptionComesBack, NothingWaits, HandoverGoesOn, MadeConnected}
 use Rattle.sctp_table_laws.proofs.HandoverValidLemmas.{rises, outgoing_rise, Each, each, AreLeft, messages_are_valid, numbers_differ, IsOrdered, first_alone, one_is_begun, in_one_state, count_items, next_is, queue_bytes_are, item_bytes_are}
 

@@ -9,11 +9,11 @@ use Rattle.sctp_table.specs.Association.{Tcb, Phase, CookieEchoed, Established, 
 use Rattle.sctp_table.specs.Packets.{say}
 use Rattle.sctp_table.specs.Sending.{Sent, open_with, send_buffered}
 use Rattle.sctp_table.specs.Handover.{readiness_open, readiness, left_in, left_if, hand_over, tcb_from, queue_taken, take_up, refusal_in, taken_as, restored_unless, restore}
-use Rattle.sctp_table_laws.specs.Mapped.{map_context, map_standing}
+use Rattle.sctp_table_laws.specs.Mapped.{Mapping, map_context, map_standing}
 use Rattle.sctp_table_laws.proofs.SendingMapsLemmas.{maps_say, maps_send_buffered}
 use Rattle.sctp_table_laws.proofs.RowMapsLemmas.{maps_in_state}
 
-module _ {P Q : Type 0} (f : P → Q) where
+module _ {P Q : Type 0} (f : Mapping P Q) where
   maps_left_in : (st : State) (c : Context P) → left_in st (map_context f c) ≡ map_standing f (left_in st c)
   maps_left_in Closed c = refl
   maps_left_in (CookieWait tag first t1) c = refl

@@ -8,7 +8,7 @@ use Rattle.sctp_state.specs.declared.api.ErrorKind.TheVariants.{ParseFailed}
 use Rattle.sctp_rx.specs.Tracker.{is_ack_due}
 use Rattle.sctp_table.specs.Association.{Tcb, Phase, CookieEchoed, Established, ShutdownPending, ShutdownSent, ShutdownReceived, ShutdownAckSent, State, Closed, CookieWait, Open, Context, Standing, Endpoint, in_context, where_open}
 use Rattle.sctp_table.specs.Heartbeats.{info_in, answered_if, is_last, no_info, answered_by, answered, on_heartbeat_ack}
-use Rattle.sctp_table.specs.Packets.{add, new_packet}
+use Rattle.sctp_table.specs.Packets.{add, new_packet, emit_chunk}
 use Rattle.sctp_table.specs.Sending.{Sent, asked, acknowledged, selective_ack, is_alone, open_with}
 use Rattle.sctp_table.specs.Closing.{send_shutdown, violated, on_abort, on_error, on_shutdown, on_shutdown_ack, on_shutdown_complete}
 use Rattle.sctp_table.specs.Data.{on_data, on_forward}
@@ -16,19 +16,19 @@ use Rattle.sctp_table.specs.Acknowledging.{on_sack}
 use Rattle.sctp_table.specs.Opening.{on_cookie_ack}
 use Rattle.sctp_table.specs.Resets.{on_reconfig}
 use Rattle.sctp_table.specs.Input.{refusal, is_reported, echoed, echoed_in, complained, on_unknown_if, on_unknown, on_heartbeat, Heard, on_standing, on_chunk, goes_on, violation, heard_if, hear, hear_rest, hear_all, has_data, repeats, repeats_if, ended_if, at_end, ended, handled, counts, taken_if, on_packet, on_no_packet}
-use Rattle.sctp_table_laws.specs.Mapped.{map_context, map_standing, map_end}
+use Rattle.sctp_table_laws.specs.Mapped.{Mapping, map_context, map_standing, map_end}
 use Rattle.sctp_table_laws.proofs.SendingMapsLemmas.{maps_complain, maps_emit_chunk, maps_send_with}
 use Rattle.sctp_table_laws.proofs.RowMapsLemmas.{OpenMaps, maps_where_open, maps_in_state, maps_send_shutdown, maps_on_shutdown, maps_shutdown_ack, maps_shutdown_complete, maps_violated, maps_on_abort, maps_on_error, maps_data, maps_forward, maps_on_sack}
 use Rattle.sctp_table_laws.proofs.ResetMapsLemmas.{maps_reconfig}
 use Rattle.sctp_table_laws.proofs.OpeningMapsLemmas.{maps_stands, maps_init, maps_init_ack, maps_cookie_ack, maps_cookie_echo, maps_complains}
 
-abbrev map_heard : {P Q : Type 0} → (P → Q) → Heard P → Heard Q
+abbrev map_heard : {P Q : Type 0} → Mapping P Q → Heard P → Heard Q
 map_heard f h = record { end = map_end f h.end; goes_on = h.goes_on }
 
 abbrev heard_as : {P : Type 0} → Bool → Endpoint P → Heard P
 heard_as on s = record { end = s; goes_on = on }
 
-module _ {P Q : Type 0} (f : P → Q) where
+module _ {P Q : Type 0} (f : Mapping P Q) where
   -- a row that the words have no part in
   pub maps_on_standing : (row : Standing P → Standing P) (mapped : Standing Q → Standing Q) (s : Endpoint P)
       → mapped (map_standing f s.standing) ≡ map_standing f (row s.standing) → on_standing mapped (map_end f s) ≡ map_end f (on_standing row s)
@@ -54,14 +54,14 @@ module _ {P Q : Type 0} (f : P → Q) where
 
   maps_unknown_if : (b : Bool) (typ flags : ℕ) (value : List ℕ) (s : Standing P)
       → on_unknown_if b typ flags value (map_standing f s) ≡ map_standing f (on_unknown_if b typ flags value s)
-  maps_unknown_if true typ flags value s = maps_in_state f s.state _ _ (maps_unknown s.state typ flags value s.context)
+  maps_unknown_if true typ flags value s = maps_in_state f s.state (echoed_in s.state typ flags value (complained typ flags value s.context)) _ (maps_unknown s.state typ flags value s.context)
   maps_unknown_if false typ flags value s = refl
 
   maps_on_unknown : (typ flags : ℕ) (value : List ℕ) (s : Standing P) → on_unknown typ flags value (map_standing f s) ≡ map_standing f (on_unknown typ flags value s)
   maps_on_unknown typ flags value s = maps_unknown_if (is_reported typ) typ flags value s
 
   maps_heartbeat : (parameters : List ParameterTree) → OpenMaps f (on_heartbeat parameters) (on_heartbeat parameters)
-  maps_heartbeat parameters phase t c = maps_in_state f (Open phase t) _ _ (maps_emit_chunk f (heartbeat_ack_chunk parameters) t c)
+  maps_heartbeat parameters phase t c = maps_in_state f (Open phase t) (emit_chunk (heartbeat_ack_chunk parameters) t c) _ (maps_emit_chunk f (heartbeat_ack_chunk parameters) t c)
 
   maps_acked_if : (b : Bool) (c : Context P) → answered_if b (map_context f c) ≡ map_context f (answered_if b c)
   maps_acked_if true c = refl
@@ -80,7 +80,7 @@ module _ {P Q : Type 0} (f : P → Q) where
 
   maps_heartbeat_ack : (parameters : List ParameterTree) (s : Standing P)
       → in_context (on_heartbeat_ack parameters) (map_standing f s) ≡ map_standing f (in_context (on_heartbeat_ack parameters) s)
-  maps_heartbeat_ack parameters s = maps_in_state f s.state _ _ (maps_acked (info_in parameters) s.context)
+  maps_heartbeat_ack parameters s = maps_in_state f s.state (answered (info_in parameters) s.context) _ (maps_acked (info_in parameters) s.context)
 
   maps_chunk : (tag : ℕ) (chunk : ChunkTree) (s : Endpoint P) → on_chunk tag chunk (map_end f s) ≡ map_end f (on_chunk tag chunk s)
   maps_chunk tag (data_chunk tsn immediate g) s = maps_on_standing (on_data tsn immediate g) (on_data tsn immediate g) s (maps_data f tsn immediate g s.standing)

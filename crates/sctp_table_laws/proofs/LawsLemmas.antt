@@ -6,9 +6,9 @@ use Rattle.sctp_packet.specs.Written.{chunks_bytes}
 use Rattle.sctp_packet.specs.Packet.{HeaderTree, packet_bytes}
 use Rattle.sctp_packet.proofs.PacketLemmas.{length_joined}
 use Rattle.sctp_state.specs.Events.{Event, SendPacket}
-use Rattle.sctp_table.specs.Association.{Context, Endpoint}
-use Rattle.sctp_table.specs.Wire.{field_of, written}
-use Rattle.sctp_table.specs.Laws.{Call, Connect, Close, Shutdown, Send, SendMany, TakeMessage, SetLowThreshold, SetPriority, SetMaxMessageSize, Advance, HandOver, Restore, Packet, NoPacket, called, Packing, IsWithin, IsShort, StaysWithin, HasAtMost, SendsAtMost, ended_in_call, TellsEndings, ResetStreams}
+use Rattle.sctp_table.specs.Association.{Context, Endpoint, Packing}
+use Rattle.sctp_table.specs.Wire.{field_of, writing}
+use Rattle.sctp_table.specs.Laws.{Call, Connect, Close, Shutdown, Send, SendMany, TakeMessage, SetLowThreshold, SetPriority, SetMaxMessageSize, Advance, HandOver, Restore, Packet, NoPacket, called, IsWithin, IsShort, StaysWithin, HasAtMost, SendsAtMost, ended_in_call, TellsEndings, ResetStreams}
 use Rattle.sctp_table_laws.proofs.StepsLemmas.{Goes}
 use Rattle.sctp_table_laws.proofs.RowStepsLemmas.{steps_close, steps_shutdown}
 use Rattle.sctp_table_laws.proofs.OpeningStepsLemmas.{steps_connect}
@@ -62,29 +62,29 @@ length_packet : (h : HeaderTree) (word : ℕ) (chunks : List ChunkTree) → leng
 unfolding packet_bytes
 length_packet h word chunks = length_joined h word (chunks_bytes chunks)
 
-length_within : (word_of : List ℕ → ℕ) (most : ℕ) (bytes : List ℕ) → IsWithin (written word_of) most bytes → length bytes ≤ most
+length_within : (word_of : List ℕ → ℕ) (most : ℕ) (bytes : List ℕ) → IsWithin (writing word_of) most bytes → length bytes ≤ most
 length_within word_of most bytes w =
     let field : ℕ = field_of word_of w.header w.is_summed w.chunks in
     omega (arith, ap length w.made, length_packet w.header field w.chunks, w.short)
 
-event_at_most : (word_of : List ℕ → ℕ) (most : ℕ) (e : Event (List ℕ)) → IsShort (written word_of) most e → HasAtMost most e
+event_at_most : (word_of : List ℕ → ℕ) (most : ℕ) (e : Event (List ℕ)) → IsShort (writing word_of) most e → HasAtMost most e
 event_at_most word_of most (SendPacket bytes) w = length_within word_of most bytes w
 event_at_most word_of most e w = tt
 
-all_at_most : (word_of : List ℕ → ℕ) (most : ℕ) (es : List (Event (List ℕ))) → All (IsShort (written word_of) most) es → All (HasAtMost most) es
+all_at_most : (word_of : List ℕ → ℕ) (most : ℕ) (es : List (Event (List ℕ))) → All (IsShort (writing word_of) most) es → All (HasAtMost most) es
 all_at_most word_of most [] w = All-nil (HasAtMost most)
 all_at_most word_of most (e ∷ es) w =
-    let P : Event (List ℕ) → Type 0 = IsShort (written word_of) most in
+    let P : Event (List ℕ) → Type 0 = IsShort (writing word_of) most in
     All-cons (HasAtMost most) e es (event_at_most word_of most e (All-head P e es w)) (all_at_most word_of most es (All-tail P e es w))
 
-sends_of : (word_of : List ℕ → ℕ) (c d : Context (List ℕ)) → c.pack ≡ written word_of → StaysWithin c d → SendsAtMost c.options.mtu c d
+sends_of : (word_of : List ℕ → ℕ) (c d : Context (List ℕ)) → c.pack ≡ writing word_of → StaysWithin c d → SendsAtMost c.options.mtu c d
 sends_of word_of c d is w = record {
   events = w.events;
   behind = w.behind;
   short = all_at_most word_of c.options.mtu w.events (subst (λ (pack : Packing (List ℕ)). All (IsShort pack c.options.mtu) w.events) is w.short);
 }
 
-pub sends_at_most : (word_of : List ℕ → ℕ) (call : Call) (s : Endpoint (List ℕ)) → s.standing.context.pack ≡ written word_of → 12 ≤ s.standing.context.options.mtu
+pub sends_at_most : (word_of : List ℕ → ℕ) (call : Call) (s : Endpoint (List ℕ)) → s.standing.context.pack ≡ writing word_of → 12 ≤ s.standing.context.options.mtu
     → SendsAtMost s.standing.context.options.mtu s.standing.context (called call s).standing.context
 sends_at_most word_of call s is least =
     sends_of word_of s.standing.context (called call s).standing.context is (stays_within call s least)

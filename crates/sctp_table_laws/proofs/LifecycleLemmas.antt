@@ -3,8 +3,8 @@ use Rattle.std.proofs.Common.{◌≡◌, ℕ, ◌+◌, ◌≤◌, false, List, [
 use Rattle.rand_core.specs.Stream.{Stream}
 use Rattle.sctp_state.specs.Options.{Options}
 use Rattle.sctp_state.specs.Events.{Event}
-use Rattle.sctp_table.specs.Association.{Standing, Endpoint, fresh}
-use Rattle.sctp_table.specs.Laws.{Call, Connect, Close, Shutdown, Send, SendMany, ResetStreams, TakeMessage, SetLowThreshold, SetPriority, SetMaxMessageSize, Advance, HandOver, Restore, Packet, NoPacket, called, Packing}
+use Rattle.sctp_table.specs.Association.{Standing, Endpoint, fresh, Packing}
+use Rattle.sctp_table.specs.Laws.{Call, Connect, Close, Shutdown, Send, SendMany, ResetStreams, TakeMessage, SetLowThreshold, SetPriority, SetMaxMessageSize, Advance, HandOver, Restore, Packet, NoPacket, called}
 use Rattle.sctp_table_laws.specs.Lifecycles.{ends, kept_in, alive, handed, is_restore, EndsWithin, Use, Calls, TakesEvent, used, taken, told_along, handed_by, handed_along, restores, NoneRestores}
 use Rattle.sctp_table_laws.proofs.SpendsLemmas.{ends_append}
 use Rattle.sctp_table_laws.proofs.LivesLemmas.{Goes, Lives, lives_less, lives_then}

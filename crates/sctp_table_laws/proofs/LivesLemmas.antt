@@ -73,7 +73,7 @@ module _ {P : Type 0} (l : ℕ) where
   lives_complained x kind text c = lives_said x c (complain kind text c) (OnError kind text) refl (omega arith) refl
 
   lives_emitted : (x : ℕ) (b : Bool) (p : Packet) (c : Context P) → Goes l x c x (emit_if b p c)
-  lives_emitted x true p c = lives_said x c (emit_if true p c) (SendPacket (c.pack (header_to c.options p.tag) p.is_summed p.chunks)) refl (omega arith) refl
+  lives_emitted x true p c = lives_said x c (emit_if true p c) (SendPacket (c.pack.write (header_to c.options p.tag) p.is_summed p.chunks)) refl (omega arith) refl
   lives_emitted x false p c = lives_same x c
 
   pub lives_emit : (x : ℕ) (p : Packet) (c : Context P) → Goes l x c x (emit p c)

@@ -1,17 +1,15 @@
 -- The law: each call commutes with a map of packets.
-use Rattle.std.proofs.Common.{◌≡◌, ℕ, Bool, List, refl}
-use Rattle.sctp_packet.specs.Chunk.{ChunkTree}
-use Rattle.sctp_packet.specs.Packet.{HeaderTree}
+use Rattle.std.proofs.Common.{◌≡◌, ℕ, List, refl}
 use Rattle.sctp_state.specs.Options.{Options}
-use Rattle.sctp_table.specs.Wire.{written}
-use Rattle.sctp_table.specs.Association.{Endpoint, in_context, context}
+use Rattle.sctp_table.specs.Wire.{writing}
+use Rattle.sctp_table.specs.Association.{Packing, Endpoint, in_context, context}
 use Rattle.sctp_table.specs.Closing.{close, shutdown}
 use Rattle.sctp_table.specs.Calls.{send, send_many, set_low_threshold}
 use Rattle.sctp_table.specs.Resets.{reset_streams}
 use Rattle.sctp_table.specs.Time.{advance}
 use Rattle.sctp_table.specs.Handover.{hand_over, restore}
 use Rattle.sctp_table.specs.Laws.{Call, Connect, Close, Shutdown, Send, SendMany, TakeMessage, SetLowThreshold, SetPriority, SetMaxMessageSize, Advance, HandOver, Restore, Packet, NoPacket, called, ResetStreams}
-use Rattle.sctp_table_laws.specs.Mapped.{map_context, map_end, Carried, as_written, BytesAreWrittenChunks}
+use Rattle.sctp_table_laws.specs.Mapped.{Mapping, map_context, map_end, Carried, as_bytes, BytesAreWrittenChunks}
 use Rattle.sctp_table_laws.proofs.RowMapsLemmas.{maps_in_state, maps_close, maps_shutdown}
 use Rattle.sctp_table_laws.proofs.OpeningMapsLemmas.{maps_connect}
 use Rattle.sctp_table_laws.proofs.TimeMapsLemmas.{maps_advance}
@@ -21,10 +19,10 @@ use Rattle.sctp_table_laws.proofs.ResetMapsLemmas.{maps_reset_streams}
 use Rattle.sctp_table_laws.proofs.InputMapsLemmas.{maps_on_standing, maps_packet, maps_no_packet}
 
 -- packets as they are
-abbrev pub carried : HeaderTree → (is_summed : Bool) → List ChunkTree → Carried
-carried header is_summed chunks = record { header = header; is_summed = is_summed; chunks = chunks }
+abbrev pub carried : Packing Carried
+carried = record { write = λ header is_summed chunks. record { header = header; is_summed = is_summed; chunks = chunks }; word_of = λ bytes. 0 }
 
-pub maps_called : {P Q : Type 0} (f : P → Q) (call : Call) (s : Endpoint P) → called call (map_end f s) ≡ map_end f (called call s)
+pub maps_called : {P Q : Type 0} (f : Mapping P Q) (call : Call) (s : Endpoint P) → called call (map_end f s) ≡ map_end f (called call s)
 maps_called f Connect s = maps_connect f s
 maps_called f Close s = maps_on_standing f close close s (maps_close f s.standing)
 maps_called f Shutdown s = maps_on_standing f shutdown shutdown s (maps_shutdown f s.standing)
@@ -34,7 +32,7 @@ maps_called f (ResetStreams streams) s = maps_on_standing f (reset_streams strea
 maps_called f TakeMessage s = refl
 maps_called f (SetLowThreshold stream bytes) s =
     maps_on_standing f (in_context (set_low_threshold stream bytes)) (in_context (set_low_threshold stream bytes)) s
-    (maps_in_state f s.standing.state _ _ (maps_low_threshold f stream bytes s.standing.context))
+    (maps_in_state f s.standing.state (set_low_threshold stream bytes s.standing.context) _ (maps_low_threshold f stream bytes s.standing.context))
 maps_called f (SetPriority stream priority) s = refl
 maps_called f (SetMaxMessageSize bytes) s = refl
 maps_called f (Advance now) s = maps_on_standing f (advance now) (advance now) s (maps_advance f now s.standing)
@@ -44,8 +42,8 @@ maps_called f (Packet p) s = maps_packet f p s
 maps_called f NoPacket s = maps_no_packet f s
 
 pub bytes_written : BytesAreWrittenChunks
-bytes_written word_of call s = maps_called (as_written word_of) call s
+bytes_written word_of call s = maps_called (as_bytes word_of) call s
 
 -- a new end has the context of a new one
-pub context_written : (word_of : List ℕ → ℕ) (o : Options) → map_context (as_written word_of) (context o carried) ≡ context o (written word_of)
+pub context_written : (word_of : List ℕ → ℕ) (o : Options) → map_context (as_bytes word_of) (context o carried) ≡ context o (writing word_of)
 context_written word_of o = refl

@@ -10,10 +10,10 @@ use Rattle.sctp_state.specs.Events.{OnConnected, OnConnectionRestarted, OnAborte
 use Rattle.sctp_table.specs.Association.{Identity, Tcb, tcb, Phase, CookieEchoed, Established, ShutdownPending, ShutdownSent, ShutdownReceived, ShutdownAckSent, State, Closed, CookieWait, Open, Context, Standing, Endpoint, with_context}
 use Rattle.sctp_table.specs.Heartbeats.{beating}
 use Rattle.sctp_table.specs.Packets.{Packet, add, packet_to, new_packet, rounded, say, complain, emit}
-use Rattle.sctp_table.specs.Sending.{Sent, open_with, send_buffered}
+use Rattle.sctp_table.specs.Sending.{Sent, open_with, send_buffered, send_cookie}
 use Rattle.sctp_table.specs.Closing.{send_shutdown_ack}
 use Rattle.sctp_table.specs.Opening.{tsn_from, tag_from, word, drew_word, long_word, drew_long_word, stands, init_of, send_init, t1_init, waiting, connect_in, connect, agreed_by, init_ack_of, answer, answers, answers_new, next_first, answers_again, on_init_open, on_init_in, on_init, cookie_in, maker, without_cookie, queue_anew, t1_cookie, echo, names, echoed, on_init_ack_in, on_init_ack, connected, established, on_cookie_ack, Verdict, EstablishNew, RestartDetected, SimultaneousInit, MaintainExisting, Discard, InvalidTag, judged, cookie_ack, queue_for, tcb_by, anew, establishes, kept, keep, too_late, restarts, restarts_in, restart, complains, on_verdict, on_read_cookie, on_cookie_echo}
-use Rattle.sctp_table_laws.specs.Mapped.{map_context, map_standing, map_end}
+use Rattle.sctp_table_laws.specs.Mapped.{Mapping, map_context, map_standing, map_end}
 use Rattle.sctp_table_laws.proofs.SendingMapsLemmas.{map_sent, maps_say, maps_complain, maps_emit, maps_send_with, maps_send_buffered, maps_send_cookie}
 use Rattle.sctp_table_laws.proofs.RowMapsLemmas.{standing_in, beating_as, OpenMaps, maps_in_state, maps_closed_by, maps_send_shutdown_ack}
 
@@ -21,7 +21,7 @@ use Rattle.sctp_table_laws.proofs.RowMapsLemmas.{standing_in, beating_as, OpenMa
 abbrev end_in : {P : Type 0} → State → Endpoint P → Endpoint P
 end_in st s = record s { standing = standing_in st s.standing.context }
 
-module _ {P Q : Type 0} (f : P → Q) where
+module _ {P Q : Type 0} (f : Mapping P Q) where
   -- this standing, and the end's words
   pub maps_stands : (s : Endpoint P) (x : Standing P) (y : Standing Q) → y ≡ map_standing f x → stands y (map_end f s) ≡ map_end f (stands x s)
   maps_stands s x y h = ap (λ (z : Standing Q). stands z (map_end f s)) h
@@ -98,7 +98,8 @@ module _ {P Q : Type 0} (f : P → Q) where
   maps_echo : (i : InitTree) (cookie : List ℕ) (me : Identity) (c : Context P) → echo i cookie me (map_context f c) ≡ map_standing f (echo i cookie me c)
   maps_echo i cookie me c =
       let d : Context P = record c { peer = maker cookie; queue = queue_anew (agreed_by c.options i).message_interleaving c.queue } in
-      maps_open_with (CookieEchoed (t1_cookie c) cookie) _ _ (maps_send_cookie f cookie (tcb c.options me i.a_rwnd (agreed_by c.options i)) d)
+      maps_open_with (CookieEchoed (t1_cookie c) cookie) (send_cookie cookie (tcb c.options me i.a_rwnd (agreed_by c.options i)) d) _
+      (maps_send_cookie f cookie (tcb c.options me i.a_rwnd (agreed_by c.options i)) d)
 
   maps_echoed : (i : InitTree) (o : Option (List ℕ)) (tag first : ℕ) (s : Endpoint P) → echoed i o tag first (map_end f s) ≡ map_end f (echoed i o tag first s)
   maps_echoed i None tag first s =
@@ -124,7 +125,7 @@ module _ {P Q : Type 0} (f : P → Q) where
   maps_established : (t : Tcb) (c : Context P) → established t (map_context f c) ≡ map_standing f (established t c)
   maps_established t c =
       ap (λ (d : Context Q). open_with Established (send_buffered false t d)) (maps_connected c)
-      ∙ maps_open_with Established _ _ (maps_send_buffered f false t (connected c))
+      ∙ maps_open_with Established (send_buffered false t (connected c)) _ (maps_send_buffered f false t (connected c))
 
   pub maps_cookie_ack : OpenMaps f on_cookie_ack on_cookie_ack
   maps_cookie_ack (CookieEchoed t1 cookie) t c = maps_established t c

@@ -16,14 +16,13 @@ use Rattle.sctp_capabilities.specs.declared.state_cookie.StateCookieError.{State
 use Rattle.sctp_capabilities.proofs.CookieLemmas.{read_cookie-bytes}
 use Rattle.sctp_state.specs.Events.{Event, OnConnected}
 use Rattle.sctp_state.specs.declared.api.SctpImplementation.TheVariants.{DcsctpRs}
-use Rattle.sctp_table.specs.Association.{Identity, Tcb, tcb, State, CookieEchoed, Established, Closed, CookieWait, Open, Context, Endpoint, context, where_open}
+use Rattle.sctp_table.specs.Association.{Identity, Tcb, tcb, State, CookieEchoed, Established, Closed, CookieWait, Open, Context, Endpoint, context, where_open, Packing}
 use Rattle.sctp_table.specs.Opening.{t1_init, t1_cookie, cookie_for, init_ack_of, new_if, on_verdict, on_read_cookie}
 use Rattle.sctp_table.specs.Calls.{ready_in}
 use Rattle.sctp_table.specs.Input.{my_tag, abort_flag, complete_flag, has_shutdown_ack, begins_with_cookie, refusal, taken_if, counts, ended, on_standing}
 use Rattle.sctp_table.specs.Shown.{Association, association_in}
 use Rattle.sctp_table.specs.Association.{heartbeats}
 use Rattle.sctp_table.specs.Heartbeats.{beating}
-use Rattle.sctp_table.specs.Laws.{Packing}
 use Rattle.sctp_table_laws.specs.FirstRun.{first_of, tag_of, init_tree, init_packet, init_ack_packet, cookie_echo_packet, cookie_ack_packet, given, quiet, packed, asking, answering, echoing, accepting, opening, association, Shows, Opens}
 
 -- ---- the ends, by their parts

@@ -14,15 +14,15 @@ use Rattle.sctp_table.specs.Requests.{is_final, Outcome, Unsettled, Done, Denied
 use Rattle.sctp_table.specs.Sending.{Sent, is_alone, open_with, send_buffered, send_in}
 use Rattle.sctp_table.specs.Resets.{Handling, handling, performs, is_ahead, resets_if, resets, outgoing_by, incoming_if, on_outcome, on_response, is_outgoing, on_parameter, Handled, handle_next, handle_all, send_responses, finished_if, finished, on_reconfig, reset_refusal, prepare_all, reset_if, reset_streams}
 use Rattle.sctp_table.specs.Resets as rows
-use Rattle.sctp_table_laws.specs.Mapped.{map_context, map_told, map_standing}
+use Rattle.sctp_table_laws.specs.Mapped.{Mapping, map_context, map_told, map_standing}
 use Rattle.sctp_table_laws.proofs.ToldMapsLemmas.{map_changed, maps_cond, maps_expiry, maps_tell_all}
 use Rattle.sctp_table_laws.proofs.SendingMapsLemmas.{maps_say, maps_complain, maps_emit_chunk, maps_send_buffered, maps_send_in}
 use Rattle.sctp_table_laws.proofs.RowMapsLemmas.{OpenMaps, maps_where_open}
 
-abbrev map_handling : {P Q : Type 0} → (P → Q) → Handling P → Handling Q
+abbrev map_handling : {P Q : Type 0} → Mapping P Q → Handling P → Handling Q
 map_handling f x = record { tcb = x.tcb; context = map_context f x.context; responses = x.responses }
 
-abbrev map_handled : {P Q : Type 0} → (P → Q) → Handled P → Handled Q
+abbrev map_handled : {P Q : Type 0} → Mapping P Q → Handled P → Handled Q
 map_handled f h = record { handling = map_handling f h.handling; is_whole = h.is_whole }
 
 abbrev handling_with : {P : Type 0} → Tcb → List ParameterTree → Context P → Handling P
@@ -38,7 +38,7 @@ changed_with q t = record { queue = q; told = t }
 abbrev changed_to : {P : Type 0} → Context P → Changed P → Context P
 changed_to c x = record c { queue = x.queue; told = x.told }
 
-module _ {P Q : Type 0} (f : P → Q) where
+module _ {P Q : Type 0} (f : Mapping P Q) where
   -- ---- messages that are dropped
 
   maps_waiting : (ms : List Queued) (t : Told P) → told_waiting ms (map_told f t) ≡ map_told f (told_waiting ms t)

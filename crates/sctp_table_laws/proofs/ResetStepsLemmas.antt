@@ -8,11 +8,10 @@ use Rattle.sctp_state.specs.declared.api.errors.ResetStreamsError.{ResetStreamsE
 use Rattle.sctp_state.specs.Events.{OnIncomingStreamReset, OnStreamsResetPerformed, OnStreamsResetFailed, Told, tell_all, expiry, numbers_of}
 use Rattle.sctp_send_queue.specs.Queue.{Queued, Queue, stream}
 use Rattle.sctp_send_queue.specs.Resets.{is_partly, told_waiting, prepare_reset}
-use Rattle.sctp_table.specs.Association.{Tcb, Phase, Open, Context, Standing, with_context}
+use Rattle.sctp_table.specs.Association.{Tcb, Phase, Open, Context, Standing, with_context, Packing}
 use Rattle.sctp_table.specs.Requests.{is_final, Outcome, Unsettled, Done, Denied, outcome, is_last, is_next, is_known}
 use Rattle.sctp_table.specs.Sending.{is_alone, send_in}
 use Rattle.sctp_table.specs.Resets.{Handling, handling, performs, is_ahead, resets_if, resets, outgoing_by, incoming_if, on_outcome, is_outgoing, on_parameter, Handled, handle_next, handle_all, send_responses, finished_if, on_reconfig, reset_refusal, prepared, prepare_all, reset_if, reset_streams}
-use Rattle.sctp_table.specs.Laws.{Packing}
 use Rattle.sctp_table_laws.proofs.StepsLemmas.{Tells, most_bytes, Goes, Steps}
 use Rattle.sctp_table_laws.proofs.TellsLemmas.{quiet_expiry, tells_nothing, tells_all, tells_then}
 use Rattle.sctp_table_laws.proofs.GoesLemmas.{goes_by, goes_same, goes_then, goes_said, goes_complained, goes_emit_chunk}

@@ -10,13 +10,12 @@ use Rattle.sctp_state.specs.Errors.{ErrorCounter, no_errors}
 use Rattle.sctp_state.specs.Events.{silent}
 use Rattle.sctp_outstanding.specs.Sack.{acked_bytes}
 use Rattle.sctp_tx.specs.Retransmission.{Sender, heard}
-use Rattle.sctp_table.specs.Association.{Tcb, Established, Open, Context, Standing, Endpoint, where_open}
+use Rattle.sctp_table.specs.Association.{Tcb, Established, Open, Context, Standing, Endpoint, where_open, Packing}
 use Rattle.sctp_table.specs.Packets.{has_chunks, new_packet}
 use Rattle.sctp_table.specs.Sending.{Filling, turned_if, go_on, burst, sent_by, open_with}
 use Rattle.sctp_table.specs.Acknowledging.{answered_if, sampled, on_clean_sack, goes_on}
 use Rattle.sctp_table.specs.Closing.{onward}
 use Rattle.sctp_table.specs.Input.{counts, ended, taken_if}
-use Rattle.sctp_table.specs.Laws.{Packing}
 use Rattle.sctp_table_laws.specs.FirstRun.{first_of, tag_of, sack_packet, delivered, given, quiet, resting, IsSmall}
 use Rattle.sctp_table_laws.proofs.OpeningRunLemmas.{telling, first_small, tag_some, own_taken, drawn, open_a}
 use Rattle.sctp_table_laws.proofs.QueueRunLemmas.{emptied}

@@ -12,24 +12,24 @@ use Rattle.sctp_rx.specs.Tracker as tracker
 use Rattle.sctp_tx.specs.Retransmission.{Sender, SackAnswer, Invalid, Valid, sender_if, told_if, answer_if, is_quiet}
 use Rattle.sctp_table.specs.Association.{Tcb, Phase, CookieEchoed, Established, ShutdownPending, ShutdownSent, ShutdownReceived, ShutdownAckSent, State, Closed, CookieWait, Open, Heartbeats, Context, Standing, where_open}
 use Rattle.sctp_table.specs.Heartbeats.{silenced}
-use Rattle.sctp_table.specs.Packets.{add, packet_to, emit_chunk}
+use Rattle.sctp_table.specs.Packets.{add, packet_to, complain, emit_chunk}
 use Rattle.sctp_table.specs.Sending.{Sent, is_alone, open_with, send_buffered, send_lost}
 use Rattle.sctp_table.specs.Closing.{over, closed, t2_shutdown, send_shutdown, send_shutdown_ack, Onward, onward, pending, received, go_on, shut, open_onward, shutdown_in, shutdown, shut_by_peer, on_shutdown, completed, out_of_the_blue, on_shutdown_ack_open, on_shutdown_ack_in, on_shutdown_ack, on_shutdown_complete, abort, close_in, close, too_many, violated, causes_text, on_abort, on_error}
 use Rattle.sctp_table.specs.Data.{no_data, on_no_data, not_connected, on_data_in, on_data_if, on_data, on_forward}
 use Rattle.sctp_table.specs.Acknowledging.{cleaned, sampled, answered, send_after, heard, on_clean_sack, on_sack_open, no_block, on_sack_in, on_sack}
 use Rattle.sctp_table.specs.Acknowledging as acks
-use Rattle.sctp_table_laws.specs.Mapped.{map_event, map_told, map_context, map_standing}
+use Rattle.sctp_table_laws.specs.Mapped.{Mapping, map_event, map_told, map_context, map_standing}
 use Rattle.sctp_table_laws.proofs.ToldMapsLemmas.{same_sender, maps_sack}
 use Rattle.sctp_table_laws.proofs.SendingMapsLemmas.{map_sent, maps_say, maps_complain, maps_emit, maps_emit_chunk, maps_send_buffered, maps_send_lost}
 
 abbrev pub standing_in : {P : Type 0} → State → Context P → Standing P
 standing_in st c = record { state = st; context = c }
 
-abbrev map_onward : {P Q : Type 0} → (P → Q) → Onward P → Onward Q
+abbrev map_onward : {P Q : Type 0} → Mapping P Q → Onward P → Onward Q
 map_onward f o = record { phase = o.phase; context = map_context f o.context }
 
 -- a row for states with a control block
-abbrev pub OpenMaps : {P Q : Type 0} → (P → Q) → (Phase → Tcb → Context P → Standing P) → (Phase → Tcb → Context Q → Standing Q) → Type 0
+abbrev pub OpenMaps : {P Q : Type 0} → Mapping P Q → (Phase → Tcb → Context P → Standing P) → (Phase → Tcb → Context Q → Standing Q) → Type 0
 OpenMaps {P} {Q} f row mapped = (phase : Phase) (t : Tcb) (c : Context P) → mapped phase t (map_context f c) ≡ map_standing f (row phase t c)
 
 -- an answer to a SACK, in a context that was told so
@@ -40,7 +40,7 @@ heard_with a phase t c s u = heard a phase (record t { sender = s }) (record c {
 abbrev pub beating_as : {P : Type 0} → Context P → Heartbeats → Context P
 beating_as c h = record c { heartbeats = h }
 
-module _ {P Q : Type 0} (f : P → Q) where
+module _ {P Q : Type 0} (f : Mapping P Q) where
   where_open_from : (row : Phase → Tcb → Context P → Standing P) (mapped : Phase → Tcb → Context Q → Standing Q) (st : State) (c : Context P) → OpenMaps f row mapped
       → where_open mapped (standing_in st (map_context f c)) ≡ map_standing f (where_open row (standing_in st c))
   where_open_from row mapped Closed c h = refl
@@ -86,7 +86,7 @@ module _ {P Q : Type 0} (f : P → Q) where
   maps_over e c = ap (λ (d : Context Q). beating_as d (silenced c.heartbeats)) (maps_say f e c)
 
   pub maps_closed : (e : Event P) (c : Context P) → closed (map_event f e) (map_context f c) ≡ map_standing f (closed e c)
-  maps_closed e c = maps_in_state Closed _ _ (maps_over e c)
+  maps_closed e c = maps_in_state Closed (over e c) _ (maps_over e c)
 
   -- behind what went out
   pub maps_closed_by : (e : Event P) (c : Context P) (d : Context Q) → d ≡ map_context f c → closed (map_event f e) d ≡ map_standing f (closed e c)
@@ -182,7 +182,7 @@ module _ {P Q : Type 0} (f : P → Q) where
   maps_on_abort causes phase t c = maps_closed (OnAborted PeerReported (causes_text causes)) c
 
   pub maps_on_error : (causes : List CauseTree) → OpenMaps f (on_error causes) (on_error causes)
-  maps_on_error causes phase t c = maps_in_state (Open phase t) _ _ (maps_complain f PeerReported (causes_text causes) c)
+  maps_on_error causes phase t c = maps_in_state (Open phase t) (complain PeerReported (causes_text causes) c) _ (maps_complain f PeerReported (causes_text causes) c)
 
   -- ---- data and forward points
 
@@ -201,13 +201,13 @@ module _ {P Q : Type 0} (f : P → Q) where
 
   maps_data_in : (st : State) (tsn : ℕ) (is_immediate : Bool) (g : FragmentTree) (c : Context P)
       → on_data_in st tsn is_immediate g (map_context f c) ≡ map_standing f (on_data_in st tsn is_immediate g c)
-  maps_data_in Closed tsn is_immediate g c = maps_in_state Closed _ _ (maps_not_connected c)
-  maps_data_in (CookieWait tag first t1) tsn is_immediate g c = maps_in_state (CookieWait tag first t1) _ _ (maps_not_connected c)
+  maps_data_in Closed tsn is_immediate g c = maps_in_state Closed (not_connected c) _ (maps_not_connected c)
+  maps_data_in (CookieWait tag first t1) tsn is_immediate g c = maps_in_state (CookieWait tag first t1) (not_connected c) _ (maps_not_connected c)
   maps_data_in (Open phase t) tsn is_immediate g c = refl
 
   maps_data_if : (is_empty : Bool) (tsn : ℕ) (is_immediate : Bool) (g : FragmentTree) (s : Standing P)
       → on_data_if is_empty tsn is_immediate g (map_standing f s) ≡ map_standing f (on_data_if is_empty tsn is_immediate g s)
-  maps_data_if true tsn is_immediate g s = maps_in_state s.state _ _ (maps_on_no_data tsn s.state s.context)
+  maps_data_if true tsn is_immediate g s = maps_in_state s.state (on_no_data tsn s.state s.context) _ (maps_on_no_data tsn s.state s.context)
   maps_data_if false tsn is_immediate g s = maps_data_in s.state tsn is_immediate g s.context
 
   pub maps_data : (tsn : ℕ) (is_immediate : Bool) (g : FragmentTree) (s : Standing P)
@@ -248,8 +248,8 @@ module _ {P Q : Type 0} (f : P → Q) where
   maps_no_block c = maps_complain f NotConnected (codes "No TCB") c
 
   maps_sack_in : (st : State) (k : SackTree) (c : Context P) → on_sack_in st k (map_context f c) ≡ map_standing f (on_sack_in st k c)
-  maps_sack_in Closed k c = maps_in_state Closed _ _ (maps_no_block c)
-  maps_sack_in (CookieWait tag first t1) k c = maps_in_state (CookieWait tag first t1) _ _ (maps_no_block c)
+  maps_sack_in Closed k c = maps_in_state Closed (no_block c) _ (maps_no_block c)
+  maps_sack_in (CookieWait tag first t1) k c = maps_in_state (CookieWait tag first t1) (no_block c) _ (maps_no_block c)
   maps_sack_in (Open phase t) k c = maps_clean_sack (number_of t.sender.outstanding k.cumulative_tsn_ack) k.a_rwnd (cleaned k.gap_ack_blocks) phase t c
 
   pub maps_on_sack : (k : SackTree) (s : Standing P) → on_sack k (map_standing f s) ≡ map_standing f (on_sack k s)

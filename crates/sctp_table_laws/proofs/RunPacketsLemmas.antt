@@ -17,14 +17,13 @@ use Rattle.sctp_packet.specs.Written.{chunk_item, chunk_value, chunk_bytes, chun
 use Rattle.sctp_packet.specs.ReadBack.{ChunkReadsBack}
 use Rattle.sctp_chunk.proofs.ValueLemmas.{length_data, length_init, length_init_ack, length_sack}
 use Rattle.sctp_state.specs.Options.{Options, SendOptions, defaults}
-use Rattle.sctp_capabilities.specs.Capabilities.{announced}
-use Rattle.sctp_capabilities.specs.Cookie.{Cookie, cookie_bytes}
-use Rattle.sctp_capabilities.proofs.CookieLemmas.{length-cookie_bytes, cookie_bytes-writable}
-use Rattle.sctp_table.specs.Association.{Endpoint, fresh}
+use Rattle.sctp_state.specs.Capabilities.{announced}
+use Rattle.sctp_state.specs.Cookie.{Cookie, cookie_bytes}
+use Rattle.sctp_state.proofs.CookieLemmas.{length-cookie_bytes, cookie_bytes-writable}
+use Rattle.sctp_table.specs.Association.{Endpoint, fresh, Packing}
 use Rattle.sctp_table.specs.Opening.{init_of, cookie_for, init_ack_of}
-use Rattle.sctp_table.specs.Wire.{written}
+use Rattle.sctp_table.specs.Wire.{writing}
 use Rattle.sctp_table.specs.Hearing.{Hears}
-use Rattle.sctp_table.specs.Laws.{Packing}
 use Rattle.sctp_table_laws.specs.Mapped.{Carried, as_written}
 use Rattle.sctp_table_laws.specs.FirstRun.{first_of, tag_of, packet, init_tree, fragment, init_packet, init_ack_packet, cookie_echo_packet, cookie_ack_packet, data_packet, sack_packet, given, quiet, asking, answering, echoing, accepting, sending, IsSmall, LeadsOn}
 use Rattle.sctp_table_laws.specs.HeardBack.{IsHearable}
@@ -183,7 +182,7 @@ sack_short tsn window t w =
 
 module _ (word_of : List ℕ → ℕ) (a b : rng.Stream) (m : Message) (o : SendOptions) (small : IsSmall m) where
   abbrev pack : Packing (List ℕ)
-  pack = written word_of
+  pack = writing word_of
 
   abbrev cookie : Cookie
   cookie = cookie_for (init_tree a) (tag_of b) (first_of b) 0

@@ -26,12 +26,11 @@ use Rattle.sctp_tx.specs.Windows.{at_first, taken}
 use Rattle.sctp_tx.specs.Retransmission.{Sender}
 use Rattle.sctp_tx.specs.Sending as fragments
 use Rattle.sctp_tx.specs.Sending.{filling, fill, asked, timed_filling}
-use Rattle.sctp_table.specs.Association.{Tcb, Established, Open, Context, Standing, Endpoint, with_context, where_open}
+use Rattle.sctp_table.specs.Association.{Tcb, Established, Open, Context, Standing, Endpoint, with_context, where_open, Packing}
 use Rattle.sctp_table.specs.Packets.{Packet, fits, added_if, room, has_chunks, new_packet}
 use Rattle.sctp_table.specs.Sending.{Filling, filled, emitted, turned_if, go_on, burst, sent_by, open_with, send_in}
 use Rattle.sctp_table.specs.Calls.{refusal, offered, sent_if, send}
 use Rattle.sctp_table.specs.Input.{on_standing}
-use Rattle.sctp_table.specs.Laws.{Packing}
 use Rattle.sctp_table_laws.specs.FirstRun.{first_of, tag_of, fragment, fully_sent, data_packet, packed, quiet, sending, IsSmall}
 use Rattle.sctp_table_laws.proofs.OpeningRunLemmas.{telling, first_small, drawn, block, open_a, opened_a, opens}
 use Rattle.sctp_table_laws.proofs.QueueRunLemmas.{holding, emptied, queues, produces}

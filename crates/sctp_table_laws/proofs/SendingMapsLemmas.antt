@@ -15,18 +15,18 @@ use Rattle.sctp_tx.specs.Sending.{send}
 use Rattle.sctp_table.specs.Association.{Tcb, Phase, Context, Counts}
 use Rattle.sctp_table.specs.Packets.{Packet, emptied, room, fits, add, has_chunks, packet_to, new_packet, say, complain, header_to, emit_if, emit, emit_chunk}
 use Rattle.sctp_table.specs.Sending.{Filling, asked, ack_if, goes_along, with_ack, forward_added_if, forward_if, tested, forward_tested, tested_if, with_forward, most_streams, request_of, request_if, with_request, filled, with_data, filled_as, emitted, Turned, turned_if, turned, go_on, burst, Sent, sent, sent_by, is_alone, open_with, send_with, send_buffered, send_in, cookie_if, send_cookie, fast_packet, fast_if, send_lost}
-use Rattle.sctp_table_laws.specs.Mapped.{map_event, map_context, map_standing}
+use Rattle.sctp_table_laws.specs.Mapped.{Mapping, map_event, map_context, map_standing}
 use Rattle.sctp_table_laws.proofs.ToldMapsLemmas.{maps_tell, maps_expire, maps_fragments_sent}
 
 -- ---- what holds a context
 
-abbrev pub map_filling : {P Q : Type 0} → (P → Q) → Filling P → Filling Q
+abbrev pub map_filling : {P Q : Type 0} → Mapping P Q → Filling P → Filling Q
 map_filling f x = record { packet = x.packet; tcb = x.tcb; context = map_context f x.context }
 
-abbrev map_turned : {P Q : Type 0} → (P → Q) → Turned P → Turned Q
+abbrev map_turned : {P Q : Type 0} → Mapping P Q → Turned P → Turned Q
 map_turned f x = record { filling = map_filling f x.filling; is_more = x.is_more }
 
-abbrev pub map_sent : {P Q : Type 0} → (P → Q) → Sent P → Sent Q
+abbrev pub map_sent : {P Q : Type 0} → Mapping P Q → Sent P → Sent Q
 map_sent f x = record { tcb = x.tcb; context = map_context f x.context }
 
 -- a context with this told, and these counts
@@ -46,7 +46,7 @@ tested_by x step = record x {
   context = record x.context { told = step.told };
 }
 
-module _ {P Q : Type 0} (f : P → Q) where
+module _ {P Q : Type 0} (f : Mapping P Q) where
   -- ---- what is said
 
   pub maps_say : (e : Event P) (c : Context P) → say (map_event f e) (map_context f c) ≡ map_context f (say e c)
@@ -58,7 +58,7 @@ module _ {P Q : Type 0} (f : P → Q) where
   maps_emit_if : (b : Bool) (p : Packet) (c : Context P) → emit_if b p (map_context f c) ≡ map_context f (emit_if b p c)
   maps_emit_if true p c =
       ap (λ (t : Told Q). telling (map_context f c) (record c.counts { tx_packets = more c.counts.tx_packets }) t)
-      (maps_tell f (SendPacket (c.pack (header_to c.options p.tag) p.is_summed p.chunks)) c.told)
+      (maps_tell f (SendPacket (c.pack.write (header_to c.options p.tag) p.is_summed p.chunks)) c.told)
   maps_emit_if false p c = refl
 
   pub maps_emit : (p : Packet) (c : Context P) → emit p (map_context f c) ≡ map_context f (emit p c)

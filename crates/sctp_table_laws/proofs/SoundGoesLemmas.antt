@@ -8,9 +8,9 @@ use Rattle.sctp_packet.specs.Written.{chunk_item, chunk_is_whole, chunk_bytes}
 use Rattle.sctp_packet.specs.ReadBack.{ChunkReadsBack}
 use Rattle.sctp_state.specs.declared.api.ErrorKind.{ErrorKind}
 use Rattle.sctp_state.specs.Events.{Event, SendPacket, OnError, Told, tell}
-use Rattle.sctp_table.specs.Association.{Tcb, Context}
+use Rattle.sctp_table.specs.Association.{Tcb, Context, Packing}
 use Rattle.sctp_table.specs.Packets.{Packet, room, fits, added_if, add, add_all, has_chunks, new_packet, complain, header_to, emit_if, emit, emit_chunk}
-use Rattle.sctp_table.specs.Laws.{Packing, IsShort}
+use Rattle.sctp_table.specs.Laws.{IsShort}
 use Rattle.sctp_table_laws.proofs.StepsLemmas.{most_bytes}
 use Rattle.sctp_table_laws.proofs.StepsLemmas as steps
 use Rattle.sctp_table_laws.proofs.TellsLemmas.{split_and}
@@ -176,12 +176,12 @@ module _ {P : Type 0} where
 
   stays_emitted : (b : Bool) (p : Packet) (c : Context P) → HoldsSound c → IsGood (most_bytes c) p → Stays c (emit_if b p c)
   stays_emitted true p c k h =
-      let such : IsOfSuch c.pack (most_bytes c) (c.pack (header_to c.options p.tag) p.is_summed p.chunks) = record {
+      let such : IsOfSuch c.pack (most_bytes c) (c.pack.write (header_to c.options p.tag) p.is_summed p.chunks) = record {
         carried = record { header = header_to c.options p.tag; is_summed = p.is_summed; chunks = p.chunks };
         made = refl;
         reads_back = read_back c p k h;
       } in
-      stays_said c (emit_if true p c) (SendPacket (c.pack (header_to c.options p.tag) p.is_summed p.chunks)) refl refl refl such
+      stays_said c (emit_if true p c) (SendPacket (c.pack.write (header_to c.options p.tag) p.is_summed p.chunks)) refl refl refl such
       (record { options = k.options; queue = k.queue })
   stays_emitted false p c k h = stays_same c k
 

@@ -10,11 +10,11 @@ use Rattle.sctp_packet.proofs.PacketLemmas.{length_joined}
 use Rattle.sctp_packet.proofs.LawLemmas.{one_packet_lem}
 use Rattle.sctp_state.specs.Options.{Options, defaults}
 use Rattle.sctp_state.specs.Events.{Event, SendPacket}
-use Rattle.sctp_table.specs.Association.{Context, Endpoint}
+use Rattle.sctp_table.specs.Association.{Context, Endpoint, Packing}
 use Rattle.sctp_table.specs.Input.{on_packet}
-use Rattle.sctp_table.specs.Wire.{field_of, written}
+use Rattle.sctp_table.specs.Wire.{field_of, writing}
 use Rattle.sctp_table.specs.Hearing.{Hears}
-use Rattle.sctp_table.specs.Laws.{Call, called, Packing}
+use Rattle.sctp_table.specs.Laws.{Call, called}
 use Rattle.sctp_table_laws.specs.Mapped.{Carried, as_written}
 use Rattle.sctp_table_laws.specs.HeardBack.{IsHearable, as_heard}
 use Rattle.sctp_table_laws.specs.Sound.{IsSound, ArgumentFits, HasSomeCookie}
@@ -36,7 +36,7 @@ module _ (word_of : List ℕ → ℕ) (most : ℕ) (m : most ≤ 65535) where
     alone = λ s t lets hears. written_alone word_of p s t (hearable s.standing.context.options most p m r lets) (subst (λ (b : List ℕ). Hears word_of b s t) e hears);
   }
 
-  event_heard : (e : Event (List ℕ)) → CanBeRead (written word_of) most e → CanBeHeard word_of e
+  event_heard : (e : Event (List ℕ)) → CanBeRead (writing word_of) most e → CanBeHeard word_of e
   event_heard (SendPacket bytes) w = (w.carried, heard_as bytes w.carried w.made w.reads_back)
   event_heard e w = tt
 
@@ -55,15 +55,15 @@ pub chunks_are_heard : (word_of : List ℕ → ℕ) (call : Call) (s : Endpoint 
     → TellsWhatIsHeard word_of s.standing.context (called call s).standing.context
 chunks_are_heard word_of call s is k f = chunks_heard_of word_of s.standing.context (called call s).standing.context k.options.mtu_most (chunks_read_back call s is k f)
 
-heard_of : (word_of : List ℕ → ℕ) (c d : Context (List ℕ)) → c.pack ≡ written word_of → c.options.mtu ≤ 65535 → TellsWhatCanBeRead c d → TellsWhatCanBeHeard word_of c d
+heard_of : (word_of : List ℕ → ℕ) (c d : Context (List ℕ)) → c.pack ≡ writing word_of → c.options.mtu ≤ 65535 → TellsWhatCanBeRead c d → TellsWhatCanBeHeard word_of c d
 heard_of word_of c d is most w = record {
   events = w.events;
   behind = w.behind;
-  can_be_heard = All-weaker (CanBeRead (written word_of) c.options.mtu) (CanBeHeard word_of) (event_heard word_of c.options.mtu most) w.events
+  can_be_heard = All-weaker (CanBeRead (writing word_of) c.options.mtu) (CanBeHeard word_of) (event_heard word_of c.options.mtu most) w.events
       (subst (λ (pack : Packing (List ℕ)). All (CanBeRead pack c.options.mtu) w.events) is w.can_be_read);
 }
 
-pub can_be_heard : (word_of : List ℕ → ℕ) (call : Call) (s : Endpoint (List ℕ)) → s.standing.context.pack ≡ written word_of → IsSound s → ArgumentFits call
+pub can_be_heard : (word_of : List ℕ → ℕ) (call : Call) (s : Endpoint (List ℕ)) → s.standing.context.pack ≡ writing word_of → IsSound s → ArgumentFits call
     → TellsWhatCanBeHeard word_of s.standing.context (called call s).standing.context
 can_be_heard word_of call s is k f = heard_of word_of s.standing.context (called call s).standing.context is k.options.mtu_most (can_be_read call s k f)
 

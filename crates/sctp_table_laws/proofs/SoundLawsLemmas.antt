@@ -4,10 +4,10 @@ use Rattle.std.proofs.lemmas.List.Elements.{All-weaker}
 use Rattle.rand_core.specs.Stream.{Stream}
 use Rattle.sctp_state.specs.Options.{Options}
 use Rattle.sctp_state.specs.Events.{Event, SendPacket}
-use Rattle.sctp_table.specs.Association.{Context, Endpoint, fresh}
+use Rattle.sctp_table.specs.Association.{Context, Endpoint, fresh, Packing}
 use Rattle.sctp_packet.specs.Packet.{PacketTree}
 use Rattle.sctp_table.specs.Input.{refusal, on_packet}
-use Rattle.sctp_table.specs.Laws.{Call, Connect, Close, Shutdown, Send, SendMany, ResetStreams, TakeMessage, SetLowThreshold, SetPriority, SetMaxMessageSize, Advance, HandOver, Restore, Packet, NoPacket, called, Packing}
+use Rattle.sctp_table.specs.Laws.{Call, Connect, Close, Shutdown, Send, SendMany, ResetStreams, TakeMessage, SetLowThreshold, SetPriority, SetMaxMessageSize, Advance, HandOver, Restore, Packet, NoPacket, called}
 use Rattle.sctp_table_laws.specs.Sound.{OptionsFit, IsSound, ArgumentFits}
 use Rattle.sctp_table_laws.specs.ReadBack.{ReadsBack, CanBeRead, TellsWhatCanBeRead, as_carried, ReadsBackIn, TellsWhatReadsBack}
 use Rattle.sctp_table_laws.specs.Mapped.{Carried}

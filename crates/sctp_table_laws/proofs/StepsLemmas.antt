@@ -1,8 +1,8 @@
 -- What rows tell, in the words of both laws at once.
 use Rattle.std.specs.Prelude.{◌≡◌, ℕ, max, List, ◌++◌, All}
 use Rattle.sctp_state.specs.Events.{Event, Told}
-use Rattle.sctp_table.specs.Association.{Context, Standing, Endpoint}
-use Rattle.sctp_table.specs.Laws.{Packing, IsShort, endings, ends}
+use Rattle.sctp_table.specs.Association.{Context, Standing, Endpoint, Packing}
+use Rattle.sctp_table.specs.Laws.{IsShort, endings, ends}
 
 -- from one moment to another short packets are told, and so many endings
 pub record Tells {P : Type 0} (pack : Packing P) (most count : ℕ) (before after : Told P) : Type 0 where

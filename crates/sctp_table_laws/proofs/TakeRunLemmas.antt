@@ -16,13 +16,12 @@ use Rattle.sctp_rx.specs.Delivery.{fresh_ordered, fresh_unordered}
 use Rattle.sctp_rx.specs.Streams.{Streams}
 use Rattle.sctp_rx.specs.ReassemblyQueue.{Reassembly}
 use Rattle.sctp_rx.specs.ReassemblyQueue as reassembly
-use Rattle.sctp_table.specs.Association.{Tcb, Established, Open, Context, Standing, Endpoint, open_as, where_open}
+use Rattle.sctp_table.specs.Association.{Tcb, Established, Open, Context, Standing, Endpoint, open_as, where_open, Packing}
 use Rattle.sctp_table.specs.Packets.{add, new_packet}
 use Rattle.sctp_table.specs.Sending.{window, asked, acknowledged, open_with, send_with}
 use Rattle.sctp_table.specs.Data.{is_full, takes, added_unless, taken, taken_if, on_data_if, on_data}
 use Rattle.sctp_table.specs.Input as input
 use Rattle.sctp_table.specs.Input.{counts, ended, on_standing}
-use Rattle.sctp_table.specs.Laws.{Packing}
 use Rattle.sctp_table_laws.specs.FirstRun.{first_of, tag_of, fragment, data_packet, sack_packet, packed, given, quiet, taking, IsSmall}
 use Rattle.sctp_table_laws.proofs.OpeningRunLemmas.{telling, open_b, first_small, tag_some, own_taken, drawn, block, opened_b, accepts}
 use Rattle.sctp_table_laws.proofs.QueueRunLemmas.{not_below_itself, is_itself}

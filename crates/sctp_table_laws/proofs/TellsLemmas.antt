@@ -21,7 +21,8 @@ use Rattle.sctp_tx.specs.Retransmission.{Sender, told_if}
 use Rattle.sctp_tx.specs.Windows.{is_open}
 use Rattle.sctp_tx.specs.Resent.{resent, may_send_new}
 use Rattle.sctp_tx.specs.Sending.{Filling, Turned, appended, turned_if, turned, offered, fill, discard_all, without_discards, filled_with, filled, send}
-use Rattle.sctp_table.specs.Laws.{Packing, IsShort, ending, endings}
+use Rattle.sctp_table.specs.Association.{Packing}
+use Rattle.sctp_table.specs.Laws.{IsShort, ending, endings}
 use Rattle.sctp_table_laws.proofs.StepsLemmas.{Tells}
 
 -- ---- events that are neither packets nor endings

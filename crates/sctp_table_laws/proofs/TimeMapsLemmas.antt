@@ -4,35 +4,35 @@ use Rattle.sctp_state.specs.declared.api.ErrorKind.TheVariants.{TooManyRetries}
 use Rattle.sctp_state.specs.Errors.{is_exhausted}
 use Rattle.sctp_state.specs.Rtt.{rto}
 use Rattle.sctp_state.specs.Timers.{Timer, is_due, is_running, expire}
-use Rattle.sctp_state.specs.Events.{OnAborted}
+use Rattle.sctp_state.specs.Events.{Event, OnAborted}
 use Rattle.sctp_outstanding.specs.Losses.{Step}
 use Rattle.sctp_table.specs.Association.{Tcb, Phase, CookieEchoed, Established, ShutdownPending, ShutdownSent, ShutdownReceived, ShutdownAckSent, State, Closed, CookieWait, Open, Context, Standing}
 use Rattle.sctp_table.specs.Packets.{new_packet}
 use Rattle.sctp_table.specs.Requests.{lasting, expired, woken, is_unanswered}
 use Rattle.sctp_table.specs.Sending.{Sent, add_request, send_cookie}
-use Rattle.sctp_table.specs.Closing.{send_shutdown, send_shutdown_ack, too_many}
+use Rattle.sctp_table.specs.Closing.{over, send_shutdown, send_shutdown_ack, too_many}
 use Rattle.sctp_table.specs.Opening.{send_init}
 use Rattle.sctp_table.specs.Heartbeats.{counted_on, heartbeat, beat_if, unanswered_if}
 use Rattle.sctp_table.specs.Time.{Ticking, tick_ack, timed_out, t3_if, tick_t3, tick_interval, tick_timeout, request_again, errs_if, requests_again, unanswered, requests_if, tick_requests, ticking, ticked, Left, left, standing_if, standing_left, ended_if, ended, ended_or_sent, goes_on, settled_if, settled, t2_expired, t2_if, tick_t2, waits_if, echoed_again, t1_expired, t1_if, tick_cookie, Waited, waited, waiting_if, standing_waited, init_expired, init_if, tick_init, tick_open, tick_in, advance_if, advance}
-use Rattle.sctp_table_laws.specs.Mapped.{map_context, map_standing}
+use Rattle.sctp_table_laws.specs.Mapped.{Mapping, map_context, map_standing}
 use Rattle.sctp_table_laws.proofs.ToldMapsLemmas.{maps_nack_all}
 use Rattle.sctp_table_laws.proofs.SendingMapsLemmas.{maps_emit, maps_emit_chunk, maps_send_buffered, maps_send_cookie}
 use Rattle.sctp_table_laws.proofs.RowMapsLemmas.{OpenMaps, maps_over, maps_too_many, maps_send_shutdown, maps_send_shutdown_ack}
 use Rattle.sctp_table_laws.proofs.OpeningMapsLemmas.{maps_send_init}
 
-abbrev map_ticking : {P Q : Type 0} → (P → Q) → Ticking P → Ticking Q
+abbrev map_ticking : {P Q : Type 0} → Mapping P Q → Ticking P → Ticking Q
 map_ticking f x = record { tcb = x.tcb; context = map_context f x.context; has_expired = x.has_expired }
 
 abbrev ticking_as : {P : Type 0} → Tcb → Context P → Bool → Ticking P
 ticking_as t c has_expired = record { tcb = t; context = c; has_expired = has_expired }
 
-abbrev map_left : {P Q : Type 0} → (P → Q) → Left P → Left Q
+abbrev map_left : {P Q : Type 0} → Mapping P Q → Left P → Left Q
 map_left f x = record { tcb = x.tcb; context = map_context f x.context; has_ended = x.has_ended }
 
-abbrev map_waited : {P Q : Type 0} → (P → Q) → Waited P → Waited Q
+abbrev map_waited : {P Q : Type 0} → Mapping P Q → Waited P → Waited Q
 map_waited f x = record { context = map_context f x.context; has_ended = x.has_ended }
 
-module _ {P Q : Type 0} (f : P → Q) where
+module _ {P Q : Type 0} (f : Mapping P Q) where
   maps_t3_if : (b : Bool) (x : Ticking P) → t3_if b (map_ticking f x) ≡ map_ticking f (t3_if b x)
   maps_t3_if true x =
       ap (λ (step : Step Q). timed_out step (map_ticking f x)) (maps_nack_all f x.tcb.sender.outstanding.items x.context.told)
@@ -157,7 +157,9 @@ module _ {P Q : Type 0} (f : P → Q) where
   maps_t1_expired true cookie t c =
       let x : Sent P = send_cookie cookie t c in
       ap (λ (y : Sent Q). echoed_again y) (maps_send_cookie f cookie t c) ∙ maps_ended x.tcb x.context
-  maps_t1_expired false cookie t c = maps_left t true _ _ (maps_over f (OnAborted TooManyRetries (codes "No COOKIE_ACK received")) c)
+  maps_t1_expired false cookie t c =
+      let e : Event P = OnAborted TooManyRetries (codes "No COOKIE_ACK received") in
+      maps_left t true (over e c) _ (maps_over f e c)
 
   maps_t1_if : (b : Bool) (t1 : Timer) (cookie : List ℕ) (x : Ticking P) → t1_if b t1 cookie (map_ticking f x) ≡ map_left f (t1_if b t1 cookie x)
   maps_t1_if true t1 cookie x = maps_t1_expired (is_running (expire x.context.now t1)) cookie x.tcb x.context
@@ -174,7 +176,9 @@ module _ {P Q : Type 0} (f : P → Q) where
 
   maps_init_expired : (b : Bool) (tag first : ℕ) (c : Context P) → init_expired b tag first (map_context f c) ≡ map_waited f (init_expired b tag first c)
   maps_init_expired true tag first c = maps_waited false (send_init tag first c) (send_init tag first (map_context f c)) (maps_send_init f tag first c)
-  maps_init_expired false tag first c = maps_waited true _ _ (maps_over f (OnAborted TooManyRetries (codes "No INIT_ACK received")) c)
+  maps_init_expired false tag first c =
+      let e : Event P = OnAborted TooManyRetries (codes "No INIT_ACK received") in
+      maps_waited true (over e c) _ (maps_over f e c)
 
   maps_init_if : (b : Bool) (tag first : ℕ) (t1 : Timer) (c : Context P) → init_if b tag first t1 (map_context f c) ≡ map_waited f (init_if b tag first t1 c)
   maps_init_if true tag first t1 c = maps_init_expired (is_running (expire c.now t1)) tag first c
@@ -193,13 +197,17 @@ module _ {P Q : Type 0} (f : P → Q) where
       (ap (λ (x : Ticking Q). settled x) (maps_ticked t c) ∙ maps_settled (ticked t c))
 
   maps_tick_open : OpenMaps f tick_open tick_open
-  maps_tick_open (CookieEchoed t1 cookie) t c = maps_standing_left (CookieEchoed (expire c.now t1) cookie) _ _ (maps_cookie t1 cookie t c)
+  maps_tick_open (CookieEchoed t1 cookie) t c =
+      maps_standing_left (CookieEchoed (expire c.now t1) cookie) (tick_cookie t1 cookie (tick_ack (ticking t c))) _ (maps_cookie t1 cookie t c)
   maps_tick_open Established t c = maps_settled_in Established t c
   maps_tick_open ShutdownPending t c = maps_settled_in ShutdownPending t c
-  maps_tick_open (ShutdownSent t2) t c = maps_standing_left (ShutdownSent (expire c.now t2)) _ _ (maps_t2 send_shutdown send_shutdown (maps_send_shutdown f) t2 t c)
+  maps_tick_open (ShutdownSent t2) t c =
+      maps_standing_left (ShutdownSent (expire c.now t2)) (tick_t2 c.now send_shutdown t2 (ticked t c)) _
+      (maps_t2 send_shutdown send_shutdown (maps_send_shutdown f) t2 t c)
   maps_tick_open ShutdownReceived t c = maps_settled_in ShutdownReceived t c
   maps_tick_open (ShutdownAckSent t2) t c =
-      maps_standing_left (ShutdownAckSent (expire c.now t2)) _ _ (maps_t2 send_shutdown_ack send_shutdown_ack (maps_send_shutdown_ack f) t2 t c)
+      maps_standing_left (ShutdownAckSent (expire c.now t2)) (tick_t2 c.now send_shutdown_ack t2 (ticked t c)) _
+      (maps_t2 send_shutdown_ack send_shutdown_ack (maps_send_shutdown_ack f) t2 t c)
 
   maps_tick : (st : State) (c : Context P) → tick_in st (map_context f c) ≡ map_standing f (tick_in st c)
   maps_tick Closed c = refl

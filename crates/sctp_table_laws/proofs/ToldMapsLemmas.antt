@@ -19,23 +19,23 @@ use Rattle.sctp_tx.specs.Retransmission.{Sender, step_of, heard_by, sender_if, t
 use Rattle.sctp_tx.specs.Windows.{is_open}
 use Rattle.sctp_tx.specs.Resent.{resent, may_send_new}
 use Rattle.sctp_tx.specs.Sending.{Filling, Turned, appended, asked, is_made, turned_if, turned, offered, fill, discard_all, without_discards, filled_with, timed_filling, filled, send}
-use Rattle.sctp_table_laws.specs.Mapped.{map_event, map_told}
+use Rattle.sctp_table_laws.specs.Mapped.{Mapping, map_event, map_told}
 
 -- ---- what holds what was told
 
-abbrev pub map_step : {P Q : Type 0} → (P → Q) → Step P → Step Q
+abbrev pub map_step : {P Q : Type 0} → Mapping P Q → Step P → Step Q
 map_step f x = record { items = x.items; told = map_told f x.told; is_lossy = x.is_lossy }
 
-abbrev pub map_turn : {P Q : Type 0} → (P → Q) → Turn P → Turn Q
+abbrev pub map_turn : {P Q : Type 0} → Mapping P Q → Turn P → Turn Q
 map_turn f x = record { queue = x.queue; told = map_told f x.told; made = x.made }
 
-abbrev pub map_changed : {P Q : Type 0} → (P → Q) → Changed P → Changed Q
+abbrev pub map_changed : {P Q : Type 0} → Mapping P Q → Changed P → Changed Q
 map_changed f x = record { queue = x.queue; told = map_told f x.told }
 
-abbrev pub map_fragments : {P Q : Type 0} → (P → Q) → Filling P → Filling Q
+abbrev pub map_fragments : {P Q : Type 0} → Mapping P Q → Filling P → Filling Q
 map_fragments f x = record { sender = x.sender; queue = x.queue; told = map_told f x.told; chunks = x.chunks; left = x.left }
 
-abbrev map_turned : {P Q : Type 0} → (P → Q) → Turned P → Turned Q
+abbrev map_turned : {P Q : Type 0} → Mapping P Q → Turned P → Turned Q
 map_turned f x = record { filling = map_fragments f x.filling; is_more = x.is_more }
 
 -- with other events
@@ -55,7 +55,7 @@ pub maps_cond : {A B : Type 0} (g : A → B) (b : Bool) (x y : A) (u v : B) → 
 maps_cond g true x y u v h k = h
 maps_cond g false x y u v h k = k
 
-module _ {P Q : Type 0} (f : P → Q) where
+module _ {P Q : Type 0} (f : Mapping P Q) where
   -- ---- events
 
   maps_both : (es fs : List (Event P)) (gs hs : List (Event Q)) → map (map_event f) es ≡ gs → map (map_event f) fs ≡ hs → map (map_event f) (es ++ fs) ≡ gs ++ hs

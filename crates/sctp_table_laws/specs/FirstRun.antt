@@ -8,15 +8,14 @@ use Rattle.sctp_state.specs.Options.{SendOptions, defaults}
 use Rattle.sctp_capabilities.specs.Capabilities.{announced}
 use Rattle.sctp_capabilities.specs.Cookie.{cookie_bytes}
 use Rattle.sctp_state.specs.Events.{Event, SendPacket, OnConnected, OnBufferedAmountLow, OnLifecycleMessageFullySent, OnLifecycleMessageDelivered, OnLifecycleEnd, silent}
-use Rattle.sctp_table.specs.Association.{Endpoint, fresh}
+use Rattle.sctp_table.specs.Association.{Endpoint, fresh, Packing}
 use Rattle.sctp_table.specs.Packets.{header_to}
 use Rattle.sctp_table.specs.Opening.{tsn_from, tag_from, init_of, cookie_for, init_ack_of, connect}
 use Rattle.sctp_table.specs.Calls.{refusal_of, send, ready_in}
 use Rattle.sctp_table.specs.Input.{on_packet, on_standing}
 use Rattle.sctp_table.specs.Shown.{Association, association_in, is_at_rest}
 use Rattle.sctp_table.specs.Hearing.{Hears}
-use Rattle.sctp_table.specs.Wire.{written}
-use Rattle.sctp_table.specs.Laws.{Packing}
+use Rattle.sctp_table.specs.Wire.{writing}
 use Rattle.sctp_table_laws.specs.Mapped.{Carried, as_written}
 
 -- ---- what an end draws as it opens an association
@@ -113,7 +112,7 @@ module _ {P : Type 0} (pack : Packing P) (a b : Stream) where
 -- ---- what is told
 
 abbrev pub packed : {P : Type 0} → Packing P → Carried → Event P
-packed pack p = SendPacket (pack p.header p.is_summed p.chunks)
+packed pack p = SendPacket (pack.write p.header p.is_summed p.chunks)
 
 abbrev pub fully_sent : {P : Type 0} → Option ℕ → List (Event P)
 fully_sent None = []
@@ -172,12 +171,12 @@ Leads word_of p before after = (t : Endpoint (List ℕ)) → Hears word_of (as_w
 
 -- In bytes each packet of the run leads from end to end.
 pub record LeadsOn (word_of : List ℕ → ℕ) (a b : Stream) (m : Message) (o : SendOptions) : Type 0 where
-  pub init : Leads word_of (init_packet a) (fresh defaults (written word_of) b) (answering (written word_of) a b)
-  pub init_ack : Leads word_of (init_ack_packet a b) (quiet (asking (written word_of) a b)) (echoing (written word_of) a b)
-  pub cookie_echo : Leads word_of (cookie_echo_packet a b) (quiet (answering (written word_of) a b)) (accepting (written word_of) a b)
-  pub cookie_ack : Leads word_of (cookie_ack_packet a) (quiet (echoing (written word_of) a b)) (opening (written word_of) a b)
-  pub message : Leads word_of (data_packet a b m o) (quiet (accepting (written word_of) a b)) (taking (written word_of) a b m o)
-  pub sack : Leads word_of (sack_packet a m) (quiet (sending (written word_of) a b m o)) (resting (written word_of) a b m o)
+  pub init : Leads word_of (init_packet a) (fresh defaults (writing word_of) b) (answering (writing word_of) a b)
+  pub init_ack : Leads word_of (init_ack_packet a b) (quiet (asking (writing word_of) a b)) (echoing (writing word_of) a b)
+  pub cookie_echo : Leads word_of (cookie_echo_packet a b) (quiet (answering (writing word_of) a b)) (accepting (writing word_of) a b)
+  pub cookie_ack : Leads word_of (cookie_ack_packet a) (quiet (echoing (writing word_of) a b)) (opening (writing word_of) a b)
+  pub message : Leads word_of (data_packet a b m o) (quiet (accepting (writing word_of) a b)) (taking (writing word_of) a b m o)
+  pub sack : Leads word_of (sack_packet a m) (quiet (sending (writing word_of) a b m o)) (resting (writing word_of) a b m o)
 
 -- ---- for all words, messages and options of sending
 

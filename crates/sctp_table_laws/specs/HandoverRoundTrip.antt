@@ -27,11 +27,10 @@ use Rattle.sctp_send_queue.specs.Restarted.{reset}
 use Rattle.sctp_send_queue.specs.InOrder.{IsInOrder, HasRests}
 use Rattle.sctp_send_queue.specs.Readiness.{is_waiting}
 use Rattle.sctp_send_queue.specs.Again.{again, entries_again}
-use Rattle.sctp_table.specs.Association.{Identity, Tcb, tcb, Established, Closed, Open, Context, context, Standing, fresh}
+use Rattle.sctp_table.specs.Association.{Identity, Tcb, tcb, Established, Closed, Open, Context, context, Standing, fresh, Packing}
 use Rattle.sctp_table.specs.Packets.{say}
 use Rattle.sctp_table.specs.Sending.{open_with, send_buffered}
 use Rattle.sctp_table.specs.Handover.{readiness, handover_state, handed_over, hand_over, method_if, tcb_from, queue_taken, restore}
-use Rattle.sctp_table.specs.Laws.{Packing}
 
 -- ---- what each end with an association has
 

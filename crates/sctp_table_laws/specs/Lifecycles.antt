@@ -6,9 +6,9 @@ use Rattle.sctp_state.specs.Options.{Options}
 use Rattle.sctp_state.specs.Events.{Event, OnLifecycleEnd}
 use Rattle.sctp_outstanding.specs.Item.{Item}
 use Rattle.sctp_send_queue.specs.Queue.{Queued, Entries}
-use Rattle.sctp_table.specs.Association.{State, Closed, CookieWait, Open, Context, Standing, Endpoint, fresh}
+use Rattle.sctp_table.specs.Association.{State, Closed, CookieWait, Open, Context, Standing, Endpoint, fresh, Packing}
 use Rattle.sctp_table.specs.Input.{on_standing}
-use Rattle.sctp_table.specs.Laws.{Call, Send, SendMany, Restore, called, Packing}
+use Rattle.sctp_table.specs.Laws.{Call, Send, SendMany, Restore, called}
 
 -- ---- how often a lifecycle of this id ends
 

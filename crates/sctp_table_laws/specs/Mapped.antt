@@ -9,8 +9,13 @@ use Rattle.sctp_table.specs.Wire.{written}
 
 -- ---- packets are mapped
 
-abbrev pub map_event : {P Q : Type 0} → (P → Q) → Event P → Event Q
-map_event f (SendPacket p) = SendPacket (f p)
+-- what becomes of a packet, and the word that the checksum of an end with such packets makes of bytes
+pub record Mapping (P Q : Type 0) : Type 0 where
+  pub of : P → Q
+  pub word_of : List ℕ → ℕ
+
+abbrev pub map_event : {P Q : Type 0} → Mapping P Q → Event P → Event Q
+map_event f (SendPacket p) = SendPacket (f.of p)
 map_event f OnConnected = OnConnected
 map_event f OnClosed = OnClosed
 map_event f OnConnectionRestarted = OnConnectionRestarted
@@ -28,10 +33,10 @@ map_event f (OnLifecycleMessageDelivered id) = OnLifecycleMessageDelivered id
 map_event f (OnLifecycleEnd id) = OnLifecycleEnd id
 
 -- records of messages given up have no packets
-abbrev pub map_told : {P Q : Type 0} → (P → Q) → Told P → Told Q
+abbrev pub map_told : {P Q : Type 0} → Mapping P Q → Told P → Told Q
 map_told f t = record { events = map (map_event f) t.events; gone = t.gone }
 
-abbrev pub map_context : {P Q : Type 0} → (P → Q) → Context P → Context Q
+abbrev pub map_context : {P Q : Type 0} → Mapping P Q → Context P → Context Q
 map_context f c = record {
   options = c.options;
   now = c.now;
@@ -42,13 +47,13 @@ map_context f c = record {
   counts = c.counts;
   peer = c.peer;
   told = map_told f c.told;
-  pack = λ header is_summed chunks. f (c.pack header is_summed chunks);
+  pack = record { write = λ header is_summed chunks. f.of (c.pack.write header is_summed chunks); word_of = f.word_of };
 }
 
-abbrev pub map_standing : {P Q : Type 0} → (P → Q) → Standing P → Standing Q
+abbrev pub map_standing : {P Q : Type 0} → Mapping P Q → Standing P → Standing Q
 map_standing f s = record { state = s.state; context = map_context f s.context }
 
-abbrev pub map_end : {P Q : Type 0} → (P → Q) → Endpoint P → Endpoint Q
+abbrev pub map_end : {P Q : Type 0} → Mapping P Q → Endpoint P → Endpoint Q
 map_end f s = record { standing = map_standing f s.standing; words = s.words }
 
 -- ---- packets as lists of chunks
@@ -61,9 +66,13 @@ pub record Carried : Type 0 where
 abbrev pub as_written : (word_of : List ℕ → ℕ) → Carried → List ℕ
 as_written word_of o = written word_of o.header o.is_summed o.chunks
 
+-- to the bytes that an end with this checksum's word writes
+abbrev pub as_bytes : (word_of : List ℕ → ℕ) → Mapping Carried (List ℕ)
+as_bytes word_of = record { of = as_written word_of; word_of = word_of }
+
 -- ---- the law: an end whose packets are bytes does what the end with their chunks does
 
 abbrev pub BytesAreWrittenChunks : Type 0
 BytesAreWrittenChunks =
     (word_of : List ℕ → ℕ) (call : Call) (s : Endpoint Carried)
-    → called call (map_end (as_written word_of) s) ≡ map_end (as_written word_of) (called call s)
+    → called call (map_end (as_bytes word_of) s) ≡ map_end (as_bytes word_of) (called call s)

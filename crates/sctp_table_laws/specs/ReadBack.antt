@@ -8,11 +8,11 @@ use Rattle.sctp_packet.specs.Packet.{PacketTree, FitsHeader, Accepts}
 use Rattle.sctp_packet.specs.ReadBack.{ChunkReadsBack}
 use Rattle.sctp_state.specs.Options.{Options}
 use Rattle.sctp_state.specs.Events.{Event, SendPacket}
-use Rattle.sctp_table.specs.Association.{Context, Endpoint, fresh}
+use Rattle.sctp_table.specs.Association.{Context, Endpoint, fresh, Packing}
 use Rattle.sctp_table.specs.Input.{refusal, on_packet}
-use Rattle.sctp_table.specs.Wire.{written}
+use Rattle.sctp_table.specs.Wire.{writing}
 use Rattle.sctp_table.specs.Hearing.{Hears}
-use Rattle.sctp_table.specs.Laws.{Call, Packet, called, Packing}
+use Rattle.sctp_table.specs.Laws.{Call, Packet, called}
 use Rattle.sctp_table_laws.specs.Mapped.{Carried, as_written}
 use Rattle.sctp_table_laws.specs.HeardBack.{as_heard}
 use Rattle.sctp_table_laws.specs.Sound.{OptionsFit, IsSound, ArgumentFits, HasSomeCookie}
@@ -29,7 +29,7 @@ pub record ReadsBack (most : ℕ) (p : Carried) : Type 0 where
 -- it goes out as a packet of chunks that do
 pub record IsOfSuch {P : Type 0} (pack : Packing P) (most : ℕ) (p : P) : Type 0 where
   pub carried : Carried
-  pub made : p ≡ pack carried.header carried.is_summed carried.chunks
+  pub made : p ≡ pack.write carried.header carried.is_summed carried.chunks
   pub reads_back : ReadsBack most carried
 
 -- only packets are asked for it
@@ -45,7 +45,7 @@ pub record TellsWhatCanBeRead {P : Type 0} (before after : Context P) : Type 0 w
 
 -- the same of packets that are lists of chunks
 abbrev pub as_carried : Packing Carried
-as_carried header is_summed chunks = record { header = header; is_summed = is_summed; chunks = chunks }
+as_carried = record { write = λ header is_summed chunks. record { header = header; is_summed = is_summed; chunks = chunks }; word_of = λ bytes. 0 }
 
 abbrev pub ReadsBackIn : (most : ℕ) → Event Carried → Type 0
 ReadsBackIn most (SendPacket p) = ReadsBack most p
@@ -125,7 +125,7 @@ RefusalsCanBeRead =
 
 abbrev pub EmittedPacketsCanBeHeard : Type 0
 EmittedPacketsCanBeHeard =
-    (word_of : List ℕ → ℕ) (call : Call) (s : Endpoint (List ℕ)) → s.standing.context.pack ≡ written word_of → IsSound s → ArgumentFits call
+    (word_of : List ℕ → ℕ) (call : Call) (s : Endpoint (List ℕ)) → s.standing.context.pack ≡ writing word_of → IsSound s → ArgumentFits call
     → TellsWhatCanBeHeard word_of s.standing.context (called call s).standing.context
 
 -- ---- packets fit as arguments

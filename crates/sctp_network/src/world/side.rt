@@ -12,7 +12,7 @@ ghost use Rattle.sctp_association.specs.Socket.{association_of, endpoint};
 ghost use Rattle.sctp_network_table.specs.Judge.{Given, Foreign, GaveUp, same_association};
 ghost use Rattle.sctp_network_table.specs.World as table;
 ghost use Rattle.sctp_network_table.specs.World.{fresh_side, associated_if, Told, settled, news, packets_in, told_entries, gone_entries, ready_entries, after_call, after_time, clock, call_entry};
-ghost use Rattle.sctp_network.specs.WorldView.{ToldBy, call_tree, end_tree, entry_tree, ready_entry, side_in, without_events, without_records};
+ghost use Rattle.sctp_network.specs.WorldView.{call_tree, end_tree, entry_tree, ready_entry, side_in, without_events, without_records};
 
 use crate::arguments::packets_fit;
 use crate::world::calling::make_call;
@@ -172,7 +172,7 @@ impl<R: Rng, C: Checksum> Side<R, C> {
         bytes: &[u8],
         log: &mut Vec<Entry>,
     ) -> Result<(), CallError>
-        ensures { OnOk result (ToldBy (C.word_of self.old.socket.context.checksum) (end_tree end) (entry_tree first) bytes.now
+        ensures { OnOk result (Told (end_tree end) (entry_tree first) bytes.now
             (side_in R.stream C.word_of self.old) (side_in R.stream C.word_of self.new) (map entry_tree log.old.items) (map entry_tree log.new.items)) }
     {
         let before = self.before();
@@ -205,7 +205,7 @@ impl<R: Rng, C: Checksum> Side<R, C> {
         log: &mut Vec<Entry>,
     ) -> Result<(), CallError>
         ensures { OnOk result (let old = side_in R.stream C.word_of self.old in
-            ToldBy (C.word_of self.old.socket.context.checksum) (end_tree end) (Foreign (end_tree end) (clock old.socket) (Some bytes.now)) bytes.now
+            Told (end_tree end) (Foreign (end_tree end) (clock old.socket) (Some bytes.now)) bytes.now
             old (side_in R.stream C.word_of self.new) (map entry_tree log.old.items) (map entry_tree log.new.items)) }
     {
         let copy = Vec::from_slice(alloc, bytes)?;

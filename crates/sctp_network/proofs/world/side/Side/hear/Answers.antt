@@ -11,4 +11,4 @@ returns g c =
     subst (λ (now : ℕ). Told (end_tree c.args.end) (Given (end_tree c.args.end) now c.args.packet) c.args.bytes.now
     (side_in g.R.Rng.stream g.C.Checksum.word_of c.args.self.now) (side_in g.R.Rng.stream g.C.Checksum.word_of c.take.new.self)
     (map entry_tree c.args.log.now.items) (map entry_tree c.take.new.log.items))
-    (c.clock.ensures ∙ ap (λ (side : SideValue _ _). side.socket.context.clock) c.self.view_is) told.0) c.take.ensures
+    (c.clock.ensures ∙ ap (λ (side : SideValue _ _). side.socket.context.clock) c.self.view_is) told) c.take.ensures
