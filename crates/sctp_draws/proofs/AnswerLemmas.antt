@@ -7,8 +7,8 @@ use Rattle.sctp_wire.specs.Parameter.{ParameterTree, heartbeat_info, state_cooki
 use Rattle.sctp_packet.specs.Chunk.{ChunkTree, InitTree, init_ack_chunk, cookie_ack_chunk, cookie_echo_chunk}
 use Rattle.sctp_state.specs.Options.{Options}
 use Rattle.sctp_state.specs.declared.api.SctpImplementation.{SctpImplementation}
-use Rattle.sctp_state.specs.Capabilities.{Capabilities, i_data, re_config, forward_tsn, announced, extensions_in, method_in, is_forward_tsn_supported, has_type, told_by, negotiated, zero_checksum_enabled}
-use Rattle.sctp_state.specs.Cookie.{Cookie, cookie_bytes}
+use Rattle.sctp_capabilities.specs.Capabilities.{Capabilities, i_data, re_config, forward_tsn, announced, extensions_in, method_in, is_forward_tsn_supported, has_type, told_by, negotiated, zero_checksum_enabled}
+use Rattle.sctp_capabilities.specs.Cookie.{Cookie, cookie_bytes}
 use Rattle.sctp_table.specs.Association.{Identity, Tcb, tcb, Phase, CookieEchoed, Established, Context, Standing, Packing}
 use Rattle.sctp_table.specs.Requests.{before}
 use Rattle.sctp_table.specs.Packets.{Packet, fits, add, packet_to, emit}

@@ -5,7 +5,7 @@ use Rattle.std.proofs.lemmas.List.{map-append}
 use Rattle.sctp_wire.specs.Parameter.{ParameterTree, supported_extensions, forward_tsn_supported, zero_checksum_acceptable}
 use Rattle.sctp_packet.specs.Chunk.{ChunkTree, init_chunk}
 use Rattle.sctp_state.specs.Options.{Options}
-use Rattle.sctp_state.specs.Capabilities.{where_enabled, extensions, announced}
+use Rattle.sctp_capabilities.specs.Capabilities.{where_enabled, extensions, announced}
 use Rattle.sctp_table.specs.Association.{State, Closed, CookieWait, Open, Context, Standing, Endpoint, Packing}
 use Rattle.sctp_table.specs.Packets.{Packet, add, packet_to, emit}
 use Rattle.sctp_table.specs.Opening.{tsn_from, tag_from, word, drew_word, init_of, send_init, t1_init, waiting, connect_in, connect}

@@ -7,7 +7,7 @@ use Rattle.sctp_wire.specs.Cause.{CauseTree}
 use Rattle.sctp_packet.specs.Chunk.{ChunkTree, FragmentTree, InitTree, SackTree, data_chunk, idata_chunk, init_chunk, init_ack_chunk, sack_chunk, heartbeat_request_chunk, heartbeat_ack_chunk, abort_chunk, shutdown_chunk, shutdown_ack_chunk, error_chunk, cookie_echo_chunk, cookie_ack_chunk, shutdown_complete_chunk, re_config_chunk, forward_tsn_chunk, i_forward_tsn_chunk, unknown_chunk}
 use Rattle.sctp_serial.specs.Messages.{Message}
 use Rattle.sctp_state.specs.Options.{SendOptions}
-use Rattle.sctp_state.specs.Cookie.{Cookie, cookie_bytes}
+use Rattle.sctp_capabilities.specs.Cookie.{Cookie, cookie_bytes}
 use Rattle.sctp_table.specs.Association.{Identity, Tcb, Phase, State, Closed, Open, Context, Standing, Endpoint, where_open, Packing}
 use Rattle.sctp_table.specs.Packets.{Packet}
 use Rattle.sctp_table.specs.Sending.{sent, send_with}

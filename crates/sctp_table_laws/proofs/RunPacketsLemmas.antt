@@ -17,9 +17,9 @@ use Rattle.sctp_packet.specs.Written.{chunk_item, chunk_value, chunk_bytes, chun
 use Rattle.sctp_packet.specs.ReadBack.{ChunkReadsBack}
 use Rattle.sctp_chunk.proofs.ValueLemmas.{length_data, length_init, length_init_ack, length_sack}
 use Rattle.sctp_state.specs.Options.{Options, SendOptions, defaults}
-use Rattle.sctp_state.specs.Capabilities.{announced}
-use Rattle.sctp_state.specs.Cookie.{Cookie, cookie_bytes}
-use Rattle.sctp_state.proofs.CookieLemmas.{length-cookie_bytes, cookie_bytes-writable}
+use Rattle.sctp_capabilities.specs.Capabilities.{announced}
+use Rattle.sctp_capabilities.specs.Cookie.{Cookie, cookie_bytes}
+use Rattle.sctp_capabilities.proofs.CookieLemmas.{length-cookie_bytes, cookie_bytes-writable}
 use Rattle.sctp_table.specs.Association.{Endpoint, fresh, Packing}
 use Rattle.sctp_table.specs.Opening.{init_of, cookie_for, init_ack_of}
 use Rattle.sctp_table.specs.Wire.{writing}
