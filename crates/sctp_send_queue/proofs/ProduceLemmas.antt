@@ -126,11 +126,11 @@ no_longer test (e ∷ es) = go (test e.0) (no_longer test es)
     go true ih = omega arith
     go false ih = omega (arith, ih)
 
-abbrev tries : Queue → ℕ
+abbrev pub tries : Queue → ℕ
 tries q = length q.scheduler.times + cond (is_some q.begun) 1 0
 
 -- a turn without a fragment leaves fewer
-fewer : {P : Type 0} (now size id : ℕ) (q : Queue) (told : Told P) → next_stream q ≡ Some id → None ≡ (turn now id size q told).made → tries (turn now id size q told).queue + 1 ≤ tries q
+pub fewer : {P : Type 0} (now size id : ℕ) (q : Queue) (told : Told P) → next_stream q ≡ Some id → None ≡ (turn now id size q told).made → tries (turn now id size q told).queue + 1 ≤ tries q
 fewer now size id q told next none = along (sym after) (go q.begun next)
   where
     ss : Streams

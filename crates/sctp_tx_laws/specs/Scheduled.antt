@@ -1,0 +1,28 @@
+-- Which fragment the send queue gives: the next one of the stream that goes next.
+use Rattle.std.specs.Prelude.{◌≡◌, ℕ, Option, Some, None, List, []}
+use Rattle.sctp_state.specs.Events.{Told}
+use Rattle.sctp_send_queue.specs.Queue.{Queue, stream}
+use Rattle.sctp_send_queue.specs.Produced.{Produced, Turn, turn, idle, next_stream, next_fragment, without_stale, produce}
+
+module _ {P : Type 0} (now size : ℕ) where
+  -- The stream that goes next gives its next fragment. One whose messages all expired gives none, and another one goes next. The
+  -- stream is the scheduler's `peek`, or without interleaving that of the message which is partly sent.
+  pub data IsProduced : Queue → Told P → Turn P → Type 0 where
+    none_waits : {q : Queue} {told : Told P} → next_stream q ≡ None → IsProduced q told (idle q told)
+    gives : {q : Queue} {told : Told P} (id : ℕ) (made : Produced) → next_stream q ≡ Some id → (turn now id size q told).made ≡ Some made → IsProduced q told (turn now id size q told)
+    all_expired : {q : Queue} {told : Told P} (id : ℕ) (t : Turn P) → next_stream q ≡ Some id → (turn now id size q told).made ≡ None
+        → IsProduced (turn now id size q told).queue (turn now id size q told).told t → IsProduced q told t
+
+-- a stream's turn gives the first of its messages that isn't expired, or what is left of it
+pub record GivesItsNext (now size id : ℕ) (q : Queue) (made : Produced) : Type 0 where
+  pub next : next_fragment id size (without_stale now (stream id q.streams)) ≡ Some made
+  pub own : made.fragment.stream_id ≡ id
+
+-- ---- the laws
+
+abbrev pub ProducesByTheScheduler : Type 0
+ProducesByTheScheduler = (now size : ℕ) (q : Queue) (told : Told (List ℕ)) → IsProduced now size q told (produce now size q told)
+
+-- where it gives none, no stream has anything to send
+abbrev pub ProducesWhatWaits : Type 0
+ProducesWhatWaits = (now size : ℕ) (q : Queue) (told : Told (List ℕ)) → (produce now size q told).made ≡ None → (produce now size q told).queue.scheduler.times ≡ []
