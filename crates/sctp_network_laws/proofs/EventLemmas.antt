@@ -146,7 +146,7 @@ Readable p = ReadsBack 65535 p
 
 readable_of : (most : ℕ) (pack : Packing Carried) (p : Carried) → most ≤ 65535 → pack ≡ as_carried → CanBeRead pack most (SendPacket p) → Readable p
 readable_of most pack p small is w =
-    let made : p ≡ w.carried = w.made ∙ ap (λ (z : Packing Carried). z w.carried.header w.carried.is_summed w.carried.chunks) is in
+    let made : p ≡ w.carried = w.made ∙ ap (λ (z : Packing Carried). z.write w.carried.header w.carried.is_summed w.carried.chunks) is in
     subst Readable (sym made) (record {
       header = w.reads_back.header;
       chunks = w.reads_back.chunks;

@@ -139,7 +139,7 @@ module _ (word_of : List ℕ → ℕ) (x : End) (log : List Entry) (first : Entr
   packets_now e =
       ap (λ (ps : List (List ℕ)). ps ++ packets_in (mapped f events)) e
       ∙ ap (λ (ps : List (List ℕ)). map f.of (emitted end) ++ ps) (packets_mapped f events)
-      ∙ sym (map-append f (emitted end) (course.packets_in events))
+      ∙ sym (map-append f.of (emitted end) (course.packets_in events))
       ∙ ap (map f.of) (sym (packets_both end.told events))
 
   numbered : side.packets ≡ map f.of (emitted end) → length side.packets ≡ 0 + length (packets_in (mapped f end.told))

@@ -7,6 +7,7 @@ use Rattle.std.proofs.lemmas.List.Elements.{All-nil, All-cons, All-head, All-tai
 use Rattle.std.proofs.lemmas.Option.{slice_get-map}
 use Rattle.sctp_state.specs.Events.{GivenUp}
 use Rattle.sctp_packet.specs.Packet.{PacketTree}
+use Rattle.sctp_table.specs.Association.{Endpoint}
 use Rattle.sctp_table.specs.Input.{refusal}
 use Rattle.sctp_table.specs.Laws as table
 use Rattle.sctp_table_laws.specs.Mapped.{Carried, as_written}
