@@ -120,7 +120,10 @@ impl ShutdownCompleteChunk {
     pub const TYPE: u8 = 14;
 
     /// What the chunk says; `InvalidType` where it is of another type, `InvalidLength` where it has a value.
-    pub fn try_from(_alloc: Global, raw: RawChunk<'_>) -> Result<ShutdownCompleteChunk, ChunkParseError>
+    pub fn try_from(
+        _alloc: Global,
+        raw: RawChunk<'_>,
+    ) -> Result<ShutdownCompleteChunk, ChunkParseError>
         ensures ok { IfOk result (λ c. IsChunk (raw_chunk raw.entry) (shutdown_complete_tree c)) }
         ensures refused { IfErr result (RefusesChunkAs 14 (raw_chunk raw.entry)) }
     {

@@ -74,9 +74,7 @@ fn is_covered_at(blocks: &[GapAckBlock], at: usize, offset: usize) -> bool
 fn is_covered(blocks: &[GapAckBlock], offset: usize) -> bool
     ensures { result ≡ is_covered blocks.now offset }
 {
-    blocks
-        .iter()
-        .any(|block| block.start as usize <= offset && offset <= block.end as usize)
+    blocks.iter().any(|block| block.start as usize <= offset && offset <= block.end as usize)
 }
 
 // Whether a block covers the offset, and the first block that may cover the next one. Only in runs is it searched from
