@@ -3,3 +3,5 @@ pub mod SideLemmas
 pub mod HandingLemmas
 pub mod GoesLemmas
 pub mod LedLemmas
+pub mod PairLemmas
+pub mod PairedLemmas

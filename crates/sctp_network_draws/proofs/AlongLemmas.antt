@@ -66,7 +66,7 @@ once_front es fs c h = distinct_front (drawn es c) (drawn fs (run es c)) (subst 
 
 -- ---- two new ends
 
-itself : Names
+abbrev itself : Names
 itself = record { tag = λ k. k; tie = λ k. k; cookie_tie = λ k. k; own = 0; peer = 0; cookie = λ bytes. bytes }
 
 itself_names : AreNames itself

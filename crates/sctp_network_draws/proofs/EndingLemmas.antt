@@ -34,6 +34,30 @@ abbrev is_no_echo : ChunkTree → Bool
 is_no_echo (cookie_echo_chunk cookie) = false
 is_no_echo c = true
 
+ends_or : (s u : State) → (ends s u ≡ 0) ⊎ (is_closed u ≡ true)
+ends_or Closed u = inl refl
+ends_or (CookieWait tag first t1) Closed = inr refl
+ends_or (CookieWait tag first t1) (CookieWait new_tag new_first new_t1) = inl refl
+ends_or (CookieWait tag first t1) (Open phase t) = inl refl
+ends_or (Open phase t) Closed = inr refl
+ends_or (Open phase t) (CookieWait tag first t1) = inl refl
+ends_or (Open phase t) (Open new_phase u) = inl refl
+
+-- a COOKIE ECHO comes first, if any
+abbrev NoneBehind : List ChunkTree → Type 0
+NoneBehind [] = Unit {0}
+NoneBehind (c ∷ cs) = list_all is_no_echo cs ≡ true
+
+behind_too : (c : ChunkTree) (cs : List ChunkTree) → list_all is_no_echo (c ∷ cs) ≡ true → NoneBehind (c ∷ cs)
+behind_too c cs h = (and_parts (is_no_echo c) (list_all is_no_echo cs) h).1
+
+none_of_all : (cs : List ChunkTree) → list_all is_no_echo cs ≡ true → NoneBehind cs
+none_of_all [] h = tt
+none_of_all (c ∷ cs) h = behind_too c cs h
+
+both_none : (a b : ℕ) → a ≡ 0 → b ≡ 0 → a + b ≡ 0
+both_none a b e f = omega (arith, e, f)
+
 module _ {P : Type 0} where
   data_closed : (b : Bool) (tsn : ℕ) (immediate : Bool) (f : FragmentTree) (c : Context P) → is_closed (on_data_if b tsn immediate f (record { state = Closed; context = c })).state ≡ true
   data_closed true tsn immediate f c = refl
@@ -74,58 +98,33 @@ module _ {P : Type 0} where
 
   -- ---- several
 
+  rest_closed : (rest : Endpoint P → Endpoint P) (b : Bool) (f : Endpoint P) → is_closed f.standing.state ≡ true
+      → (is_closed f.standing.state ≡ true → is_closed (rest f).standing.state ≡ true) → is_closed (hear_rest rest (record { end = f; goes_on = b })).standing.state ≡ true
+  rest_closed rest true f k h = h k
+  rest_closed rest false f k h = k
+
   all_closed : (tag : ℕ) (cs : List ChunkTree) (e : Endpoint P) → list_all is_no_echo cs ≡ true → is_closed e.standing.state ≡ true → is_closed (hear_all tag cs e).standing.state ≡ true
   all_closed tag [] e h k = k
   all_closed tag (c ∷ cs) e h k =
       let both = and_parts (is_no_echo c) (list_all is_no_echo cs) h in
-      go (hear tag c e) (still_closed tag c e.standing.state e.standing.context e.words both.0 k) both.1
-    where
-      go_on : (b : Bool) (f : Endpoint P) → is_closed f.standing.state ≡ true → list_all is_no_echo cs ≡ true
-          → is_closed (hear_rest (hear_all tag cs) (record { end = f; goes_on = b })).standing.state ≡ true
-      go_on true f k h = all_closed tag cs f h k
-      go_on false f k h = k
+      rest_closed (hear_all tag cs) (hear tag c e).goes_on (hear tag c e).end (still_closed tag c e.standing.state e.standing.context e.words both.0 k)
+      (λ closed. all_closed tag cs (hear tag c e).end both.1 closed)
 
-      go : (x : Heard P) → is_closed x.end.standing.state ≡ true → list_all is_no_echo cs ≡ true → is_closed (hear_rest (hear_all tag cs) x).standing.state ≡ true
-      go x k h = go_on x.goes_on x.end k h
-
-  ends_or : (s u : State) → (ends s u ≡ 0) ⊎ (is_closed u ≡ true)
-  ends_or Closed u = inl refl
-  ends_or (CookieWait tag first t1) Closed = inr refl
-  ends_or (CookieWait tag first t1) (CookieWait new_tag new_first new_t1) = inl refl
-  ends_or (CookieWait tag first t1) (Open phase t) = inl refl
-  ends_or (Open phase t) Closed = inr refl
-  ends_or (Open phase t) (CookieWait tag first t1) = inl refl
-  ends_or (Open phase t) (Open new_phase u) = inl refl
-
-  -- a COOKIE ECHO comes first, if any
-  abbrev NoneBehind : List ChunkTree → Type 0
-  NoneBehind [] = Unit {0}
-  NoneBehind (c ∷ cs) = list_all is_no_echo cs ≡ true
-
-  behind_too : (c : ChunkTree) (cs : List ChunkTree) → list_all is_no_echo (c ∷ cs) ≡ true → NoneBehind (c ∷ cs)
-  behind_too c cs h = (and_parts (is_no_echo c) (list_all is_no_echo cs) h).1
-
-  none_of_all : (cs : List ChunkTree) → list_all is_no_echo cs ≡ true → NoneBehind cs
-  none_of_all [] h = tt
-  none_of_all (c ∷ cs) h = behind_too c cs h
-
-  both_none : (a b : ℕ) → a ≡ 0 → b ≡ 0 → a + b ≡ 0
-  both_none a b e f = omega (arith, e, f)
+  first_or_rest : (tag : ℕ) (cs : List ChunkTree) (s : State) (b : Bool) (f : Endpoint P) → (ends s f.standing.state ≡ 0) ⊎ (is_closed f.standing.state ≡ true) → list_all is_no_echo cs ≡ true
+      → (ended_by tag cs f ≡ 0) ⊎ (is_closed (hear_all tag cs f).standing.state ≡ true)
+      → (ends s f.standing.state + ended_after (ended_by tag cs) (record { end = f; goes_on = b }) ≡ 0)
+      ⊎ (is_closed (hear_rest (hear_all tag cs) (record { end = f; goes_on = b })).standing.state ≡ true)
+  first_or_rest tag cs s true f (inl none) h (inl rest) = inl (both_none (ends s f.standing.state) (ended_by tag cs f) none rest)
+  first_or_rest tag cs s true f (inl none) h (inr closed) = inr closed
+  first_or_rest tag cs s true f (inr closed) h rest = inr (all_closed tag cs f h closed)
+  first_or_rest tag cs s false f (inl none) h rest = inl (both_none (ends s f.standing.state) 0 none refl)
+  first_or_rest tag cs s false f (inr closed) h rest = inr closed
 
   ended_or_closed : (tag : ℕ) (cs : List ChunkTree) (e : Endpoint P) → NoneBehind cs → (ended_by tag cs e ≡ 0) ⊎ (is_closed (hear_all tag cs e).standing.state ≡ true)
   ended_or_closed tag [] e h = inl refl
-  ended_or_closed tag (c ∷ cs) e h = go_on (hear tag c e).goes_on (hear tag c e).end (ends_or e.standing.state (hear tag c e).end.standing.state)
-    where
-      go_on : (b : Bool) (f : Endpoint P) → (ends e.standing.state f.standing.state ≡ 0) ⊎ (is_closed f.standing.state ≡ true)
-          → (ends e.standing.state f.standing.state + ended_after (ended_by tag cs) (record { end = f; goes_on = b }) ≡ 0)
-          ⊎ (is_closed (hear_rest (hear_all tag cs) (record { end = f; goes_on = b })).standing.state ≡ true)
-      go_on true f (inl none) = elim (ended_or_closed tag cs f (none_of_all cs h)) [
-        | inl rest ↦ inl (both_none (ends e.standing.state f.standing.state) (ended_by tag cs f) none rest)
-        | inr closed ↦ inr closed
-      ]
-      go_on true f (inr closed) = inr (all_closed tag cs f h closed)
-      go_on false f (inl none) = inl (both_none (ends e.standing.state f.standing.state) 0 none refl)
-      go_on false f (inr closed) = inr closed
+  ended_or_closed tag (c ∷ cs) e h =
+      first_or_rest tag cs e.standing.state (hear tag c e).goes_on (hear tag c e).end (ends_or e.standing.state (hear tag c e).end.standing.state) h
+      (ended_or_closed tag cs (hear tag c e).end (none_of_all cs h))
 
   -- ---- a packet
 
@@ -163,11 +162,11 @@ all_no_echo (c ∷ cs) h =
     let both = and_parts (is_flowing c) (list_all is_flowing cs) h in
     ap (λ (b : Bool). b && list_all is_no_echo (map carried cs)) (flow_no_echo c both.0) ∙ all_no_echo cs both.1
 
-kind_behind : (cs : List ChunkTree) → IsKind cs → NoneBehind {P = Carried} (map carried cs)
-kind_behind cs (an_init i is) = subst (λ (l : List ChunkTree). NoneBehind {P = Carried} (map carried l)) (sym is) refl
-kind_behind cs (an_answer i is) = subst (λ (l : List ChunkTree). NoneBehind {P = Carried} (map carried l)) (sym is) refl
-kind_behind cs (an_echo cookie rest is flows) = subst (λ (l : List ChunkTree). NoneBehind {P = Carried} (map carried l)) (sym is) (all_no_echo rest flows)
-kind_behind cs (a_flow flows) = none_of_all {P = Carried} (map carried cs) (all_no_echo cs flows)
+kind_behind : (cs : List ChunkTree) → IsKind cs → NoneBehind (map carried cs)
+kind_behind cs (an_init i is) = subst (λ (l : List ChunkTree). NoneBehind (map carried l)) (sym is) refl
+kind_behind cs (an_answer i is) = subst (λ (l : List ChunkTree). NoneBehind (map carried l)) (sym is) refl
+kind_behind cs (an_echo cookie rest is flows) = subst (λ (l : List ChunkTree). NoneBehind (map carried l)) (sym is) (all_no_echo rest flows)
+kind_behind cs (a_flow flows) = none_of_all (map carried cs) (all_no_echo cs flows)
 
 -- ---- a turn
 
@@ -187,8 +186,8 @@ module _ (x y : course.Side) (quiet : x.end.standing.context.told.events ≡ [])
 
   plain_ends : (call : Call) → MayCall call x → (ended_in_call call x.end ≡ 0) ⊎ (is_closed (called call x.end).standing.state ≡ true)
   plain_ends (Packet p) may = absurd may
-  plain_ends Connect may = ends_or {P = Carried} (state_of x) (called Connect x.end).standing.state
-  plain_ends call may = ends_or {P = Carried} (state_of x) (called call x.end).standing.state
+  plain_ends Connect may = ends_or (state_of x) (called Connect x.end).standing.state
+  plain_ends call may = ends_or (state_of x) (called call x.end).standing.state
 
   given_ends : (n checksum : ℕ) (o : Option Carried) → slice_get (emitted y) n ≡ o → All (λ (p : Carried). IsKind p.chunks) (emitted y) → Ends x (given o checksum x)
   given_ends n checksum None there kinds = inl none

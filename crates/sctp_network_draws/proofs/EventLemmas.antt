@@ -1,12 +1,12 @@
 -- One event in two worlds that are alike.
-use Rattle.std.proofs.Common.{◌≡◌, ◌⊎◌, inl, inr, ℕ, ◌+◌, ◌||◌, ◌==◌, not, Bool, true, false, Some, List, [], ◌∷◌, ◌++◌, refl, sym, ap, subst, ◌∙◌, All}
+use Rattle.std.proofs.Common.{◌≡◌, ◌⊎◌, inl, inr, ℕ, ◌+◌, ◌||◌, ◌==◌, not, Bool, true, false, Option, Some, None, List, [], ◌∷◌, ◌++◌, slice_get, refl, sym, ap, subst, ◌∙◌, All}
 use Rattle.sctp_state.specs.Events.{Event, GivenUp}
 use Rattle.sctp_state.specs.Options.{Options}
 use Rattle.sctp_table.specs.Association.{Context, Endpoint}
 use Rattle.sctp_table.specs.Calls.{ready_in}
 use Rattle.sctp_table.specs.Laws as table
 use Rattle.sctp_table.specs.Laws.{endings}
-use Rattle.sctp_table.specs.Hearing.{policy_of}
+use Rattle.sctp_table.specs.Wire.{field_of}
 use Rattle.sctp_table_laws.specs.Mapped.{Carried, map_context, as_written}
 use Rattle.sctp_table_laws.specs.HeardBack.{IsHearable}
 use Rattle.sctp_table_laws.proofs.HeardBackLemmas.{is_accepted}
@@ -115,13 +115,13 @@ own_turn f (Give n B) t c own is = subst IsOwn (sym is.heard) (own_hearing _ n _
 own_turn f (GiveForeign x bytes) t c own is = cc
 own_turn f (TellTime x now) t c own is = subst IsOwn (sym is) tt
 
-gone_given_same : (p : _) (checksum : ℕ) (x : course.Side) → proper.gone_given p checksum x ≡ alike.gone_given p checksum x
+gone_given_same : (p : Option Carried) (checksum : ℕ) (x : course.Side) → proper.gone_given p checksum x ≡ alike.gone_given p checksum x
 gone_given_same None checksum x = refl
 gone_given_same (Some p) checksum x = refl
 
 gone_same : (t : Turn) (x y : course.Side) → IsOwn t → gone_by t x y ≡ alike.gone_by t x y
 gone_same (Calls call) x y own = refl
-gone_same (Gives which checksum) x y own = gone_given_same _ checksum x
+gone_same (Gives which checksum) x y own = gone_given_same (slice_get (emitted y) which) checksum x
 gone_same (Refuses p) x y own = absurd own
 
 module _ (f : List ℕ → ℕ) where
@@ -141,8 +141,8 @@ module _ (f : List ℕ → ℕ) where
   heard_given : (n : ℕ) (end beside : course.Side) (t : Turn) → IsHearing f f n end beside t → All Readable (emitted beside) → All (PassesAt end) (emitted beside)
       → (checksum : ℕ) × (t ≡ Gives n checksum)
   heard_given n end beside t h reads passes = (
-    _,
-    h.heard ∙ ap (λ (b : Bool). hearing b n _)
+    field_of f h.carried.header h.carried.is_summed h.carried.chunks,
+    h.heard ∙ ap (λ (b : Bool). hearing b n (field_of f h.carried.header h.carried.is_summed h.carried.chunks))
         (let_through end.end.standing.context.options h.carried (get_all Readable (emitted beside) n h.carried h.there reads) (get_all (PassesAt end) (emitted beside) n h.carried h.there passes)),
   )
 

@@ -121,7 +121,10 @@ same_bool true c f g = f refl
 same_bool false true f g = sym (g refl)
 same_bool false false f g = refl
 
-drop_none : {X : Type 0} (n : ℕ) → drop n ([] : List X) ≡ []
+abbrev the_none : (X : Type 0) → List X
+the_none X = []
+
+drop_none : {X : Type 0} (n : ℕ) → drop n (the_none X) ≡ []
 drop_none zero = refl
 drop_none (suc n) = refl
 

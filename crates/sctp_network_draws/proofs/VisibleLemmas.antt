@@ -1,5 +1,5 @@
 -- What the log shows of two ends that were told alike.
-use Rattle.std.proofs.Common.{◌≡◌, ℕ, ◌+◌, List, [], ◌∷◌, ◌++◌, length, map, refl, sym, ap, subst, ◌∙◌}
+use Rattle.std.proofs.Common.{◌≡◌, ℕ, suc, ◌+◌, List, [], ◌∷◌, ◌++◌, length, map, refl, sym, ap, subst, ◌∙◌}
 use Rattle.std.specs.List.{flat_map}
 use Rattle.std.proofs.lemmas.Grind.{flat_map-append}
 use Rattle.sctp_state.specs.Events.{Event, SendPacket, OnError, OnAborted}
@@ -45,7 +45,7 @@ module _ (f : Carried → List ℕ) where
   packets_told (e ∷ es) [] t = absurd t
   packets_told (SendPacket p ∷ es) (e ∷ fs) t =
       subst (λ (d : Event Carried). length (packets_in (mapped f (d ∷ fs))) ≡ length (packets_in (mapped f (SendPacket p ∷ es)))) (sym t.0.1)
-      (ap (λ (n : ℕ). 1 + n) (packets_told es fs t.1))
+      (ap (λ (n : ℕ). suc n) (packets_told es fs t.1))
   packets_told (OnError kind text ∷ es) (e ∷ fs) t =
       subst (λ (d : Event Carried). length (packets_in (mapped f (d ∷ fs))) ≡ length (packets_in (mapped f es))) (sym t.0.1) (packets_told es fs t.1)
   packets_told (OnAborted kind text ∷ es) (e ∷ fs) t =
@@ -54,8 +54,8 @@ module _ (f : Carried → List ℕ) where
       subst (λ (z : Event Carried). length (packets_in (mapped f (z ∷ fs))) ≡ length (packets_in (mapped f (e ∷ es)))) (sym t.0) (packets_told es fs t.1)
 
 -- what was told since
-pub told_behind : (as bs es fs : List (Event Carried)) → AreTold as bs → AreTold (as ++ es) (bs ++ fs) → AreTold es fs
+pub told_behind : (past pasts es fs : List (Event Carried)) → AreTold past pasts → AreTold (past ++ es) (pasts ++ fs) → AreTold es fs
 told_behind [] [] es fs t u = u
-told_behind [] (b ∷ bs) es fs t u = absurd t
-told_behind (a ∷ as) [] es fs t u = absurd t
-told_behind (a ∷ as) (b ∷ bs) es fs t u = told_behind as bs es fs t.1 u.1
+told_behind [] (b ∷ pasts) es fs t u = absurd t
+told_behind (a ∷ past) [] es fs t u = absurd t
+told_behind (a ∷ past) (b ∷ pasts) es fs t u = told_behind past pasts es fs t.1 u.1

@@ -26,7 +26,8 @@ pub fn run_pair<R: Rng, S: Rng, C: Checksum>(
         (world_of R.stream C.word_of first.old) (world_of S.stream C.word_of second.old)
         (world_of R.stream C.word_of first.new) (world_of S.stream C.word_of second.new)) }
     ensures stands { IfErr result (λ e. e ≡ WorldError.NoSuchPacket → (first.new.has_failed ≡ false) × (second.new.has_failed ≡ false)) }
-    ensures memory { first.old.has_failed ≡ false → second.old.has_failed ≡ false → IfErr result (λ e. e ≡ WorldError.Memory
+    ensures memory { IfErr result (λ e. e ≡ WorldError.Memory → (first.new.has_failed ≡ true) ⊎ (second.new.has_failed ≡ true)) }
+    ensures ran_out { first.old.has_failed ≡ false → second.old.has_failed ≡ false → IfErr result (λ e. e ≡ WorldError.Memory
         → RanOut (map action_of events.now) (world_of R.stream C.word_of first.old) (world_of S.stream C.word_of second.old)
             (world_of R.stream C.word_of first.new) (world_of S.stream C.word_of second.new) first.new.has_failed second.new.has_failed) }
     ensures failed { (first.old.has_failed ≡ true) ⊎ (second.old.has_failed ≡ true)
@@ -60,7 +61,8 @@ fn lead<R: Rng, S: Rng, C: Checksum>(
         (world_of R.stream C.word_of first.old) (world_of S.stream C.word_of second.old)
         (world_of R.stream C.word_of first.new) (world_of S.stream C.word_of second.new)) }
     ensures stands { IfErr result (λ e. e ≡ WorldError.NoSuchPacket → (first.new.has_failed ≡ false) × (second.new.has_failed ≡ false)) }
-    ensures memory { first.old.has_failed ≡ false → second.old.has_failed ≡ false → IfErr result (λ e. e ≡ WorldError.Memory
+    ensures memory { IfErr result (λ e. e ≡ WorldError.Memory → (first.new.has_failed ≡ true) ⊎ (second.new.has_failed ≡ true)) }
+    ensures ran_out { first.old.has_failed ≡ false → second.old.has_failed ≡ false → IfErr result (λ e. e ≡ WorldError.Memory
         → RanOut (map action_of events.now) (world_of R.stream C.word_of first.old) (world_of S.stream C.word_of second.old)
             (world_of R.stream C.word_of first.new) (world_of S.stream C.word_of second.new) first.new.has_failed second.new.has_failed) }
     ensures failed { (first.old.has_failed ≡ true) ⊎ (second.old.has_failed ≡ true)
@@ -87,7 +89,7 @@ fn lead_each<R: Rng, S: Rng, C: Checksum>(
         (world_of R.stream C.word_of first.old) (world_of S.stream C.word_of second.old)
         (world_of R.stream C.word_of first.new) (world_of S.stream C.word_of second.new)) }
     ensures stands { IfErr result (λ e. e ≡ WorldError.NoSuchPacket → (first.new.has_failed ≡ false) × (second.new.has_failed ≡ false)) }
-    ensures memory { IfErr result (λ e. e ≡ WorldError.Memory
+    ensures ran_out { IfErr result (λ e. e ≡ WorldError.Memory
         → RanOut (map action_of events.now) (world_of R.stream C.word_of first.old) (world_of S.stream C.word_of second.old)
             (world_of R.stream C.word_of first.new) (world_of S.stream C.word_of second.new) first.new.has_failed second.new.has_failed) }
 {
@@ -111,7 +113,7 @@ fn step_both<R: Rng, S: Rng, C: Checksum>(
     ensures lacks { IfErr result (λ e. e ≡ WorldError.NoSuchPacket
         → Lacks (action_of event.now) (world_of R.stream C.word_of first.old) ⊎ Lacks (action_of event.now) (world_of S.stream C.word_of second.old)) }
     ensures same { IfErr result (λ e. e ≡ WorldError.NoSuchPacket → (first.new ≡ first.old) × (second.new ≡ second.old)) }
-    ensures memory { IfErr result (λ e. e ≡ WorldError.Memory
+    ensures ran_out { IfErr result (λ e. e ≡ WorldError.Memory
         → RanOut (action_of event.now ∷ []) (world_of R.stream C.word_of first.old) (world_of S.stream C.word_of second.old)
             (world_of R.stream C.word_of first.new) (world_of S.stream C.word_of second.new) first.new.has_failed second.new.has_failed) }
 {
