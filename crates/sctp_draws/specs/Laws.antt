@@ -5,7 +5,7 @@ use Rattle.rand_core.specs.Stream.{Stream, next_u32}
 use Rattle.sctp_chunk.specs.declared.forward_tsn.SkippedStream.{SkippedStream}
 use Rattle.sctp_serial.specs.Unwrapped.{words}
 use Rattle.sctp_wire.specs.Cause.{CauseTree}
-use Rattle.sctp_wire.specs.Parameter.{ParameterTree, outgoing_reset_request, incoming_reset_request, reset_response}
+use Rattle.sctp_wire.specs.Parameter.{ParameterTree, state_cookie, outgoing_reset_request, incoming_reset_request, reset_response}
 use Rattle.sctp_packet.specs.Chunk.{ChunkTree, FragmentTree, InitTree, SackTree, data_chunk, idata_chunk, init_chunk, init_ack_chunk, sack_chunk, heartbeat_request_chunk, heartbeat_ack_chunk, abort_chunk, shutdown_chunk, shutdown_ack_chunk, error_chunk, cookie_echo_chunk, cookie_ack_chunk, shutdown_complete_chunk, re_config_chunk, forward_tsn_chunk, i_forward_tsn_chunk, unknown_chunk}
 use Rattle.sctp_serial.specs.Messages.{Message}
 use Rattle.sctp_state.specs.Options.{SendOptions}
@@ -154,7 +154,9 @@ NumbersFitIn Closed = Unit {0}
 NumbersFitIn (CookieWait tag first t1) = Unit {0}
 NumbersFitIn (Open phase t) = NumbersFit t.requests
 
+-- and an INIT ACK alone has a cookie
 abbrev pub number_fits : ParameterTree → Bool
+number_fits (state_cookie cookie) = false
 number_fits (outgoing_reset_request number response last_tsn streams) = nat_lt number words
 number_fits (incoming_reset_request number streams) = nat_lt number words
 number_fits (reset_response number result sender receiver) = nat_lt number words
