@@ -1,9 +1,10 @@
 -- Two worlds along their runs: they show the same, since their courses are alike.
 use Rattle.std.proofs.Common.{◌≡◌, ◌⊎◌, inl, inr, ℕ, not, Bool, true, false, List, [], ◌∷◌, ◌++◌, length, map, refl, sym, ap, subst, ◌∙◌, append-nil, append_assoc, All}
 use Rattle.std.specs.Prelude.{⊤}
-use Rattle.std.proofs.lemmas.List.Elements.{All-head, All-tail}
+use Rattle.std.proofs.lemmas.List.Elements.{All-nil, All-head, All-tail}
 use Rattle.sctp_table.specs.Calls.{ready_in}
 use Rattle.sctp_table.specs.Laws.{endings}
+use Rattle.sctp_table_laws.specs.ReadBack.{AreBytes}
 use Rattle.sctp_course.specs.Course as course
 use Rattle.sctp_course.specs.Course.{Pair, Turn, turned, goes, run, HasNotEnded, AreGiven, start, state_of, MayTurn}
 use Rattle.sctp_course.specs.Agreement.{Draw, Has, AreDistinct}
@@ -16,12 +17,12 @@ use Rattle.sctp_network_table.specs.Judge.{End, A, B}
 use Rattle.sctp_network_table.specs.World.{World, Action, Happens, Runs}
 use Rattle.sctp_network_laws.specs.Courses.{ActionFits, IsInBytes, is_a, end_of, IsTurnOf, AreTurnsOf}
 use Rattle.sctp_network_laws.specs.Joined.{Stands}
-use Rattle.sctp_network_laws.specs.Delivered.{KeepsFrom, resets}
+use Rattle.sctp_network_laws.specs.Delivered.{KeepsFrom}
 use Rattle.sctp_network_laws.proofs.JoinedLemmas.{given_of, none_ended}
 use Rattle.sctp_network_laws.proofs.WorldLemmas.{Both, Extends, extends_same, in_bytes_before, Stepped, steps}
 use Rattle.sctp_network_laws.proofs.RunsLemmas.{happens_extends, runs_extends, may_turn, Ran, ran, fresh_both}
 use Rattle.sctp_network_draws.specs.Visible.{ShowTheSame}
-use Rattle.sctp_network_draws.specs.Alike.{ArePaired, AreComparable, ShowAlong, WorldsShowTheSame, is_foreign, AreTagsApart, first_new, second_new}
+use Rattle.sctp_network_draws.specs.Alike.{ArePaired, AreComparable, ShowAlong, WorldsShowTheSame, NewWorldsArePaired, is_foreign, AreTagsApart, first_new, second_new}
 use Rattle.sctp_network_draws.specs.Owed.{CourseLaws}
 use Rattle.sctp_network_draws.proofs.EventLemmas.{same_turn, event_shown}
 use Rattle.sctp_network_draws.proofs.EndingLemmas.{ended_or_none}
@@ -121,9 +122,9 @@ module _ (laws : CourseLaws) (w v : World) (p : ArePaired w v) (q : AreComparabl
       (apart (es ++ e ∷ fs) (subst (λ (l : List Action). AreTurnsOf word_of word_of l (es ++ e ∷ fs) c) (sym split) (turns_both word_of front (action ∷ actions) es (e ∷ fs) c h k))))
 
   next : (front : List Action) (action : Action) (actions : List Action) (x y u z : World) → p.actions ≡ front ++ action ∷ actions → Happens action x u → Happens action y z
-      → Runs actions u w → Runs actions z v → All ActionFits (action ∷ actions) → is_foreign action ≡ false → resets action ≡ false → Stands x.log → IsPoint front x y
+      → Runs actions u w → Runs actions z v → All ActionFits (action ∷ actions) → is_foreign action ≡ false → Stands x.log → IsPoint front x y
       → IsPoint (front ++ action ∷ []) u z
-  next front action actions x y u z split happens happens_too left left_too fit own none stands at =
+  next front action actions x y u z split happens happens_too left left_too fit own stands at =
       let c : Pair = run at.es first_start in
       let d : Pair = run at.fs second_start in
       let fits : ActionFits action = All-head ActionFits action actions fit in
@@ -136,7 +137,7 @@ module _ (laws : CourseLaws) (w v : World) (p : ArePaired w v) (q : AreComparabl
       let after_too : Ran f f actions z v (goes g.0 g.1 d) = ran f f actions z v (goes g.0 g.1 d) rest_fits left_too p.second_bytes r.both in
       let still : HasNotEnded c = not_ended x c at.both stands in
       let passed : ArePassed c = laws.pass p.a p.b p.words_a p.words_b at.es given_a given_b at.follows still in
-      let same : SameTurn s.turn r.turn = same_turn f action s.turn r.turn x y c d own none s.is r.is at.both at.both_too passed (images_pass c d at.alike passed) in
+      let same : SameTurn s.turn r.turn = same_turn f action s.turn r.turn x y c d own s.is r.is at.both at.both_too passed (images_pass c d at.alike passed) in
       let sames : SameTurns (at.es ++ e ∷ []) (at.fs ++ g ∷ []) = same_more at.es at.fs e g at.same refl same in
       let may : MayTurn e.1 (course.side_of e.0 c) =
       may_turn f f action x u w c s.turn happens (happens_extends action x u happens) (runs_extends actions u w left) at.both s.is q.follows stands in
@@ -164,12 +165,12 @@ module _ (laws : CourseLaws) (w v : World) (p : ArePaired w v) (q : AreComparabl
       }
 
   along : (front actions : List Action) (x y : World) → p.actions ≡ front ++ actions → (r : Runs actions x w) (s : Runs actions y v) → All ActionFits actions
-      → KeepsFrom is_foreign actions x w r → KeepsFrom resets actions x w r → IsPoint front x y → ShowAlong actions x y w v r s
-  along front [] x y split r s fit own none at = at.shown
-  along front (action ∷ actions) x y split r s fit own none at = (
+      → KeepsFrom is_foreign actions x w r → IsPoint front x y → ShowAlong actions x y w v r s
+  along front [] x y split r s fit own at = at.shown
+  along front (action ∷ actions) x y split r s fit own at = (
     at.shown,
-    λ stands. along (front ++ action ∷ []) actions r.0 s.0 (split ∙ sym (append_assoc front (action ∷ []) actions)) r.2 s.2 (All-tail ActionFits action actions fit) own.1 none.1
-        (next front action actions x y r.0 s.0 split r.1 s.1 r.2 s.2 fit (own.0 stands) (none.0 stands) stands at),
+    λ stands. along (front ++ action ∷ []) actions r.0 s.0 (split ∙ sym (append_assoc front (action ∷ []) actions)) r.2 s.2 (All-tail ActionFits action actions fit) own.1
+        (next front action actions x y r.0 s.0 split r.1 s.1 r.2 s.2 fit (own.0 stands) stands at),
   )
 
   beginning : IsPoint [] (first_new p) (second_new p)
@@ -192,7 +193,28 @@ module _ (laws : CourseLaws) (w v : World) (p : ArePaired w v) (q : AreComparabl
   }
 
   pub show_along : ShowAlong p.actions (first_new p) (second_new p) w v p.first p.second
-  show_along = along [] p.actions (first_new p) (second_new p) refl p.first p.second p.fit q.own q.streams beginning
+  show_along = along [] p.actions (first_new p) (second_new p) refl p.first p.second p.fit q.own beginning
 
 pub worlds_show : CourseLaws → WorldsShowTheSame
 worlds_show laws w v p q = show_along laws w v p q
+
+pub new_paired : NewWorldsArePaired
+new_paired a b word_of words_a words_b others_a others_b valid_a valid_b fits_a fits_b = record {
+  a = a;
+  b = b;
+  word_of = word_of;
+  words_a = words_a;
+  words_b = words_b;
+  others_a = others_a;
+  others_b = others_b;
+  valid_a = valid_a;
+  valid_b = valid_b;
+  fits_a = fits_a;
+  fits_b = fits_b;
+  actions = [];
+  fit = All-nil ActionFits;
+  first = refl;
+  second = refl;
+  first_bytes = record { a = All-nil AreBytes; b = All-nil AreBytes };
+  second_bytes = record { a = All-nil AreBytes; b = All-nil AreBytes };
+}

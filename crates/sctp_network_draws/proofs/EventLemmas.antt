@@ -21,7 +21,6 @@ use Rattle.sctp_draws_course.specs.Alike.{AreTold, AreAlike, ArePairsAlike, Acts
 use Rattle.sctp_network_table.specs.Judge.{End, A, B, Entry, Called, Given, Timed, Call, Connect, Shutdown, Close, Send, SendMany, Receive, Reset, SetPriority, SetMaxMessageSize, SetLowThreshold, HandOver, given_up}
 use Rattle.sctp_network_table.specs.World.{Side, World, Action, CallOf, Give, GiveForeign, TellTime, Happens, settled, news_of, side_of, other, clock, answer_to, call_entry, after_call, time_entry, after_time, step_of}
 use Rattle.sctp_network_laws.specs.Courses.{is_a, end_of, is_let_through, hearing, IsHearing, IsTurnOf}
-use Rattle.sctp_network_laws.specs.Delivered.{resets}
 use Rattle.sctp_network_laws.proofs.EventLemmas.{Readable}
 use Rattle.sctp_network_laws.proofs.BlockLemmas.{same_front}
 use Rattle.sctp_network_laws.proofs.SidesLemmas.{IsFirst, Good}
@@ -149,29 +148,16 @@ module _ (f : List ℕ → ℕ) where
   same_given : (n : ℕ) (t u : Turn) → (k : ℕ) × (t ≡ Gives n k) → (m : ℕ) × (u ≡ Gives n m) → SameTurn t u
   same_given n t u first second = subst (λ (z : Turn). SameTurn z u) (sym first.1) second
 
-  call_itself : (x : End) (call : Call) → resets (CallOf x call) ≡ false → SameTurn (Calls (step_of call)) (Calls (step_of call))
-  call_itself x Connect h = refl
-  call_itself x Shutdown h = refl
-  call_itself x Close h = refl
-  call_itself x (Send m o) h = refl
-  call_itself x (SendMany ms o) h = refl
-  call_itself x Receive h = refl
-  call_itself x (Reset streams) h = cc
-  call_itself x (SetPriority stream priority) h = refl
-  call_itself x (SetMaxMessageSize bytes) h = refl
-  call_itself x (SetLowThreshold stream bytes) h = refl
-  call_itself x HandOver h = refl
-
-  pub same_turn : (action : Action) (t u : Turn) (w v : World) (c d : Pair) → is_foreign action ≡ false → resets action ≡ false → IsTurnOf f f action t c → IsTurnOf f f action u d
+  pub same_turn : (action : Action) (t u : Turn) (w v : World) (c d : Pair) → is_foreign action ≡ false → IsTurnOf f f action t c → IsTurnOf f f action u d
       → Both f f w c → Both f f v d → ArePassed c → ArePassed d → SameTurn t u
-  same_turn (CallOf x call) t u w v c d own none is too h k p q =
-      subst (λ (z : Turn). SameTurn z u) (sym is) (subst (λ (z : Turn). SameTurn (Calls (step_of call)) z) (sym too) (call_itself x call none))
-  same_turn (Give n A) t u w v c d own none is too h k p q =
+  same_turn (CallOf x call) t u w v c d own is too h k p q =
+      subst (λ (z : Turn). SameTurn z u) (sym is) (subst (λ (z : Turn). SameTurn (Calls (step_of call)) z) (sym too) refl)
+  same_turn (Give n A) t u w v c d own is too h k p q =
       same_given n t u (heard_given n c.a c.b t is h.b.readable p.b) (heard_given n d.a d.b u too k.b.readable q.b)
-  same_turn (Give n B) t u w v c d own none is too h k p q =
+  same_turn (Give n B) t u w v c d own is too h k p q =
       same_given n t u (heard_given n c.b c.a t is h.a.readable p.a) (heard_given n d.b d.a u too k.a.readable q.a)
-  same_turn (GiveForeign x bytes) t u w v c d own none is too h k p q = cc
-  same_turn (TellTime x now) t u w v c d own none is too h k p q =
+  same_turn (GiveForeign x bytes) t u w v c d own is too h k p q = cc
+  same_turn (TellTime x now) t u w v c d own is too h k p q =
       subst (λ (z : Turn). SameTurn z u) (sym is) (subst (λ (z : Turn). SameTurn (Calls (table.Advance now)) z) (sym too) refl)
 
   -- ---- worlds

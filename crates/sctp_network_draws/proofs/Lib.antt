@@ -4,3 +4,4 @@ pub mod SeenLemmas
 pub mod EventLemmas
 pub mod EndingLemmas
 pub mod AlongLemmas
+pub mod PairLemmas

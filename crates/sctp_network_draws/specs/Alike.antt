@@ -8,7 +8,7 @@ use Rattle.sctp_draws_course.specs.Pairing.{NoTagTwice}
 use Rattle.sctp_network_table.specs.World.{World, Action, GiveForeign, Runs, fresh_world}
 use Rattle.sctp_network_laws.specs.Courses.{ActionFits, IsInBytes, IsLed, AreTurnsOf}
 use Rattle.sctp_network_laws.specs.Joined.{Stands, FollowsTheRules}
-use Rattle.sctp_network_laws.specs.Delivered.{KeepsFrom, resets}
+use Rattle.sctp_network_laws.specs.Delivered.{KeepsFrom}
 use Rattle.sctp_network_draws.specs.Visible.{ShowTheSame}
 
 -- Two new worlds, with the same options in pairs and one checksum function for all four sockets, were led to them by the same actions.
@@ -38,6 +38,12 @@ first_new p = fresh_world p.a p.b p.words_a p.words_b p.word_of p.word_of
 abbrev pub second_new : {w v : World} → ArePaired w v → World
 second_new p = fresh_world p.a p.b p.others_a p.others_b p.word_of p.word_of
 
+-- two new worlds are
+abbrev pub NewWorldsArePaired : Type 0
+NewWorldsArePaired =
+    (a b : Options) (word_of : List ℕ → ℕ) (words_a words_b others_a others_b : Stream) → IsValid a → IsValid b → OptionsFit a → OptionsFit b
+    → ArePaired (fresh_world a b words_a words_b word_of word_of) (fresh_world a b others_a others_b word_of word_of)
+
 -- ---- premises
 
 abbrev pub is_foreign : Action → Bool
@@ -48,11 +54,10 @@ is_foreign action = false
 abbrev pub AreTagsApart : (word_of : List ℕ → ℕ) → List Action → Pair → Type 0
 AreTagsApart word_of actions c = (turns : List (Bool × Turn)) → AreTurnsOf word_of word_of actions turns c → NoTagTwice turns c
 
--- Until an end of the first world tells that an association is over it follows the rules, no bytes come from elsewhere and no stream is reset.
+-- Until an end of the first world tells that an association is over it follows the rules, and no bytes come from elsewhere.
 pub record AreComparable {w v : World} (p : ArePaired w v) : Type 0 where
   pub follows : FollowsTheRules w
   pub own : KeepsFrom is_foreign p.actions (first_new p) w p.first
-  pub streams : KeepsFrom resets p.actions (first_new p) w p.first
   pub first_tags : AreTagsApart p.word_of p.actions (start p.a p.b p.words_a p.words_b)
   pub second_tags : AreTagsApart p.word_of p.actions (start p.a p.b p.others_a p.others_b)
 

@@ -4,7 +4,7 @@ use crate::events::half_seconds;
 use crate::pair::Pair;
 use sctp_world::{End, Event, WorldError};
 
-/// How many packets of each end were given or lost, how many half seconds passed, and each how many-th packet is lost.
+/// The next packet of each end that is on its way, how often time passed, and each how many-th packet is lost.
 #[derive(Drop)]
 pub struct Link {
     a: usize,
@@ -28,38 +28,43 @@ impl Link {
         self.lost = usize::try_from(each).unwrap_or(0);
     }
 
-    /// The next event: a packet that is on its way, or the time at either end.
-    fn next_event<P: Pair>(&mut self, pair: &P) -> Option<Event> {
-        if pair.has_sent(End::A, self.a) {
-            let number = self.a;
-            self.a = number.saturating_add(1);
-            self.given(number, End::B)
-        } else if pair.has_sent(End::B, self.b) {
-            let number = self.b;
-            self.b = number.saturating_add(1);
-            self.given(number, End::A)
+    /// This packet, or the next one where it is lost.
+    fn not_lost(&self, number: usize) -> usize {
+        if self.lost > 1 && number % self.lost == self.lost - 1 {
+            number.saturating_add(1)
         } else {
-            self.passed = self.passed.saturating_add(1);
-            let end = if self.passed % 2 == 0 { End::B } else { End::A };
-            Some(Event::Time(end, half_seconds(self.passed.div_ceil(2))))
+            number
         }
     }
 
-    fn given(&self, number: usize, to: End) -> Option<Event> {
-        if self.lost != 0 && number % self.lost == self.lost - 1 {
-            return None;
+    /// Half a second passes, at a and then at b.
+    fn pass_time(&mut self) -> Event {
+        self.passed = self.passed.saturating_add(1);
+        let end = if self.passed % 2 == 0 { End::B } else { End::A };
+        Event::Time(end, half_seconds(self.passed.div_ceil(2)))
+    }
+
+    /// The next event: a packet that is on its way is given, or time passes.
+    fn next_event<P: Pair>(&mut self, pair: &P) -> Event {
+        let (a, b) = (self.not_lost(self.a), self.not_lost(self.b));
+        if pair.has_sent(End::A, a) {
+            self.a = a.saturating_add(1);
+            Event::Give(a, End::B)
+        } else if pair.has_sent(End::B, b) {
+            self.b = b.saturating_add(1);
+            Event::Give(b, End::A)
+        } else {
+            self.pass_time()
         }
-        Some(Event::Give(number, to))
     }
 }
 
 /// Runs so many events, each as what came before leads to it.
 pub fn exchange<P: Pair>(pair: &mut P, link: &mut Link, events: u64) -> Result<(), WorldError> {
     for _ in 0..events {
-        if let Some(event) = link.next_event(pair) {
-            let answer = pair.lead(&[event]);
-            answer?;
-        }
+        let event = link.next_event(pair);
+        let answer = pair.lead(&[event]);
+        answer?;
     }
     Ok(())
 }

@@ -1,8 +1,9 @@
 //! Two worlds that the same events lead on.
 
-ghost use Rattle.std.specs.Prelude.{◌≡◌, ◌⊎◌, true, false, map, IfErr, OnOk, Err};
+ghost use Rattle.std.specs.Prelude.{◌≡◌, ◌⊎◌, true, false, [], ◌∷◌, map, IfErr, OnOk, Err};
 ghost use Rattle.sctp_network_table.specs.World.{Happens, Lacks};
 ghost use Rattle.sctp_network_draws.specs.Alike.{ArePaired, AreComparable, ShowAlong, first_new, second_new};
+ghost use Rattle.sctp_network_draws.specs.Owed.{CourseLaws};
 ghost use Rattle.sctp_network_draws.specs.Pairs.{Both, BothUpToLack, RanOut};
 ghost use Rattle.sctp_network.specs.WorldView.{action_of, world_of};
 
@@ -14,6 +15,9 @@ use sctp_wire::Checksum;
 /// Makes events happen in two worlds, one after the other, in the first world first. Before an event that names a packet it looks
 /// whether both have it: where one lacks it the answer is `NoSuchPacket`, and both stand as before that event. The first error ends
 /// it; where memory ran out in the first world, the second isn't stepped. Where it ran out before, in either, the answer is `Memory`.
+///
+/// Two worlds that began with the same options in pairs and one checksum function, and were led by the same events, show the same whatever
+/// words their ends drew, until an end of the first tells that an association is over, and up to and with the event in which it does.
 pub fn run_pair<R: Rng, S: Rng, C: Checksum>(
     first: &mut World<R, C>,
     second: &mut World<S, C>,
@@ -35,6 +39,8 @@ pub fn run_pair<R: Rng, S: Rng, C: Checksum>(
     ensures pairs { first.new.has_failed ≡ false → second.new.has_failed ≡ false
         → ArePaired (world_of R.stream C.word_of first.old) (world_of S.stream C.word_of second.old)
         → ArePaired (world_of R.stream C.word_of first.new) (world_of S.stream C.word_of second.new) }
+    ensures alike { CourseLaws → (p : ArePaired (world_of R.stream C.word_of first.new) (world_of S.stream C.word_of second.new)) → AreComparable p
+        → ShowAlong p.actions (first_new p) (second_new p) (world_of R.stream C.word_of first.new) (world_of S.stream C.word_of second.new) p.first p.second }
 {
     let first_a = first.sent(End::A);
     let first_b = first.sent(End::B);

@@ -1,6 +1,6 @@
 use Rattle.std.proofs.Common.{◌≡◌, false, map, drop}
 use Rattle.sctp_network.specs.WorldView.{action_of, world_of}
-use Rattle.sctp_network.proofs.PairLemmas.{SoFar}
+use Rattle.sctp_network_draws.proofs.PairLemmas.{SoFar}
 use Rattle.sctp_network.proofs.world.pair.lead_each.Given as goal
 
 abbrev pub invariant-loop-event : goal.invariant-loop-event
