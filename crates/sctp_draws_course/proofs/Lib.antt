@@ -20,3 +20,4 @@ pub mod LateLemmas
 pub mod OwnLemmas
 pub mod TellsLemmas
 pub mod PassLemmas
+pub mod ShapeLemmas

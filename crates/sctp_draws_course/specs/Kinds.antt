@@ -1,5 +1,5 @@
 -- Packets by what opens an association in them; and the law of two courses, the packets of the first of which are of these kinds.
-use Rattle.std.specs.Prelude.{◌≡◌, ℕ, Bool, true, List, [], ◌∷◌, ◌++◌, All}
+use Rattle.std.specs.Prelude.{◌≡◌, ℕ, Bool, true, false, List, [], ◌∷◌, ◌++◌, All}
 use Rattle.std.specs.List.{list_all}
 use Rattle.rand_core.specs.Stream.{Stream}
 use Rattle.sctp_packet.specs.Chunk.{ChunkTree, InitTree, init_chunk, init_ack_chunk, cookie_echo_chunk}
@@ -17,6 +17,19 @@ pub data IsKind (cs : List ChunkTree) : Type 0 where
   an_answer : (i : InitTree) → cs ≡ init_ack_chunk i ∷ [] → IsKind cs
   an_echo : (cookie : List ℕ) (rest : List ChunkTree) → cs ≡ cookie_echo_chunk cookie ∷ rest → list_all is_flowing rest ≡ true → IsKind cs
   a_flow : list_all is_flowing cs ≡ true → IsKind cs
+
+-- The same, whatever DATA and RE-CONFIG hold.
+abbrev pub opens_nothing : ChunkTree → Bool
+opens_nothing (init_chunk i) = false
+opens_nothing (init_ack_chunk i) = false
+opens_nothing (cookie_echo_chunk cookie) = false
+opens_nothing chunk = true
+
+pub data IsShaped (cs : List ChunkTree) : Type 0 where
+  an_init : (i : InitTree) → cs ≡ init_chunk i ∷ [] → IsShaped cs
+  an_answer : (i : InitTree) → cs ≡ init_ack_chunk i ∷ [] → IsShaped cs
+  an_echo : (cookie : List ℕ) (rest : List ChunkTree) → cs ≡ cookie_echo_chunk cookie ∷ rest → list_all opens_nothing rest ≡ true → IsShaped cs
+  a_flow : list_all opens_nothing cs ≡ true → IsShaped cs
 
 -- all packets that were emitted so far; and the request numbers that both ends hold are of 32 bits
 pub record AreOfAKind (w : Pair) : Type 0 where
