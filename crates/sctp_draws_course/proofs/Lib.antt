@@ -21,3 +21,5 @@ pub mod OwnLemmas
 pub mod TellsLemmas
 pub mod PassLemmas
 pub mod ShapeLemmas
+pub mod ShapedLemmas
+pub mod KindLemmas

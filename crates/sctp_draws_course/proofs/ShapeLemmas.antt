@@ -91,7 +91,11 @@ pub record Inv (call : Call) (s : State) (pack : Packing Carried) (es : List (Ev
   pub waits : is_waiting s ≡ true → OpensNothing call
   pub counts : Counts s
 
-packets_both : (es fs : List (Event Carried)) → EachPacket Shaped es → EachPacket Shaped fs → EachPacket Shaped (es ++ fs)
+-- of an end at work
+abbrev pub InvOf : Call → Making Carried → Type 0
+InvOf call m = Inv call m.state m.context.pack m.context.told.events m.packet.chunks
+
+pub packets_both : (es fs : List (Event Carried)) → EachPacket Shaped es → EachPacket Shaped fs → EachPacket Shaped (es ++ fs)
 packets_both [] fs h k = k
 packets_both (SendPacket p ∷ es) fs h k = (h.0, packets_both es fs h.1 k)
 packets_both (e ∷ es) fs h k = packets_both es fs h k
@@ -122,11 +126,9 @@ forward_flows true s = refl
 forward_flows false s = refl
 
 module _ (call : Call) (g : HearsSuch call) where
-  abbrev pub InvAt : Making Carried → Type 0
-  InvAt m = Inv call m.state m.context.pack m.context.told.events m.packet.chunks
 
-  abbrev R : Making Carried → Making Carried → Type 0
-  R a b = InvAt a → InvAt b
+  abbrev pub R : Making Carried → Making Carried → Type 0
+  R a b = InvOf call a → InvOf call b
 
   -- ---- the packet
 
@@ -176,11 +178,11 @@ module _ (call : Call) (g : HearsSuch call) where
 
   -- ---- of the invariant
 
-  with_state : (s u : State) (m : Making Carried) → (is_opened s ≡ false → OpensNothing call → is_opened u ≡ false) → (is_waiting u ≡ true → OpensNothing call) → Counts u
+  pub with_state : (s u : State) (m : Making Carried) → (is_opened s ≡ false → OpensNothing call → is_opened u ≡ false) → (is_waiting u ≡ true → OpensNothing call) → Counts u
       → Inv call s m.context.pack m.context.told.events m.packet.chunks → Inv call u m.context.pack m.context.told.events m.packet.chunks
   with_state s u m f w c h = record { packing = h.packing; told = h.told; made = makes_to s u m.packet.chunks f h.made; waits = w; counts = c }
 
-  with_told : (s : State) (pack : Packing Carried) (es more : List (Event Carried)) (cs : List ChunkTree) → EachPacket Shaped more → Inv call s pack es cs
+  pub with_told : (s : State) (pack : Packing Carried) (es more : List (Event Carried)) (cs : List ChunkTree) → EachPacket Shaped more → Inv call s pack es cs
       → Inv call s pack (es ++ more) cs
   with_told s pack es more cs k h = record { packing = h.packing; told = packets_both es more h.told k; made = h.made; waits = h.waits; counts = h.counts }
 
@@ -188,7 +190,7 @@ module _ (call : Call) (g : HearsSuch call) where
   lightly s pack t u cs l h =
       subst (λ (es : List (Event Carried)). Inv call s pack es cs) (sym l.behind) (with_told s pack t.events l.events cs (packets_light l.events l.light) h)
 
-  with_made : (s : State) (pack : Packing Carried) (es : List (Event Carried)) (cs ds : List ChunkTree) → Makes call s ds → Inv call s pack es cs → Inv call s pack es ds
+  pub with_made : (s : State) (pack : Packing Carried) (es : List (Event Carried)) (cs ds : List ChunkTree) → Makes call s ds → Inv call s pack es cs → Inv call s pack es ds
   with_made s pack es cs ds k h = record { packing = h.packing; told = h.told; made = k; waits = h.waits; counts = h.counts }
 
   adds_to : (phase : Phase) (t : Tcb) (m : Making Carried) (c : ChunkTree) → opens_nothing c ≡ true
@@ -197,7 +199,7 @@ module _ (call : Call) (g : HearsSuch call) where
       with_made (Open phase t) m.context.pack m.context.told.events m.packet.chunks (add c m.packet).chunks
       (made_added (fits m.packet c) (Open phase t) m.packet c refl k h.made) h
 
-  emitted_of : (m : Making Carried) → InvAt m → Inv call m.state m.context.pack (m.context.told.events ++ SendPacket (m.context.pack (header_to m.context.options m.packet.tag) m.packet.is_summed m.packet.chunks) ∷ []) []
+  emitted_of : (m : Making Carried) → InvOf call m → Inv call m.state m.context.pack (m.context.told.events ++ SendPacket (m.context.pack (header_to m.context.options m.packet.tag) m.packet.is_summed m.packet.chunks) ∷ []) []
   emitted_of m h =
       let o : Options = m.context.options in
       let es : List (Event Carried) = m.context.told.events in
@@ -235,7 +237,7 @@ module _ (call : Call) (g : HearsSuch call) where
   settled (Denied streams) s c cs h = with_told s c.pack c.told.events (OnStreamsResetFailed streams ∷ []) cs tt h
 
   -- a block that is made
-  new_fits : (first peer : ℕ) (o : Options) → first < words → NumbersFit (requests o first peer)
+  pub new_fits : (first peer : ℕ) (o : Options) → first < words → NumbersFit (requests o first peer)
   new_fits first peer o small = record { next = small; current = tt; last = mod_below (peer + words - 1) words (omega arith) }
 
   opened : (s u : State) (m : Making Carried) (more : List (Event Carried)) → (OpensNothing call → ⊥) → is_waiting u ≡ false → EachPacket Shaped more → Counts u
