@@ -126,7 +126,6 @@ forward_flows true s = refl
 forward_flows false s = refl
 
 module _ (call : Call) (g : HearsSuch call) where
-
   abbrev pub R : Making Carried → Making Carried → Type 0
   R a b = InvOf call a → InvOf call b
 

@@ -177,15 +177,16 @@ module _ (p : PacketTree) where
         let d : Context Carried = connected (record c { queue = queue_for false (negotiated c.options k.peer_capabilities).message_interleaving c.queue }) in
         let q : Packet = add cookie_ack_chunk (record (packet_to k.peer_tag d.options.mtu) { is_summed = not (zero_checksum_enabled t.capabilities) }) in
         let v : Stream = (drew_long_word still).words in
-        let x = does_send_with f Established v false q t d in
-        (record { events = OnConnected ∷ x.0.events; behind = x.0.behind ∙ append_assoc c.told.events (OnConnected ∷ []) x.0.events },
-        λ none g. x.1 none (record {
-          packing = g.packing;
-          told = packets_both c.told.events (OnConnected ∷ []) g.told tt;
-          made = made_ack (fits (record (packet_to k.peer_tag d.options.mtu) { is_summed = not (zero_checksum_enabled t.capabilities) }) cookie_ack_chunk) k.peer_tag d.options.mtu (not (zero_checksum_enabled t.capabilities)) (Open Established t);
-          waits = λ e. cc;
-          counts = new_fits (only rest) such k.my_initial_tsn k.peer_initial_tsn c.options small;
-        }))
+        let x = does_send_with f Established v false q t d in (
+          record { events = OnConnected ∷ x.0.events; behind = x.0.behind ∙ append_assoc c.told.events (OnConnected ∷ []) x.0.events },
+          λ none g. x.1 none (record {
+            packing = g.packing;
+            told = packets_both c.told.events (OnConnected ∷ []) g.told tt;
+            made = made_ack (fits (record (packet_to k.peer_tag d.options.mtu) { is_summed = not (zero_checksum_enabled t.capabilities) }) cookie_ack_chunk) k.peer_tag d.options.mtu (not (zero_checksum_enabled t.capabilities)) (Open Established t);
+            waits = λ e. cc;
+            counts = new_fits (only rest) such k.my_initial_tsn k.peer_initial_tsn c.options small;
+          }),
+        )
       where
         made_ack : (b : Bool) (peer limit : ℕ) (is_summed : Bool) (s : State) → Makes (only rest) s (added_if b cookie_ack_chunk (record (packet_to peer limit) { is_summed = is_summed })).chunks
         made_ack true peer limit is_summed s = Makes.flows refl
