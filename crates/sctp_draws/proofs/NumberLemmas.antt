@@ -134,7 +134,7 @@ answered_if_fits : (b : Bool) (now rto result : ℕ) (r : Request) (x : Requests
 answered_if_fits true now rto result r x k h = answered_by_fits (is_final result) now rto r x k h
 answered_if_fits false now rto result r x k h = h
 
-answered_in_fits : (o : Option Request) (now rto number result : ℕ) (x : Requests) → NumberFits o → NumbersFit x → NumbersFit (answered_in o now rto number result x)
+pub answered_in_fits : (o : Option Request) (now rto number result : ℕ) (x : Requests) → NumberFits o → NumbersFit x → NumbersFit (answered_in o now rto number result x)
 answered_in_fits None now rto number result x k h = h
 answered_in_fits (Some r) now rto number result x k h = answered_if_fits (r.number == number) now rto result r x k h
 

@@ -56,7 +56,7 @@ pub cookie_made : (o : Options) (d e : Draw) → AreGiven o → IsDraw d → IsD
 cookie_made o d e fine fd fe ps k mine peer tie cookie_tie = record { fits = cookie_fits o d e fine fd fe; some_peer = fd.some; some_own = fe.some }
 
 -- it is read as it was made
-read_back : (o : Options) (d e : Draw) (c : List ℕ) (k : Cookie) → AreGiven o → IsDraw d → IsDraw e → c ≡ cookie_bytes (cookie_by o d e)
+pub read_back : (o : Options) (d e : Draw) (c : List ℕ) (k : Cookie) → AreGiven o → IsDraw d → IsDraw e → c ≡ cookie_bytes (cookie_by o d e)
     → read_cookie c ≡ Ok k → k ≡ cookie_by o d e
 read_back o d e c k fine fd fe is reads =
     let made : Cookie = cookie_by o d e in

@@ -20,3 +20,6 @@ pub mod LateLemmas
 pub mod OwnLemmas
 pub mod TellsLemmas
 pub mod PassLemmas
+pub mod ShapeLemmas
+pub mod ShapedLemmas
+pub mod KindLemmas

@@ -70,18 +70,18 @@ TellsOwn c e = EachChunk (IsOwnIn c e (called c e).standing.state) (called c e).
 
 -- ---- of the packets behind those told before
 
-abbrev EachPacket : (Carried → Type 0) → List (Event Carried) → Type 0
+abbrev pub EachPacket : (Carried → Type 0) → List (Event Carried) → Type 0
 EachPacket P [] = ⊤
 EachPacket P (SendPacket p ∷ es) = P p × EachPacket P es
 EachPacket P (e ∷ es) = EachPacket P es
 
 module _ (P : Carried → Type 0) where
-  each_packet : (es : List (Event Carried)) → All P (packets_in es) → EachPacket P es
+  pub each_packet : (es : List (Event Carried)) → All P (packets_in es) → EachPacket P es
   each_packet [] h = tt
   each_packet (SendPacket p ∷ es) h = (All-head P p (packets_in es) h, each_packet es (All-tail P p (packets_in es) h))
   each_packet (e ∷ es) h = each_packet es h
 
-  each_behind : (past es : List (Event Carried)) → All P (packets_in (past ++ es)) → EachPacket P es
+  pub each_behind : (past es : List (Event Carried)) → All P (packets_in (past ++ es)) → EachPacket P es
   each_behind [] es h = each_packet es h
   each_behind (SendPacket p ∷ past) es h = each_behind past es (All-tail P p (packets_in (past ++ es)) h)
   each_behind (e ∷ past) es h = each_behind past es h

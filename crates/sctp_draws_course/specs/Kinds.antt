@@ -1,12 +1,12 @@
 -- Packets by what opens an association in them; and the law of two courses, the packets of the first of which are of these kinds.
-use Rattle.std.specs.Prelude.{◌≡◌, ℕ, Bool, true, List, [], ◌∷◌, ◌++◌, All}
+use Rattle.std.specs.Prelude.{◌≡◌, ℕ, ◌==◌, not, length, Bool, true, false, List, [], ◌∷◌, ◌++◌, All}
 use Rattle.std.specs.List.{list_all}
 use Rattle.rand_core.specs.Stream.{Stream}
-use Rattle.sctp_packet.specs.Chunk.{ChunkTree, InitTree, init_chunk, init_ack_chunk, cookie_echo_chunk}
+use Rattle.sctp_packet.specs.Chunk.{ChunkTree, InitTree, data_chunk, idata_chunk, init_chunk, init_ack_chunk, cookie_echo_chunk, re_config_chunk}
 use Rattle.sctp_state.specs.Options.{Options}
 use Rattle.sctp_table_laws.specs.Mapped.{Carried}
 use Rattle.sctp_course.specs.Course.{Pair, emitted, Turn, goes, run, FollowsTheRules, HasNotEnded, AreGiven, start, state_of}
-use Rattle.sctp_draws.specs.Laws.{NumbersFitIn, is_flowing}
+use Rattle.sctp_draws.specs.Laws.{NumbersFitIn, number_fits, is_flowing}
 use Rattle.sctp_draws_course.specs.Pairing.{NoTagTwice}
 use Rattle.sctp_draws_course.specs.Alike.{SameTurns, TurnIsAlike}
 
@@ -17,6 +17,19 @@ pub data IsKind (cs : List ChunkTree) : Type 0 where
   an_answer : (i : InitTree) → cs ≡ init_ack_chunk i ∷ [] → IsKind cs
   an_echo : (cookie : List ℕ) (rest : List ChunkTree) → cs ≡ cookie_echo_chunk cookie ∷ rest → list_all is_flowing rest ≡ true → IsKind cs
   a_flow : list_all is_flowing cs ≡ true → IsKind cs
+
+-- The same, whatever DATA and RE-CONFIG hold.
+abbrev pub opens_nothing : ChunkTree → Bool
+opens_nothing (init_chunk i) = false
+opens_nothing (init_ack_chunk i) = false
+opens_nothing (cookie_echo_chunk cookie) = false
+opens_nothing chunk = true
+
+pub data IsShaped (cs : List ChunkTree) : Type 0 where
+  an_init : (i : InitTree) → cs ≡ init_chunk i ∷ [] → IsShaped cs
+  an_answer : (i : InitTree) → cs ≡ init_ack_chunk i ∷ [] → IsShaped cs
+  an_echo : (cookie : List ℕ) (rest : List ChunkTree) → cs ≡ cookie_echo_chunk cookie ∷ rest → list_all opens_nothing rest ≡ true → IsShaped cs
+  a_flow : list_all opens_nothing cs ≡ true → IsShaped cs
 
 -- all packets that were emitted so far; and the request numbers that both ends hold are of 32 bits
 pub record AreOfAKind (w : Pair) : Type 0 where
@@ -37,4 +50,38 @@ CoursesOfAKindAreAlike =
     → SameTurns (es ++ e ∷ []) (fs ++ f ∷ []) → FollowsTheRules (es ++ e ∷ []) (start a b words_a words_b)
     → HasNotEnded (run es (start a b words_a words_b)) → NoTagTwice (es ++ e ∷ []) (start a b words_a words_b)
     → NoTagTwice (fs ++ f ∷ []) (start a b others_a others_b) → KindsAlong es (start a b words_a words_b)
+    → TurnIsAlike e f (run es (start a b words_a words_b)) (run fs (start a b others_a others_b))
+
+-- ---- the same, asked of what DATA and RE-CONFIG hold alone
+
+abbrev pub is_whole : ChunkTree → Bool
+is_whole (data_chunk tsn immediate f) = not (length f.payload == 0)
+is_whole (idata_chunk tsn immediate f) = not (length f.payload == 0)
+is_whole (re_config_chunk parameters) = list_all number_fits parameters
+is_whole chunk = true
+
+abbrev pub IsWhole : Carried → Type 0
+IsWhole p = list_all is_whole p.chunks ≡ true
+
+pub record AreWhole (w : Pair) : Type 0 where
+  pub a : All IsWhole (emitted w.a)
+  pub b : All IsWhole (emitted w.b)
+
+-- at each point of a course
+abbrev pub WholeAlong : List (Bool × Turn) → Pair → Type 0
+WholeAlong [] w = AreWhole w
+WholeAlong (e ∷ es) w = AreWhole w × WholeAlong es (goes e.0 e.1 w)
+
+-- What ends tell is of these kinds, where their DATA has a payload and their request numbers are of 32 bits.
+abbrev pub PacketsAreOfAKind : Type 0
+PacketsAreOfAKind =
+    (a b : Options) (words_a words_b : Stream) (es : List (Bool × Turn)) → AreGiven a → AreGiven b → FollowsTheRules es (start a b words_a words_b)
+    → HasNotEnded (run es (start a b words_a words_b)) → WholeAlong es (start a b words_a words_b) → KindsAlong es (start a b words_a words_b)
+
+abbrev pub WholeCoursesAreAlike : Type 0
+WholeCoursesAreAlike =
+    (a b : Options) (words_a words_b others_a others_b : Stream) (es fs : List (Bool × Turn)) (e f : Bool × Turn) → AreGiven a → AreGiven b
+    → SameTurns (es ++ e ∷ []) (fs ++ f ∷ []) → FollowsTheRules (es ++ e ∷ []) (start a b words_a words_b)
+    → HasNotEnded (run es (start a b words_a words_b)) → NoTagTwice (es ++ e ∷ []) (start a b words_a words_b)
+    → NoTagTwice (fs ++ f ∷ []) (start a b others_a others_b) → WholeAlong es (start a b words_a words_b)
     → TurnIsAlike e f (run es (start a b words_a words_b)) (run fs (start a b others_a others_b))
