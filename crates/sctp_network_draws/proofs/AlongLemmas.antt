@@ -11,6 +11,12 @@ use Rattle.sctp_course.specs.Agreement.{Draw, Has, AreDistinct}
 use Rattle.sctp_draws.specs.NamedChunks.{Names, AreNames}
 use Rattle.sctp_draws_course.specs.Pairing.{drawn, drawn_at, NoTagTwice}
 use Rattle.sctp_draws_course.specs.Alike.{AreAlike, ArePairsAlike, SameTurn, SameTurns, TurnIsAlike, ArePassed}
+use Rattle.sctp_draws_course.specs.Kinds.{AreOfAKind, KindsAlong, WholeAlong, WholeCoursesAreAlike}
+use Rattle.sctp_draws.proofs.NamedLawLemmas.{each_call}
+use Rattle.sctp_draws_course.proofs.CourseLemmas.{courses_alike}
+use Rattle.sctp_draws_course.proofs.KindLemmas.{packets_of_a_kind, whole_alike}
+use Rattle.sctp_draws_course.proofs.LateLemmas.{late_named}
+use Rattle.sctp_draws_course.proofs.TellsLemmas.{ends_tell_own}
 use Rattle.sctp_draws_course.proofs.PairingLemmas.{has_left}
 use Rattle.sctp_draws_course.proofs.PassLemmas.{images_pass}
 use Rattle.sctp_network_table.specs.Judge.{End, A, B}
@@ -64,6 +70,15 @@ distinct_front (d ∷ ds) es h = (λ e has. h.0 e (has_left e ds es has), distin
 
 once_front : (es fs : List (Bool × Turn)) (c : Pair) → NoTagTwice (es ++ fs) c → NoTagTwice es c
 once_front es fs c h = distinct_front (drawn es c) (drawn fs (run es c)) (subst AreDistinct (drawn_both es fs c) h)
+
+-- ---- what courses are asked
+
+courses : WholeCoursesAreAlike
+courses = whole_alike (courses_alike each_call ends_tell_own (λ ps k. late_named ps k each_call))
+
+kinds_last : (es : List (Bool × Turn)) (c : Pair) → KindsAlong es c → AreOfAKind (run es c)
+kinds_last [] c h = h
+kinds_last (e ∷ es) c h = kinds_last es (goes e.0 e.1 c) h.1
 
 -- ---- two new ends
 
@@ -142,10 +157,11 @@ module _ (laws : CourseLaws) (w v : World) (p : ArePaired w v) (q : AreComparabl
       let may : MayTurn e.1 (course.side_of e.0 c) =
       may_turn f f action x u w c s.turn happens (happens_extends action x u happens) (runs_extends actions u w left) at.both s.is q.follows stands in
       let follows : course.FollowsTheRules (at.es ++ e ∷ []) first_start = follows_more at.es e first_start at.follows may in
+      let whole : WholeAlong at.es first_start = laws.whole p.a p.b p.words_a p.words_b at.es given_a given_b at.follows still in
       let law : TurnIsAlike e g c d =
-      laws.alike p.a p.b p.words_a p.words_b p.others_a p.others_b at.es at.fs e g given_a given_b sames follows still
+      courses p.a p.b p.words_a p.words_b p.others_a p.others_b at.es at.fs e g given_a given_b sames follows still
       (once f first_start front action actions at.es e after.turns q.first_tags split at.are (refl, s.is, after.are))
-      (once f second_start front action actions at.fs g after_too.turns q.second_tags split at.are_too (refl, r.is, after_too.are)) in
+      (once f second_start front action actions at.fs g after_too.turns q.second_tags split at.are_too (refl, r.is, after_too.are)) whole in
       record {
         es = at.es ++ e ∷ [];
         fs = at.fs ++ g ∷ [];
@@ -161,7 +177,8 @@ module _ (laws : CourseLaws) (w v : World) (p : ArePaired w v) (q : AreComparabl
         later_too = runs_extends actions z v left_too;
         shown =
             event_shown f action x u y z c d own happens happens_too at.both at.both_too s r law.before law.after law.acts
-            (ended_or_none laws.kinds p.a p.b p.words_a p.words_b f x at.es s.turn (end_of action) given_a given_b at.follows still may at.both) at.shown;
+            (ended_or_none p.a p.b p.words_a p.words_b f x at.es s.turn (end_of action)
+            (kinds_last at.es first_start (packets_of_a_kind p.a p.b p.words_a p.words_b at.es given_a given_b at.follows still whole)) still may at.both) at.shown;
       }
 
   along : (front actions : List Action) (x y : World) → p.actions ≡ front ++ actions → (r : Runs actions x w) (s : Runs actions y v) → All ActionFits actions
