@@ -39,14 +39,18 @@ given_cell ends.A caption = codes "<-" ++ left_cell 34 caption
 given_cell ends.B caption = right_cell 34 caption ++ codes "->"
 
 abbrev pub row_of_cells : (left middle right : List ℕ) → List ℕ
-row_of_cells left middle right = left ++ (codes " |" ++ (middle ++ (codes "| " ++ (right ++ (10 ∷ [])))))
+row_of_cells left middle right = left ++ (codes " |" ++ (middle ++ (codes "|" ++ (right ++ (10 ∷ [])))))
+
+-- what b says, behind a space
+abbrev pub note_cell : List ℕ → List ℕ
+note_cell text = codes " " ++ take 29 (map plain text)
 
 abbrev pub told_line : End → List ℕ → List ℕ
-told_line ends.A text = row_of_cells (right_cell 29 text) (replicate 36 32) (replicate 29 32)
-told_line ends.B text = row_of_cells (replicate 29 32) (replicate 36 32) (left_cell 29 text)
+told_line ends.A text = row_of_cells (right_cell 29 text) (replicate 36 32) []
+told_line ends.B text = row_of_cells (replicate 29 32) (replicate 36 32) (note_cell text)
 
 abbrev pub packet_line : List ℕ → List ℕ
-packet_line cell = row_of_cells (replicate 29 32) cell (replicate 29 32)
+packet_line cell = row_of_cells (replicate 29 32) cell []
 
 abbrev pub what_line : (all : List Row) → End → What → List ℕ
 what_line all end (kinds.Sent number bytes label) = packet_line (sent_cell end (sent_caption number (times_given all end number) (string_bytes label)))
@@ -58,4 +62,4 @@ line_of all row = what_line all row.end row.what
 
 -- the ends' names stand over their lifelines
 abbrev pub ladder_text : List Row → List ℕ
-ladder_text rows = row_of_cells (right_cell 29 (codes "a")) (replicate 36 32) (left_cell 29 (codes "b")) ++ flat_map (line_of rows) rows
+ladder_text rows = row_of_cells (right_cell 29 (codes "a")) (replicate 36 32) (codes " b") ++ flat_map (line_of rows) rows

@@ -35,21 +35,23 @@ fn chunk_name(kind: u8) -> &'static str
     }
 }
 
-/// The TSN that the chunk begins with, and for DATA the stream behind it.
+/// The TSN that the chunk begins with; behind it the stream of DATA, or how many blocks a SACK has.
 fn chunk_label(alloc: Global, item: RawItem) -> Result<String, AllocError> {
     let name = chunk_name(item.first);
     let (tsn, rest) = match (item.first, u32_at(item.value)) {
         (0 | 3 | 7 | 64 | 192 | 194, Ok((tsn, rest))) => (tsn, rest),
         _ => return format!(in alloc; "{name}"),
     };
-    match (item.first, u16_at(rest)) {
-        (0 | 64, Ok((stream, _))) => format!(in alloc; "{name} {tsn} s{stream}"),
+    let blocks = rest.get(4..).unwrap_or(&[]);
+    match (item.first, u16_at(rest), u16_at(blocks)) {
+        (0 | 64, Ok((stream, _)), _) => format!(in alloc; "{name} {tsn} s{stream}"),
+        (3, _, Ok((count, _))) if count > 0 => format!(in alloc; "{name} {tsn} +{count}"),
         _ => format!(in alloc; "{name} {tsn}"),
     }
 }
 
 /// The chunks of the packet, joined by commas: DATA with its TSN and stream, SACK, SHUTDOWN and forward points with the TSN up to which
-/// they go. A question mark stands for what is no chunk.
+/// they go, and behind `+` how many blocks a SACK has. A question mark stands for what is no chunk.
 pub fn packet_label(alloc: Global, bytes: &[u8]) -> Result<String, AllocError> {
     let mut label = String::new(alloc);
     let mut rest = bytes.get(HEADER_SIZE..).unwrap_or(&[]);

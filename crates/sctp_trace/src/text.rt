@@ -3,7 +3,7 @@
 ghost use Rattle.std.specs.Prelude.{◌≡◌, ◌++◌, ◌+◌, ◌-◌, ◌<◌, ◌^◌, ◌≤◌, length, map, replicate, OnOk, IfOk, codes, string_bytes};
 ghost use Rattle.std.specs.Fmt.{decimal};
 ghost use Rattle.sctp_trace.specs.Ascii.{plain};
-ghost use Rattle.sctp_trace.specs.Ladder.{left_cell, right_cell, mark, sent_caption, given_caption, sent_cell, given_cell, row_of_cells, told_line, packet_line, line_of, ladder_text};
+ghost use Rattle.sctp_trace.specs.Ladder.{left_cell, right_cell, note_cell, mark, sent_caption, given_caption, sent_cell, given_cell, row_of_cells, told_line, packet_line, line_of, ladder_text};
 
 use crate::giving::times_given;
 use crate::xml::plain;
@@ -53,6 +53,17 @@ fn right_cell(alloc: Global, width: usize, text: &[u8]) -> Result<Vec<u8>, Alloc
     front.truncate(width);
     let mut cell = Vec::new(alloc);
     push_spaces(&mut cell, width.saturating_sub(text.len()))?;
+    cell.extend_from_slice(&front)?;
+    Ok(cell)
+}
+
+/// What b says, behind a space.
+fn note_cell(alloc: Global, text: &[u8]) -> Result<Vec<u8>, AllocError>
+    ensures { IfOk result (λ v. v.items ≡ note_cell text.now) }
+{
+    let mut front = plain_bytes(alloc, text)?;
+    front.truncate(NOTE_WIDTH);
+    let mut cell = Vec::from_slice(alloc, b" ")?;
     cell.extend_from_slice(&front)?;
     Ok(cell)
 }
@@ -136,7 +147,7 @@ fn push_cells(
     text.extend_from_slice(left)?;
     text.extend_from_slice(b" |")?;
     text.extend_from_slice(middle)?;
-    text.extend_from_slice(b"| ")?;
+    text.extend_from_slice(b"|")?;
     text.extend_from_slice(right)?;
     text.extend_from_slice(b"\n")
 }
@@ -157,11 +168,15 @@ fn push_told(
 ) -> Result<(), AllocError>
     ensures { OnOk result (text.new.items ≡ text.old.items ++ told_line end words.now) }
 {
-    let note = spaces(alloc, NOTE_WIDTH)?;
     let middle = spaces(alloc, ARROW_WIDTH)?;
     match end {
-        End::A => push_cells(text, &right_cell(alloc, NOTE_WIDTH, words)?, &middle, &note),
-        End::B => push_cells(text, &note, &middle, &left_cell(alloc, NOTE_WIDTH, words)?),
+        End::A => push_cells(text, &right_cell(alloc, NOTE_WIDTH, words)?, &middle, b""),
+        End::B => push_cells(
+            text,
+            &spaces(alloc, NOTE_WIDTH)?,
+            &middle,
+            &note_cell(alloc, words)?,
+        ),
     }
 }
 
@@ -169,7 +184,7 @@ fn push_packet(text: &mut Vec<u8>, alloc: Global, cell: &[u8]) -> Result<(), All
     ensures { OnOk result (text.new.items ≡ text.old.items ++ packet_line cell.now) }
 {
     let note = spaces(alloc, NOTE_WIDTH)?;
-    push_cells(text, &note, cell, &note)
+    push_cells(text, &note, cell, b"")
 }
 
 fn push_line(
@@ -206,7 +221,7 @@ pub fn ladder(alloc: Global, rows: &[Row]) -> Result<Vec<u8>, AllocError>
         &mut text,
         &right_cell(alloc, NOTE_WIDTH, b"a")?,
         &spaces(alloc, ARROW_WIDTH)?,
-        &left_cell(alloc, NOTE_WIDTH, b"b")?,
+        b" b",
     )?;
     for row in rows {
         push_line(&mut text, alloc, rows, row)?;
