@@ -25,13 +25,17 @@ fn boxed(
     ensures event { IfOk result (λ b. b.value.event ≡ None) }
 {
     let socket = Socket::new(alloc, "socket", options, rng, checksum)?;
-    Ok(Box::new(
-        alloc,
-        Endpoint {
-            socket,
-            event: None,
-        },
-    )?)
+    let end = Endpoint {
+        socket,
+        event: None,
+    };
+    match Box::new(alloc, end) {
+        Ok(end) => Ok(end),
+        Err(failed) => {
+            drop(failed);
+            Err(CallError::Memory)
+        }
+    }
 }
 
 /// Makes a closed socket at moment zero, whose words come from this state and stream of a PCG.
