@@ -1,6 +1,6 @@
 //! What a socket told and has ready, handed out. What doesn't fit stays.
 
-ghost use Rattle.std.specs.Prelude.{◌≡◌, ◌<◌, ◌≤◌, None, Some, is_some, length, take, drop};
+ghost use Rattle.std.specs.Prelude.{◌≡◌, ◌≤◌, ◌↔◌, None, Some, IsTrue, is_some, length, take, drop};
 ghost use Rattle.sctp_c.specs.Calls.{Called, waiting};
 
 use crate::answers::{MEMORY, NOTHING, NO_SOCKET, OK, SHORT_BUFFER};
@@ -106,34 +106,36 @@ fn spell(alloc: Global, ids: &[StreamId]) -> Result<Vec<u8>, AllocError> {
     Ok(bytes)
 }
 
-/// Copies the bytes, where they fit.
-pub(crate) fn put_bytes(bytes: &[u8], buffer: &mut [u8]) -> u32
-    ensures fits { result ≡ 0 → length bytes.now ≤ length buffer.old }
-    ensures copied { result ≡ 0 → take (length bytes.now) buffer.new ≡ bytes.now }
-    ensures short { result ≡ 9 → length buffer.old < length bytes.now }
-    ensures known { (result ≡ 0) + (result ≡ 9) }
+/// Copies the bytes, and answers whether they fit.
+pub(crate) fn put_bytes(bytes: &[u8], buffer: &mut [u8]) -> bool
+    ensures fits { IsTrue result ↔ length bytes.now ≤ length buffer.old }
+    ensures copied { IsTrue result → take (length bytes.now) buffer.new ≡ bytes.now }
 {
     if buffer.len() < bytes.len() {
-        return SHORT_BUFFER;
+        return false;
     }
     buffer[..bytes.len()].copy_from_slice(bytes);
-    OK
+    true
 }
 
-fn hand_out(alloc: Global, told: &SocketEvent, head: &mut EventHead, buffer: &mut [u8]) -> u32 {
+/// Writes what an event is and, where they fit, its bytes.
+fn hand_out(
+    alloc: Global,
+    told: &SocketEvent,
+    head: &mut EventHead,
+    buffer: &mut [u8],
+) -> Result<bool, AllocError> {
     *head = head_of(told);
     match streams_of(told) {
-        Some(ids) => match spell(alloc, ids) {
-            Ok(bytes) => {
-                head.length = bytes.len();
-                put_bytes(&bytes, buffer)
-            }
-            Err(_error) => MEMORY,
-        },
+        Some(ids) => {
+            let bytes = spell(alloc, ids)?;
+            head.length = bytes.len();
+            Ok(put_bytes(&bytes, buffer))
+        }
         None => {
             let bytes = bytes_of(told);
             head.length = bytes.len();
-            put_bytes(bytes, buffer)
+            Ok(put_bytes(bytes, buffer))
         }
     }
 }
@@ -154,15 +156,20 @@ impl Endpoint {
     {
         match self.next_event() {
             None => NOTHING,
-            Some(told) => {
-                let answer = hand_out(alloc, &told, head, buffer);
-                if answer == OK {
+            Some(told) => match hand_out(alloc, &told, head, buffer) {
+                Ok(true) => {
                     drop(told);
-                } else {
-                    self.event = Some(told);
+                    OK
                 }
-                answer
-            }
+                Ok(false) => {
+                    self.event = Some(told);
+                    SHORT_BUFFER
+                }
+                Err(_error) => {
+                    self.event = Some(told);
+                    MEMORY
+                }
+            },
         }
     }
 }

@@ -6,7 +6,7 @@ ghost use Rattle.sctp_c.specs.Calls.{Called, ending_at};
 
 use crate::answers::{
     EMPTY_PAYLOAD, FAILED, INVALID_ARGUMENT, INVALID_STREAM, MEMORY, MESSAGE_TOO_LARGE, NOTHING,
-    NO_SOCKET, OK, RESOURCE_EXHAUSTION, SHUTTING_DOWN,
+    NO_SOCKET, OK, RESOURCE_EXHAUSTION, SHORT_BUFFER, SHUTTING_DOWN,
 };
 use crate::endpoint::Endpoint;
 use crate::events::{MessageHead, put_bytes};
@@ -55,7 +55,7 @@ impl Endpoint {
         ensures stays { result ≡ 9 → self.new ≡ self.old }
         ensures nothing { result ≡ 8 → self.new ≡ self.old }
     {
-        let answer = match self.socket.ready_message(0) {
+        let fits = match self.socket.ready_message(0) {
             None => return NOTHING,
             Some(message) => {
                 *head = MessageHead {
@@ -66,11 +66,12 @@ impl Endpoint {
                 put_bytes(&message.payload, buffer)
             }
         };
-        if answer == OK {
-            let taken = self.socket.get_next_message();
-            drop(taken);
+        if !fits {
+            return SHORT_BUFFER;
         }
-        answer
+        let taken = self.socket.get_next_message();
+        drop(taken);
+        OK
     }
 }
 
