@@ -9,7 +9,11 @@ use std::alloc::Global;
 
 fn nanos_of(moment: SocketTime) -> u64 {
     let nanos = moment.as_nanos();
-    if nanos < 1 << 64 { nanos as u64 } else { u64::MAX }
+    if nanos < 1 << 64 {
+        nanos as u64
+    } else {
+        u64::MAX
+    }
 }
 
 /// The moment by which the time is to be told next, in nanoseconds; the greatest number where no timer runs.

@@ -109,7 +109,10 @@ pub extern "C" fn sctp_advance_time(alloc: Global, socket: &mut Handle, nanos: u
     match socket.take(alloc) {
         None => NO_SOCKET,
         Some(mut end) => {
-            let answer = match end.socket.advance_time(SocketTime::zero() + Duration::from_nanos(nanos)) {
+            let answer = match end
+                .socket
+                .advance_time(SocketTime::zero() + Duration::from_nanos(nanos))
+            {
                 Ok(()) => OK,
                 Err(CallError::Memory) => MEMORY,
                 Err(CallError::Failed) => FAILED,

@@ -3,7 +3,7 @@
 ghost use Rattle.std.specs.Prelude.{◌≡◌, ◌≤◌, ◌↔◌, None, Some, IsTrue, is_some, length, take, drop};
 ghost use Rattle.sctp_c.specs.Calls.{Called, waiting};
 
-use crate::answers::{MEMORY, NOTHING, NO_SOCKET, OK, SHORT_BUFFER};
+use crate::answers::{MEMORY, NO_SOCKET, NOTHING, OK, SHORT_BUFFER};
 use crate::endpoint::Endpoint;
 use crate::handle::Handle;
 use sctp_association::{DcSctpSocket, ErrorKind, SocketEvent, StreamId};
@@ -198,4 +198,3 @@ pub extern "C" fn sctp_poll_event(
         }
     }
 }
-

@@ -4,7 +4,7 @@ ghost use Rattle.std.specs.Prelude.{◌≡◌, Option, Some, None, is_some, fals
 ghost use Rattle.sctp_state.specs.Options.{IsValid, options_of};
 ghost use Rattle.sctp_c.specs.declared.endpoint.Endpoint.{Endpoint as EndpointValue};
 
-use crate::answers::{INVALID_ARGUMENT, INVALID_OPTIONS, IN_USE, MEMORY, OK};
+use crate::answers::{IN_USE, INVALID_ARGUMENT, INVALID_OPTIONS, MEMORY, OK};
 use crate::checksum::PacketChecksum;
 use crate::endpoint::Endpoint;
 use crate::handle::Handle;

@@ -5,8 +5,8 @@ ghost use Rattle.sctp_association.specs.Socket.{Ends};
 ghost use Rattle.sctp_c.specs.Calls.{Called, ending_at};
 
 use crate::answers::{
-    EMPTY_PAYLOAD, FAILED, INVALID_ARGUMENT, INVALID_STREAM, MEMORY, MESSAGE_TOO_LARGE, NOTHING,
-    NO_SOCKET, OK, RESOURCE_EXHAUSTION, SHORT_BUFFER, SHUTTING_DOWN,
+    EMPTY_PAYLOAD, FAILED, INVALID_ARGUMENT, INVALID_STREAM, MEMORY, MESSAGE_TOO_LARGE, NO_SOCKET,
+    NOTHING, OK, RESOURCE_EXHAUSTION, SHORT_BUFFER, SHUTTING_DOWN,
 };
 use crate::endpoint::Endpoint;
 use crate::events::{MessageHead, put_bytes};

@@ -50,12 +50,19 @@ pub struct OptionsRecord {
 }
 
 const PARTIAL_RELIABILITY: u32 = 1;
+
 const MESSAGE_INTERLEAVING: u32 = 2;
+
 const NO_CHECKSUM_VERIFICATION: u32 = 4;
+
 const HANDOVER_WITH_OUTSTANDING_DATA: u32 = 8;
 
 fn limit_of(number: u32) -> Option<u32> {
-    if number == UNLIMITED { None } else { Some(number) }
+    if number == UNLIMITED {
+        None
+    } else {
+        Some(number)
+    }
 }
 
 fn span_of(nanos: u64) -> Option<Duration> {
@@ -69,24 +76,37 @@ fn span_of(nanos: u64) -> Option<Duration> {
 /// The nanoseconds of a span, or the greatest number.
 fn nanos_of(span: Duration) -> u64 {
     let nanos = span.as_nanos();
-    if nanos < 1 << 64 { nanos as u64 } else { u64::MAX }
+    if nanos < 1 << 64 {
+        nanos as u64
+    } else {
+        u64::MAX
+    }
 }
 
 /// The number of a size, or the greatest one.
 fn size_of(bytes: usize) -> u32 {
-    if bytes < 1 << 32 { bytes as u32 } else { u32::MAX }
+    if bytes < 1 << 32 {
+        bytes as u32
+    } else {
+        u32::MAX
+    }
 }
 
-fn flag_if(is_set: bool, flag: u32) -> u32
-{
+fn flag_if(is_set: bool, flag: u32) -> u32 {
     if is_set { flag } else { 0 }
 }
 
 fn flags_of(options: &Options) -> u32 {
     flag_if(options.enable_partial_reliability, PARTIAL_RELIABILITY)
         | flag_if(options.enable_message_interleaving, MESSAGE_INTERLEAVING)
-        | flag_if(options.disable_checksum_verification, NO_CHECKSUM_VERIFICATION)
-        | flag_if(options.enable_handover_with_outstanding_data, HANDOVER_WITH_OUTSTANDING_DATA)
+        | flag_if(
+            options.disable_checksum_verification,
+            NO_CHECKSUM_VERIFICATION,
+        )
+        | flag_if(
+            options.enable_handover_with_outstanding_data,
+            HANDOVER_WITH_OUTSTANDING_DATA,
+        )
 }
 
 impl OptionsRecord {
@@ -131,7 +151,9 @@ impl OptionsRecord {
             enable_partial_reliability: self.flags & PARTIAL_RELIABILITY != 0,
             enable_message_interleaving: self.flags & MESSAGE_INTERLEAVING != 0,
             heartbeat_interval_include_rtt: true,
-            zero_checksum_alternate_error_detection_method: ZeroChecksumAlternateErrorDetectionMethod(self.zero_checksum_method),
+            zero_checksum_alternate_error_detection_method: ZeroChecksumAlternateErrorDetectionMethod(
+                self.zero_checksum_method,
+            ),
             disable_checksum_verification: self.flags & NO_CHECKSUM_VERIFICATION != 0,
             enable_handover_with_outstanding_data: self.flags & HANDOVER_WITH_OUTSTANDING_DATA != 0,
         }
@@ -155,7 +177,9 @@ pub extern "C" fn sctp_default_options(record: &mut OptionsRecord) {
         max_send_buffer_size: size_of(options.max_send_buffer_size),
         per_stream_send_queue_limit: size_of(options.per_stream_send_queue_limit),
         total_buffered_amount_low_threshold: size_of(options.total_buffered_amount_low_threshold),
-        default_stream_buffered_amount_low_threshold: size_of(options.default_stream_buffered_amount_low_threshold),
+        default_stream_buffered_amount_low_threshold: size_of(
+            options.default_stream_buffered_amount_low_threshold,
+        ),
         cwnd_mtus_initial: size_of(options.cwnd_mtus_initial),
         cwnd_mtus_min: size_of(options.cwnd_mtus_min),
         avoid_fragmentation_cwnd_mtus: size_of(options.avoid_fragmentation_cwnd_mtus),
