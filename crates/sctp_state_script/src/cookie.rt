@@ -3,6 +3,7 @@
 use crate::answer::{
     Answer, Line, Subject, low_half, low_word, run_commands, tell, tell_all, tell_hex,
 };
+use hex::FromHexError;
 use sctp_serial::{Tsn, ZeroChecksumAlternateErrorDetectionMethod};
 use sctp_state::{Capabilities, StateCookie};
 use std::alloc::{AllocError, Global};
@@ -62,6 +63,7 @@ fn read(
             drop(bytes);
             outcome
         }
+        Err(FromHexError::OutOfMemory) => Err(AllocError),
         Err(_) => Ok(Answer::Unknown),
     }
 }
