@@ -90,15 +90,6 @@ pub lacks_then : {X : Type 0} (r : Result X WorldError) (action : Action) (w v :
 lacks_then (Ok x) action w v lacks same = tt
 lacks_then (Err e) action w v lacks same = λ is. lacks_one action w v (lacks is) (same is)
 
--- memory ran out at an event that the world could meet
-pub wants_there : {X : Type 0} (r : Result X WorldError) (failed : Bool) (action : Action) (w : World) → (failed ≡ false → Lacks action w → r ≡ Err errors.NoSuchPacket)
-    → IfErr r (λ e. e ≡ errors.Memory → failed ≡ false → Lacks action w → ⊥)
-wants_there (Ok x) failed action w missing = tt
-wants_there (Err e) failed action w missing = λ is works lacks. never e is (missing works lacks)
-  where
-    never : (e : WorldError) → e ≡ errors.Memory → Err e ≡ Err errors.NoSuchPacket → ⊥
-    never e is h = cc
-
 -- a new world
 pub led_new : (a b : Options) (words_a words_b : Stream) (word_of_a word_of_b : List ℕ → ℕ) → IsValid a → IsValid b → OptionsFit a → OptionsFit b
     → (w : World) → w ≡ fresh_world a b words_a words_b word_of_a word_of_b → IsLed w
