@@ -11,7 +11,7 @@ use Rattle.sctp_state.specs.declared.api.handover.HandoverOutgoingStream.{Handov
 use Rattle.sctp_state.specs.declared.api.handover.HandoverSocketState.{HandoverSocketState}
 use Rattle.sctp_state.specs.declared.api.handover.HandoverSocketState.TheVariants as handed
 use Rattle.sctp_state.specs.Handover.{HandoverState, StreamMessage, Transmission}
-use Rattle.sctp_state.specs.Scheduler.{scheduler, enable_message_interleaving}
+use Rattle.sctp_stream_scheduler.specs.Scheduler.{scheduler, enable_message_interleaving}
 use Rattle.sctp_state.specs.Validity.{rises_from, outgoing_ids, is_valid_message, has_stream, are_valid_messages, message_ids_differ, first_alone_is_partly_sent, partly_sent_count, has_valid_queue, has_valid_items, payload_fits, is_valid_reception, is_valid_transmission, is_valid_connection, is_valid_as}
 use Rattle.sctp_send_queue.specs.Queue.{Stream, Queue, blank}
 use Rattle.sctp_send_queue.specs.Restored.{message_from, is_on, messages_from, stream_from, entries_from, streams_from, restore}

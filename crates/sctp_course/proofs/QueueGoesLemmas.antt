@@ -9,7 +9,7 @@ use Rattle.std.specs.BTreeMap.{is_at, insert_entry}
 use Rattle.std.proofs.lemmas.Map.{keys-set_value}
 use Rattle.std.proofs.lemmas.Bool.Decides.{nat_tests}
 use Rattle.sctp_state.specs.Events.{Told}
-use Rattle.sctp_state.specs.Scheduler.{Scheduler, accept, accepted_at, finish_time}
+use Rattle.sctp_stream_scheduler.specs.Scheduler.{Scheduler, accept, accepted_at, finish_time}
 use Rattle.sctp_outstanding.specs.Items.{Discard}
 use Rattle.sctp_send_queue.specs.declared.send_queue.stream.ResetStep.{ResetStep}
 use Rattle.sctp_send_queue.specs.Queue.{Stream, Streams, Entries, Queue, blank, stream, opened, put}

@@ -8,7 +8,7 @@ use Rattle.std.proofs.lemmas.Bool.{lt-ltb}
 use Rattle.std.proofs.lemmas.List.{append-nil}
 use Rattle.std.proofs.lemmas.Bool.Decides.{nat_tests}
 use Rattle.sctp_state.specs.Events.{Told}
-use Rattle.sctp_state.specs.Scheduler.{peek}
+use Rattle.sctp_stream_scheduler.specs.Scheduler.{peek}
 use Rattle.sctp_send_queue.specs.declared.send_queue.message.MessageNumbers.{MessageNumbers}
 use Rattle.sctp_send_queue.specs.Queue.{Queued, Queue, Stream, Streams, blank_stream, stream, put, left, sendable}
 use Rattle.sctp_send_queue.specs.Produced.{Produced, Turn, is_due, fresh, streams_without_stale, made_of, front_made, front_numbers, moved_front, moved, ends, begun_by, turn, next_fragment, advanced, next_stream, produce_within, produce, in_line, streams_after}

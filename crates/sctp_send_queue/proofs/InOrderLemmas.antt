@@ -9,7 +9,7 @@ use Rattle.std.specs.BTreeMap.{is_at, insert_entry}
 use Rattle.std.proofs.lemmas.Bool.{lt-ltb}
 use Rattle.std.proofs.lemmas.Bool.Decides.{nat_tests}
 use Rattle.sctp_state.specs.Events.{Told}
-use Rattle.sctp_state.specs.Scheduler.{Scheduler, set_bytes_remaining, accept, accepted_at, finish_time, finish_now, is_active, left, entered, peek}
+use Rattle.sctp_stream_scheduler.specs.Scheduler.{Scheduler, set_bytes_remaining, accept, accepted_at, finish_time, finish_now, is_active, left, entered, peek}
 use Rattle.sctp_send_queue.specs.declared.send_queue.message.MessageNumbers.{MessageNumbers}
 use Rattle.sctp_send_queue.specs.declared.send_queue.stream.ResetStep.{ResetStep}
 use Rattle.sctp_send_queue.specs.declared.send_queue.stream.ResetStep.TheVariants.{Requested, Performed, Refused}

@@ -7,8 +7,8 @@ use Rattle.std.specs.BTreeMap.{is_at}
 use Rattle.std.proofs.lemmas.Bool.{lt-ltb, le-ltb, cases_lt}
 use Rattle.std.proofs.lemmas.Bool.Decides.{nat_tests}
 use Rattle.sctp_state.specs.Events.{Told}
-use Rattle.sctp_state.specs.Scheduler.{Times, best, peek, stream_in, finish_time}
-use Rattle.sctp_state.proofs.SchedulerLemmas.{none_is}
+use Rattle.sctp_stream_scheduler.specs.Scheduler.{Times, best, peek, stream_in, finish_time}
+use Rattle.sctp_stream_scheduler.proofs.SchedulerLemmas.{none_is}
 use Rattle.sctp_send_queue.specs.Queue.{Queue, Streams, stream, sendable}
 use Rattle.sctp_send_queue.specs.Produced.{Produced, Turn, turn, idle, next_stream, produce_within, produce, in_line, begun_by, streams_after, streams_without_stale}
 use Rattle.sctp_send_queue.specs.Interrupted.{Passed}

@@ -8,7 +8,7 @@ use Rattle.sctp_send_queue.specs.declared.send_queue.stream.ResetStep.{ResetStep
 use Rattle.sctp_send_queue.specs.declared.send_queue.stream.ResetStep.TheVariants.{Requested, Performed, Refused}
 use Rattle.sctp_send_queue.specs.Queue.{Queue, Queued, Stream, Streams, left, stream, put, opened, sendable, hears}
 use Rattle.sctp_state.specs.Events.{Told}
-use Rattle.sctp_state.specs.Scheduler.{Scheduler, set_bytes_remaining}
+use Rattle.sctp_stream_scheduler.specs.Scheduler.{Scheduler, set_bytes_remaining}
 use Rattle.std.specs.Map.{lookup}
 use Rattle.std.specs.Ordering.{nat_cmp}
 use Rattle.std.specs.BTreeMap.{is_at}

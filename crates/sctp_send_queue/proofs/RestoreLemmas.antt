@@ -16,7 +16,7 @@ use Rattle.sctp_state.specs.Handover.{HandoverState, StreamMessage, stream_messa
 use Rattle.sctp_state.specs.Validity.{rises_from, outgoing_ids, has_stream, is_valid_message, are_valid_messages, queued_bytes, is_valid_reception, has_valid_queue, has_valid_items, payload_fits, outstanding_bytes, is_valid_connection, is_valid_as, is_valid_state}
 use Rattle.sctp_state.specs.Numbers.{most_u32}
 use Rattle.sctp_state.specs.declared.api.handover.HandoverSocketState.TheVariants.{Connected}
-use Rattle.sctp_state.specs.Scheduler.{Scheduler, set_bytes_remaining}
+use Rattle.sctp_stream_scheduler.specs.Scheduler.{Scheduler, set_bytes_remaining}
 use Rattle.sctp_send_queue.specs.Queue.{Queued, Stream, Streams, Entries, amount_of, total_of, left, blank, stream, put, opened, pushed, sendable}
 use Rattle.sctp_send_queue.specs.Restored.{message_from, is_on, messages_from, stream_from, entries_from, each_heard}
 use Rattle.sctp_send_queue.proofs.StreamsLemmas.{total-written, stream-there}

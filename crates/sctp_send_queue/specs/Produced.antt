@@ -4,7 +4,7 @@ use Rattle.std.specs.Prelude.{ℕ, zero, suc, ◌+◌, ◌-◌, ◌%◌, ◌^◌
 use Rattle.sctp_serial.specs.Unwrapped.{origin, words, halves, wire}
 use Rattle.sctp_state.specs.Events.{Event, OnBufferedAmountLow, OnTotalBufferedAmountLow, OnLifecycleMessageFullySent, Told, tell_all, give_up, expiry}
 use Rattle.sctp_state.specs.declared.api.GivenUpCause.TheVariants.{Lifetime}
-use Rattle.sctp_state.specs.Scheduler.{Scheduler, accept, peek, set_bytes_remaining}
+use Rattle.sctp_stream_scheduler.specs.Scheduler.{Scheduler, accept, peek, set_bytes_remaining}
 use Rattle.sctp_state.specs.Thresholds.{crosses}
 use Rattle.sctp_chunk.specs.Chunk.{FragmentTree}
 use Rattle.sctp_send_queue.specs.declared.send_queue.message.MessageNumbers.{MessageNumbers}

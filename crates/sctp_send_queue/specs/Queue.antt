@@ -8,7 +8,7 @@ use Rattle.sctp_serial.specs.Time.{later}
 use Rattle.sctp_serial.specs.Unwrapped.{origin}
 use Rattle.sctp_state.specs.Numbers.{ms}
 use Rattle.sctp_state.specs.Options.{Options}
-use Rattle.sctp_state.specs.Scheduler.{Scheduler, scheduler, set_bytes_remaining}
+use Rattle.sctp_stream_scheduler.specs.Scheduler.{Scheduler, scheduler, set_bytes_remaining}
 use Rattle.sctp_state.specs.Thresholds.{Watched}
 use Rattle.sctp_send_queue.specs.declared.send_queue.message.MessageNumbers.{MessageNumbers}
 use Rattle.sctp_send_queue.specs.declared.send_queue.stream.PauseState.{PauseState}

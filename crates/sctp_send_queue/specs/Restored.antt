@@ -4,7 +4,7 @@ use Rattle.sctp_serial.specs.Unwrapped.{origin}
 use Rattle.sctp_state.specs.declared.api.handover.HandoverOutgoingStream.{HandoverOutgoingStream}
 use Rattle.sctp_state.specs.Handover.{StreamMessage, Transmission}
 use Rattle.sctp_state.specs.HandoverTimes.{moment_from, lifecycle_from}
-use Rattle.sctp_state.specs.Scheduler.{Scheduler, scheduler, enable_message_interleaving}
+use Rattle.sctp_stream_scheduler.specs.Scheduler.{Scheduler, scheduler, enable_message_interleaving}
 use Rattle.sctp_state.specs.Validity.{is_partly_sent, outgoing_ids}
 use Rattle.sctp_send_queue.specs.declared.send_queue.message.MessageNumbers.{MessageNumbers}
 use Rattle.sctp_send_queue.specs.declared.send_queue.stream.PauseState.TheVariants.{NotPaused}

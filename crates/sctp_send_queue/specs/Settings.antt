@@ -1,7 +1,7 @@
 -- Thresholds and priorities of streams, and messages that are given up while they are partly sent.
 use Rattle.std.specs.Prelude.{ℕ, ◌==◌, Bool, false, if◌then◌else◌, Option, Some, None, List, [], ◌∷◌}
 use Rattle.sctp_state.specs.Events.{Told, tell_all, expiry, OnBufferedAmountLow}
-use Rattle.sctp_state.specs.Scheduler.{enable_message_interleaving}
+use Rattle.sctp_stream_scheduler.specs.Scheduler.{enable_message_interleaving}
 use Rattle.sctp_state.specs.Thresholds.{crosses}
 use Rattle.sctp_send_queue.specs.Queue.{Queued, Stream, Streams, Queue, watched_amount, stream, opened, put, hears}
 use Rattle.sctp_send_queue.specs.Produced.{settled, when}

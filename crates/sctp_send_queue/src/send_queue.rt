@@ -8,7 +8,7 @@ ghost use Rattle.std.specs.Ordering.{nat_cmp};
 ghost use Rattle.std.specs.BTreeMap.{is_at};
 ghost use Rattle.sctp_state.specs.Options.{options_of};
 ghost use Rattle.sctp_state.specs.Events.{Grown, expiry, tell_all};
-ghost use Rattle.sctp_state.specs.Scheduler.{set_bytes_remaining};
+ghost use Rattle.sctp_stream_scheduler.specs.Scheduler.{set_bytes_remaining};
 ghost use Rattle.sctp_state.specs.Thresholds.{crosses};
 ghost use Rattle.sctp_send_queue.specs.declared.send_queue.stream.ResetStep.TheVariants.{Requested, Performed, Refused};
 ghost use Rattle.sctp_send_queue.specs.Queue.{amount_of, total_of, watched_amount, watched_total, stream, opened, sendable, queue, added, is_empty};
@@ -34,8 +34,8 @@ use message::QueuedMessage;
 use sctp_serial::{LifecycleId, Message, OutgoingMessageId, SocketTime, StreamId};
 use sctp_state::{
     Events, HandoverReadiness, Options, SendOptions, SocketEvent, SocketHandoverState,
-    StreamScheduler,
 };
+use sctp_stream_scheduler::StreamScheduler;
 use std::alloc::{AllocError, Global};
 use std::marker::Model;
 use stream::ResetStep;

@@ -2,7 +2,7 @@
 use Rattle.std.proofs.Common.{◌≡◌, ℕ, ◌≤◌, List, [], ◌∷◌, ◌++◌, length, take, ap, sym, ◌∙◌, arith, subst, take_all, take-take, length-take}
 use Rattle.std.proofs.lemmas.List.{take-append-le}
 use Rattle.sctp_state.specs.declared.api.GivenUpCause.{GivenUpCause}
-use Rattle.sctp_state.specs.Events.{Event, GivenUp, Told, Grown, tell, tell_all, tell_given_up, give_up, mark_of, rolled_back}
+use Rattle.sctp_state.specs.Events.{Event, GivenUp, Told, Grown, tell_all, give_up, mark_of, rolled_back}
 
 front : {X : Type 0} (xs ys : List X) → take (length xs) (xs ++ ys) ≡ xs
 front xs ys = take-append-le (length xs) xs ys (omega arith) ∙ take_all (length xs) xs (omega arith)

@@ -1,3 +1,2 @@
 pub mod EventLemmas
 mod Rows
-pub mod SchedulerLemmas

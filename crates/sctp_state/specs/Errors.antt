@@ -1,5 +1,5 @@
 -- How often in turn the peer didn't answer (RFC 9260 section 8.1).
-use Rattle.std.specs.Prelude.{ℕ, ◌+◌, ◌≤◌, nat_lt, min, Bool, false, Option}
+use Rattle.std.specs.Prelude.{ℕ, ◌+◌, nat_lt, min, Bool, false, Option}
 use Rattle.std.specs.Option.{option_map_or}
 
 pub record ErrorCounter : Type 0 where

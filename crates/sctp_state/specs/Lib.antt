@@ -9,6 +9,5 @@ pub mod Rtt
 pub mod Timers
 pub mod Errors
 pub mod Validity
-pub mod Scheduler
 pub mod Thresholds
 pub mod ErrorNumbers

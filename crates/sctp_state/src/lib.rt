@@ -4,7 +4,6 @@
 pub mod api;
 pub mod events;
 pub mod retransmission_timeout;
-pub mod stream_scheduler;
 pub mod threshold_watcher;
 pub mod timer;
 pub mod tx_error_counter;
@@ -16,7 +15,6 @@ pub use api::{
 };
 pub use events::{EventMark, EventSink, Events};
 pub use retransmission_timeout::RetransmissionTimeout;
-pub use stream_scheduler::StreamScheduler;
 pub use threshold_watcher::ThresholdWatcher;
 pub use timer::{BackoffAlgorithm, MAX_DURATION, MAX_RESTARTS, Timer};
 pub use tx_error_counter::TxErrorCounter;

@@ -2,7 +2,7 @@
 
 use crate::answer::{Answer, Line, Subject, low_half, run_commands};
 use sctp_serial::StreamId;
-use sctp_state::StreamScheduler;
+use sctp_stream_scheduler::StreamScheduler;
 use std::alloc::{AllocError, Global};
 
 pub fn run(

@@ -12,7 +12,7 @@ use Rattle.sctp_serial.specs.Unwrapped.{words, halves, wire}
 use Rattle.sctp_state.specs.Numbers.{most_u32}
 use Rattle.sctp_capabilities.specs.Capabilities.{Capabilities, zero_checksum_enabled, same_method}
 use Rattle.sctp_state.specs.Handover.{HandoverState, Transmission}
-use Rattle.sctp_state.specs.Scheduler.{Scheduler, scheduler, enable_message_interleaving}
+use Rattle.sctp_stream_scheduler.specs.Scheduler.{Scheduler, scheduler, enable_message_interleaving}
 use Rattle.sctp_state.specs.Validity.{rises_from, outgoing_ids, ordered_ids, unordered_ids, has_small_numbers, is_valid_reception, are_valid_messages, message_ids_differ, first_alone_is_partly_sent, partly_sent_count, has_valid_queue, are_valid_items, has_valid_items, payload_fits, queued_bytes, outstanding_bytes, is_valid_transmission, is_valid_state}
 use Rattle.sctp_rx.specs.Delivery.{OrderedStream, UnorderedStream}
 use Rattle.sctp_rx.specs.Seen.{has_gap}

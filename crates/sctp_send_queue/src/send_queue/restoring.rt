@@ -9,8 +9,9 @@ ghost use Rattle.sctp_send_queue.specs.Restored.{restore, each_heard, scheduler_
 use crate::send_queue::SendQueue;
 use crate::send_queue::streams::Streams;
 use sctp_serial::{OutgoingMessageId, SocketTime, StreamId};
+use sctp_state::SocketHandoverState;
 use sctp_state::api::handover::{HandoverOutgoingStream, HandoverStreamMessage};
-use sctp_state::{SocketHandoverState, StreamScheduler};
+use sctp_stream_scheduler::StreamScheduler;
 use std::alloc::{AllocError, Global};
 
 // Tells the scheduler what the streams of a record have to send.

@@ -1,7 +1,7 @@
 use Rattle.std.proofs.Common.{ap, sym, ◌∙◌}
 use Rattle.std.specs.Prelude.{option_map}
-use Rattle.sctp_state.specs.Scheduler.{Scheduler, left}
-use Rattle.sctp_state.proofs.SchedulerLemmas.{withdraws}
+use Rattle.sctp_stream_scheduler.specs.Scheduler.{Scheduler, left}
+use Rattle.sctp_stream_scheduler.proofs.SchedulerLemmas.{withdraws}
 use Rattle.sctp_send_queue.specs.Queue.{Queue, Streams}
 use Rattle.sctp_send_queue.proofs.send_queue.SendQueue.add.Goals as goal
 

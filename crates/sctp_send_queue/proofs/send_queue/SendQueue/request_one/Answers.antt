@@ -1,6 +1,6 @@
 use Rattle.std.proofs.Common.{ap, sym, ◌∙◌}
 use Rattle.std.specs.Prelude.{option_map}
-use Rattle.sctp_state.specs.Scheduler.{Scheduler, set_bytes_remaining}
+use Rattle.sctp_stream_scheduler.specs.Scheduler.{Scheduler, set_bytes_remaining}
 use Rattle.sctp_send_queue.specs.declared.send_queue.stream.ResetStep.TheVariants.{Requested}
 use Rattle.sctp_send_queue.specs.Queue.{Queue, Streams, stream, put}
 use Rattle.sctp_send_queue.specs.Resets.{after_step, stepped}

@@ -1,4 +1,4 @@
-use Rattle.std.proofs.Common.{◌≡◌, ℕ, List, ap, sym, ◌∙◌, take}
+use Rattle.std.proofs.Common.{ℕ, List, ap, sym, ◌∙◌, take}
 use Rattle.std.specs.Prelude.{map}
 use Rattle.std.proofs.lemmas.List.{take-map}
 use Rattle.sctp_state.specs.Events.{Event, GivenUp, Told, event_of, given_up_of, rolled_back}

@@ -1,5 +1,5 @@
 -- The next stream: the best of the finish times is ahead of all, and is the first turn of the index.
-use Rattle.std.proofs.Common.{◌≡◌, ℕ, ◌<◌, ◌≤◌, Bool, true, false, cond, List, [], ◌∷◌, length, Option, Some, None, is_some, refl, ap, sym, subst, ◌∙◌, inl, inr, arith, ◌⊎◌, Less, Equal, Greater, IsTrue, option_map, ◌==◌}
+use Rattle.std.proofs.Common.{◌≡◌, ℕ, ◌<◌, ◌≤◌, Bool, true, false, cond, List, [], ◌∷◌, Option, Some, None, is_some, refl, ap, sym, subst, ◌∙◌, inl, inr, arith, ◌⊎◌, Less, Equal, Greater, IsTrue, option_map, ◌==◌}
 use Rattle.std.proofs.lemmas.Bool.{lt-ltb, le-ltb, cases_lt}
 use Rattle.std.proofs.lemmas.Bool.Decides.{nat_tests}
 use Rattle.std.specs.Ordering.{nat_cmp, is_gt, is_eq, match_ordering}
@@ -8,7 +8,7 @@ use Rattle.std.specs.List.{AllByRecursion, list_any}
 use Rattle.std.specs.List.Sorted.{IsStrictlySortedBy}
 use Rattle.std.specs.Map.{lookup, remove_entry, keys_of}
 use Rattle.std.specs.BTreeMap.{is_at, insert_entry}
-use Rattle.sctp_state.specs.Scheduler.{Times, Scheduler, best, IsAhead, IsNext, Indexes, finish_time, finish_now, is_time, is_active, left, entered, set_bytes_remaining, turn_cmp, stream_in}
+use Rattle.sctp_stream_scheduler.specs.Scheduler.{Times, Scheduler, best, IsAhead, IsNext, Indexes, finish_time, finish_now, is_time, is_active, left, entered, set_bytes_remaining, turn_cmp, stream_in}
 
 above : (m k : ℕ) → nat_cmp m k ≡ Less → m < k
 above m k e = grind (arith, nat_tests)

@@ -4,7 +4,7 @@ ghost use Rattle.std.specs.Prelude.{◌≡◌, ℕ, ◌<◌, ◌^◌, ◌==◌, 
 ghost use Rattle.std.specs.Map.{remove_entry};
 ghost use Rattle.std.specs.Ordering.{nat_cmp};
 ghost use Rattle.std.specs.BTreeMap.{IsOrdered, is_at, insert_entry};
-ghost use Rattle.sctp_state.specs.Scheduler.{Indexes, IsNext, finish_time, best, stream_in};
+ghost use Rattle.sctp_stream_scheduler.specs.Scheduler.{Indexes, IsNext, finish_time, best, stream_in};
 
 use sctp_serial::StreamId;
 use std::alloc::{AllocError, Global};
@@ -27,7 +27,7 @@ pub struct StreamScheduler {
 }
 
 impl Model for StreamScheduler {
-    ghost use Rattle.sctp_state.specs.Scheduler.{Scheduler, Indexes};
+    ghost use Rattle.sctp_stream_scheduler.specs.Scheduler.{Scheduler, Indexes};
 
     ghost Value = { Scheduler };
 
@@ -115,7 +115,7 @@ fn first_turn(finish_times: &BTreeMap<u16, u128>, turns: &BTreeSet<(u128, u16)>)
 }
 
 impl StreamScheduler {
-    ghost use Rattle.sctp_state.specs.Scheduler.{scheduler, is_active, set_bytes_remaining, accept, peek, enable_message_interleaving, left, finish_at};
+    ghost use Rattle.sctp_stream_scheduler.specs.Scheduler.{scheduler, is_active, set_bytes_remaining, accept, peek, enable_message_interleaving, left, finish_at};
 
     /// No stream has anything to send. `max_payload` is the largest payload of a fragment, in bytes.
     pub fn new(alloc: Global, max_payload: usize) -> StreamScheduler
