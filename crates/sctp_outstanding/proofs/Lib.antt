@@ -2,12 +2,12 @@ pub mod AgainLemmas
 pub mod EntriesLemmas
 pub mod ExpiryLemmas
 pub mod ForwardLemmas
+pub mod HeardLemmas
 pub mod KeepsLemmas
 pub mod LaidLemmas
 pub mod LossesLemmas
 pub mod PointLemmas
 pub mod RecordLemmas
-pub mod RestLemmas
 pub mod RoomLemmas
 pub mod SackLemmas
 pub mod SkipLemmas

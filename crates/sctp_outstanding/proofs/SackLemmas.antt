@@ -1,5 +1,5 @@
 -- A walk through items and blocks.
-use Rattle.std.proofs.Common.{◌≡◌, ℕ, zero, suc, ◌+◌, ◌<◌, ◌≤◌, Bool, true, false, IsTrue, cond, List, [], ◌∷◌, length, drop, slice_index_or, min, refl, ap, sym, subst, ◌∙◌, arith}
+use Rattle.std.proofs.Common.{◌≡◌, ℕ, zero, suc, ◌+◌, ◌<◌, ◌≤◌, Bool, true, false, cond, List, [], ◌∷◌, length, drop, slice_index_or, min, refl, ap, sym, subst, ◌∙◌, arith}
 use Rattle.std.specs.Prelude.{nat_le, slice_get}
 use Rattle.std.proofs.Math.Seq.{drop-cons}
 use Rattle.std.proofs.lemmas.Bool.Decides.{nat_tests}
@@ -12,7 +12,7 @@ use Rattle.sctp_outstanding.specs.Passes.{IsCursor, IsWalk, settle_from, acked_f
 
 -- ---- blocks
 
-none-below : (lowest offset : ℕ) (bs : List GapAckBlock) → AreRuns lowest bs → offset < lowest → is_covered bs offset ≡ false
+pub none-below : (lowest offset : ℕ) (bs : List GapAckBlock) → AreRuns lowest bs → offset < lowest → is_covered bs offset ≡ false
 none-below lowest offset [] h less = refl
 none-below lowest offset (b ∷ bs) h less =
     let ih = none-below (b.end + 2) offset bs h.2 (omega (arith, h.0, h.1, less)) in
@@ -20,7 +20,7 @@ none-below lowest offset (b ∷ bs) h less =
     let first : lowest ≤ b.start = h.0 in
     grind (arith, nat_tests, ih)
 
-covered-first : (lowest offset : ℕ) (b : GapAckBlock) (bs : List GapAckBlock) → AreRuns lowest (b ∷ bs) → offset ≤ b.end → nat_le b.start offset ≡ is_covered (b ∷ bs) offset
+pub covered-first : (lowest offset : ℕ) (b : GapAckBlock) (bs : List GapAckBlock) → AreRuns lowest (b ∷ bs) → offset ≤ b.end → nat_le b.start offset ≡ is_covered (b ∷ bs) offset
 covered-first lowest offset b bs h less =
     let rest = none-below (b.end + 2) offset bs h.2 (omega (arith, less)) in
     grind (arith, nat_tests, rest)
@@ -40,12 +40,6 @@ settle-next bs zero offset (i ∷ is) = refl
 settle-next bs (suc k) offset [] = refl
 settle-next bs (suc k) offset (i ∷ is) = ap (λ js. i ∷ js) (settle-next bs k offset is)
 
-pub settle-done : (bs : List GapAckBlock) (k offset : ℕ) (is : List Item) → length is ≤ k → settle_from bs k offset is ≡ is
-settle-done bs zero offset [] h = refl
-settle-done bs zero offset (i ∷ is) h = absurd (omega (arith, h))
-settle-done bs (suc k) offset [] h = refl
-settle-done bs (suc k) offset (i ∷ is) h = ap (λ js. i ∷ js) (settle-done bs k offset is (omega (arith, h)))
-
 pub acked-next : (bs : List GapAckBlock) (m : Bool) (f : Item → Item) (k offset : ℕ) (is : List Item)
     → bytes_of (is_covered bs offset) m (slice_get is k) + acked_from bs m (suc k) (suc offset) (change_at k f is) ≡ acked_from bs m k offset is
 acked-next bs m f zero offset [] = refl
@@ -53,24 +47,12 @@ acked-next bs m f zero offset (i ∷ is) = refl
 acked-next bs m f (suc k) offset [] = refl
 acked-next bs m f (suc k) offset (i ∷ is) = acked-next bs m f k offset is
 
-pub acked-done : (bs : List GapAckBlock) (m : Bool) (k offset : ℕ) (is : List Item) → length is ≤ k → acked_from bs m k offset is ≡ 0
-acked-done bs m zero offset [] h = refl
-acked-done bs m zero offset (i ∷ is) h = absurd (omega (arith, h))
-acked-done bs m (suc k) offset [] h = refl
-acked-done bs m (suc k) offset (i ∷ is) h = acked-done bs m k offset is (omega (arith, h))
-
 pub below-next : (bs : List GapAckBlock) (f : Item → Item) (k offset place most : ℕ) (is : List Item) → k < length is
     → below_from bs (suc k) (suc offset) (suc place) (cond (newly_of (is_covered bs offset) (slice_get is k)) place most) (change_at k f is) ≡ below_from bs k offset place most is
 below-next bs f zero offset place most [] h = absurd (omega (arith, h))
 below-next bs f zero offset place most (i ∷ is) h = refl
 below-next bs f (suc k) offset place most [] h = absurd (omega (arith, h))
 below-next bs f (suc k) offset place most (i ∷ is) h = below-next bs f k offset place most is (omega (arith, h))
-
-pub below-done : (bs : List GapAckBlock) (k offset place most : ℕ) (is : List Item) → length is ≤ k → below_from bs k offset place most is ≡ most
-below-done bs zero offset place most [] h = refl
-below-done bs zero offset place most (i ∷ is) h = absurd (omega (arith, h))
-below-done bs (suc k) offset place most [] h = refl
-below-done bs (suc k) offset place most (i ∷ is) h = below-done bs k offset place most is (omega (arith, h))
 
 -- ---- a cursor goes on
 
@@ -80,22 +62,6 @@ cursor-on bs offset from h = record { within = h.within; same = λ o le. h.same 
 pub walk-on : (b : Bool) (bs : List GapAckBlock) (offset from : ℕ) → IsWalk b bs offset from → IsWalk b bs (offset + 1) from
 walk-on true bs offset from h = cursor-on bs offset from h
 walk-on false bs offset from h = tt
-
-pub walk-start : (b : Bool) (bs : List GapAckBlock) → (IsTrue b → AreRuns 0 bs) → IsWalk b bs 1 0
-walk-start true bs h = record { within = omega arith; same = λ o le. refl; lowest = 0; runs = h refl }
-walk-start false bs h = tt
-
-pub walk-in : (b : Bool) (bs : List GapAckBlock) (offset from : ℕ) → b ≡ true → IsWalk b bs offset from → IsCursor bs offset from
-walk-in true bs offset from e h = h
-walk-in false bs offset from e h = cc
-
-pub walk-of : (b : Bool) (bs : List GapAckBlock) (offset from : ℕ) → b ≡ true → IsCursor bs offset from → IsWalk b bs offset from
-walk-of true bs offset from e h = h
-walk-of false bs offset from e h = tt
-
-pub walk-off : (b : Bool) (bs : List GapAckBlock) (offset from : ℕ) → b ≡ false → IsWalk b bs offset from
-walk-off true bs offset from e = cc
-walk-off false bs offset from e = tt
 
 -- ---- one item more
 

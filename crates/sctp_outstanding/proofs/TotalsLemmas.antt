@@ -6,9 +6,9 @@ use Rattle.std.proofs.lemmas.List.Elements.{All-head, All-tail, All-cons, All-ni
 use Rattle.sctp_outstanding.specs.declared.totals.Totals.{Totals}
 use Rattle.sctp_outstanding.specs.declared.kept.Change.{Change}
 use Rattle.sctp_outstanding.specs.declared.kept.Change.TheVariants as changes
-use Rattle.sctp_outstanding.specs.Item.{Item, chunk_size, header_size, is_outstanding, should_be_retransmitted, is_fast, is_acked, may_expire}
+use Rattle.sctp_outstanding.specs.Item.{Item, chunk_size, header_size, is_outstanding, should_be_retransmitted, is_fast, may_expire}
 use Rattle.sctp_outstanding.specs.Change.{changed}
-use Rattle.sctp_outstanding.specs.Items.{change_at, when, packet_part, payload_part, flight_part, queued_part, fast_part, acked_part, expiring_part}
+use Rattle.sctp_outstanding.specs.Items.{change_at, when, packet_part, payload_part, flight_part, queued_part, fast_part, expiring_part}
 use Rattle.sctp_outstanding.specs.Totals.{parts, nothing, exchanged, IsSmall, AreTotals, Exchanges}
 
 -- ---- the item at a place
@@ -123,8 +123,8 @@ module _ (m : Bool) (is js : List Item) (old new t : Totals) (before : AreTotals
 
   -- totals follow where each sum does
   pub follow : Moves (packet_part m) (λ u. u.packet_bytes) → Moves payload_part (λ u. u.payload_bytes) → Moves flight_part (λ u. u.flights) → Moves queued_part (λ u. u.queued)
-      → Moves fast_part (λ u. u.fast) → Moves acked_part (λ u. u.acked) → Moves expiring_part (λ u. u.expiring) → AreTotals m js (exchanged old new t)
-  follow a b c d e f g = record {
+      → Moves fast_part (λ u. u.fast) → Moves expiring_part (λ u. u.expiring) → AreTotals m js (exchanged old new t)
+  follow a b c d e f = record {
     packet = replaced t.packet_bytes (sum_by (packet_part m) is) old.packet_bytes new.packet_bytes (sum_by (packet_part m) js) (2 ^ 128 - 1) before.packet a.0 a.1
         (bytes-fit (length js) (sum_by (packet_part m) js) few (sum-small (packet_part m) (2 ^ 33) (packet-le m) js small));
     payload = replaced t.payload_bytes (sum_by payload_part is) old.payload_bytes new.payload_bytes (sum_by payload_part js) (2 ^ 128 - 1) before.payload b.0 b.1
@@ -135,9 +135,7 @@ module _ (m : Bool) (is js : List Item) (old new t : Totals) (before : AreTotals
         (counts-fit (length js) (sum_by queued_part js) few (sum-small queued_part 1 (one-le should_be_retransmitted) js small));
     fast = replaced t.fast (sum_by fast_part is) old.fast new.fast (sum_by fast_part js) (2 ^ 64 - 1) before.fast e.0 e.1
         (counts-fit (length js) (sum_by fast_part js) few (sum-small fast_part 1 (one-le is_fast) js small));
-    acked = replaced t.acked (sum_by acked_part is) old.acked new.acked (sum_by acked_part js) (2 ^ 64 - 1) before.acked f.0 f.1
-        (counts-fit (length js) (sum_by acked_part js) few (sum-small acked_part 1 (one-le is_acked) js small));
-    expiring = replaced t.expiring (sum_by expiring_part is) old.expiring new.expiring (sum_by expiring_part js) (2 ^ 64 - 1) before.expiring g.0 g.1
+    expiring = replaced t.expiring (sum_by expiring_part is) old.expiring new.expiring (sum_by expiring_part js) (2 ^ 64 - 1) before.expiring f.0 f.1
         (counts-fit (length js) (sum_by expiring_part js) few (sum-small expiring_part 1 (one-le may_expire) js small));
     small = small;
   }
@@ -151,7 +149,6 @@ totals-changed m k x is old new t before few h =
     (moves m x flight_part (λ u. u.flights) (λ i. refl) refl k is old new h)
     (moves m x queued_part (λ u. u.queued) (λ i. refl) refl k is old new h)
     (moves m x fast_part (λ u. u.fast) (λ i. refl) refl k is old new h)
-    (moves m x acked_part (λ u. u.acked) (λ i. refl) refl k is old new h)
     (moves m x expiring_part (λ u. u.expiring) (λ i. refl) refl k is old new h)
 
 pushed : (f : Item → ℕ) (is : List Item) (i : Item) → (sum_by f (is ++ i ∷ []) + 0 ≡ sum_by f is + f i) × (0 ≤ sum_by f is)
@@ -160,7 +157,7 @@ pushed f is i = (omega (arith, sum_by_push f is i), omega arith)
 pub totals-pushed : (m : Bool) (is : List Item) (i : Item) (t : Totals) → AreTotals m is t → length (is ++ i ∷ []) < 2 ^ 64 → IsSmall i → AreTotals m (is ++ i ∷ []) (exchanged nothing (parts m i) t)
 totals-pushed m is i t before few h =
     follow m is (is ++ i ∷ []) nothing (parts m i) t before few (All-append IsSmall is (i ∷ []) before.small (All-cons IsSmall i [] h (All-nil IsSmall)))
-    (pushed (packet_part m) is i) (pushed payload_part is i) (pushed flight_part is i) (pushed queued_part is i) (pushed fast_part is i) (pushed acked_part is i) (pushed expiring_part is i)
+    (pushed (packet_part m) is i) (pushed payload_part is i) (pushed flight_part is i) (pushed queued_part is i) (pushed fast_part is i) (pushed expiring_part is i)
 
 popped : (f : Item → ℕ) (i : Item) (is : List Item) → (sum_by f is + f i ≡ sum_by f (i ∷ is) + 0) × (f i ≤ sum_by f (i ∷ is))
 popped f i is = (omega (arith, sum_by-cons f i is), omega (arith, sum_by-cons f i is))
@@ -168,7 +165,7 @@ popped f i is = (omega (arith, sum_by-cons f i is), omega (arith, sum_by-cons f 
 pub totals-popped : (m : Bool) (i : Item) (is : List Item) (t : Totals) → AreTotals m (i ∷ is) t → length is < 2 ^ 64 → AreTotals m is (exchanged (parts m i) nothing t)
 totals-popped m i is t before few =
     follow m (i ∷ is) is (parts m i) nothing t before few (All-tail IsSmall i is before.small)
-    (popped (packet_part m) i is) (popped payload_part i is) (popped flight_part i is) (popped queued_part i is) (popped fast_part i is) (popped acked_part i is) (popped expiring_part i is)
+    (popped (packet_part m) i is) (popped payload_part i is) (popped flight_part i is) (popped queued_part i is) (popped fast_part i is) (popped expiring_part i is)
 
 pub totals-as : (m : Bool) (is js : List Item) (t u : Totals) → AreTotals m is t → js ≡ is → u ≡ t → AreTotals m js u
 totals-as m is js t u h a b = subst (λ ks. AreTotals m ks u) (sym a) (subst (λ v. AreTotals m is v) (sym b) h)

@@ -6,7 +6,7 @@ use Rattle.sctp_serial.specs.Serial.{serial_difference}
 use Rattle.sctp_serial.specs.Unwrapped.{origin, words, wire, nearest}
 use Rattle.sctp_chunk.specs.Chunk.{FragmentTree}
 use Rattle.sctp_outstanding.specs.declared.item.ItemState.TheVariants.{InFlight}
-use Rattle.sctp_outstanding.specs.Item.{Item, is_of, abandon, is_outstanding, should_be_retransmitted, is_fast, is_acked, may_expire, chunk_size}
+use Rattle.sctp_outstanding.specs.Item.{Item, is_of, abandon, is_outstanding, should_be_retransmitted, is_fast, may_expire, chunk_size}
 
 -- a message of which the send queue is to drop what is left
 pub record Discard : Type 0 where
@@ -67,9 +67,6 @@ queued_part i = when (should_be_retransmitted i) 1
 
 abbrev pub fast_part : Item → ℕ
 fast_part i = when (is_fast i) 1
-
-abbrev pub acked_part : Item → ℕ
-acked_part i = when (is_acked i) 1
 
 abbrev pub expiring_part : Item → ℕ
 expiring_part i = when (may_expire i) 1

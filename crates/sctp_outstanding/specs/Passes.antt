@@ -1,9 +1,8 @@
 -- How far a walk through items and blocks has come. Each says that what is done and what is left give the whole.
-use Rattle.std.specs.Prelude.{◌≡◌, ℕ, zero, suc, ◌+◌, ◌≤◌, Bool, true, false, Option, Some, None, List, [], ◌∷◌, drop, length, slice_get}
+use Rattle.std.specs.Prelude.{◌≡◌, ℕ, zero, suc, ◌≤◌, Bool, true, false, List, [], ◌∷◌, drop, length}
 use Rattle.sctp_chunk.specs.declared.sack.GapAckBlock.{GapAckBlock}
 use Rattle.sctp_chunk.specs.Covered.{is_covered, AreRuns}
 use Rattle.sctp_outstanding.specs.Item.{Item}
-use Rattle.sctp_outstanding.specs.Items.{acked_part}
 use Rattle.sctp_outstanding.specs.Sack.{settle, newly_acked, below_highest}
 
 -- the blocks before `from` end before the offset, so that the others tell what is covered from there on
@@ -17,20 +16,6 @@ pub record IsCursor (blocks : List GapAckBlock) (offset from : ℕ) : Type 0 whe
 abbrev pub IsWalk : (is_in_runs : Bool) → List GapAckBlock → (offset from : ℕ) → Type 0
 IsWalk true blocks offset from = IsCursor blocks offset from
 IsWalk false blocks offset from = Unit {0}
-
--- how many of the first k items are acknowledged
-abbrev pub acked_before : (k : ℕ) → List Item → ℕ
-acked_before zero is = 0
-acked_before (suc k) [] = 0
-acked_before (suc k) (i ∷ is) = acked_part i + acked_before k is
-
-abbrev pub acked_of : Option Item → ℕ
-acked_of None = 0
-acked_of (Some i) = acked_part i
-
--- whether the item at the place is
-abbrev pub acked_at : (k : ℕ) → List Item → ℕ
-acked_at k is = acked_of (slice_get is k)
 
 -- the first k items are settled, and the rest is to be
 abbrev pub settle_from : List GapAckBlock → (k offset : ℕ) → List Item → List Item

@@ -5,7 +5,7 @@ use Rattle.sctp_outstanding.specs.declared.totals.Totals.{Totals}
 use Rattle.sctp_outstanding.specs.declared.kept.Change.{Change}
 use Rattle.sctp_outstanding.specs.Item.{Item}
 use Rattle.sctp_outstanding.specs.Change.{changed}
-use Rattle.sctp_outstanding.specs.Items.{packet_part, payload_part, flight_part, queued_part, fast_part, acked_part, expiring_part}
+use Rattle.sctp_outstanding.specs.Items.{packet_part, payload_part, flight_part, queued_part, fast_part, expiring_part}
 
 -- what one item adds
 abbrev pub parts : (is_interleaved : Bool) → Item → Totals
@@ -15,12 +15,11 @@ parts is_interleaved i = record {
   flights = flight_part i;
   queued = queued_part i;
   fast = fast_part i;
-  acked = acked_part i;
   expiring = expiring_part i;
 }
 
 abbrev pub nothing : Totals
-nothing = record { packet_bytes = 0; payload_bytes = 0; flights = 0; queued = 0; fast = 0; acked = 0; expiring = 0 }
+nothing = record { packet_bytes = 0; payload_bytes = 0; flights = 0; queued = 0; fast = 0; expiring = 0 }
 
 -- the totals with one part in place of another
 abbrev pub exchanged : (old new : Totals) → Totals → Totals
@@ -30,7 +29,6 @@ exchanged old new t = record {
   flights = min (t.flights - old.flights + new.flights) (2 ^ 64 - 1);
   queued = min (t.queued - old.queued + new.queued) (2 ^ 64 - 1);
   fast = min (t.fast - old.fast + new.fast) (2 ^ 64 - 1);
-  acked = min (t.acked - old.acked + new.acked) (2 ^ 64 - 1);
   expiring = min (t.expiring - old.expiring + new.expiring) (2 ^ 64 - 1);
 }
 
@@ -44,7 +42,6 @@ pub record AreTotals (is_interleaved : Bool) (is : List Item) (t : Totals) : Typ
   pub flights : t.flights ≡ sum_by flight_part is
   pub queued : t.queued ≡ sum_by queued_part is
   pub fast : t.fast ≡ sum_by fast_part is
-  pub acked : t.acked ≡ sum_by acked_part is
   pub expiring : t.expiring ≡ sum_by expiring_part is
   pub small : All IsSmall is
 

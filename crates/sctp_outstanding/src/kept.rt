@@ -1,20 +1,23 @@
 //! The kept items, with their totals.
 
-ghost use Rattle.std.specs.Prelude.{◌≡◌, ◌==◌, ℕ, Some, map, min, option_map, slice_get, not, nat_lt, sum_by, ◌<◌, ◌≤◌, ◌^◌, ◌∷◌, ◌++◌, [], length, drop, take, OnOk, OnErr, IfSome, IfNone};
+ghost use Rattle.std.specs.Prelude.{◌≡◌, ◌==◌, ◌+◌, ℕ, Some, map, min, option_map, slice_get, not, nat_lt, sum_by, ◌<◌, ◌≤◌, ◌^◌, ◌∷◌, ◌++◌, [], length, drop, take, OnOk, OnErr, IfSome, IfNone};
 ghost use Rattle.sctp_outstanding.specs.Change.{changed};
-ghost use Rattle.sctp_outstanding.specs.Items.{change_at, lay_down, is_of_at, last_of, later_of, without_payload, packet_part, payload_part, flight_part, queued_part, fast_part, acked_part, expiring_part};
+ghost use Rattle.sctp_outstanding.specs.Items.{change_at, lay_down, is_of_at, last_of, later_of, without_payload, packet_part, payload_part, flight_part, queued_part, fast_part, expiring_part};
 ghost use Rattle.sctp_outstanding.specs.Totals.{AreTotals, Exchanges};
 ghost use Rattle.sctp_outstanding.specs.Losses.{placeholder};
 ghost use Rattle.sctp_outstanding.specs.Views.{last_tree};
+ghost use Rattle.sctp_outstanding.specs.Heard.{Rest, RestBelow, RestFrom};
 ghost use Rattle.sctp_outstanding.specs.Sack.{reports};
 ghost use Rattle.sctp_state.specs.Events.{tell_all, Grown};
 
 mod handover;
 
+use crate::heard::{Heard, alike, reach};
 use crate::item::Item;
+use crate::sack::highest_end;
 use crate::telling::tell_left;
 use crate::totals::Totals;
-use sctp_chunk::Data;
+use sctp_chunk::{Data, GapAckBlock, are_runs};
 use sctp_serial::{Fsn, Mid, OutgoingMessageId, PpId, Ssn, StreamKey};
 use sctp_state::Events;
 use std::alloc::{AllocError, Global};
@@ -30,6 +33,17 @@ pub enum Change {
     Retransmit,
     MissFast,
     Abandon,
+}
+
+impl Change {
+    ghost use Rattle.sctp_outstanding.specs.Change.{is_of_sack};
+
+    /// Whether a SACK makes it, by what its blocks cover or not.
+    pub fn is_of_sack(self) -> bool
+        ensures { result ≡ is_of_sack self }
+    {
+        matches!(self, Change::Ack | Change::Uncover)
+    }
 }
 
 /// What a fragment says, without its payload.
@@ -208,17 +222,19 @@ pub struct Kept {
     is_interleaved: bool,
     items: VecDeque<Item>,
     totals: Totals,
+    heard: Heard,
 }
 
 impl Model for Kept {
     ghost use Rattle.sctp_outstanding.specs.Items.{Kept};
     ghost use Rattle.sctp_outstanding.specs.Totals.{AreTotals};
+    ghost use Rattle.sctp_outstanding.specs.Heard.{Knows};
 
     ghost Value = { Kept };
 
     ghost view = { λ k. record { is_interleaved = k.is_interleaved; items = k.items.items } };
 
-    ghost invariant = { λ k. AreTotals k.is_interleaved k.items.items k.totals };
+    ghost invariant = { λ k. AreTotals k.is_interleaved k.items.items k.totals × Knows k.heard k.items.items };
 }
 
 impl Kept {
@@ -232,6 +248,7 @@ impl Kept {
             is_interleaved,
             items: VecDeque::new(alloc),
             totals: Totals::nothing(),
+            heard: Heard::new(alloc),
         }
     }
 
@@ -289,11 +306,39 @@ impl Kept {
         self.totals.fast > 0
     }
 
-    /// How many items are acknowledged.
-    pub fn acked(&self) -> usize
-        ensures { result ≡ sum_by acked_part self.now.items }
+    /// How many of the first items are already as these blocks say.
+    pub fn front_as_in(&self, blocks: &[GapAckBlock]) -> usize
+        ensures { RestBelow blocks.now result 1 self.now.items }
     {
-        self.totals.acked
+        if !self.heard.is_known {
+            return 0;
+        }
+        if !are_runs(0, blocks) {
+            return 0;
+        }
+        alike(&self.heard.runs, self.heard.offset, blocks)
+    }
+
+    /// Behind how many of the first items all are already as these blocks say.
+    pub fn back_as_in(&self, blocks: &[GapAckBlock]) -> usize
+        ensures rest { RestFrom blocks.now result (result + 1) self.now.items }
+        ensures within { result ≤ length self.now.items }
+    {
+        let len = self.items.len();
+        if !self.heard.is_known {
+            return len;
+        }
+        let end = reach(&self.heard.runs, self.heard.offset, blocks);
+        if end < len { end } else { len }
+    }
+
+    /// The items are as these blocks say.
+    pub fn remember(&mut self, blocks: &[GapAckBlock])
+        requires { Rest blocks.now 1 self.old.items }
+        ensures { self.new ≡ self.old }
+    {
+        let is_within = highest_end(blocks) as usize <= self.items.len();
+        self.heard.hear(blocks, is_within);
     }
 
     /// Whether an item that is missing or lost has a lifetime.
@@ -314,6 +359,7 @@ impl Kept {
             place,
             how,
         );
+        self.heard.see(how);
     }
 
     /// Adds an item behind the others. Without memory nothing changes.
@@ -321,7 +367,10 @@ impl Kept {
         ensures ok { OnOk result (self.new ≡ record self.old { items = self.old.items ++ item ∷ [] }) }
         ensures err { OnErr result (self.new ≡ self.old) }
     {
-        push_item(&mut self.items, &mut self.totals, self.is_interleaved, item)
+        let acked = item.is_acked();
+        push_item(&mut self.items, &mut self.totals, self.is_interleaved, item)?;
+        self.heard.take(acked);
+        Ok(())
     }
 
     /// Takes the first item out.
@@ -330,6 +379,7 @@ impl Kept {
         ensures none { IfNone result (self.old.items ≡ []) }
         ensures rest { self.new ≡ record self.old { items = drop 1 self.old.items } }
     {
+        self.heard.pass();
         pop_item(&mut self.items, &mut self.totals, self.is_interleaved)
     }
 

@@ -6,7 +6,7 @@ ghost use Rattle.sctp_chunk.specs.Covered.{is_covered};
 ghost use Rattle.sctp_outstanding.specs.Item.{chunk_size};
 ghost use Rattle.sctp_outstanding.specs.Items.{change_at};
 ghost use Rattle.sctp_outstanding.specs.Sack.{open_size, left_part, settle, newly_acked, below_highest, settled, new_bytes_at, is_new_at, highest_end};
-ghost use Rattle.sctp_outstanding.specs.Passes.{IsCursor, IsWalk, acked_at};
+ghost use Rattle.sctp_outstanding.specs.Passes.{IsCursor, IsWalk};
 
 use crate::item::Item;
 use crate::kept::{Change, Kept};
@@ -49,8 +49,8 @@ pub fn take_out(kept: &mut Kept, count: usize) -> usize
     bytes
 }
 
-// The first block from `from` on that doesn't end before the offset.
-fn skip_blocks(blocks: &[GapAckBlock], mut from: usize, offset: usize) -> usize
+/// The first block from `from` on that doesn't end before the offset.
+pub fn skip_blocks(blocks: &[GapAckBlock], mut from: usize, offset: usize) -> usize
     requires { IsCursor blocks.now offset from }
     ensures cursor { IsCursor blocks.now offset result }
     ensures ends { (d : GapAckBlock) → result < length blocks.now → offset ≤ (slice_index_or blocks.now result d).end }
@@ -164,35 +164,21 @@ fn settle_at(kept: &mut Kept, blocks: &[GapAckBlock], place: usize, walk: Walk) 
     }
 }
 
-// One where the item at the place is acknowledged.
-fn acked_at(kept: &Kept, place: usize) -> usize
-    ensures acked { result ≡ acked_at place kept.now.items }
-    ensures few { result ≤ 1 }
-{
-    match kept.get(place) {
-        Some(item) => usize::from(item.is_acked()),
-        None => 0,
-    }
-}
-
-/// Acknowledges the items that blocks cover, and has those in flight again that no block covers any more. Behind the last
-/// block it looks no further than to the last item that was acknowledged. Blocks that are runs are walked along with the
-/// items, others are searched for each item.
+/// Acknowledges the items that blocks cover, and has those in flight again that no block covers any more. It begins where the
+/// blocks differ from the last ones, and ends behind both. Blocks that are runs are walked along with the items, others are
+/// searched for each item.
 pub fn settle_all(kept: &mut Kept, blocks: &[GapAckBlock]) -> Covered
     ensures items { kept.new ≡ record kept.old { items = settle blocks.now 1 kept.old.items } }
     ensures bytes { result.bytes ≡ min (newly_acked blocks.now kept.old.is_interleaved 1 kept.old.items) (2 ^ 64 - 1) }
     ensures below { result.below ≡ below_highest blocks.now 1 0 0 kept.old.items }
 {
+    let begin = kept.front_as_in(blocks);
+    let end = kept.back_as_in(blocks);
     let mut walk = walk_through(blocks);
-    let end = highest_end(blocks) as usize;
-    let mut acked = 0;
-    for place in 0..kept.len() {
-        if place >= end && kept.acked() == acked {
-            return walk.covered;
-        }
+    for place in begin..end {
         walk = settle_at(kept, blocks, place, walk);
-        acked += acked_at(kept, place);
     }
+    kept.remember(blocks);
     walk.covered
 }
 

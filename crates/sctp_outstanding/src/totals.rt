@@ -7,8 +7,7 @@ ghost use Rattle.sctp_outstanding.specs.Totals.{parts, exchanged, nothing};
 use crate::item::Item;
 
 /// Sums over the items: of those in flight or missing the bytes of their chunks, of their payloads, and how many they are;
-/// how many are to be sent again, in all and by the fast packet, how many are acknowledged, and how many are missing or lost
-/// and have a lifetime.
+/// how many are to be sent again, in all and by the fast packet, and how many are missing or lost and have a lifetime.
 #[derive(Clone, Copy)]
 pub struct Totals {
     pub packet_bytes: u128,
@@ -16,7 +15,6 @@ pub struct Totals {
     pub flights: usize,
     pub queued: usize,
     pub fast: usize,
-    pub acked: usize,
     pub expiring: usize,
 }
 
@@ -42,7 +40,6 @@ impl Totals {
             flights: 0,
             queued: 0,
             fast: 0,
-            acked: 0,
             expiring: 0,
         }
     }
@@ -58,7 +55,6 @@ impl Totals {
             flights: one_if(flies),
             queued: one_if(item.should_be_retransmitted()),
             fast: one_if(item.is_fast()),
-            acked: one_if(item.is_acked()),
             expiring: one_if(item.may_expire()),
         }
     }
@@ -73,7 +69,6 @@ impl Totals {
             flights: count(self.flights, old.flights, new.flights),
             queued: count(self.queued, old.queued, new.queued),
             fast: count(self.fast, old.fast, new.fast),
-            acked: count(self.acked, old.acked, new.acked),
             expiring: count(self.expiring, old.expiring, new.expiring),
         }
     }

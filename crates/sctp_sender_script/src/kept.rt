@@ -47,12 +47,25 @@ fn push(alloc: Global, kept: &mut Kept, line: &Line<'_>) -> Result<Answer, Alloc
     }
 }
 
+/// How many are acknowledged.
+fn acked(kept: &Kept) -> u64 {
+    let mut count: u64 = 0;
+    for place in 0..kept.len() {
+        let is_acked = match kept.get(place) {
+            Some(item) => item.is_acked(),
+            None => false,
+        };
+        count = count.saturating_add(u64::from(is_acked));
+    }
+    count
+}
+
 /// `counts`: how many are in flight or missing, and acknowledged; the bytes of the former's chunks, and of their payloads.
 fn counts(alloc: Global, kept: &Kept) -> Result<Answer, AllocError> {
     let text = format!(in alloc;
         "{} {} {} {}",
         kept.flights(),
-        kept.acked(),
+        acked(kept),
         kept.flight_bytes(),
         kept.flight_payload()
     )?;

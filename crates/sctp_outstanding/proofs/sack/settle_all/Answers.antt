@@ -1,32 +1,57 @@
-use Rattle.std.proofs.Common.{◌≡◌, ◌≤◌, ◌<◌, ◌+◌, ◌-◌, ◌^◌, min, refl, ap, sym, ◌∙◌, arith, length}
-use Rattle.std.specs.List.{sum_by}
-use Rattle.sctp_outstanding.specs.Items.{Kept, change_at, acked_part}
-use Rattle.sctp_outstanding.specs.Sack.{settled, new_bytes_at, highest_end}
+use Rattle.std.proofs.Common.{◌≡◌, ◌≤◌, ◌<◌, ◌+◌, ◌-◌, ◌^◌, List, min, refl, ap, sym, subst, ◌∙◌, arith, length}
+use Rattle.sctp_outstanding.specs.Item.{Item}
+use Rattle.sctp_outstanding.specs.Items.{Kept, change_at}
+use Rattle.sctp_outstanding.specs.Sack.{settle, settled, new_bytes_at}
 use Rattle.sctp_chunk.specs.Covered.{is_covered}
-use Rattle.sctp_outstanding.specs.Passes.{acked_from, acked_before}
+use Rattle.sctp_outstanding.specs.Passes.{acked_from, below_from}
+use Rattle.sctp_outstanding.specs.Heard.{Rest, RestFrom}
 use Rattle.sctp_outstanding.proofs.TotalsLemmas.{length-change}
-use Rattle.sctp_outstanding.proofs.RestLemmas.{counted, settled-end, acked-end, below-end}
-use Rattle.sctp_outstanding.proofs.SackLemmas.{settle-step, acked-step, below-step, summed, walk-on, settle-done, acked-done, below-done, kept-as}
+use Rattle.sctp_outstanding.proofs.HeardLemmas.{settle-begin, acked-begin, below-begin, walk-later, from-changed, from-later, settle-from, acked-from, below-from, rest-settle}
+use Rattle.sctp_outstanding.proofs.SackLemmas.{settle-step, acked-step, below-step, summed, walk-on, kept-as}
 use Rattle.sctp_outstanding.proofs.sack.settle_all.Goals as goal
+
+pub loop-place-init : goal.loop-place-init
+loop-place-init c =
+    let bs = c.args.blocks.now in
+    let is = c.args.kept.now.items in
+    let m = c.args.kept.now.is_interleaved in
+    let k = c.front_as_in-begin.result in
+    let w = c.walk_through-walk.result in
+    let front = c.front_as_in-begin.ensures in
+    let none = c.walk_through-walk.ensures.bytes in
+    let same = acked-begin bs m k is front in
+    record {
+      mode = refl;
+      len = refl;
+      inside = c.back_as_in-end.ensures.within;
+      cursor = walk-later w.is_in_runs bs k w.block c.walk_through-walk.ensures.cursor;
+      items = settle-begin bs k is front;
+      rest = c.back_as_in-end.ensures.rest;
+      fits = omega (arith, none);
+      bytes = omega (arith, none, same);
+      below = ap (λ n. below_from bs k (k + 1) k n is) c.walk_through-walk.ensures.below ∙ below-begin bs k 0 is front;
+    }
 
 pub loop-place-preserved : goal.loop-place-preserved
 loop-place-preserved c =
     let bs = c.args.blocks.now in
     let k = c.loop-place.place in
+    let e = c.back_as_in-end.result in
     let is = c.loop-place.kept.items in
     let js = c.settle_at-walk.new.kept.items in
     let m = c.args.kept.now.is_interleaved in
     let there : js ≡ change_at k (settled (is_covered bs (k + 1))) is = ap (λ (x : Kept). x.items) c.settle_at-walk.ensures.items in
     let more : c.settle_at-walk.result.covered.bytes ≡ min (c.loop-place.walk.covered.bytes + new_bytes_at bs m k is) (2 ^ 64 - 1) =
     c.settle_at-walk.ensures.bytes ∙ ap (λ b. min (c.loop-place.walk.covered.bytes + new_bytes_at bs b k is) (2 ^ 64 - 1)) c.loop-place.invariant.mode in
-    let within : k < length is = omega (arith, c.loop-place.invariant.len, c.len-place-end.ensures) in
+    let before : k < e = omega arith in
+    let within : k < length is = omega (arith, before, c.loop-place.invariant.len, c.loop-place.invariant.inside) in
     record {
       mode = ap (λ (x : Kept). x.is_interleaved) c.settle_at-walk.ensures.items ∙ c.loop-place.invariant.mode;
       len = ap (λ xs. length xs) there ∙ length-change k (settled (is_covered bs (k + 1))) is ∙ c.loop-place.invariant.len;
+      inside = c.loop-place.invariant.inside;
       cursor = walk-on c.settle_at-walk.result.is_in_runs bs (k + 1) c.settle_at-walk.result.block c.settle_at-walk.ensures.cursor;
       items = settle-step bs k is js there ∙ c.loop-place.invariant.items;
-      acked = counted (settled (is_covered bs (k + 1))) k is js c.loop-place.acked c.acked_at-acked.result _ there c.loop-place.invariant.acked c.acked_at-acked.ensures.acked refl;
-      few = omega (arith, c.loop-place.invariant.few, c.acked_at-acked.ensures.few);
+      rest = subst (λ (xs : List Item). RestFrom bs e (e + 1) xs) (sym there) (from-changed bs e (e + 1) k (settled (is_covered bs (k + 1))) is before c.loop-place.invariant.rest);
       fits = omega (arith, more);
       bytes =
           summed c.loop-place.walk.covered.bytes (new_bytes_at bs m k is) (acked_from bs m (k + 1) (k + 1 + 1) js) c.settle_at-walk.result.covered.bytes _ (2 ^ 64 - 1) more
@@ -36,48 +61,45 @@ loop-place-preserved c =
           ∙ c.loop-place.invariant.below;
     }
 
+-- behind the walk no item changes
+
+pub remember-requires : goal.remember-requires
+remember-requires c =
+    let bs = c.args.blocks.now in
+    let k = c.loop-place.place in
+    let is = c.loop-place.kept.items in
+    let behind : c.back_as_in-end.result ≤ k = omega arith in
+    let all : RestFrom bs k (k + 1) is = from-later bs k c.back_as_in-end.result is behind c.loop-place.invariant.rest in
+    let done : is ≡ settle bs 1 c.args.kept.now.items = sym (settle-from bs k (k + 1) is all) ∙ c.loop-place.invariant.items in
+    subst (λ (xs : List Item). Rest bs 1 xs) (sym done) (rest-settle bs 1 c.args.kept.now.items)
+
 pub returns-clause-items : goal.returns-clause-items
 returns-clause-items c =
-    let all : length c.loop-place.kept.items ≤ c.loop-place.place = omega (arith, c.loop-place.invariant.len, c.len-place-end.ensures) in
-    kept-as c.loop-place.kept c.args.kept.now.is_interleaved _ c.loop-place.invariant.mode
-    (sym (settle-done c.args.blocks.now c.loop-place.place (c.loop-place.place + 1) c.loop-place.kept.items all) ∙ c.loop-place.invariant.items)
+    let bs = c.args.blocks.now in
+    let k = c.loop-place.place in
+    let is = c.loop-place.kept.items in
+    let behind : c.back_as_in-end.result ≤ k = omega arith in
+    let all : RestFrom bs k (k + 1) is = from-later bs k c.back_as_in-end.result is behind c.loop-place.invariant.rest in
+    c.remember.ensures ∙ kept-as c.loop-place.kept c.args.kept.now.is_interleaved _ c.loop-place.invariant.mode (sym (settle-from bs k (k + 1) is all) ∙ c.loop-place.invariant.items)
 
 pub returns-clause-bytes : goal.returns-clause-bytes
 returns-clause-bytes c =
-    let all : length c.loop-place.kept.items ≤ c.loop-place.place = omega (arith, c.loop-place.invariant.len, c.len-place-end.ensures) in
-    let none = acked-done c.args.blocks.now c.args.kept.now.is_interleaved c.loop-place.place (c.loop-place.place + 1) c.loop-place.kept.items all in
-    let same : c.loop-place.walk.covered.bytes ≡ min (c.loop-place.walk.covered.bytes + acked_from c.args.blocks.now c.args.kept.now.is_interleaved c.loop-place.place (c.loop-place.place + 1) c.loop-place.kept.items) (2 ^ 64 - 1) =
+    let bs = c.args.blocks.now in
+    let k = c.loop-place.place in
+    let m = c.args.kept.now.is_interleaved in
+    let is = c.loop-place.kept.items in
+    let behind : c.back_as_in-end.result ≤ k = omega arith in
+    let all : RestFrom bs k (k + 1) is = from-later bs k c.back_as_in-end.result is behind c.loop-place.invariant.rest in
+    let none = acked-from bs m k (k + 1) is all in
+    let same : c.loop-place.walk.covered.bytes ≡ min (c.loop-place.walk.covered.bytes + acked_from bs m k (k + 1) is) (2 ^ 64 - 1) =
     omega (arith, none, c.loop-place.invariant.fits) in
     same ∙ c.loop-place.invariant.bytes
 
 pub returns-clause-below : goal.returns-clause-below
 returns-clause-below c =
-    let all : length c.loop-place.kept.items ≤ c.loop-place.place = omega (arith, c.loop-place.invariant.len, c.len-place-end.ensures) in
-    sym (below-done c.args.blocks.now c.loop-place.place (c.loop-place.place + 1) c.loop-place.place c.loop-place.walk.covered.below c.loop-place.kept.items all) ∙ c.loop-place.invariant.below
-
--- where no block reaches and nothing was acknowledged from here on
-
-pub returns-then-acked-clause-items : goal.returns-then-acked-clause-items
-returns-then-acked-clause-items c =
+    let bs = c.args.blocks.now in
     let k = c.loop-place.place in
     let is = c.loop-place.kept.items in
-    let far : highest_end c.args.blocks.now ≤ k = omega (arith, c.highest_end-end.ensures, c.if-place-end.true) in
-    let none : sum_by acked_part is ≡ acked_before k is = sym c.acked.ensures ∙ c.if-acked.true ∙ c.loop-place.invariant.acked in
-    kept-as c.loop-place.kept c.args.kept.now.is_interleaved _ c.loop-place.invariant.mode
-    (sym (settled-end c.args.blocks.now k is far none) ∙ c.loop-place.invariant.items)
-
-pub returns-then-acked-clause-bytes : goal.returns-then-acked-clause-bytes
-returns-then-acked-clause-bytes c =
-    let k = c.loop-place.place in
-    let m = c.args.kept.now.is_interleaved in
-    let is = c.loop-place.kept.items in
-    let far : highest_end c.args.blocks.now ≤ k = omega (arith, c.highest_end-end.ensures, c.if-place-end.true) in
-    let none = acked-end c.args.blocks.now m k is far in
-    let same : c.loop-place.walk.covered.bytes ≡ min (c.loop-place.walk.covered.bytes + acked_from c.args.blocks.now m k (k + 1) is) (2 ^ 64 - 1) =
-    omega (arith, none, c.loop-place.invariant.fits) in
-    same ∙ c.loop-place.invariant.bytes
-
-pub returns-then-acked-clause-below : goal.returns-then-acked-clause-below
-returns-then-acked-clause-below c =
-    let far : highest_end c.args.blocks.now ≤ c.loop-place.place = omega (arith, c.highest_end-end.ensures, c.if-place-end.true) in
-    sym (below-end c.args.blocks.now c.loop-place.place c.loop-place.walk.covered.below c.loop-place.kept.items far) ∙ c.loop-place.invariant.below
+    let behind : c.back_as_in-end.result ≤ k = omega arith in
+    let all : RestFrom bs k (k + 1) is = from-later bs k c.back_as_in-end.result is behind c.loop-place.invariant.rest in
+    sym (below-from bs k (k + 1) k c.loop-place.walk.covered.below is all) ∙ c.loop-place.invariant.below
