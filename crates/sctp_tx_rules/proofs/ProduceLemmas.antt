@@ -9,7 +9,7 @@ use Rattle.std.proofs.lemmas.Bool.{cases_eq, eq-eqb, ne_eqb, and_parts, eqb-true
 use Rattle.std.proofs.Math.Nat.{mod-eq_of_lt}
 use Rattle.sctp_serial.specs.Unwrapped.{origin}
 use Rattle.sctp_state.specs.Events.{Told}
-use Rattle.sctp_state.specs.Scheduler.{Scheduler, accept, accepted_at, finish_time, peek}
+use Rattle.sctp_stream_scheduler.specs.Scheduler.{Scheduler, accept, accepted_at, finish_time, peek}
 use Rattle.sctp_send_queue.specs.declared.send_queue.message.MessageNumbers.{MessageNumbers}
 use Rattle.sctp_send_queue.specs.Queue as queue
 use Rattle.sctp_send_queue.specs.Queue.{Queued, Queue, Stream, Streams, blank, stream}

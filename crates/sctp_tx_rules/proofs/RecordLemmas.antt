@@ -1,17 +1,17 @@
 -- One record a message: the rules give up each message once.
-use Rattle.std.proofs.Common.{◌≡◌, ℕ, Bool, true, false, not, cond, inl, inr, Option, Some, List, [], ◌∷◌, ◌++◌, map, refl, sym, ap, ◌∙◌, subst, append_assoc, append-nil}
-use Rattle.std.specs.Prelude.{◌==◌, ◌&&◌, ◌||◌}
+use Rattle.std.proofs.Common.{◌≡◌, ℕ, Bool, true, false, not, inl, inr, Option, List, [], ◌∷◌, ◌++◌, map, refl, sym, ap, ◌∙◌, subst, append_assoc}
+use Rattle.std.specs.Prelude.{◌==◌, ◌||◌}
 use Rattle.std.specs.List.{AllByRecursion}
-use Rattle.std.proofs.lemmas.Bool.{and_parts, and_from, cases_Bool, cases_eq, eq-eqb, ne_eqb, false_from_ne_true}
+use Rattle.std.proofs.lemmas.Bool.{and_parts, and_from, cases_eq, eq-eqb, ne_eqb, false_from_ne_true, or_parts}
 use Rattle.sctp_state.specs.Events.{GivenUp, Told}
-use Rattle.sctp_send_queue.specs.Queue.{Queued, Queue}
+use Rattle.sctp_send_queue.specs.Queue.{Queue}
 use Rattle.sctp_outstanding.specs.Item.{Item, is_abandoned}
-use Rattle.sctp_outstanding.specs.Items.{Items, Discard}
-use Rattle.sctp_rules.specs.State.{Message, Sender, Transfer, IsAmong, put, start, has}
+use Rattle.sctp_outstanding.specs.Items.{Items}
+use Rattle.sctp_rules.specs.State.{Message, Sender, Transfer, start, has}
 use Rattle.sctp_rules.specs.Rules.{Event, accept, begin, number, close, give_up, data_comes, late_comes, deliver, send_sack, leave, send_forward, forward_comes, forget, Happens, after}
 use Rattle.sctp_rules.proofs.ToolsLemmas.{put_at, put_off, not_both}
-use Rattle.sctp_tx_rules.specs.Led.{given_ups, recorded, Leads, LeadsTo}
-use Rattle.sctp_tx_rules.specs.Shown.{Shows, AreKept, found, messages_of}
+use Rattle.sctp_tx_rules.specs.Led.{given_ups, recorded, LeadsTo}
+use Rattle.sctp_tx_rules.specs.Shown.{Shows, AreKept}
 use Rattle.sctp_tx_rules.specs.Records.{are_distinct, all_recorded, OneRecord, HasOneRecord}
 use Rattle.sctp_tx_rules.proofs.RestLemmas.{has_more, records_row}
 
@@ -19,10 +19,6 @@ use Rattle.sctp_tx_rules.proofs.RestLemmas.{has_more, records_row}
 
 not_from : (b : Bool) → b ≡ false → not b ≡ true
 not_from b e = ap not e
-
-or_parts : (a b : Bool) → (a || b) ≡ false → (a ≡ false) × (b ≡ false)
-or_parts true b e = cc
-or_parts false b e = (refl, e)
 
 not_true : (b : Bool) → not b ≡ true → b ≡ false
 not_true true e = cc
@@ -33,13 +29,6 @@ or_swapped true true = refl
 or_swapped true false = refl
 or_swapped false true = refl
 or_swapped false false = refl
-
-or_left : (a b : Bool) → a ≡ true → (a || b) ≡ true
-or_left a b e = ap (λ c. c || b) e
-
-or_right : (a b : Bool) → b ≡ true → (a || b) ≡ true
-or_right true b e = refl
-or_right false b e = e
 
 pub distinct_more : (ps qs : List ℕ) → are_distinct ps ≡ true → are_distinct qs ≡ true → ((p : ℕ) → has p qs ≡ true → has p ps ≡ false) → are_distinct (ps ++ qs) ≡ true
 distinct_more [] qs a b apart = b
@@ -69,9 +58,6 @@ module _ (message : ℕ → Message) (mixed : Bool) where
     where
       earlier : (p : ℕ) → (p ≡ q → ⊥) → ((p == q) || has p (given_ups es)) ≡ true → x.sender.given_up p ≡ false
       earlier p d h = sym (put_off x.sender.given_up q true p d) ∙ g.fresh p (ap (λ b. b || has p (given_ups es)) (sym (ne_eqb p q d)) ∙ h)
-
-  as_before : (x y : Transfer) (es : List Event) → y.sender.given_up ≡ x.sender.given_up → GivesOnce y es → GivesOnce x es
-  as_before x y es same g = record { once = g.once; fresh = λ p h. sym (ap (λ (f : ℕ → Bool). f p) same) ∙ g.fresh p h }
 
   pub gives_once : (es : List Event) (x : Transfer) → Happens message mixed x es → GivesOnce x es
   gives_once [] x h = record { once = refl; fresh = λ p e. cc }

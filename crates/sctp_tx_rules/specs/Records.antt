@@ -1,14 +1,13 @@
 -- One record a message: those that the user took and those that wait name each message that was given up once, and no other.
-use Rattle.std.specs.Prelude.{◌≡◌, ℕ, suc, ◌+◌, ◌&&◌, not, Bool, true, false, Option, Some, List, [], ◌∷◌, ◌++◌}
+use Rattle.std.specs.Prelude.{◌≡◌, ℕ, ◌+◌, ◌&&◌, not, Bool, true, false, Option, Some, List, [], ◌∷◌, ◌++◌}
 use Rattle.std.specs.List.{AllByRecursion}
-use Rattle.sctp_state.specs.Events.{GivenUp, Told, silent}
+use Rattle.sctp_state.specs.Events.{GivenUp, Told}
 use Rattle.sctp_send_queue.specs.Queue.{Queued, Queue}
 use Rattle.sctp_outstanding.specs.Item.{Item, is_abandoned}
-use Rattle.sctp_outstanding.specs.Items.{Items, Discard}
+use Rattle.sctp_outstanding.specs.Items.{Items}
 use Rattle.sctp_rules.specs.State as rules
 use Rattle.sctp_rules.specs.State.{Message, Transfer, IsAmong, start, has}
 use Rattle.sctp_rules.specs.Rules.{accept, after}
-use Rattle.sctp_rules.specs.Kept.{Kept}
 use Rattle.sctp_tx_rules.specs.Led.{recorded, LeadsTo}
 use Rattle.sctp_tx_rules.specs.Shown.{Shows, found, messages_of}
 use Rattle.sctp_tx_rules.specs.Rows.{left}
