@@ -1,18 +1,20 @@
 -- Unless it has failed, a world that a new one was led to is led on: its new packets are bytes, and what was handed in fits.
-use Rattle.std.proofs.Common.{◌≡◌, ℕ, ◌-◌, Bool, true, false, List, [], ◌∷◌, ◌++◌, length, take, drop, map, refl, sym, ap, subst, ◌∙◌, arith}
+use Rattle.std.proofs.Common.{◌≡◌, ◌<◌, ℕ, ◌+◌, ◌-◌, Bool, true, false, List, [], ◌∷◌, ◌++◌, length, get_or, take, drop, map, refl, sym, ap, subst, ◌∙◌, arith}
 use Rattle.std.specs.Prelude.{All, Result, Ok, Err, OnOk, IfErr}
 use Rattle.std.specs.List.{slice_range}
-use Rattle.std.proofs.lemmas.List.{take_all, drop-map, length-drop}
+use Rattle.std.proofs.lemmas.List.{take_all, drop_more, drop-map, length-drop}
 use Rattle.std.proofs.lemmas.List.Elements.{All-nil, All-cons, All-append, All-take}
 use Rattle.rand_core.specs.Stream.{Stream}
 use Rattle.sctp_packet.specs.Grammar.{Each}
 use Rattle.sctp_state.specs.Options.{Options, IsValid}
 use Rattle.sctp_table_laws.specs.Sound.{OptionsFit}
 use Rattle.sctp_table_laws.specs.ReadBack.{AreBytes}
+use Rattle.sctp_network.specs.declared.world.log.Event.{Event}
 use Rattle.sctp_network.specs.declared.world.WorldError.{WorldError}
 use Rattle.sctp_network.specs.declared.world.WorldError.TheVariants as errors
 use Rattle.sctp_network_table.specs.World.{World, Action, CallOf, Give, GiveForeign, TellTime, Runs, Lacks, RunsUpToLack, fresh_world}
 use Rattle.sctp_network_table.proofs.RunLemmas.{lacks_one}
+use Rattle.sctp_network.specs.WorldView.{action_of}
 use Rattle.sctp_network_laws.specs.Courses.{ActionFits, IsInBytes, IsLed}
 use Rattle.sctp_network_laws.specs.Readable as readable
 use Rattle.sctp_network_laws.proofs.WorldLemmas.{Extends}
@@ -89,6 +91,18 @@ pub lacks_then : {X : Type 0} (r : Result X WorldError) (action : Action) (w v :
     → IfErr r (λ e. e ≡ errors.NoSuchPacket → v ≡ w) → IfErr r (λ e. e ≡ errors.NoSuchPacket → RunsUpToLack (action ∷ []) w v)
 lacks_then (Ok x) action w v lacks same = tt
 lacks_then (Err e) action w v lacks same = λ is. lacks_one action w v (lacks is) (same is)
+
+-- ---- the events that are left
+
+-- the first of them, and those behind it
+pub next_event : (events : List Event) (i : ℕ) (event : Event) → i < length events → event ≡ get_or events i event
+    → map action_of (drop i events) ≡ action_of event ∷ map action_of (drop (i + 1) events)
+next_event events i event within is =
+    ap (map action_of) (drop_more events i event within) ∙ ap (λ (e : Event). action_of e ∷ map action_of (drop (i + 1) events)) (sym is)
+
+-- memory runs out at no event whose packet lacks
+pub there_then : {X : Type 0} (e : WorldError) → e ≡ errors.Memory → ◌≡◌ {A = Result X WorldError} (Err e) (Err errors.NoSuchPacket) → ⊥
+there_then e is missing = cc
 
 -- a new world
 pub led_new : (a b : Options) (words_a words_b : Stream) (word_of_a word_of_b : List ℕ → ℕ) → IsValid a → IsValid b → OptionsFit a → OptionsFit b

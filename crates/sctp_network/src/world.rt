@@ -5,7 +5,7 @@ ghost use Rattle.sctp_packet.specs.Grammar.{Each};
 ghost use Rattle.sctp_state.specs.Options.{IsValid, options_of};
 ghost use Rattle.sctp_network.specs.declared.world.WorldError.TheVariants.{Memory as no_memory};
 ghost use Rattle.sctp_table_laws.specs.ReadBack.{AreBytes};
-ghost use Rattle.sctp_network_table.specs.World.{Comes, Happens, Runs, Lacks, RunsUpToLack, AreShort, fresh_world, side_of, is_at_rest, Told, clock};
+ghost use Rattle.sctp_network_table.specs.World.{Comes, Happens, Runs, Lacks, RunsUpToLack, RunsUpToWant, AreShort, fresh_world, side_of, is_at_rest, Told, clock};
 ghost use Rattle.sctp_network_table.specs.FirstRun.{LeadsFirstRun, ContinuesFirstRun};
 ghost use Rattle.sctp_network_table.specs.Judge.{Given};
 ghost use Rattle.sctp_network_laws.specs.Agreed.{Agrees, DrawsNoTagTwice};
@@ -261,6 +261,8 @@ impl<R: Rng, C: Checksum> World<R, C> {
         ensures lacks { IfErr result (λ e. e ≡ WorldError.NoSuchPacket
             → RunsUpToLack (map action_of events.now) (world_of R.stream C.word_of self.old) (world_of R.stream C.word_of self.new)) }
         ensures stands { IfErr result (λ e. e ≡ WorldError.NoSuchPacket → self.new.has_failed ≡ false) }
+        ensures wants { IfErr result (λ e. e ≡ WorldError.Memory → self.old.has_failed ≡ false
+            → RunsUpToWant (map action_of events.now) (world_of R.stream C.word_of self.old)) }
         ensures memory { IfErr result (λ e. e ≡ WorldError.Memory → self.new.has_failed ≡ true) }
         ensures failed { self.old.has_failed ≡ true → result ≡ Err WorldError.Memory }
     {
@@ -276,6 +278,8 @@ impl<R: Rng, C: Checksum> World<R, C> {
             → RunsUpToLack (map action_of events.now) (world_of R.stream C.word_of self.old) (world_of R.stream C.word_of self.new)) }
         ensures works { self.old.has_failed ≡ false → OnOk result (self.new.has_failed ≡ false) }
         ensures stands { IfErr result (λ e. e ≡ WorldError.NoSuchPacket → self.new.has_failed ≡ false) }
+        ensures wants { IfErr result (λ e. e ≡ WorldError.Memory → self.old.has_failed ≡ false
+            → RunsUpToWant (map action_of events.now) (world_of R.stream C.word_of self.old)) }
         ensures memory { IfErr result (λ e. e ≡ WorldError.Memory → self.new.has_failed ≡ true) }
     {
         for event in events {
@@ -320,6 +324,8 @@ pub fn run<R: Rng, C: Checksum>(world: &mut World<R, C>, events: &[Event]) -> Re
     ensures lacks { IfErr result (λ e. e ≡ WorldError.NoSuchPacket
         → RunsUpToLack (map action_of events.now) (world_of R.stream C.word_of world.old) (world_of R.stream C.word_of world.new)) }
     ensures stands { IfErr result (λ e. e ≡ WorldError.NoSuchPacket → world.new.has_failed ≡ false) }
+    ensures wants { IfErr result (λ e. e ≡ WorldError.Memory → world.old.has_failed ≡ false
+        → RunsUpToWant (map action_of events.now) (world_of R.stream C.word_of world.old)) }
     ensures memory { IfErr result (λ e. e ≡ WorldError.Memory → world.new.has_failed ≡ true) }
     ensures failed { world.old.has_failed ≡ true → result ≡ Err WorldError.Memory }
     ensures short { OnOk result ((mtu_a mtu_b : ℕ) → AreShort mtu_a mtu_b (world_of R.stream C.word_of world.old)

@@ -1,8 +1,8 @@
-use Rattle.std.proofs.Common.{map, drop, ◌+◌, ◌∷◌, sym, ap, ◌∙◌}
-use Rattle.std.proofs.lemmas.List.{drop_more}
-use Rattle.sctp_network.specs.declared.world.log.Event.{Event}
+use Rattle.std.proofs.Common.{map, drop, ◌+◌}
+use Rattle.std.proofs.lemmas.Result.{err_from_is_err_and}
 use Rattle.sctp_network.specs.WorldView.{action_of}
-use Rattle.sctp_network_table.proofs.RunLemmas.{stepped}
+use Rattle.sctp_network_table.proofs.RunLemmas.{stepped, wanting}
+use Rattle.sctp_network.proofs.LedLemmas.{next_event, there_then}
 use Rattle.sctp_network.proofs.world.World.run_each.Goals as goal
 
 pub loop-event-preserved : goal.loop-event-preserved
@@ -11,7 +11,16 @@ loop-event-preserved g c =
     let events = c.args.events.now in
     record {
       ran = stepped _ (map action_of (drop i events)) (map action_of (drop (i + 1) events)) _ _ _ _ c.loop-event.invariant.ran
-          (ap (map action_of) (drop_more events i c.event-item.result c.loop-event-test.true) ∙ ap (λ (e : Event). action_of e ∷ map action_of (drop (i + 1) events)) (sym c.event-item.is))
-          c.in_ok-happen.ensures.ok;
+          (next_event events i c.event-item.result c.loop-event-test.true c.event-item.is) c.in_ok-happen.ensures.ok;
       works = λ was. c.in_ok-happen.ensures.works.1;
     }
+
+pub returns-in_err-happen-clause-wants : goal.returns-in_err-happen-clause-wants
+returns-in_err-happen-clause-wants g c =
+    let p = err_from_is_err_and c.from_residual.result c.from_residual.ensures.1 in
+    let i = c.loop-event.event-index in
+    let events = c.args.events.now in
+    rw (p.1, p.2)
+    (λ is works. wanting _ (map action_of (drop i events)) (map action_of (drop (i + 1) events)) _ _ _ c.loop-event.invariant.ran
+    (next_event events i c.event-item.result c.loop-event-test.true c.event-item.is)
+    (λ lacks. there_then _ is (c.in_err-happen.ensures.missing (c.loop-event.invariant.works works) lacks)))
