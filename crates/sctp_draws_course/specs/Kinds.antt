@@ -5,23 +5,25 @@ use Rattle.rand_core.specs.Stream.{Stream}
 use Rattle.sctp_packet.specs.Chunk.{ChunkTree, InitTree, init_chunk, init_ack_chunk, cookie_echo_chunk}
 use Rattle.sctp_state.specs.Options.{Options}
 use Rattle.sctp_table_laws.specs.Mapped.{Carried}
-use Rattle.sctp_course.specs.Course.{Pair, emitted, Turn, goes, run, FollowsTheRules, HasNotEnded, AreGiven, start}
-use Rattle.sctp_draws.specs.Laws.{is_flowing}
+use Rattle.sctp_course.specs.Course.{Pair, emitted, Turn, goes, run, FollowsTheRules, HasNotEnded, AreGiven, start, state_of}
+use Rattle.sctp_draws.specs.Laws.{NumbersFitIn, is_flowing}
 use Rattle.sctp_draws_course.specs.Pairing.{NoTagTwice}
 use Rattle.sctp_draws_course.specs.Alike.{SameTurns, TurnIsAlike}
 
 -- INIT and INIT ACK are alone in their packets, and a COOKIE ECHO comes first (RFC 9260 sections 3.3.2, 3.3.3, 3.3.11). What else there is
--- opens no association and resets no stream, and DATA has a payload.
+-- opens no association, DATA has a payload, and request numbers are of 32 bits.
 pub data IsKind (cs : List ChunkTree) : Type 0 where
   an_init : (i : InitTree) → cs ≡ init_chunk i ∷ [] → IsKind cs
   an_answer : (i : InitTree) → cs ≡ init_ack_chunk i ∷ [] → IsKind cs
   an_echo : (cookie : List ℕ) (rest : List ChunkTree) → cs ≡ cookie_echo_chunk cookie ∷ rest → list_all is_flowing rest ≡ true → IsKind cs
   a_flow : list_all is_flowing cs ≡ true → IsKind cs
 
--- all packets that were emitted so far
+-- all packets that were emitted so far; and the request numbers that both ends hold are of 32 bits
 pub record AreOfAKind (w : Pair) : Type 0 where
   pub a : All (λ (p : Carried). IsKind p.chunks) (emitted w.a)
   pub b : All (λ (p : Carried). IsKind p.chunks) (emitted w.b)
+  pub a_numbers : NumbersFitIn (state_of w.a)
+  pub b_numbers : NumbersFitIn (state_of w.b)
 
 -- at each point of a course
 abbrev pub KindsAlong : List (Bool × Turn) → Pair → Type 0

@@ -1,0 +1,4 @@
+pub mod Visible
+pub mod Pairs
+pub mod Alike
+pub mod Owed
