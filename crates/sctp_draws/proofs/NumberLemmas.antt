@@ -9,9 +9,9 @@ use Rattle.sctp_serial.specs.Unwrapped.{words}
 use Rattle.sctp_wire.specs.Parameter.{ParameterTree, outgoing_reset_request, incoming_reset_request, reset_response}
 use Rattle.sctp_chunk.specs.declared.sack.GapAckBlock.{GapAckBlock}
 use Rattle.sctp_packet.specs.Chunk.{ChunkTree, FragmentTree, SackTree, data_chunk, idata_chunk, init_chunk, init_ack_chunk, sack_chunk, heartbeat_request_chunk, heartbeat_ack_chunk, abort_chunk, shutdown_chunk, shutdown_ack_chunk, error_chunk, cookie_echo_chunk, cookie_ack_chunk, shutdown_complete_chunk, re_config_chunk, forward_tsn_chunk, i_forward_tsn_chunk, unknown_chunk}
-use Rattle.sctp_state.specs.declared.state_cookie.StateCookieError.{StateCookieError}
-use Rattle.sctp_state.specs.Capabilities.{negotiated, zero_checksum_enabled}
-use Rattle.sctp_state.specs.Cookie.{Cookie, read_cookie}
+use Rattle.sctp_capabilities.specs.declared.state_cookie.StateCookieError.{StateCookieError}
+use Rattle.sctp_capabilities.specs.Capabilities.{negotiated, zero_checksum_enabled}
+use Rattle.sctp_capabilities.specs.Cookie.{Cookie, read_cookie}
 use Rattle.sctp_state.specs.Events.{OnConnectionRestarted}
 use Rattle.sctp_outstanding.specs.Items.{number_of, fast_items}
 use Rattle.sctp_outstanding.specs.Sack.{is_valid}
@@ -38,7 +38,7 @@ use Rattle.sctp_draws.specs.Laws.{NumberFits, NumbersFit, NumbersFitIn, number_f
 abbrev standing_in : {P : Type 0} → State → Context P → Standing P
 standing_in st c = record { state = st; context = c }
 
-next_fits : (n : ℕ) → (n + 1) % words < words
+pub next_fits : (n : ℕ) → (n + 1) % words < words
 next_fits n = mod_below (n + 1) words (omega arith)
 
 -- ---- bursts
@@ -134,7 +134,7 @@ answered_if_fits : (b : Bool) (now rto result : ℕ) (r : Request) (x : Requests
 answered_if_fits true now rto result r x k h = answered_by_fits (is_final result) now rto r x k h
 answered_if_fits false now rto result r x k h = h
 
-answered_in_fits : (o : Option Request) (now rto number result : ℕ) (x : Requests) → NumberFits o → NumbersFit x → NumbersFit (answered_in o now rto number result x)
+pub answered_in_fits : (o : Option Request) (now rto number result : ℕ) (x : Requests) → NumberFits o → NumbersFit x → NumbersFit (answered_in o now rto number result x)
 answered_in_fits None now rto number result x k h = h
 answered_in_fits (Some r) now rto number result x k h = answered_if_fits (r.number == number) now rto result r x k h
 

@@ -14,12 +14,13 @@ use Rattle.sctp_course.proofs.HandingLemmas.{first_halves}
 use Rattle.sctp_draws.specs.Laws.{NumbersFitIn}
 use Rattle.sctp_draws.specs.NamedCalls.{EachCallIsNamed}
 use Rattle.sctp_draws_course.specs.Pairing.{drawn_at, NoTagTwice, pairs_of, pairs, Knows}
-use Rattle.sctp_draws_course.specs.Alike.{AreAlike, ArePairsAlike, gone_by, ActsAlike, SameTurn, SameTurns, TurnIsAlike}
+use Rattle.sctp_draws_course.specs.Alike.{AreAlike, ArePairsAlike, gone_by, ActsAlike, SameTurn, SameTurns, TurnIsAlike, CoursesAreAlike}
 use Rattle.sctp_draws_course.proofs.PairingLemmas.{pairs_know, has_left, has_right}
 use Rattle.sctp_draws_course.proofs.NamesLemmas.{same_tie}
 use Rattle.sctp_draws_course.proofs.TwinLemmas.{Stand, Twin, twins_on, are_alike}
-use Rattle.sctp_draws_course.specs.Kinds.{IsKind, AreOfAKind, KindsAlong, CoursesOfAKindAreAlike}
+use Rattle.sctp_draws_course.specs.Kinds.{IsKind, AreOfAKind, KindsAlong}
 use Rattle.sctp_draws_course.proofs.TurnLemmas.{EndsTellOwn, LateInitsAreNamed, Drew, Goes, turns_so, turn_alike, turn_twin, turn_stands, turn_halves}
+use Rattle.sctp_draws_course.proofs.WholeCourseLemmas.{along_of_a_kind, front_follows}
 use Rattle.sctp_draws_course.proofs.StaysLemmas.{turning_stays, turning_stayed, idle_stays, idle_stayed}
 
 -- ---- one end beside the other
@@ -162,13 +163,14 @@ module _ (ps : List (Drawn × Drawn)) (k : Knows ps) (law : EachCallIsNamed) (la
 first_twin : (ps : List (Drawn × Drawn)) (o q : Options) (w v s : Stream) → Twin ps (new_side o w) (new_side q s) (new_side o v)
 first_twin ps o q w v s = record { tie = same_tie; state = refl; context = refl; told = tt; asked = refl }
 
--- Along each course whose packets are of a kind.
-pub courses_alike : EachCallIsNamed → EndsTellOwn → ((ps : List (Drawn × Drawn)) → Knows ps → LateInitsAreNamed ps) → CoursesOfAKindAreAlike
-courses_alike law tells late a b words_a words_b others_a others_b es fs e f given_a given_b same follows none once once_too kinds =
+-- The first course follows the rules, so that its packets are of a kind.
+pub courses_alike : EachCallIsNamed → EndsTellOwn → ((ps : List (Drawn × Drawn)) → Knows ps → LateInitsAreNamed ps) → CoursesAreAlike
+courses_alike law tells late a b words_a words_b others_a others_b es fs e f given_a given_b same follows none once once_too =
     let w : Pair = start a b words_a words_b in
     let v : Pair = start a b others_a others_b in
     let ps : List (Drawn × Drawn) = pairs (es ++ e ∷ []) (fs ++ f ∷ []) w v in
     let k : Knows ps = pairs_know (es ++ e ∷ []) (fs ++ f ∷ []) w v once once_too in
+    let kinds : KindsAlong es w = along_of_a_kind a b words_a words_b es given_a given_b (front_follows es (e ∷ []) w follows) none in
     along ps k law (late ps k) tells a b given_a given_b es fs e f w v same follows none kinds (λ d c m. m)
     (record {
       halves = first_halves a b words_a words_b;

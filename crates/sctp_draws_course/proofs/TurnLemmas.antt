@@ -58,7 +58,7 @@ LateInitsAreNamed ps =
     → NumbersFitIn (state_of x) → (phase : Phase) (u : Tcb) → state_of x ≡ Open phase u → is_alone phase ≡ false
     → Named ps x z (state_of y) (Packet (as_heard p checksum)) (called (Packet (as_heard r other)) z.end)
 
-kind_heard : (cs : List ChunkTree) → IsKind cs → IsKind (map carried cs)
+pub kind_heard : (cs : List ChunkTree) → IsKind cs → IsKind (map carried cs)
 kind_heard cs (an_init i alone) = an_init i (ap (λ (z : List ChunkTree). map carried z) alone)
 kind_heard cs (an_answer i alone) = an_answer i (ap (λ (z : List ChunkTree). map carried z) alone)
 kind_heard cs (an_echo cookie rest begins flows) =
