@@ -25,3 +25,4 @@ pub mod LateLemmas
 pub mod OwnLemmas
 pub mod TellsLemmas
 pub mod PassLemmas
+pub mod LawLemmas

@@ -13,6 +13,8 @@ use Rattle.sctp_draws_course.specs.Pairing.{drawn, drawn_at, NoTagTwice}
 use Rattle.sctp_draws_course.specs.Alike.{AreAlike, ArePairsAlike, SameTurn, SameTurns, TurnIsAlike, ArePassed}
 use Rattle.sctp_draws_course.proofs.PairingLemmas.{has_left}
 use Rattle.sctp_draws_course.proofs.PassLemmas.{images_pass}
+use Rattle.sctp_draws_course.proofs.LawLemmas.{are_always_alike}
+use Rattle.sctp_draws_course.proofs.WholeCourseLemmas.{packets_pass}
 use Rattle.sctp_network_table.specs.Judge.{End, A, B}
 use Rattle.sctp_network_table.specs.World.{World, Action, Happens, Runs}
 use Rattle.sctp_network_laws.specs.Courses.{ActionFits, IsInBytes, is_a, end_of, IsTurnOf, AreTurnsOf}
@@ -23,7 +25,6 @@ use Rattle.sctp_network_laws.proofs.WorldLemmas.{Both, Extends, extends_same, in
 use Rattle.sctp_network_laws.proofs.RunsLemmas.{happens_extends, runs_extends, may_turn, Ran, ran, fresh_both}
 use Rattle.sctp_network_draws.specs.Visible.{ShowTheSame}
 use Rattle.sctp_network_draws.specs.Alike.{ArePaired, AreComparable, ShowAlong, WorldsShowTheSame, NewWorldsArePaired, is_foreign, AreTagsApart, first_new, second_new}
-use Rattle.sctp_network_draws.specs.Owed.{CourseLaws}
 use Rattle.sctp_network_draws.proofs.EventLemmas.{same_turn, event_shown}
 use Rattle.sctp_network_draws.proofs.EndingLemmas.{ended_or_none}
 
@@ -75,7 +76,7 @@ itself_names = record { apart = λ a b. refl; none = refl; size = λ cookie. ref
 
 -- ---- two worlds
 
-module _ (laws : CourseLaws) (w v : World) (p : ArePaired w v) (q : AreComparable p) where
+module _ (w v : World) (p : ArePaired w v) (q : AreComparable p) where
   abbrev f : List ℕ → ℕ
   f = p.word_of
 
@@ -136,14 +137,14 @@ module _ (laws : CourseLaws) (w v : World) (p : ArePaired w v) (q : AreComparabl
       let after : Ran f f actions u w (goes e.0 e.1 c) = ran f f actions u w (goes e.0 e.1 c) rest_fits left p.first_bytes s.both in
       let after_too : Ran f f actions z v (goes g.0 g.1 d) = ran f f actions z v (goes g.0 g.1 d) rest_fits left_too p.second_bytes r.both in
       let still : HasNotEnded c = not_ended x c at.both stands in
-      let passed : ArePassed c = laws.pass p.a p.b p.words_a p.words_b at.es given_a given_b at.follows still in
+      let passed : ArePassed c = packets_pass p.a p.b p.words_a p.words_b at.es given_a given_b at.follows still in
       let same : SameTurn s.turn r.turn = same_turn f action s.turn r.turn x y c d own s.is r.is at.both at.both_too passed (images_pass c d at.alike passed) in
       let sames : SameTurns (at.es ++ e ∷ []) (at.fs ++ g ∷ []) = same_more at.es at.fs e g at.same refl same in
       let may : MayTurn e.1 (course.side_of e.0 c) =
       may_turn f f action x u w c s.turn happens (happens_extends action x u happens) (runs_extends actions u w left) at.both s.is q.follows stands in
       let follows : course.FollowsTheRules (at.es ++ e ∷ []) first_start = follows_more at.es e first_start at.follows may in
       let law : TurnIsAlike e g c d =
-      laws.alike p.a p.b p.words_a p.words_b p.others_a p.others_b at.es at.fs e g given_a given_b sames follows still
+      are_always_alike p.a p.b p.words_a p.words_b p.others_a p.others_b at.es at.fs e g given_a given_b sames follows still
       (once f first_start front action actions at.es e after.turns q.first_tags split at.are (refl, s.is, after.are))
       (once f second_start front action actions at.fs g after_too.turns q.second_tags split at.are_too (refl, r.is, after_too.are)) in
       record {
@@ -161,7 +162,7 @@ module _ (laws : CourseLaws) (w v : World) (p : ArePaired w v) (q : AreComparabl
         later_too = runs_extends actions z v left_too;
         shown =
             event_shown f action x u y z c d own happens happens_too at.both at.both_too s r law.before law.after law.acts
-            (ended_or_none laws.kinds p.a p.b p.words_a p.words_b f x at.es s.turn (end_of action) given_a given_b at.follows still may at.both) at.shown;
+            (ended_or_none p.a p.b p.words_a p.words_b f x at.es s.turn (end_of action) given_a given_b at.follows still may at.both) at.shown;
       }
 
   along : (front actions : List Action) (x y : World) → p.actions ≡ front ++ actions → (r : Runs actions x w) (s : Runs actions y v) → All ActionFits actions
@@ -195,8 +196,8 @@ module _ (laws : CourseLaws) (w v : World) (p : ArePaired w v) (q : AreComparabl
   pub show_along : ShowAlong p.actions (first_new p) (second_new p) w v p.first p.second
   show_along = along [] p.actions (first_new p) (second_new p) refl p.first p.second p.fit q.own beginning
 
-pub worlds_show : CourseLaws → WorldsShowTheSame
-worlds_show laws w v p q = show_along laws w v p q
+pub worlds_show : WorldsShowTheSame
+worlds_show w v p q = show_along w v p q
 
 pub new_paired : NewWorldsArePaired
 new_paired a b word_of words_a words_b others_a others_b valid_a valid_b fits_a fits_b = record {

@@ -26,7 +26,7 @@ use Rattle.sctp_network_table.specs.World.{World}
 use Rattle.sctp_network_laws.specs.Courses.{is_a}
 use Rattle.sctp_network_laws.proofs.TurnsLemmas.{get_all}
 use Rattle.sctp_network_laws.proofs.WorldLemmas.{Both}
-use Rattle.sctp_network_draws.specs.Owed.{PacketsAreOfAKind}
+use Rattle.sctp_draws_course.proofs.WholeCourseLemmas.{packets_of_a_kind}
 
 -- ---- chunks that open no association of a closed end
 
@@ -207,13 +207,13 @@ module _ (x y : course.Side) (quiet : x.end.standing.context.told.events ≡ [])
   turn_ends (Refuses p) may kinds = foreign_ends (refusal p.header.verification_tag p.chunks (state_of x)) p refl
 
 -- of either end
-pub ended_or_none : PacketsAreOfAKind → (a b : Options) (words_a words_b : Stream) (f : List ℕ → ℕ) (w : World) (es : List (Bool × Turn)) (t : Turn) (x : End) → AreGiven a → AreGiven b
+pub ended_or_none : (a b : Options) (words_a words_b : Stream) (f : List ℕ → ℕ) (w : World) (es : List (Bool × Turn)) (t : Turn) (x : End) → AreGiven a → AreGiven b
     → FollowsTheRules es (start a b words_a words_b) → HasNotEnded (run es (start a b words_a words_b)) → MayTurn t (course.side_of (is_a x) (run es (start a b words_a words_b)))
     → Both f f w (run es (start a b words_a words_b))
     → (endings (turned t (course.side_of (is_a x) (run es (start a b words_a words_b))) (course.side_of (not (is_a x)) (run es (start a b words_a words_b)))).told ≡ 0)
     ⊎ (ready_in (state_of (turned t (course.side_of (is_a x) (run es (start a b words_a words_b))) (course.side_of (not (is_a x)) (run es (start a b words_a words_b))))) ≡ [])
-ended_or_none law a b words_a words_b f w es t x given_a given_b follows none may h =
-    go x (run es (start a b words_a words_b)) none may h (law a b words_a words_b es given_a given_b follows none)
+ended_or_none a b words_a words_b f w es t x given_a given_b follows none may h =
+    go x (run es (start a b words_a words_b)) none may h (packets_of_a_kind a b words_a words_b es given_a given_b follows none)
   where
     go : (x : End) (c : Pair) → HasNotEnded c → MayTurn t (course.side_of (is_a x) c) → Both f f w c → AreOfAKind c
         → Ends (course.side_of (is_a x) c) (turned t (course.side_of (is_a x) c) (course.side_of (not (is_a x)) c))

@@ -2,7 +2,6 @@
 #![tactic(auto)]
 
 ghost use Rattle.sctp_network_draws.specs.Alike.{NewWorldsArePaired, WorldsShowTheSame};
-ghost use Rattle.sctp_network_draws.specs.Owed.{CourseLaws};
 
 /// Two new worlds with the same options in pairs, one checksum function for all four sockets and the same events show the same, whatever
 /// words were drawn: until an end of the first tells that an association is over, and up to and with the event in which it does. Asked
@@ -10,5 +9,5 @@ ghost use Rattle.sctp_network_draws.specs.Owed.{CourseLaws};
 /// elsewhere; and each packet that was emitted is to be bytes.
 pub fn worlds_show_the_same()
     ensures anew { NewWorldsArePaired }
-    ensures show { CourseLaws → WorldsShowTheSame }
+    ensures show { WorldsShowTheSame }
 {}

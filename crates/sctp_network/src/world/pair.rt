@@ -3,7 +3,6 @@
 ghost use Rattle.std.specs.Prelude.{◌≡◌, ◌⊎◌, true, false, [], ◌∷◌, map, IfErr, OnOk, Err};
 ghost use Rattle.sctp_network_table.specs.World.{Happens, Lacks};
 ghost use Rattle.sctp_network_draws.specs.Alike.{ArePaired, AreComparable, ShowAlong, first_new, second_new};
-ghost use Rattle.sctp_network_draws.specs.Owed.{CourseLaws};
 ghost use Rattle.sctp_network_draws.specs.Pairs.{Both, BothUpToLack, RanOut};
 ghost use Rattle.sctp_network.specs.WorldView.{action_of, world_of};
 
@@ -39,7 +38,7 @@ pub fn run_pair<R: Rng, S: Rng, C: Checksum>(
     ensures pairs { first.new.has_failed ≡ false → second.new.has_failed ≡ false
         → ArePaired (world_of R.stream C.word_of first.old) (world_of S.stream C.word_of second.old)
         → ArePaired (world_of R.stream C.word_of first.new) (world_of S.stream C.word_of second.new) }
-    ensures alike { CourseLaws → (p : ArePaired (world_of R.stream C.word_of first.new) (world_of S.stream C.word_of second.new)) → AreComparable p
+    ensures alike { (p : ArePaired (world_of R.stream C.word_of first.new) (world_of S.stream C.word_of second.new)) → AreComparable p
         → ShowAlong p.actions (first_new p) (second_new p) (world_of R.stream C.word_of first.new) (world_of S.stream C.word_of second.new) p.first p.second }
 {
     let first_a = first.sent(End::A);

@@ -31,4 +31,4 @@ returns-clause-pairs g c =
     c.lead-answer.ensures.ok c.lead-answer.ensures.lacks c.lead-answer.ensures.memory c.events_fit.ensures.fit
 
 pub returns-clause-alike : goal.returns-clause-alike
-returns-clause-alike g c = λ laws p q. worlds_show laws _ _ p q
+returns-clause-alike g c = λ p q. worlds_show _ _ p q
