@@ -80,17 +80,18 @@ fn number_at(words: &str, place: usize) -> u64 {
     }
 }
 
+/// Of the numbers at this place and at the next one.
 fn seed_at(words: &str, place: usize) -> Seed {
-    seed(number_at(words, 2 * place), number_at(words, 2 * place + 1))
+    seed(number_at(words, place), number_at(words, place.saturating_add(1)))
 }
 
 /// As eight numbers say them.
 pub fn seeds_of(words: &str) -> Seeds {
     Seeds {
         a: seed_at(words, 0),
-        b: seed_at(words, 1),
-        other_a: seed_at(words, 2),
-        other_b: seed_at(words, 3),
+        b: seed_at(words, 2),
+        other_a: seed_at(words, 4),
+        other_b: seed_at(words, 6),
     }
 }
 
