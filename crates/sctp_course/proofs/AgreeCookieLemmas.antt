@@ -15,7 +15,7 @@ use Rattle.sctp_table.specs.Packets.{Packet, new_packet, fits, added_if, add, sa
 use Rattle.sctp_table.specs.Opening.{long_word, connected, cookie_ack, tcb_by, establishes, Verdict, EstablishNew, RestartDetected, SimultaneousInit, MaintainExisting, Discard, InvalidTag, new_if, judged, compared, by_tags, kept, too_late, restarts_in, on_verdict}
 use Rattle.sctp_table.specs.Laws.{NoPacket}
 use Rattle.sctp_table_laws.specs.Mapped.{Carried}
-use Rattle.sctp_course.specs.Acts.{at, nothing, idle, calm, is_opened, is_plain, others, as_held, adds_plain, Keeps}
+use Rattle.sctp_course.specs.Acts.{at, nothing, idle, calm, is_opened, is_plain, all_along, as_held, adds_plain, Keeps}
 use Rattle.sctp_course.specs.Course.{AreGiven}
 use Rattle.sctp_course.specs.Agreement.{Draw, Association, crossed, Has, Notes, association_of, held_in, AreDistinct}
 use Rattle.sctp_course.proofs.BundledLemmas.{added_more, first_more}
@@ -218,7 +218,7 @@ module _ (o : Options) (past : List (Event Carried)) (y : Past) (fine : AreGiven
         let one : InvAt g x y (at s c w q) = quiet_here.packets (adds_plain shutdown_ack_chunk (at s c w p) refl refl) (does_begin quiet_here s c w p refl (as_held phase t refl refl) inv) in
         let two : InvAt g x y (at s c w (add chunk q)) =
         quiet_here.packets (adds_plain chunk (at s c w q) refl (plain_two (fits p shutdown_ack_chunk) p refl)) one in
-        does_complain quiet_here WrongSequence (codes "Received COOKIE-ECHO while shutting down") s (emit (add chunk q) c) w (does_out quiet_here s c w (add chunk q) (others (added_more chunk q (first_more shutdown_ack_chunk p refl refl) refl)) two)
+        does_complain quiet_here WrongSequence (codes "Received COOKIE-ECHO while shutting down") s (emit (add chunk q) c) w (does_out quiet_here s c w (add chunk q) (all_along (added_more chunk q (first_more shutdown_ack_chunk p refl refl) refl)) two)
 
     restarts_by : (phase : Phase) (t : Tcb) (c : Context Carried) (s : Endpoint Carried) → InvAt g x y (idle (Open phase t) c s.words)
         → Goes g y n echoed (noted [] (establishes true k (say OnConnectionRestarted c) s).standing.state n) (establishes true k (say OnConnectionRestarted c) s)

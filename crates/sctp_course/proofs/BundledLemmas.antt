@@ -16,7 +16,7 @@ use Rattle.sctp_table.specs.Packets.{Packet, room, fits, added_if, add, add_all,
 use Rattle.sctp_table.specs.Requests.{Request, request_chunk}
 use Rattle.sctp_table.specs.Sending as sending
 use Rattle.sctp_table.specs.Sending.{Filling, selective_ack, tested, most_streams, request_started, is_small, ack_if, with_ack, forward_added_if, forward_if, tested_if, with_forward, add_request, request_of, request_if, with_request, data_chunk_of, data_chunks, with_data, filled_as, turned_if, turned}
-use Rattle.sctp_course.specs.Acts.{is_plain, goes_along, goes_first, takes_more, IsBundled, others}
+use Rattle.sctp_course.specs.Acts.{is_plain, goes_along, goes_first, takes_more, IsBundled, all_along}
 
 -- ---- chunks
 
@@ -66,7 +66,7 @@ new_more cs new = ap takes_more new
 -- one chunk, which is alone or may have others behind it
 one_if : (b : Bool) (c : ChunkTree) (p : Packet) → p.chunks ≡ [] → IsBundled (c ∷ []) → IsBundled (added_if b c p).chunks
 one_if true c p new h = subst (λ (cs : List ChunkTree). IsBundled (cs ++ c ∷ [])) (sym new) h
-one_if false c p new h = others (new_more p.chunks new)
+one_if false c p new h = all_along (new_more p.chunks new)
 
 pub one_bundled : (c : ChunkTree) (p : Packet) → p.chunks ≡ [] → IsBundled (c ∷ []) → IsBundled (add c p).chunks
 one_bundled c p new h = one_if (fits p c) c p new h

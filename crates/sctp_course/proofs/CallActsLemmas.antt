@@ -26,7 +26,7 @@ use Rattle.sctp_table.specs.Calls.{shown_state, refusal, refusal_of, offered, of
 use Rattle.sctp_table.specs.Resets.{Handling, handling, is_ahead, resets_if, resets, outgoing_by, on_outgoing, incoming_if, is_outgoing, on_parameter, Handled, handle_next, handle_all, send_responses, finished_if, on_reconfig, unless_supported, reset_refusal, prepared, prepare_all, reset_if, reset_streams}
 use Rattle.sctp_table.specs.Handover.{readiness, left_in, left_if, hand_over, tcb_from, queue_taken, take_up, invalid_unless, refusal_in, taken_as, restored_unless, restore}
 use Rattle.sctp_table.specs.Laws.{Call, SendMany, ResetStreams, TakeMessage, SetLowThreshold, SetPriority, SetMaxMessageSize, HandOver, Restore, Send}
-use Rattle.sctp_course.specs.Acts.{Making, at, idle, IsHeard, IsOffered, alone, among, IsReset, IsAsked, is_response, others, HasRequest, for_outgoing, for_incoming, Answers, accepts, refuses, takes_message, sets_low_threshold, sets_priority, sets_max_message_size, prepares, defers, performs, processes, takes_response, adds_responses, leaves, takes_up, Keeps}
+use Rattle.sctp_course.specs.Acts.{Making, at, idle, IsHeard, IsOffered, alone, among, IsReset, IsAsked, is_response, all_along, HasRequest, for_outgoing, for_incoming, Answers, accepts, refuses, takes_message, sets_low_threshold, sets_priority, sets_max_message_size, prepares, defers, performs, processes, takes_response, adds_responses, leaves, takes_up, Keeps}
 use Rattle.sctp_course.proofs.BundledLemmas.{first_more}
 use Rattle.sctp_course.proofs.PacketActsLemmas.{does_out, does_begin_new, does_complain, does_send_buffered}
 use Rattle.sctp_course.proofs.RowActsLemmas.{placed, OpenActs, does_where_open}
@@ -213,7 +213,7 @@ module _ {P : Type 0} {call : Call} {R : Making P → Making P → Type 0} (k : 
       let p : Packet = new_packet c.options t in
       k.through (does_begin_new k phase t c w)
       (k.through (k.resets (adds_responses (r ∷ rs) phase t (at (Open phase t) c w p) e.are e.answer))
-      (does_out k (Open phase t) c w (add (re_config_chunk (r ∷ rs)) p) (others (first_more (re_config_chunk (r ∷ rs)) p refl refl))))
+      (does_out k (Open phase t) c w (add (re_config_chunk (r ∷ rs)) p) (all_along (first_more (re_config_chunk (r ∷ rs)) p refl refl))))
 
   does_finished_if : (b : Bool) (phase : Phase) (x : Handling P) → AreResponses call x.responses
       → R (idle (Open phase x.tcb) x.context w) (placed (finished_if b phase x) w)

@@ -16,7 +16,7 @@ use Rattle.sctp_table.specs.Requests.{Request}
 use Rattle.sctp_table.specs.Packets.{Packet, emptied, fits, add, has_chunks, packet_to, new_packet, complain, emit_if, emit, emit_chunk}
 use Rattle.sctp_table.specs.Sending.{Filling, asked, ack_if, goes_along, with_ack, forward_later, forward_added_if, forward_if, tested, tested_if, with_forward, most_streams, add_request, request_started, request_of, request_if, with_request, with_data, filled_as, Turned, turned_if, turned, go_on, burst, send_with, send_buffered, cookie_if, send_cookie, fast_most, fast_packet, fast_if, send_lost}
 use Rattle.sctp_table.specs.Laws.{Call}
-use Rattle.sctp_course.specs.Acts.{Making, at, nothing, idle, is_plain, takes_more, IsBundled, others, IsSummedSo, always, as_held, as_before, begins, adds_plain, emits, complains, adds_cookie, asks, adds_ack, expires, adds_forward, forwards_later, asks_no_reset, asks_reset, adds_request, sends, sends_fast, Keeps}
+use Rattle.sctp_course.specs.Acts.{Making, at, nothing, idle, is_plain, takes_more, IsBundled, all_along, IsSummedSo, always, as_held, as_before, begins, adds_plain, emits, complains, adds_cookie, asks, adds_ack, expires, adds_forward, forwards_later, asks_no_reset, asks_reset, adds_request, sends, sends_fast, Keeps}
 use Rattle.sctp_course.proofs.BundledLemmas.{plain_first, first_more, data_more, TakesMore, filled_more, turned_more}
 
 -- ---- packets
@@ -50,7 +50,7 @@ module _ {P : Type 0} {call : Call} {R : Making P → Making P → Type 0} (k : 
   does_plain chunk p s c w plain new summed =
       k.through (does_begin s c w p new summed)
       (k.through (k.packets (adds_plain chunk (at s c w p) plain (ap (list_all is_plain) new)))
-      (does_out s c w (add chunk p) (others (first_more chunk p new (plain_first chunk plain)))))
+      (does_out s c w (add chunk p) (all_along (first_more chunk p new (plain_first chunk plain)))))
 
   pub does_chunk : (chunk : ChunkTree) (phase : Phase) (t : Tcb) (c : Context P) (w : Stream) → is_plain chunk ≡ true
       → R (idle (Open phase t) c w) (idle (Open phase t) (emit_chunk chunk t c) w)
@@ -127,7 +127,7 @@ module _ {P : Type 0} {call : Call} {R : Making P → Making P → Type 0} (k : 
   does_filled false x = does_data x
 
   does_turned_if : (b is_alone : Bool) (x : Filling P) → TakesMore x → R (filling phase w x) (filling phase w (turned_if b is_alone x).filling)
-  does_turned_if true is_alone x more = does_emit k (Open phase x.tcb) x.context w x.packet (others more)
+  does_turned_if true is_alone x more = does_emit k (Open phase x.tcb) x.context w x.packet (all_along more)
   does_turned_if false is_alone x more = k.same (filling phase w x)
 
   does_turned : (is_first is_alone : Bool) (x : Filling P) → TakesMore x → R (filling phase w x) (filling phase w (turned is_first is_alone x).filling)
@@ -168,7 +168,7 @@ module _ {P : Type 0} {call : Call} {R : Making P → Making P → Type 0} (k : 
       let p : Packet = new_packet c.options t in
       k.through (does_begin_new k phase t c w)
       (k.through (k.sending (sends_fast phase t (at (Open phase t) c w p) some))
-      (does_out k (Open phase (fast_if true t c).tcb) c w (fast_packet c.options t) (others (data_more t false (resent_fast (fast_most c.options) t.sender).chunks p refl))))
+      (does_out k (Open phase (fast_if true t c).tcb) c w (fast_packet c.options t) (all_along (data_more t false (resent_fast (fast_most c.options) t.sender).chunks p refl))))
   does_fast_if false t c some = k.same (idle (Open phase t) c w)
 
   pub does_send_lost : (t : Tcb) (c : Context P) → R (idle (Open phase t) c w) (idle (Open phase (send_lost t c).tcb) (send_lost t c).context w)

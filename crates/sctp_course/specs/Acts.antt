@@ -152,7 +152,7 @@ takes_more (c ∷ cs) = goes_first c && list_all goes_along cs
 pub data IsBundled (cs : List ChunkTree) : Type 0 where
   an_init_alone : (i : InitTree) → cs ≡ init_chunk i ∷ [] → IsBundled cs
   an_init_ack_alone : (i : InitTree) → cs ≡ init_ack_chunk i ∷ [] → IsBundled cs
-  others : takes_more cs ≡ true → IsBundled cs
+  all_along : takes_more cs ≡ true → IsBundled cs
 
 -- A packet has a checksum; or it has one as was agreed with the peer, by the association that is held or by the INIT that is answered; or it is
 -- the packet before it, into which nothing was put.

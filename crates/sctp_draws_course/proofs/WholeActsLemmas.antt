@@ -28,11 +28,11 @@ use Rattle.sctp_table.specs.Packets.{Packet, room, add, add_all, header_to}
 use Rattle.sctp_table.specs.Requests.{Requests, Outcome, Unsettled, Done, Denied, outcome, request_chunk}
 use Rattle.sctp_table.specs.Resets.{on_outcome}
 use Rattle.sctp_table.specs.Sending.{selective_ack, data_chunks, fast_most, is_small}
-use Rattle.sctp_table.specs.Opening.{init_of, agreed_by}
+use Rattle.sctp_table.specs.Opening.{init_of, init_ack_of, next_first, agreed_by}
 use Rattle.sctp_table.specs.Calls.{shown_state, is_shutting_down, is_queue_full, refusal, refusal_by, queued, accepted}
 use Rattle.sctp_table.specs.Laws.{Call}
 use Rattle.sctp_table_laws.specs.Mapped.{Carried}
-use Rattle.sctp_course.specs.Acts.{Making, PacketAct, begins, adds_plain, emits, complains, counts, before_packets, after_packets, OpeningAct, connects, adds_init, answers_new, answers_waiting, answers_echoed, answers_again, echoes, adds_cookie, establishes, opens, restarts, opens_again, maintains, adds_cookie_ack, before_opening, after_opening, ClosingAct, closes, shuts, shuts_on, before_closing, after_closing, DataAct, takes_data, takes_idata, takes_forward, takes_iforward, before_data, after_data, SackAct, takes_sack, samples, counts_errors, before_sack, after_sack, SendingAct, asks, adds_ack, expires, adds_forward, forwards_later, asks_no_reset, asks_reset, adds_request, sends, sends_fast, before_sending, after_sending, TimeAct, advances, delay_ends, times_out, beats, times_init, times_cookie, times_request, wakes_request, before_time, after_time, CallAct, accepts, refuses, takes_message, sets_low_threshold, sets_priority, sets_max_message_size, before_call, after_call, ResetAct, prepares, defers, performs, processes, takes_response, adds_responses, before_reset, after_reset, HandoverAct, leaves, takes_up, before_handover, after_handover, InputAct, ends_packet, before_input, after_input, point_of, IsHeard, IsAsked, HasRequest, for_outgoing, for_incoming, IsSummedSo, always, as_held, as_asked, as_before, fragments_of, HasNoEnd, KeepsUntilEnd}
+use Rattle.sctp_course.specs.Acts.{Making, drawn_tag, drawn_first, drawn_tag_alone, PacketAct, begins, adds_plain, emits, complains, counts, before_packets, after_packets, OpeningAct, connects, adds_init, answers_new, answers_waiting, answers_echoed, answers_again, echoes, adds_cookie, establishes, opens, restarts, opens_again, maintains, adds_cookie_ack, before_opening, after_opening, ClosingAct, closes, shuts, shuts_on, before_closing, after_closing, DataAct, takes_data, takes_idata, takes_forward, takes_iforward, before_data, after_data, SackAct, takes_sack, samples, counts_errors, before_sack, after_sack, SendingAct, asks, adds_ack, expires, adds_forward, forwards_later, asks_no_reset, asks_reset, adds_request, sends, sends_fast, before_sending, after_sending, TimeAct, advances, delay_ends, times_out, beats, times_init, times_cookie, times_request, wakes_request, before_time, after_time, CallAct, accepts, refuses, takes_message, sets_low_threshold, sets_priority, sets_max_message_size, before_call, after_call, ResetAct, prepares, defers, performs, processes, takes_response, adds_responses, before_reset, after_reset, HandoverAct, leaves, takes_up, before_handover, after_handover, InputAct, ends_packet, before_input, after_input, point_of, IsHeard, IsAsked, HasRequest, for_outgoing, for_incoming, IsSummedSo, always, as_held, as_asked, as_before, fragments_of, HasNoEnd, KeepsUntilEnd}
 use Rattle.sctp_course.specs.Course.{as_carried, packets_in}
 use Rattle.sctp_course.proofs.ToldLemmas.{TellsLightly}
 use Rattle.sctp_course.proofs.UntilLemmas.{light_sack, light_sending, light_time, light_call, light_reset, no_end}
@@ -175,10 +175,14 @@ module _ (g : Setting) (call : Call) (r : Rules g call) (hears : (tag : ℕ) (ch
   w_opening (connects m is) inv next h = (tt, h.1, h.2, h.3, h.4)
   w_opening (adds_init tag first t1 m to) inv next h =
       adds_other (CookieWait tag first t1) m (init_chunk (init_of m.context.options tag first (announced m.context.options m.context.options.zero_checksum_method))) refl h
-  w_opening (answers_new tag i m heard to) inv next h = adds_other Closed m (init_ack_chunk _) refl h
-  w_opening (answers_waiting tag i my_tag first t1 m heard to) inv next h = adds_other (CookieWait my_tag first t1) m (init_ack_chunk _) refl h
-  w_opening (answers_echoed tag i t1 cookie t m heard to) inv next h = adds_other (Open (CookieEchoed t1 cookie) t) m (init_ack_chunk _) refl h
-  w_opening (answers_again tag i phase t m heard late to) inv next h = adds_other (Open phase t) m (init_ack_chunk _) refl h
+  w_opening (answers_new tag i m heard to) inv next h =
+      adds_other Closed m (init_ack_chunk (init_ack_of m.context.options i (drawn_tag m) (drawn_first m) 0)) refl h
+  w_opening (answers_waiting tag i my_tag first t1 m heard to) inv next h =
+      adds_other (CookieWait my_tag first t1) m (init_ack_chunk (init_ack_of m.context.options i my_tag first 0)) refl h
+  w_opening (answers_echoed tag i t1 cookie t m heard to) inv next h =
+      adds_other (Open (CookieEchoed t1 cookie) t) m (init_ack_chunk (init_ack_of m.context.options i t.identity.my_tag t.identity.my_first 0)) refl h
+  w_opening (answers_again tag i phase t m heard late to) inv next h =
+      adds_other (Open phase t) m (init_ack_chunk (init_ack_of m.context.options i (drawn_tag_alone m) (next_first t) t.identity.tie)) refl h
   w_opening (echoes tag i cookie my_tag first t1 m heard brought) inv next h =
       ((new_numbers m.context.options first i.initial_tsn inv.stands.draw.first, tt), rests_anew (agreed_by m.context.options i).message_interleaving m.context.queue h.1,
       h.2, h.3, h.4)

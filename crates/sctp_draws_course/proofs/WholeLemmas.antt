@@ -1,5 +1,5 @@
 -- Chunks whose numbers and payloads are as they have to be, packets that are put together of them, and which packets go without a checksum.
-use Rattle.std.proofs.Common.{◌≡◌, ℕ, ◌+◌, ◌%◌, ◌<◌, ◌==◌, ◌&&◌, ◌||◌, not, cond, Bool, true, false, Option, Some, None, option_map, List, [], ◌∷◌, ◌++◌, map, length, refl, sym, ap, subst, ◌∙◌, arith}
+use Rattle.std.proofs.Common.{◌≡◌, ℕ, ◌+◌, ◌%◌, ◌<◌, ◌==◌, ◌&&◌, ◌||◌, not, nat_lt, cond, Bool, true, false, Option, Some, None, option_map, List, [], ◌∷◌, ◌++◌, map, length, refl, sym, ap, subst, ◌∙◌, arith}
 use Rattle.std.specs.Prelude.{All}
 use Rattle.std.specs.List.{list_all}
 use Rattle.std.proofs.lemmas.Bool.{and_parts, lt-ltb, ltb-true}
@@ -24,7 +24,7 @@ use Rattle.sctp_table.specs.Requests.{Request, Requests, requests, request_chunk
 use Rattle.sctp_table.specs.Sending.{data_chunk_of, data_chunks}
 use Rattle.sctp_table.specs.Opening.{queue_if, other_mode, queue_for, queue_anew}
 use Rattle.sctp_table.specs.Laws.{Call}
-use Rattle.sctp_course.specs.Acts.{is_plain, goes_along, goes_first, takes_more, IsBundled, an_init_alone, an_init_ack_alone, others, HasRequest, Answers}
+use Rattle.sctp_course.specs.Acts.{is_plain, goes_along, goes_first, takes_more, IsBundled, an_init_alone, an_init_ack_alone, all_along, HasRequest, Answers}
 use Rattle.sctp_draws.specs.Laws.{NumberFits, NumbersFit, number_fits, is_flowing}
 use Rattle.sctp_draws.proofs.NumberLemmas.{next_fits}
 use Rattle.sctp_draws_course.specs.Kinds.{IsKind, an_init, an_answer, an_echo, a_flow}
@@ -74,7 +74,7 @@ kind_of_others (c ∷ cs) e w = a_flow (all_flow (c ∷ cs) e w)
 pub kind_of : (cs : List ChunkTree) → IsBundled cs → list_all is_whole cs ≡ true → IsKind cs
 kind_of cs (an_init_alone i e) w = an_init i e
 kind_of cs (an_init_ack_alone i e) w = an_answer i e
-kind_of cs (others e) w = kind_of_others cs e w
+kind_of cs (all_along e) w = kind_of_others cs e w
 
 -- and back
 flows_whole : (c : ChunkTree) → is_flowing c ≡ true → is_whole c ≡ true
@@ -141,7 +141,7 @@ forward_whole true s = refl
 forward_whole false s = refl
 
 pub request_whole : (r : Request) → r.number < words → is_whole (request_chunk r) ≡ true
-request_whole r h = both_true _ true (lt-ltb r.number words h) refl
+request_whole r h = both_true (nat_lt r.number words) true (lt-ltb r.number words h) refl
 
 -- an answer has the number of a request that was heard
 response_fits : (call : Call) → ((number : ℕ) → HasRequest call number → number < words) → (p : ParameterTree) → Answers call p → number_fits p ≡ true
