@@ -16,13 +16,12 @@ use Rattle.sctp_rx.specs.ReassemblyQueue.{Reassembly, Deferred, Waiting, Added, 
 use Rattle.sctp_rx.specs.ReassemblyQueue as reassembly
 use Rattle.sctp_rx.specs.Streams as streams_of
 use Rattle.sctp_rx.specs.Tracker as tracker
-use Rattle.sctp_table.specs.Association.{Tcb, Phase, Context, Standing}
+use Rattle.sctp_table.specs.Association.{Tcb, Phase, Context, Standing, Packing}
 use Rattle.sctp_table.specs.Packets.{say}
 use Rattle.sctp_table.specs.Requests.{Request, Requests, nothing_to_do, performed, bad_number, in_progress, is_final, Outcome, Unsettled, Done, Denied, outcome_if, outcome, answered_by, answered_if, answered_in, answered, is_last, is_next, is_known, after}
 use Rattle.sctp_table.specs.Sending.{Sent, is_alone, open_with, send_buffered}
 use Rattle.sctp_table.specs.Resets as resets_rows
 use Rattle.sctp_table.specs.Resets.{Handling, handling, respond, process, is_ahead, resets_if, resets, outgoing_by, on_outgoing, incoming_if, on_outcome, on_response, is_outgoing, on_parameter, Handled, handle_next, handle_all, send_responses, finished_if, finished, on_reconfig}
-use Rattle.sctp_table.specs.Laws.{Packing}
 use Rattle.sctp_draws.specs.NamedChunks.{Names, AreNames, flipped, moved, moved_tsn, named_parameter}
 use Rattle.sctp_draws.specs.Names.{named_phase, named_reassembly, named_request, named_requests, named_tcb, named_standing, plain}
 use Rattle.sctp_draws.specs.Laws.{NumberFits, NumbersFit, number_fits}
