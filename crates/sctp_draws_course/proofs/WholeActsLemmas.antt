@@ -1,6 +1,6 @@
 -- Each act keeps an end whole: what it has to send has a payload, its request numbers are of 32 bits, and packets without a checksum go to an end
 -- with a method.
-use Rattle.std.proofs.Common.{◌≡◌, ℕ, ◌<◌, ◌==◌, Bool, true, false, Option, Some, None, List, [], ◌∷◌, ◌++◌, length, nat_lt, All, refl, sym, ap, subst, ◌∙◌, append-nil}
+use Rattle.std.proofs.Common.{◌≡◌, ℕ, ◌<◌, ◌==◌, Bool, true, false, Option, Some, None, List, [], ◌∷◌, ◌++◌, length, nat_lt, All, refl, sym, ap, subst, ◌∙◌, append-nil, arith}
 use Rattle.std.specs.List.{list_all}
 use Rattle.std.proofs.lemmas.Bool.{and_parts, both_ways, ltb-true}
 use Rattle.std.proofs.lemmas.Bool.Decides.{nat_tests}
