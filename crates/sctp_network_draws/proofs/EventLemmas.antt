@@ -237,9 +237,9 @@ module _ (f : List ℕ → ℕ) where
         gone_same r.turn end_too beside_too (own_turn f action r.turn d own r.is) ∙ (acts.gone ∙ sym (gone_same s.turn end beside (own_turn f action s.turn c own s.is))) in
         shown_is f x v.log z.log _ _ (side_of x v) (side_of x z) end_too beside_too r.turn g2 h2 (first_of action v) (first_is action v) q.after q.settles q.logged (records_of v z d r q) n.since n.is
         ∙ (same_shown (as_written f) x w.log v.log (shown_by (first_of action w)) (shown_by (first_of action v)) (sent (as_written f) end) (sent (as_written f) end_too) m.since n.since
-            (gone_by s.turn end beside) (gone_by r.turn end_too beside_too) (state_of end) (state_of (turned s.turn end beside)) (state_of end_too) (state_of (turned r.turn end_too beside_too))
-            shown firsts (ap (λ (i : ℕ). 0 + i) (packets_told (as_written f) end.told end_too.told a.told)) told gone
-            (ready_alike x (state_of end) (state_of (turned s.turn end beside)) (state_of end_too) (state_of (turned r.turn end_too beside_too))
-            (ap ready_in a.state ∙ ready_named a.names (state_of end)) (ap ready_in b.state ∙ ready_named b.names (state_of (turned s.turn end beside))) acts.stays
-            (elim closes [ inl none ↦ inl (acts.stayed none) | inr none ↦ inr none ]))
+        (gone_by s.turn end beside) (gone_by r.turn end_too beside_too) (state_of end) (state_of (turned s.turn end beside)) (state_of end_too) (state_of (turned r.turn end_too beside_too))
+        shown firsts (ap (λ (i : ℕ). 0 + i) (packets_told (as_written f) end.told end_too.told a.told)) told gone
+        (ready_alike x (state_of end) (state_of (turned s.turn end beside)) (state_of end_too) (state_of (turned r.turn end_too beside_too))
+        (ap ready_in a.state ∙ ready_named a.names (state_of end)) (ap ready_in b.state ∙ ready_named b.names (state_of (turned s.turn end beside))) acts.stays
+        (elim closes [ inl none ↦ inl (acts.stayed none) | inr none ↦ inr none ]))
         ∙ sym (shown_is f x w.log u.log _ _ (side_of x w) (side_of x u) end beside s.turn g1 h1 (first_of action w) (first_is action w) p.after p.settles p.logged (records_of w u c s p) m.since m.is))

@@ -35,7 +35,7 @@ whole : (all front rest more before after : List Action) (action a : Action) →
 whole all front rest more before after action a split next one =
     split
     ∙ (ap (λ (r : List Action). front ++ r)
-        (next ∙ (ap (λ (r : List Action). r ++ more) one ∙ append_assoc before (a ∷ after) more))
+    (next ∙ (ap (λ (r : List Action). r ++ more) one ∙ append_assoc before (a ∷ after) more))
     ∙ sym (append_assoc front before (a ∷ (after ++ more))))
 
 -- one of them ran out of memory

@@ -63,7 +63,6 @@ module _ (word_of : List ℕ → ℕ) (x : End) (log longer : List Entry) (other
   abbrev f : Carried → List ℕ
   f = as_written word_of
 
-
   told_more : told_in x (first ∷ news_of x side after) ≡ told_entries x (sent f end) (mapped f since)
   told_more =
       same_front (told_in x log) (told_in x (first ∷ news_of x side after)) (told_entries x (sent f end) (mapped f since))
@@ -103,9 +102,9 @@ module _ (word_of : List ℕ → ℕ) (x : End) (log longer : List Entry) (other
       ap visible logged
       ∙ (visible_both log (first ∷ news_of x side after)
       ∙ (ap (λ (l : List Entry). visible log ++ (shown_by first ++ l))
-          (visible_both start (told ++ (gone ++ ready))
-          ∙ (ap (λ (l : List Entry). l ++ visible (told ++ (gone ++ ready))) (none_associated (same_association (association side.socket) (association after)) x (association after))
-          ∙ (visible_both told (gone ++ ready) ∙ ap (λ (l : List Entry). visible told ++ l) (visible_both gone ready))))
+      (visible_both start (told ++ (gone ++ ready))
+      ∙ (ap (λ (l : List Entry). l ++ visible (told ++ (gone ++ ready))) (none_associated (same_association (association side.socket) (association after)) x (association after))
+      ∙ (visible_both told (gone ++ ready) ∙ ap (λ (l : List Entry). visible told ++ l) (visible_both gone ready))))
       ∙ (ap (λ (l : List Entry). shows (visible log) (shown_by first) (visible l) (visible gone) (visible ready)) told_is
       ∙ (ap (λ (gs : List GivenUp). shows (visible log) (shown_by first) (visible (told_entries x (sent f end) (mapped f since))) (visible (gone_entries x gs)) (visible ready)) gone_is
       ∙ ap (λ (l : List Entry). shows (visible log) (shown_by first) (visible (told_entries x (sent f end) (mapped f since))) (visible (gone_entries x (gone_by t end beside))) (visible l)) ready_is))))

@@ -60,10 +60,7 @@ fn send_many(alloc: Global, end: End, words: &[&str]) -> anyhow::Result<Event> {
     for place in (2..words.len()).step_by(3) {
         messages.push(message_at(alloc, words, place)?)?;
     }
-    Ok(Event::Call(
-        end,
-        Call::SendMany(messages, SendOptions::default()),
-    ))
+    Ok(Event::Call(end, Call::SendMany(messages, SendOptions::default())))
 }
 
 fn moment(milliseconds: u64) -> SocketTime {

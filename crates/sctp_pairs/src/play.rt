@@ -79,7 +79,12 @@ struct Place {
 }
 
 /// A line that is no event.
-fn ask<P: Pair>(rt: &HostRuntime, pair: &mut P, place: &mut Place, words: &[&str]) -> anyhow::Result<()> {
+fn ask<P: Pair>(
+    rt: &HostRuntime,
+    pair: &mut P,
+    place: &mut Place,
+    words: &[&str],
+) -> anyhow::Result<()> {
     match words.first() {
         Some(&"show") => {
             show(rt, pair.first(), place.shown)?;

@@ -32,7 +32,7 @@ pub fn run_pair<R: Rng, S: Rng, C: Checksum>(
     ensures memory { IfErr result (λ e. e ≡ WorldError.Memory → (first.new.has_failed ≡ true) ⊎ (second.new.has_failed ≡ true)) }
     ensures ran_out { first.old.has_failed ≡ false → second.old.has_failed ≡ false → IfErr result (λ e. e ≡ WorldError.Memory
         → RanOut (map action_of events.now) (world_of R.stream C.word_of first.old) (world_of S.stream C.word_of second.old)
-            (world_of R.stream C.word_of first.new) (world_of S.stream C.word_of second.new) first.new.has_failed second.new.has_failed) }
+        (world_of R.stream C.word_of first.new) (world_of S.stream C.word_of second.new) first.new.has_failed second.new.has_failed) }
     ensures failed { (first.old.has_failed ≡ true) ⊎ (second.old.has_failed ≡ true)
         → (result ≡ Err WorldError.Memory) × (first.new ≡ first.old) × (second.new ≡ second.old) }
     ensures pairs { first.new.has_failed ≡ false → second.new.has_failed ≡ false
@@ -69,7 +69,7 @@ fn lead<R: Rng, S: Rng, C: Checksum>(
     ensures memory { IfErr result (λ e. e ≡ WorldError.Memory → (first.new.has_failed ≡ true) ⊎ (second.new.has_failed ≡ true)) }
     ensures ran_out { first.old.has_failed ≡ false → second.old.has_failed ≡ false → IfErr result (λ e. e ≡ WorldError.Memory
         → RanOut (map action_of events.now) (world_of R.stream C.word_of first.old) (world_of S.stream C.word_of second.old)
-            (world_of R.stream C.word_of first.new) (world_of S.stream C.word_of second.new) first.new.has_failed second.new.has_failed) }
+        (world_of R.stream C.word_of first.new) (world_of S.stream C.word_of second.new) first.new.has_failed second.new.has_failed) }
     ensures failed { (first.old.has_failed ≡ true) ⊎ (second.old.has_failed ≡ true)
         → (result ≡ Err WorldError.Memory) × (first.new ≡ first.old) × (second.new ≡ second.old) }
 {
@@ -96,7 +96,7 @@ fn lead_each<R: Rng, S: Rng, C: Checksum>(
     ensures stands { IfErr result (λ e. e ≡ WorldError.NoSuchPacket → (first.new.has_failed ≡ false) × (second.new.has_failed ≡ false)) }
     ensures ran_out { IfErr result (λ e. e ≡ WorldError.Memory
         → RanOut (map action_of events.now) (world_of R.stream C.word_of first.old) (world_of S.stream C.word_of second.old)
-            (world_of R.stream C.word_of first.new) (world_of S.stream C.word_of second.new) first.new.has_failed second.new.has_failed) }
+        (world_of R.stream C.word_of first.new) (world_of S.stream C.word_of second.new) first.new.has_failed second.new.has_failed) }
 {
     for event in events {
         step_both(first, second, event)?;
@@ -120,7 +120,7 @@ fn step_both<R: Rng, S: Rng, C: Checksum>(
     ensures same { IfErr result (λ e. e ≡ WorldError.NoSuchPacket → (first.new ≡ first.old) × (second.new ≡ second.old)) }
     ensures ran_out { IfErr result (λ e. e ≡ WorldError.Memory
         → RanOut (action_of event.now ∷ []) (world_of R.stream C.word_of first.old) (world_of S.stream C.word_of second.old)
-            (world_of R.stream C.word_of first.new) (world_of S.stream C.word_of second.new) first.new.has_failed second.new.has_failed) }
+        (world_of R.stream C.word_of first.new) (world_of S.stream C.word_of second.new) first.new.has_failed second.new.has_failed) }
 {
     if !has_packet(first, event) || !has_packet(second, event) {
         return Err(WorldError::NoSuchPacket);
