@@ -7,7 +7,7 @@ use Rattle.sctp_table.specs.Calls.{ready_in}
 use Rattle.sctp_table.specs.Laws as table
 use Rattle.sctp_table.specs.Laws.{endings}
 use Rattle.sctp_table.specs.Wire.{field_of}
-use Rattle.sctp_table_laws.specs.Mapped.{Carried, map_context, as_written}
+use Rattle.sctp_table_laws.specs.Mapped.{Carried, map_context, as_bytes}
 use Rattle.sctp_table_laws.specs.HeardBack.{IsHearable}
 use Rattle.sctp_table_laws.proofs.HeardBackLemmas.{is_accepted}
 use Rattle.sctp_course.specs.Course as course
@@ -173,13 +173,13 @@ module _ (f : List ℕ → ℕ) where
 
   -- the context of a socket, by the course
   context_in : (x : End) (log : List Entry) (others : List (List ℕ)) (side : Side) (end : course.Side) → Good f x log others side end
-      → side.socket.standing.context ≡ map_context (as_written f) end.end.standing.context
+      → side.socket.standing.context ≡ map_context (as_bytes f) end.end.standing.context
   context_in x log others side end g = ap (λ (z : Endpoint (List ℕ)). z.standing.context) g.image.socket
 
   contexts : (x : End) (log other_log : List Entry) (others others_too : List (List ℕ)) (side side_too : Side) (end end_too : course.Side) → Good f x log others side end
       → Good f x other_log others_too side_too end_too → AreAlike end end_too → side_too.socket.standing.context ≡ side.socket.standing.context
   contexts x log other_log others others_too side side_too end end_too g h a =
-      context_in x other_log others_too side_too end_too h ∙ (ap (map_context (as_written f)) a.context ∙ sym (context_in x log others side end g))
+      context_in x other_log others_too side_too end_too h ∙ (ap (map_context (as_bytes f)) a.context ∙ sym (context_in x log others side end g))
 
   states : (x : End) (log other_log : List Entry) (others others_too : List (List ℕ)) (side side_too : Side) (end end_too : course.Side) → Good f x log others side end
       → Good f x other_log others_too side_too end_too → (a : AreAlike end end_too) → side_too.socket.standing.state ≡ named_state a.names side.socket.standing.state
@@ -236,9 +236,9 @@ module _ (f : List ℕ → ℕ) where
         let gone : gone_by r.turn end_too beside_too ≡ gone_by s.turn end beside =
         gone_same r.turn end_too beside_too (own_turn f action r.turn d own r.is) ∙ (acts.gone ∙ sym (gone_same s.turn end beside (own_turn f action s.turn c own s.is))) in
         shown_is f x v.log z.log _ _ (side_of x v) (side_of x z) end_too beside_too r.turn g2 h2 (first_of action v) (first_is action v) q.after q.settles q.logged (records_of v z d r q) n.since n.is
-        ∙ (same_shown (as_written f) x w.log v.log (shown_by (first_of action w)) (shown_by (first_of action v)) (sent (as_written f) end) (sent (as_written f) end_too) m.since n.since
+        ∙ (same_shown (as_bytes f) x w.log v.log (shown_by (first_of action w)) (shown_by (first_of action v)) (sent (as_bytes f) end) (sent (as_bytes f) end_too) m.since n.since
         (gone_by s.turn end beside) (gone_by r.turn end_too beside_too) (state_of end) (state_of (turned s.turn end beside)) (state_of end_too) (state_of (turned r.turn end_too beside_too))
-        shown firsts (ap (λ (i : ℕ). 0 + i) (packets_told (as_written f) end.told end_too.told a.told)) told gone
+        shown firsts (ap (λ (i : ℕ). 0 + i) (packets_told (as_bytes f) end.told end_too.told a.told)) told gone
         (ready_alike x (state_of end) (state_of (turned s.turn end beside)) (state_of end_too) (state_of (turned r.turn end_too beside_too))
         (ap ready_in a.state ∙ ready_named a.names (state_of end)) (ap ready_in b.state ∙ ready_named b.names (state_of (turned s.turn end beside))) acts.stays
         (elim closes [ inl none ↦ inl (acts.stayed none) | inr none ↦ inr none ]))

@@ -7,7 +7,7 @@ use Rattle.sctp_table.specs.Association.{State, Endpoint}
 use Rattle.sctp_table.specs.Calls.{ready_in}
 use Rattle.sctp_table.specs.Input.{refusal}
 use Rattle.sctp_table.specs.Shown.{Association, association_in}
-use Rattle.sctp_table_laws.specs.Mapped.{Carried, map_event, as_written}
+use Rattle.sctp_table_laws.specs.Mapped.{Mapping, Carried, map_event, as_bytes}
 use Rattle.sctp_course.specs.Course as course
 use Rattle.sctp_course.specs.Course.{Turn, Calls, Gives, Refuses, emitted, given, foreign_if, turned, state_of}
 use Rattle.sctp_delivery.specs.Proper.{gone_by}
@@ -53,15 +53,15 @@ abbrev pub shows : (log first told gone ready : List Entry) → List Entry
 shows log first told gone ready = log ++ (first ++ (told ++ (gone ++ ready)))
 
 -- so many packets were told before
-abbrev pub sent : (f : Carried → List ℕ) → course.Side → ℕ
+abbrev pub sent : (f : Mapping Carried (List ℕ)) → course.Side → ℕ
 sent f end = 0 + length (packets_in (mapped f end.told))
 
 module _ (word_of : List ℕ → ℕ) (x : End) (log longer : List Entry) (others others_now : List (List ℕ)) (side new : Side) (end beside : course.Side) (t : Turn)
     (g : Good word_of x log others side end) (h : Good word_of x longer others_now new (turned t end beside)) (first : Entry) (k : IsFirst first) (after : Endpoint (List ℕ))
     (settles : new ≡ settled side after) (logged : longer ≡ log ++ first ∷ news_of x side after)
     (records : given_up x (first ∷ news_of x side after) ≡ gone_by t end beside) (since : List (Event Carried)) (grows : (turned t end beside).told ≡ end.told ++ since) where
-  abbrev f : Carried → List ℕ
-  f = as_written word_of
+  abbrev f : Mapping Carried (List ℕ)
+  f = as_bytes word_of
 
   told_more : told_in x (first ∷ news_of x side after) ≡ told_entries x (sent f end) (mapped f since)
   told_more =
@@ -155,7 +155,7 @@ module _ (x : End) (s u r w : State) (before : ready_in r ≡ ready_in s) (after
 
 -- ---- two ends
 
-module _ (f : Carried → List ℕ) (x : End) (log other : List Entry) (first first_too : List Entry) (m n : ℕ) (es fs : List (Event Carried)) (gone gone_too : List GivenUp) (s u r w : State)
+module _ (f : Mapping Carried (List ℕ)) (x : End) (log other : List Entry) (first first_too : List Entry) (m n : ℕ) (es fs : List (Event Carried)) (gone gone_too : List GivenUp) (s u r w : State)
     (logs : visible other ≡ visible log) (firsts : first_too ≡ first) (sent_same : n ≡ m) (told : AreTold es fs) (gone_same : gone_too ≡ gone) (ready : ready_part x r w ≡ ready_part x s u) where
   pub same_shown : shows (visible other) first_too (visible (told_entries x n (mapped f fs))) (visible (gone_entries x gone_too)) (visible (ready_part x r w))
       ≡ shows (visible log) first (visible (told_entries x m (mapped f es))) (visible (gone_entries x gone)) (visible (ready_part x s u))

@@ -3,7 +3,7 @@ use Rattle.std.proofs.Common.{◌≡◌, ℕ, suc, ◌+◌, List, [], ◌∷◌,
 use Rattle.std.specs.List.{flat_map}
 use Rattle.std.proofs.lemmas.Grind.{flat_map-append}
 use Rattle.sctp_state.specs.Events.{Event, SendPacket, OnError, OnAborted}
-use Rattle.sctp_table_laws.specs.Mapped.{Carried, map_event}
+use Rattle.sctp_table_laws.specs.Mapped.{Mapping, Carried, map_event}
 use Rattle.sctp_table.specs.Shown.{Association}
 use Rattle.std.specs.Prelude.{Bool, true, false, Option}
 use Rattle.sctp_draws_course.specs.Alike.{AreTold}
@@ -20,7 +20,7 @@ pub none_associated : (b : Bool) (x : End) (a : Option Association) → visible 
 none_associated true x a = refl
 none_associated false x a = refl
 
-module _ (f : Carried → List ℕ) where
+module _ (f : Mapping Carried (List ℕ)) where
   pub told_shown : (x : End) (n : ℕ) (es fs : List (Event Carried)) → AreTold es fs → visible (told_entries x n (mapped f fs)) ≡ visible (told_entries x n (mapped f es))
   told_shown x n [] [] t = refl
   told_shown x n [] (e ∷ fs) t = absurd t
