@@ -183,14 +183,22 @@ module _ (g : Setting) (call : Call) (r : Rules g call) (hears : (tag : ℕ) (ch
       adds_other (Open (CookieEchoed t1 cookie) t) m (init_ack_chunk (init_ack_of m.context.options i t.identity.my_tag t.identity.my_first 0)) refl h
   w_opening (answers_again tag i phase t m heard late to) inv next h =
       adds_other (Open phase t) m (init_ack_chunk (init_ack_of m.context.options i (drawn_tag_alone m) (next_first t) t.identity.tie)) refl h
-  w_opening (echoes tag i cookie my_tag first t1 m heard brought) inv next h =
-      ((new_numbers m.context.options first i.initial_tsn inv.stands.draw.first, tt), rests_anew (agreed_by m.context.options i).message_interleaving m.context.queue h.1,
-      h.2, h.3, h.4)
+  w_opening (echoes tag i cookie my_tag first t1 m heard brought) inv next h = (
+    (new_numbers m.context.options first i.initial_tsn inv.stands.draw.first, tt),
+    rests_anew (agreed_by m.context.options i).message_interleaving m.context.queue h.1,
+    h.2,
+    h.3,
+    h.4,
+  )
   w_opening (adds_cookie t1 cookie t m to) inv next h = adds_other (Open (CookieEchoed t1 cookie) t) m (cookie_echo_chunk cookie) refl h
   w_opening (establishes tag t1 cookie t m heard) inv next h = (h.0, h.1, h.2, h.3, connected_said m h.4)
-  w_opening (opens tag k m echoed none own) inv next h =
-      ((new_numbers m.context.options k.my_initial_tsn k.peer_initial_tsn next.stands.draw.first, tt),
-      rests_for false (negotiated m.context.options k.peer_capabilities).message_interleaving m.context.queue h.1, h.2, h.3, connected_said m h.4)
+  w_opening (opens tag k m echoed none own) inv next h = (
+    (new_numbers m.context.options k.my_initial_tsn k.peer_initial_tsn next.stands.draw.first, tt),
+    rests_for false (negotiated m.context.options k.peer_capabilities).message_interleaving m.context.queue h.1,
+    h.2,
+    h.3,
+    connected_said m h.4,
+  )
   w_opening (restarts tag k phase t m echoed verdict) inv next h = absurd (no_restart _ (same_verdict g call r tag k phase t m echoed inv) verdict)
   w_opening (opens_again tag k phase t m echoed verdict) inv next h = absurd (no_again _ (same_verdict g call r tag k phase t m echoed inv) verdict)
   w_opening (maintains tag k t1 cookie t m echoed verdict) inv next h = (h.0, h.1, h.2, h.3, connected_said m h.4)
@@ -213,9 +221,13 @@ module _ (g : Setting) (call : Call) (r : Rules g call) (hears : (tag : ℕ) (ch
 
   w_sack : (act : SackAct Carried call) → WholeAt (before_sack act) → WholeAt (after_sack act)
   w_sack (takes_sack tag k phase t m heard valid) h =
-      let act : SackAct Carried call = takes_sack tag k phase t m heard valid in
-      ((h.0.0, heard_filled true m.context.now (point_of k t) k.a_rwnd (cleaned k.gap_ack_blocks) t.sender m.context.told h.0.1), h.1, h.2, h.3,
-      said_lightly method m.context.told (after_sack act).context.told (light_sack act) h.4)
+      let act : SackAct Carried call = takes_sack tag k phase t m heard valid in (
+        (h.0.0, heard_filled true m.context.now (point_of k t) k.a_rwnd (cleaned k.gap_ack_blocks) t.sender m.context.told h.0.1),
+        h.1,
+        h.2,
+        h.3,
+        said_lightly method m.context.told (after_sack act).context.told (light_sack act) h.4,
+      )
   w_sack (samples k phase t m) h = h
   w_sack (counts_errors e m) h = h
 
@@ -225,16 +237,24 @@ module _ (g : Setting) (call : Call) (r : Rules g call) (hears : (tag : ℕ) (ch
   w_sending (asks also_if_delayed phase t m) h = h
   w_sending (adds_ack phase t m) h = whole_added method (Open phase t) m.context.queue m.context.told.events (selective_ack t) m.packet refl h
   w_sending (expires phase t m) h =
-      let act : SendingAct Carried call = expires phase t m in
-      ((h.0.0, sender_expired_filled m.context.now t.sender m.context.told h.0.1), h.1, h.2, h.3,
-      said_lightly method m.context.told (after_sending act).context.told (light_sending act) h.4)
+      let act : SendingAct Carried call = expires phase t m in (
+        (h.0.0, sender_expired_filled m.context.now t.sender m.context.told h.0.1),
+        h.1,
+        h.2,
+        h.3,
+        said_lightly method m.context.told (after_sending act).context.told (light_sending act) h.4,
+      )
   w_sending (adds_forward phase t m due) h =
       whole_added method (Open phase t) m.context.queue m.context.told.events (chunk_if (mixes t.sender) t.sender) m.packet (forward_whole (mixes t.sender) t.sender) h
   w_sending (forwards_later n m) h = h
   w_sending (asks_no_reset most m none) h = (h.0, calls_leave_rests.steps Requested (requested most m.context.queue) m.context.queue h.1, h.2, h.3, h.4)
-  w_sending (asks_reset most stream streams phase t m some free) h =
-      ((record { next = next_fits t.requests.next; current = h.0.0.next; last = h.0.0.last }, h.0.1),
-      calls_leave_rests.steps Requested (requested most m.context.queue) m.context.queue h.1, h.2, h.3, h.4)
+  w_sending (asks_reset most stream streams phase t m some free) h = (
+    (record { next = next_fits t.requests.next; current = h.0.0.next; last = h.0.0.last }, h.0.1),
+    calls_leave_rests.steps Requested (requested most m.context.queue) m.context.queue h.1,
+    h.2,
+    h.3,
+    h.4,
+  )
   w_sending (adds_request k phase t m is) h =
       whole_added method (Open phase t) m.context.queue m.context.told.events (request_chunk k) m.packet (request_whole k (subst NumberFits is h.0.0.current)) h
   w_sending (sends phase t m) h =
@@ -260,9 +280,13 @@ module _ (g : Setting) (call : Call) (r : Rules g call) (hears : (tag : ℕ) (ch
   w_time (advances now m is on) h = h
   w_time (delay_ends phase t m) h = h
   w_time (times_out phase t m due) h =
-      let act : TimeAct Carried call = times_out phase t m due in
-      ((h.0.0, nack_all_filled t.sender.outstanding.items m.context.told h.0.1), h.1, h.2, h.3,
-      said_lightly method m.context.told (after_time act).context.told (light_time act) h.4)
+      let act : TimeAct Carried call = times_out phase t m due in (
+        (h.0.0, nack_all_filled t.sender.outstanding.items m.context.told h.0.1),
+        h.1,
+        h.2,
+        h.3,
+        said_lightly method m.context.told (after_time act).context.told (light_time act) h.4,
+      )
   w_time (beats b m) h = h
   w_time (times_init tag first old new m) h = h
   w_time (times_cookie old new cookie t m) h = h
@@ -278,9 +302,13 @@ module _ (g : Setting) (call : Call) (r : Rules g call) (hears : (tag : ℕ) (ch
       (h.0, h.1, h.2, h.3, said_lightly method m.context.told (after_call act).context.told (light_call act) h.4)
   w_calls (takes_message phase t m is) h = h
   w_calls (sets_low_threshold stream bytes m is) h =
-      let act : CallAct Carried call = sets_low_threshold stream bytes m is in
-      (h.0, calls_leave_rests.threshold stream bytes m.context.queue silent h.1, h.2, h.3,
-      said_lightly method m.context.told (after_call act).context.told (light_call act) h.4)
+      let act : CallAct Carried call = sets_low_threshold stream bytes m is in (
+        h.0,
+        calls_leave_rests.threshold stream bytes m.context.queue silent h.1,
+        h.2,
+        h.3,
+        said_lightly method m.context.told (after_call act).context.told (light_call act) h.4,
+      )
   w_calls (sets_priority stream priority m is) h = (h.0, calls_leave_rests.priority stream priority m.context.queue h.1, h.2, h.3, h.4)
   w_calls (sets_max_message_size bytes m is) h = h
 
@@ -318,15 +346,23 @@ module _ (g : Setting) (call : Call) (r : Rules g call) (hears : (tag : ℕ) (ch
 
   w_resets : (act : ResetAct Carried call) → WholeAt (before_reset act) → WholeAt (after_reset act)
   w_resets (prepares stream phase t m asked can) h =
-      let act : ResetAct Carried call = prepares stream phase t m asked can in
-      (h.0, calls_leave_rests.prepared stream m.context.queue silent h.1, h.2, h.3,
-      said_lightly method m.context.told (after_reset act).context.told (light_reset act) h.4)
+      let act : ResetAct Carried call = prepares stream phase t m asked can in (
+        h.0,
+        calls_leave_rests.prepared stream m.context.queue silent h.1,
+        h.2,
+        h.3,
+        said_lightly method m.context.told (after_reset act).context.told (light_reset act) h.4,
+      )
   w_resets (defers number response last_tsn streams phase t m asked known ahead) h =
       ((processed_fits number t.requests _ (known_small number t.requests known h.0.0) refl refl refl h.0.0, h.0.1), h.1, h.2, h.3, h.4)
   w_resets (performs number response last_tsn streams phase t m asked known there) h =
-      let act : ResetAct Carried call = performs number response last_tsn streams phase t m asked known there in
-      ((processed_fits number t.requests _ (known_small number t.requests known h.0.0) refl refl refl h.0.0, h.0.1), h.1, h.2, h.3,
-      said_lightly method m.context.told (after_reset act).context.told (light_reset act) h.4)
+      let act : ResetAct Carried call = performs number response last_tsn streams phase t m asked known there in (
+        (processed_fits number t.requests _ (known_small number t.requests known h.0.0) refl refl refl h.0.0, h.0.1),
+        h.1,
+        h.2,
+        h.3,
+        said_lightly method m.context.told (after_reset act).context.told (light_reset act) h.4,
+      )
   w_resets (processes number streams phase t m asked known) h =
       ((processed_fits number t.requests _ (known_small number t.requests known h.0.0) refl refl refl h.0.0, h.0.1), h.1, h.2, h.3, h.4)
   w_resets (takes_response rto number result sender receiver phase t m asked) h =

@@ -50,9 +50,13 @@ packet_of c q = q
 module _ (o q : Options) (x y : Side) (own : AreGiven o) (other : AreGiven q) (h : Halves o q x y) (a : SideIsWhole q.zero_checksum_method x) where
   -- a turn begins
   whole_begins : (asked : Bool) → IsWhole q.zero_checksum_method (state_of x) x.end.standing.context.queue x.end.standing.context.told.events (calm x.end).packet
-  whole_begins asked =
-      (a.state, a.queue, refl, λ e. cc,
-      subst (λ (es : List (Event Carried)). All (IsSaid q.zero_checksum_method) (packets_in es)) (sym h.own.quiet) (All-nil (IsSaid q.zero_checksum_method)))
+  whole_begins asked = (
+    a.state,
+    a.queue,
+    refl,
+    λ e. cc,
+    subst (λ (es : List (Event Carried)). All (IsSaid q.zero_checksum_method) (packets_in es)) (sym h.own.quiet) (All-nil (IsSaid q.zero_checksum_method)),
+  )
 
   -- and ends
   whole_ends : (asked : Bool) (e : Endpoint Carried)
@@ -161,9 +165,10 @@ module _ (o q : Options) (own : AreGiven o) (other : AreGiven q) where
 
   kinds_along : (es : List (Bool × Turn)) (w : Pair) → FollowsTheRules es w → HasNotEnded (run es w) → AreWhole o q w → KindsAlong es w
   kinds_along [] w follows none h = are_of_a_kind w h
-  kinds_along (e ∷ es) w follows none h =
-      (are_of_a_kind w h,
-      kinds_along es (goes e.0 e.1 w) follows.1 none (whole_goes e.0 e.1 w follows.0 (before_run es (goes e.0 e.1 w) none) h))
+  kinds_along (e ∷ es) w follows none h = (
+    are_of_a_kind w h,
+    kinds_along es (goes e.0 e.1 w) follows.1 none (whole_goes e.0 e.1 w follows.0 (before_run es (goes e.0 e.1 w) none) h),
+  )
 
   -- ---- checksums
 
