@@ -17,7 +17,8 @@ use Rattle.sctp_table.specs.Resets.{on_reconfig}
 use Rattle.sctp_table.specs.Input.{refusal, is_reported, echoed, echoed_in, complained, on_unknown_if, on_heartbeat, Heard, on_standing, on_chunk, violation, heard_if, hear, hear_rest, hear_all, has_data, repeats, repeats_if, ended_if, at_end, ended, handled, counts as counts_row, taken_if, on_packet, on_no_packet}
 use Rattle.sctp_table.specs.Laws.{Call, Connect, Close, Shutdown, Send, SendMany, ResetStreams, TakeMessage, SetLowThreshold, SetPriority, SetMaxMessageSize, Advance, HandOver, Restore, Packet as Given, NoPacket, called}
 use Rattle.sctp_course.specs.Acts.{Making, at, idle, calm, IsHeard, counts, asks, adds_ack, beats, counts_errors, shuts_on, ends_packet, Keeps}
-use Rattle.sctp_course.proofs.PacketActsLemmas.{does_begin, does_chunk, does_complain, does_send_with}
+use Rattle.sctp_course.proofs.BundledLemmas.{first_more}
+use Rattle.sctp_course.proofs.PacketActsLemmas.{does_begin_new, does_chunk, does_complain, does_send_with}
 use Rattle.sctp_course.proofs.RowActsLemmas.{placed, OpenActs, does_where_open, does_send_shutdown, does_close, does_shutdown, does_shut_by_peer, does_shutdown_ack, does_shutdown_complete, does_violated, does_abort, does_error, does_data_chunk, does_idata_chunk, does_forward_chunk, does_iforward_chunk, does_sack}
 use Rattle.sctp_course.proofs.OpeningActsLemmas.{does_connect, does_init, does_init_ack, does_cookie_ack, does_cookie_echo}
 use Rattle.sctp_course.proofs.TimeActsLemmas.{does_advance}
@@ -127,9 +128,9 @@ module _ {P : Type 0} {call : Call} {R : Making P → Making P → Type 0} (k : 
   does_ended_if : (b : Bool) (phase : Phase) (t : Tcb) (c : Context P) (w : Stream) → R (idle (Open phase t) c w) (placed (ended_if b phase t c) w)
   does_ended_if true phase t c w =
       let p : Packet = new_packet c.options t in
-      k.through (does_begin k (Open phase t) c w p refl)
+      k.through (does_begin_new k phase t c w)
       (k.through (k.sending (adds_ack phase t (at (Open phase t) c w p)))
-      (does_send_with k phase w (is_alone phase) (add (selective_ack t) p) (acknowledged t) c))
+      (does_send_with k phase w (is_alone phase) (add (selective_ack t) p) (acknowledged t) c (first_more (selective_ack t) p refl refl)))
   does_ended_if false phase t c w = k.same (idle (Open phase t) c w)
 
   pub does_ended : (w : Stream) → OpenActs R w ended

@@ -52,9 +52,9 @@ module _ (call : Call) (calm : IsCalm call) where
   }
 
   keeps_packets : (act : PacketAct Carried call) → RestsAt (before_packets act) (after_packets act)
-  keeps_packets (begins p m new) = rests_same m.state m.context.told.events
+  keeps_packets (begins p m new summed) = rests_same m.state m.context.told.events
   keeps_packets (adds_plain chunk m plain others) = rests_same m.state m.context.told.events
-  keeps_packets (emits m some) = rests_told m.state m.context.told.events (SendPacket _ ∷ []) refl
+  keeps_packets (emits m some bundled) = rests_told m.state m.context.told.events (SendPacket _ ∷ []) refl
   keeps_packets (complains kind text m) = rests_told m.state m.context.told.events (OnError kind text ∷ []) refl
   keeps_packets (counts m) = rests_same m.state m.context.told.events
 
@@ -136,7 +136,7 @@ module _ (call : Call) (calm : IsCalm call) where
       kept (performs number response last_tsn streams phase t m asked known there) a h = h
       kept (processes number streams phase t m asked known) a h = h
       kept (takes_response rto number result sender receiver phase t m asked) a h = h
-      kept (adds_responses responses phase t m are) a h = h
+      kept (adds_responses responses phase t m are answers) a h = h
 
   keeps_handover : (act : HandoverAct Carried call) → RestsAt (before_handover act) (after_handover act)
   keeps_handover (leaves phase t m is) = record { held = λ a h. absurd h; told = told_more m.context.told.events (OnClosed ∷ []) refl }

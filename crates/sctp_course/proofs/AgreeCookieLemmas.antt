@@ -15,9 +15,10 @@ use Rattle.sctp_table.specs.Packets.{Packet, new_packet, fits, added_if, add, sa
 use Rattle.sctp_table.specs.Opening.{long_word, connected, cookie_ack, tcb_by, establishes, Verdict, EstablishNew, RestartDetected, SimultaneousInit, MaintainExisting, Discard, InvalidTag, new_if, judged, compared, by_tags, kept, too_late, restarts_in, on_verdict}
 use Rattle.sctp_table.specs.Laws.{NoPacket}
 use Rattle.sctp_table_laws.specs.Mapped.{Carried}
-use Rattle.sctp_course.specs.Acts.{at, nothing, idle, calm, is_opened, is_plain, adds_plain, Keeps}
+use Rattle.sctp_course.specs.Acts.{at, nothing, idle, calm, is_opened, is_plain, all_along, as_held, adds_plain, Keeps}
 use Rattle.sctp_course.specs.Course.{AreGiven}
 use Rattle.sctp_course.specs.Agreement.{Draw, Association, crossed, Has, Notes, association_of, held_in, AreDistinct}
+use Rattle.sctp_course.proofs.BundledLemmas.{added_more, first_more}
 use Rattle.sctp_course.proofs.PacketActsLemmas.{does_begin, does_out, does_complain, does_send_with}
 use Rattle.sctp_course.proofs.OpeningActsLemmas.{accepting, end_in}
 use Rattle.sctp_course.proofs.AgreeLemmas.{Past, View, holds, view_of, own_in, peer_in, SaysEcho, SaysAck, Holds, Tagged, Later, later_same, one_draw}
@@ -102,8 +103,8 @@ module _ (o : Options) (past : List (Event Carried)) (y : Past) (fine : AreGiven
       let own : AreGiven h.own = subst AreGiven (sym same) fine in
       let q : Keeps NoPacket (λ a b. InvAt h z y a → InvAt h z y b) = kept_quiet h y own z in
       let p : Packet = accepting c.options k.peer_tag t in
-      let begun : InvAt h z y (at (Open phase t) c w p) = does_begin q (Open phase t) c w p refl inv in
-      does_send_with q phase w false (add cookie_ack_chunk p) t c
+      let begun : InvAt h z y (at (Open phase t) c w p) = does_begin q (Open phase t) c w p refl (as_held phase t refl refl) inv in
+      does_send_with q phase w false (add cookie_ack_chunk p) t c (first_more cookie_ack_chunk p refl refl)
       (adds h z y (view_of (Open phase t)) c.options c.pack c.told.events p cookie_ack_chunk begun (acks z here) (inr (refl, refl)))
 
   -- ---- a control block is made
@@ -214,10 +215,10 @@ module _ (o : Options) (past : List (Event Carried)) (y : Past) (fine : AreGiven
         let q : Packet = add shutdown_ack_chunk p in
         let chunk : ChunkTree = error_chunk (cookie_received_while_shutting_down ∷ []) in
         let s : State = Open phase t in
-        let one : InvAt g x y (at s c w q) = quiet_here.packets (adds_plain shutdown_ack_chunk (at s c w p) refl refl) (does_begin quiet_here s c w p refl inv) in
+        let one : InvAt g x y (at s c w q) = quiet_here.packets (adds_plain shutdown_ack_chunk (at s c w p) refl refl) (does_begin quiet_here s c w p refl (as_held phase t refl refl) inv) in
         let two : InvAt g x y (at s c w (add chunk q)) =
         quiet_here.packets (adds_plain chunk (at s c w q) refl (plain_two (fits p shutdown_ack_chunk) p refl)) one in
-        does_complain quiet_here WrongSequence (codes "Received COOKIE-ECHO while shutting down") s (emit (add chunk q) c) w (does_out quiet_here s c w (add chunk q) two)
+        does_complain quiet_here WrongSequence (codes "Received COOKIE-ECHO while shutting down") s (emit (add chunk q) c) w (does_out quiet_here s c w (add chunk q) (all_along (added_more chunk q (first_more shutdown_ack_chunk p refl refl) refl)) two)
 
     restarts_by : (phase : Phase) (t : Tcb) (c : Context Carried) (s : Endpoint Carried) → InvAt g x y (idle (Open phase t) c s.words)
         → Goes g y n echoed (noted [] (establishes true k (say OnConnectionRestarted c) s).standing.state n) (establishes true k (say OnConnectionRestarted c) s)

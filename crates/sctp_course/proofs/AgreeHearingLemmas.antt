@@ -18,7 +18,7 @@ use Rattle.sctp_table.specs.Opening.{word, drew_word, long_word, tag_from, tsn_f
 use Rattle.sctp_table.specs.Input.{hear}
 use Rattle.sctp_table.specs.Laws.{Call, Packet as Given, NoPacket}
 use Rattle.sctp_table_laws.specs.Mapped.{Carried}
-use Rattle.sctp_course.specs.Acts.{Making, idle, calm, nothing, echoing, IsHeard, Keeps}
+use Rattle.sctp_course.specs.Acts.{Making, idle, calm, nothing, echoing, IsHeard, always, Keeps}
 use Rattle.sctp_course.specs.Course.{AreGiven}
 use Rattle.sctp_course.specs.Agreement.{Draw, Association, Has, Notes, association_of, held_in, two_drawn, one_drawn, drawn_for, AreDistinct}
 use Rattle.sctp_course.proofs.PacketActsLemmas.{does_plain, does_complain, does_send_buffered, does_send_cookie}
@@ -241,7 +241,7 @@ module _ (o : Options) (past : List (Event Carried)) (under : Option ℕ) (y : P
           let q : Packet = packet_to i.initiate_tag (rounded c.options.mtu) in
           goes_held g y n e1 (echoed_by i None my_tag first (end_in st s)) known
           (does_closed k s.words (OnAborted ProtocolViolation (codes "InitAck chunk doesn't contain a cookie")) st (emit (add chunk q) c) refl refl
-          (does_plain k chunk q st c s.words refl refl inv))
+          (does_plain k chunk q st c s.words refl refl (always refl) inv))
 
       answered : (b : Option (List ℕ)) (my_tag first : ℕ) (t1 : Timer) (s : Endpoint Carried) → cookie_in i.parameters ≡ b
           → InvAt g x y (calm (end_in (CookieWait my_tag first t1) s))

@@ -1,5 +1,6 @@
 -- How an association is opened, over every course: each row of the handshake keeps what holds of an end.
 use Rattle.std.proofs.Common.{◌≡◌, ℕ, ◌^◌, ◌%◌, Bool, true, false, Some, None, Result, Ok, Err, List, [], ◌∷◌, ◌++◌, inl, inr, refl, sym, ap, subst, ◌∙◌, arith}
+use Rattle.std.proofs.lemmas.List.Elements.{All-nil}
 use Rattle.rand_core.specs.Stream.{Stream}
 use Rattle.sctp_wire.specs.Fields.{be64}
 use Rattle.sctp_packet.specs.Chunk.{InitTree, init_ack_chunk}
@@ -15,15 +16,16 @@ use Rattle.sctp_table.specs.Packets.{Packet, add}
 use Rattle.sctp_table.specs.Opening.{tsn_from, tag_from, word, drew_word, t1_init, connect, cookie_for, agreed_by, init_ack_of, answer, next_first, cookie_in}
 use Rattle.sctp_table.specs.Laws.{NoPacket, Packet as Given}
 use Rattle.sctp_table_laws.specs.Mapped.{Carried}
-use Rattle.sctp_course.specs.Acts.{Making, at, nothing, idle, calm, echoing, Keeps}
+use Rattle.sctp_course.specs.Acts.{Making, at, nothing, idle, calm, echoing, an_init_ack_alone, Keeps}
 use Rattle.sctp_course.specs.Course.{has_connected, AreGiven}
 use Rattle.sctp_course.specs.Agreement.{Draw, Association, crossed, Has, association_of, two_drawn, AreDistinct}
-use Rattle.sctp_course.proofs.PacketActsLemmas.{does_begin, does_out}
+use Rattle.sctp_course.proofs.BundledLemmas.{one_bundled}
+use Rattle.sctp_course.proofs.PacketActsLemmas.{does_out}
 use Rattle.sctp_course.proofs.OpeningActsLemmas.{answering, does_send_init}
 use Rattle.sctp_course.proofs.JoinLemmas.{some_same}
 use Rattle.sctp_course.proofs.JoinKeepsLemmas.{cookie_found}
-use Rattle.sctp_course.proofs.AgreeLemmas.{Past, rests, waits, holds, view_of, own_in, peer_in, Names, draw_in, FitsDraw, FitsInit, SaysInit, SaysInitAck, SaysAck, Waits, Holds, Tagged, tagged_holds, Later, later_same, one_draw}
-use Rattle.sctp_course.proofs.AgreeActsLemmas.{Setting, Inv, InvAt, inv_view, inv_later, adds}
+use Rattle.sctp_course.proofs.AgreeLemmas.{Past, rests, waits, holds, view_of, own_in, peer_in, Names, draw_in, FitsDraw, FitsInit, SaysInit, SaysInitAck, SaysAck, Says, Waits, Holds, Tagged, tagged_holds, Later, later_same, one_draw}
+use Rattle.sctp_course.proofs.AgreeActsLemmas.{Setting, Inv, InvAt, inv_made, inv_view, inv_later, adds}
 use Rattle.sctp_course.proofs.AgreeQuietLemmas.{Quiet, quiet}
 
 -- ---- the cookie that is made
@@ -113,8 +115,9 @@ module _ (g : Setting) (y : Past) (own : AreGiven g.own) where
       let k : Keeps NoPacket (λ a b. InvAt g x y a → InvAt g x y b) = kept_quiet x in
       let p : Packet = answering c.options i in
       let j : InitTree = init_ack_of c.options i tag first tie in
-      let begun : InvAt g x y (at s c w p) = does_begin k s c w p refl inv in
-      does_out k s c w (add (init_ack_chunk j) p)
+      let begun : InvAt g x y (at s c w p) =
+      inv_made g x y (view_of s) c.options c.pack c.told.events nothing.tag [] inv p.tag [] (All-nil (Says x y p.tag)) (inl refl) in
+      does_out k s c w (add (init_ack_chunk j) p) (one_bundled (init_ack_chunk j) p refl (an_init_ack_alone j refl))
       (adds g x y (view_of s) c.options c.pack c.told.events p (init_ack_chunk j) begun (says_answer x c.options i tag first tie said.fits mine here said.own) (inr (refl, refl)))
 
   -- ---- `connect`

@@ -76,12 +76,12 @@ module _ (g : Setting) (x y : Past) (call : Call) (own : AreGiven g.own) (q : Qu
   -- ---- packets
 
   keeps_packets : (act : PacketAct Carried call) → InvAt g x y (before_packets act) → InvAt g x y (after_packets act)
-  keeps_packets (begins p m new) inv =
+  keeps_packets (begins p m new summed) inv =
       inv_made g x y (view_of m.state) m.context.options m.context.pack m.context.told.events m.packet.tag m.packet.chunks inv p.tag p.chunks
       (subst (All (Says x y p.tag)) (sym new) (All-nil (Says x y p.tag))) (subst Shape (sym new) (inl refl))
   keeps_packets (adds_plain chunk m plain others) inv =
       adds_simple g x y (view_of m.state) m.context.options m.context.pack m.context.told.events m.packet chunk inv plain others
-  keeps_packets (emits m some) inv =
+  keeps_packets (emits m some bundled) inv =
       inv_emitted g x y (view_of m.state) m.context.options m.context.pack m.context.told.events m.packet.tag m.packet.chunks inv m.context.options m.packet.is_summed
       m.packet.tag
   keeps_packets (complains kind text m) inv =
@@ -248,7 +248,7 @@ module _ (g : Setting) (x y : Past) (call : Call) (own : AreGiven g.own) (q : Qu
   keeps_resets (processes number streams phase t m asked known) inv = inv
   keeps_resets (takes_response rto number result sender receiver phase t m asked) inv =
       with_outcome (outcome number result t.requests.current) (view_of (Open phase t)) m.context m.packet.tag m.packet.chunks inv
-  keeps_resets (adds_responses responses phase t m are) inv =
+  keeps_resets (adds_responses responses phase t m are answers) inv =
       loads (view_of (Open phase t)) m (re_config_chunk responses) inv (record { says = λ tag. tt; load = refl })
 
   -- ---- handover, and the end of a packet

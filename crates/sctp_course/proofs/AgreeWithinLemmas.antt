@@ -21,7 +21,7 @@ use Rattle.sctp_table.specs.Opening.{Verdict, EstablishNew, RestartDetected, Sim
 use Rattle.sctp_table.specs.Input.{Heard, hear, heard_if, hear_all, hear_rest, violation, on_chunk, on_standing, ended_if, ended}
 use Rattle.sctp_table.specs.Laws.{Packet as Given, NoPacket}
 use Rattle.sctp_table_laws.specs.Mapped.{Carried}
-use Rattle.sctp_course.specs.Acts.{idle, calm, is_opened, IsHeard, Keeps}
+use Rattle.sctp_course.specs.Acts.{idle, calm, is_opened, IsHeard, always, Keeps}
 use Rattle.sctp_course.specs.Course.{has_connected}
 use Rattle.sctp_course.specs.Agreement.{Association, Has, Notes, association_of, held_in, drawn_for}
 use Rattle.sctp_course.proofs.PacketActsLemmas.{does_plain}
@@ -179,7 +179,7 @@ module _ (p : PacketTree) where
       let chunk : ChunkTree = abort_chunk false (missing_mandatory_parameter (7 ∷ []) ∷ []) in
       let q : Packet = packet_to i.initiate_tag (rounded c.options.mtu) in
       let d : Context Carried = emit (add chunk q) c in
-      let sent : RestsAt (idle st c s.words) (idle st d s.words) = does_plain k chunk q st c s.words refl refl in
+      let sent : RestsAt (idle st c s.words) (idle st d s.words) = does_plain k chunk q st c s.words refl refl (always refl) in
       let over : RestsAt (idle st d s.words) (calm (echoed i None own first (end_in st s))) =
       does_closed k s.words (OnAborted ProtocolViolation (codes "InitAck chunk doesn't contain a cookie")) st d refl refl in
       not_yet (end_in st s) (echoed i None own first (end_in st s)) none (record { held = λ a b. sent.held a (over.held a b); told = over.told ∙ sent.told }) h

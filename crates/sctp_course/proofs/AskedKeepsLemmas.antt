@@ -178,9 +178,9 @@ module _ (once : CallsNumberOnce) (made : MadeConnected) (call : Call) (fits : H
   block = leads_block (IsQuiet call)
 
   keeps_packets : (act : PacketAct (List ℕ) call) → R (before_packets act) (after_packets act)
-  keeps_packets (begins p m new) = still m.state m.context m.context refl refl
+  keeps_packets (begins p m new summed) = still m.state m.context m.context refl refl
   keeps_packets (adds_plain chunk m plain others) = still m.state m.context m.context refl refl
-  keeps_packets (emits m some) = still m.state m.context _ refl refl
+  keeps_packets (emits m some bundled) = still m.state m.context _ refl refl
   keeps_packets (complains kind text m) = still m.state m.context _ refl refl
   keeps_packets (counts m) = still m.state m.context _ refl refl
 
@@ -339,7 +339,7 @@ module _ (once : CallsNumberOnce) (made : MadeConnected) (call : Call) (fits : H
   keeps_resets (takes_response rto number result sender receiver phase t m asked) =
       let o : Outcome = outcome number result t.requests.current in
       block phase phase t _ m.context (on_outcome o m.context) (lasts_asked t _) (outcome_goes once o m.context) (outcome_method o m.context)
-  keeps_resets (adds_responses responses phase t m are) = still (Open phase t) m.context m.context refl refl
+  keeps_resets (adds_responses responses phase t m are answers) = still (Open phase t) m.context m.context refl refl
 
   -- ---- handover, and the end of a packet
 

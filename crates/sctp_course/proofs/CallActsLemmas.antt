@@ -1,6 +1,7 @@
 -- The walk over the rows: the calls that send, the settings, resets of streams, and handover.
-use Rattle.std.proofs.Common.{◌≡◌, ℕ, ◌==◌, ◌&&◌, ◌||◌, Bool, true, false, Option, Some, None, List, [], ◌∷◌, ◌++◌, codes, refl, sym, ap, ◌∙◌, append_assoc}
+use Rattle.std.proofs.Common.{◌≡◌, ℕ, ◌==◌, ◌&&◌, ◌||◌, Bool, true, false, Option, Some, None, List, [], ◌∷◌, ◌++◌, All, codes, refl, sym, ap, ◌∙◌, append_assoc}
 use Rattle.std.specs.List.{list_all}
+use Rattle.std.proofs.lemmas.List.Elements.{All-nil, All-push}
 use Rattle.std.proofs.lemmas.List.Folds.{list_all-append}
 use Rattle.rand_core.specs.Stream.{Stream}
 use Rattle.sctp_serial.specs.Messages.{Message}
@@ -22,11 +23,12 @@ use Rattle.sctp_table.specs.Packets.{Packet, add, new_packet, say}
 use Rattle.sctp_table.specs.Requests.{is_final, is_last, is_next, is_known}
 use Rattle.sctp_table.specs.Sending.{is_alone, send_in}
 use Rattle.sctp_table.specs.Calls.{shown_state, refusal, refusal_of, offered, offer, sent_if, send, offer_all, send_many, set_low_threshold, set_priority, set_max_message_size, taken_in, take_message}
-use Rattle.sctp_table.specs.Resets.{Handling, handling, respond, is_ahead, resets_if, resets, outgoing_by, on_outgoing, incoming_if, is_outgoing, on_parameter, Handled, handle_next, handle_all, send_responses, finished_if, on_reconfig, unless_supported, reset_refusal, prepared, prepare_all, reset_if, reset_streams}
+use Rattle.sctp_table.specs.Resets.{Handling, handling, is_ahead, resets_if, resets, outgoing_by, on_outgoing, incoming_if, is_outgoing, on_parameter, Handled, handle_next, handle_all, send_responses, finished_if, on_reconfig, unless_supported, reset_refusal, prepared, prepare_all, reset_if, reset_streams}
 use Rattle.sctp_table.specs.Handover.{readiness, left_in, left_if, hand_over, tcb_from, queue_taken, take_up, invalid_unless, refusal_in, taken_as, restored_unless, restore}
 use Rattle.sctp_table.specs.Laws.{Call, SendMany, ResetStreams, TakeMessage, SetLowThreshold, SetPriority, SetMaxMessageSize, HandOver, Restore, Send}
-use Rattle.sctp_course.specs.Acts.{Making, at, idle, IsHeard, IsOffered, alone, among, IsReset, IsAsked, is_response, accepts, refuses, takes_message, sets_low_threshold, sets_priority, sets_max_message_size, prepares, defers, performs, processes, takes_response, adds_responses, leaves, takes_up, Keeps}
-use Rattle.sctp_course.proofs.PacketActsLemmas.{does_out, does_begin, does_complain, does_send_buffered}
+use Rattle.sctp_course.specs.Acts.{Making, at, idle, IsHeard, IsOffered, alone, among, IsReset, IsAsked, is_response, all_along, HasRequest, for_outgoing, for_incoming, Answers, accepts, refuses, takes_message, sets_low_threshold, sets_priority, sets_max_message_size, prepares, defers, performs, processes, takes_response, adds_responses, leaves, takes_up, Keeps}
+use Rattle.sctp_course.proofs.BundledLemmas.{first_more}
+use Rattle.sctp_course.proofs.PacketActsLemmas.{does_out, does_begin_new, does_complain, does_send_buffered}
 use Rattle.sctp_course.proofs.RowActsLemmas.{placed, OpenActs, does_where_open}
 
 -- the next one of a list stands behind one more
@@ -150,60 +152,71 @@ module _ {P : Type 0} {call : Call} {R : Making P → Making P → Type 0} (k : 
 
 -- ---- what is answered
 
-abbrev AreResponses : {P : Type 0} → Handling P → Type 0
-AreResponses x = list_all is_response x.responses ≡ true
+record AreResponses (call : Call) (rs : List ParameterTree) : Type 0 where
+  are : list_all is_response rs ≡ true
+  answer : All (Answers call) rs
 
-one_more : (rs : List ParameterTree) (number result : ℕ) → list_all is_response rs ≡ true → list_all is_response (rs ++ reset_response number result None None ∷ []) ≡ true
-one_more rs number result e =
-    list_all-append is_response rs (reset_response number result None None ∷ []) ∙ ap (λ (b : Bool). b && true) e
+one_more : (call : Call) (rs : List ParameterTree) (number result : ℕ) → HasRequest call number → AreResponses call rs
+    → AreResponses call (rs ++ reset_response number result None None ∷ [])
+one_more call rs number result asked h = record {
+  are = list_all-append is_response rs (reset_response number result None None ∷ []) ∙ ap (λ (b : Bool). b && true) h.are;
+  answer = All-push (Answers call) rs (reset_response number result None None) h.answer asked;
+}
 
-module _ {P : Type 0} where
-  responses_respond : (number result : ℕ) (x : Handling P) → AreResponses x → AreResponses (respond number result x)
-  responses_respond number result x e = one_more x.responses number result e
+module _ {P : Type 0} (call : Call) where
+  abbrev Responds : Handling P → Type 0
+  Responds x = AreResponses call x.responses
 
-  responses_resets_if : (b : Bool) (number last_tsn : ℕ) (streams : List StreamId) (x : Handling P) → AreResponses x
-      → AreResponses (resets_if b number last_tsn streams x)
-  responses_resets_if true number last_tsn streams x e = one_more x.responses number _ e
-  responses_resets_if false number last_tsn streams x e = one_more x.responses number _ e
+  responses_resets_if : (b : Bool) (number last_tsn : ℕ) (streams : List StreamId) (x : Handling P) → HasRequest call number → Responds x
+      → Responds (resets_if b number last_tsn streams x)
+  responses_resets_if true number last_tsn streams x a e = one_more call x.responses number _ a e
+  responses_resets_if false number last_tsn streams x a e = one_more call x.responses number _ a e
 
-  responses_outgoing_by : (a b d : Bool) (number last_tsn : ℕ) (streams : List StreamId) (x : Handling P) → AreResponses x
-      → AreResponses (outgoing_by a b d number last_tsn streams x)
-  responses_outgoing_by true b true number last_tsn streams x e = one_more x.responses number _ e
-  responses_outgoing_by true b false number last_tsn streams x e = responses_resets_if (is_ahead last_tsn x.tcb) number last_tsn streams x e
-  responses_outgoing_by false true d number last_tsn streams x e = responses_resets_if (is_ahead last_tsn x.tcb) number last_tsn streams x e
-  responses_outgoing_by false false d number last_tsn streams x e = one_more x.responses number _ e
+  responses_outgoing_by : (a b d : Bool) (number last_tsn : ℕ) (streams : List StreamId) (x : Handling P) → HasRequest call number → Responds x
+      → Responds (outgoing_by a b d number last_tsn streams x)
+  responses_outgoing_by true b true number last_tsn streams x h e = one_more call x.responses number _ h e
+  responses_outgoing_by true b false number last_tsn streams x h e = responses_resets_if (is_ahead last_tsn x.tcb) number last_tsn streams x h e
+  responses_outgoing_by false true d number last_tsn streams x h e = responses_resets_if (is_ahead last_tsn x.tcb) number last_tsn streams x h e
+  responses_outgoing_by false false d number last_tsn streams x h e = one_more call x.responses number _ h e
 
-  responses_incoming_if : (b : Bool) (number : ℕ) (x : Handling P) → AreResponses x → AreResponses (incoming_if b number x)
-  responses_incoming_if true number x e = one_more x.responses number _ e
-  responses_incoming_if false number x e = one_more x.responses number _ e
+  responses_incoming_if : (b : Bool) (number : ℕ) (x : Handling P) → HasRequest call number → Responds x → Responds (incoming_if b number x)
+  responses_incoming_if true number x h e = one_more call x.responses number _ h e
+  responses_incoming_if false number x h e = one_more call x.responses number _ h e
 
-  responses_parameter : (p : ParameterTree) (x : Handling P) → AreResponses x → AreResponses (on_parameter p x)
-  responses_parameter (outgoing_reset_request number response last_tsn streams) x e =
-      responses_outgoing_by (is_last number x.tcb.requests) (is_next number x.tcb.requests) (is_final x.tcb.requests.result) number last_tsn.0 streams x e
-  responses_parameter (incoming_reset_request number streams) x e = responses_incoming_if (is_known number x.tcb.requests) number x e
-  responses_parameter (reset_response number result sender receiver) x e = e
-  responses_parameter p x e = e
+  responses_parameter : (p : ParameterTree) (x : Handling P) → IsAsked call p → Responds x → Responds (on_parameter p x)
+  responses_parameter (outgoing_reset_request number response last_tsn streams) x h e =
+      responses_outgoing_by (is_last number x.tcb.requests) (is_next number x.tcb.requests) (is_final x.tcb.requests.result) number last_tsn.0 streams x
+      (for_outgoing response last_tsn streams h) e
+  responses_parameter (incoming_reset_request number streams) x h e =
+      responses_incoming_if (is_known number x.tcb.requests) number x (for_incoming streams h) e
+  responses_parameter (reset_response number result sender receiver) x h e = e
+  responses_parameter p x h e = e
 
-  responses_next : (b : Bool) (rest : Handling P → Handled P) (p : ParameterTree) (x : Handling P)
-      → ((y : Handling P) → AreResponses y → AreResponses (rest y).handling) → AreResponses x → AreResponses (handle_next b rest p x).handling
-  responses_next true rest p x f e = e
-  responses_next false rest p x f e = f (on_parameter p x) (responses_parameter p x e)
+  responses_next : (b : Bool) (rest : Handling P → Handled P) (p : ParameterTree) (x : Handling P) → IsAsked call p
+      → ((y : Handling P) → Responds y → Responds (rest y).handling) → Responds x → Responds (handle_next b rest p x).handling
+  responses_next true rest p x h f e = e
+  responses_next false rest p x h f e = f (on_parameter p x) (responses_parameter p x h e)
 
-  responses_all : (ps : List ParameterTree) (b : Bool) (x : Handling P) → AreResponses x → AreResponses (handle_all ps b x).handling
-  responses_all [] b x e = e
-  responses_all (p ∷ ps) b x e =
-      responses_next (is_outgoing p && b) (handle_all ps (is_outgoing p || b)) p x (responses_all ps (is_outgoing p || b)) e
+  responses_all : (tag : ℕ) (all before ps : List ParameterTree) (b : Bool) (x : Handling P) → IsHeard call tag (re_config_chunk all) → all ≡ before ++ ps
+      → Responds x → Responds (handle_all ps b x).handling
+  responses_all tag all before [] b x h is e = e
+  responses_all tag all before (p ∷ ps) b x h is e =
+      responses_next (is_outgoing p && b) (handle_all ps (is_outgoing p || b)) p x
+      (record { tag = tag; parameters = all; heard = h; among = record { before = before; behind = ps; split = is } })
+      (λ y. responses_all tag all (before ++ p ∷ []) ps (is_outgoing p || b) y h (next_among before p ps all is)) e
 
 module _ {P : Type 0} {call : Call} {R : Making P → Making P → Type 0} (k : Keeps call R) (w : Stream) where
-  does_send_responses : (rs : List ParameterTree) (phase : Phase) (t : Tcb) (c : Context P) → list_all is_response rs ≡ true
+  does_send_responses : (rs : List ParameterTree) (phase : Phase) (t : Tcb) (c : Context P) → AreResponses call rs
       → R (idle (Open phase t) c w) (idle (Open phase t) (send_responses rs t c) w)
   does_send_responses [] phase t c e = k.same (idle (Open phase t) c w)
   does_send_responses (r ∷ rs) phase t c e =
       let p : Packet = new_packet c.options t in
-      k.through (does_begin k (Open phase t) c w p refl)
-      (k.through (k.resets (adds_responses (r ∷ rs) phase t (at (Open phase t) c w p) e)) (does_out k (Open phase t) c w (add (re_config_chunk (r ∷ rs)) p)))
+      k.through (does_begin_new k phase t c w)
+      (k.through (k.resets (adds_responses (r ∷ rs) phase t (at (Open phase t) c w p) e.are e.answer))
+      (does_out k (Open phase t) c w (add (re_config_chunk (r ∷ rs)) p) (all_along (first_more (re_config_chunk (r ∷ rs)) p refl refl))))
 
-  does_finished_if : (b : Bool) (phase : Phase) (x : Handling P) → AreResponses x → R (idle (Open phase x.tcb) x.context w) (placed (finished_if b phase x) w)
+  does_finished_if : (b : Bool) (phase : Phase) (x : Handling P) → AreResponses call x.responses
+      → R (idle (Open phase x.tcb) x.context w) (placed (finished_if b phase x) w)
   does_finished_if true phase x e =
       k.through (does_send_responses x.responses phase x.tcb x.context e)
       (does_send_buffered k phase w (is_alone phase) x.tcb (send_responses x.responses x.tcb x.context))
@@ -215,7 +228,8 @@ module _ {P : Type 0} {call : Call} {R : Making P → Making P → Type 0} (k : 
   does_reconfig tag (p ∷ ps) h phase t c =
       let d : Handled P = handle_all (p ∷ ps) false (handling t c) in
       k.through (does_handle_all k w phase tag (p ∷ ps) [] (p ∷ ps) false (handling t c) h refl)
-      (does_finished_if d.is_whole phase d.handling (responses_all (p ∷ ps) false (handling t c) refl))
+      (does_finished_if d.is_whole phase d.handling
+      (responses_all call tag (p ∷ ps) [] (p ∷ ps) false (handling t c) h refl (record { are = refl; answer = All-nil (Answers call) })))
 
   -- ---- the call that resets streams
 

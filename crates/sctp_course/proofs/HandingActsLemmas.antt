@@ -101,9 +101,9 @@ from_unopened (Open phase u) t none = cc
 
 module _ (g : Setting) (call : Call) (r : Rules g call) (other : call ≡ TakeMessage → ⊥) where
   more_packets : (act : PacketAct Carried call) → More (before_packets act) (after_packets act)
-  more_packets (begins p m new) = goes_nowhere m.state
+  more_packets (begins p m new summed) = goes_nowhere m.state
   more_packets (adds_plain chunk m plain others) = goes_nowhere m.state
-  more_packets (emits m some) = goes_nowhere m.state
+  more_packets (emits m some bundled) = goes_nowhere m.state
   more_packets (complains kind text m) = goes_nowhere m.state
   more_packets (counts m) = goes_nowhere m.state
 
@@ -179,7 +179,7 @@ module _ (g : Setting) (call : Call) (r : Rules g call) (other : call ≡ TakeMe
   more_resets (performs number response last_tsn streams phase t m asked known there) = record { ready = more_reset streams t.reassembly; stands = λ a e. e }
   more_resets (processes number streams phase t m asked known) = record { ready = extends_none t.reassembly.ready; stands = λ a e. e }
   more_resets (takes_response rto number result sender receiver phase t m asked) = record { ready = extends_none t.reassembly.ready; stands = λ a e. e }
-  more_resets (adds_responses responses phase t m are) = record { ready = extends_none t.reassembly.ready; stands = λ a e. e }
+  more_resets (adds_responses responses phase t m are answers) = record { ready = extends_none t.reassembly.ready; stands = λ a e. e }
 
   more_handover : (act : HandoverAct Carried call) → HasNoEnd (after_handover act) → More (before_handover act) (after_handover act)
   more_handover (leaves phase t m is) none = absurd (no_end m (after_handover {call = call} (leaves phase t m is)) OnClosed refl refl none)

@@ -44,13 +44,13 @@ module _ (g : Setting) (call : Call) (r : Rules g call) where
   -- ---- packets
 
   keeps_packets : (act : PacketAct Carried call) → InvAt g (before_packets act) → InvAt g (after_packets act)
-  keeps_packets (begins p m new) inv =
+  keeps_packets (begins p m new summed) inv =
       inv_made g (view_of m.state) m.context.options m.context.pack m.context.told.events m.packet.tag m.packet.chunks inv p.tag p.chunks
       (subst (All (Utters g (view_of m.state) p.tag)) (sym new) (All-nil (Utters g (view_of m.state) p.tag)))
   keeps_packets (adds_plain chunk m plain others) inv =
       adds (view_of m.state) m.context.options m.context.pack m.context.told.events m.packet chunk inv
       (utters_plain g (view_of m.state) m.packet.tag chunk plain)
-  keeps_packets (emits m some) inv =
+  keeps_packets (emits m some bundled) inv =
       inv_emitted g (view_of m.state) m.context.options m.context.pack m.context.told.events m.packet.tag m.packet.chunks inv m.context.options m.packet.is_summed
       m.packet.tag
   keeps_packets (complains kind text m) inv =
@@ -246,7 +246,7 @@ module _ (g : Setting) (call : Call) (r : Rules g call) where
   keeps_resets (processes number streams phase t m asked known) inv = inv
   keeps_resets (takes_response rto number result sender receiver phase t m asked) inv =
       with_outcome (outcome number result t.requests.current) (view_of (Open phase t)) m.context m.packet.tag m.packet.chunks inv
-  keeps_resets (adds_responses responses phase t m are) inv =
+  keeps_resets (adds_responses responses phase t m are answers) inv =
       adds (view_of (Open phase t)) m.context.options m.context.pack m.context.told.events m.packet (re_config_chunk responses) inv tt
 
   -- ---- handover, and the end of a packet

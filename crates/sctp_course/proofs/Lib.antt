@@ -7,6 +7,7 @@ pub mod ActsLemmas
 pub mod ToldLemmas
 pub mod UntilLemmas
 pub mod AddedLemmas
+pub mod BundledLemmas
 pub mod JoinLemmas
 pub mod JoinActsLemmas
 pub mod JoinKeepsLemmas

@@ -192,12 +192,12 @@ module _ (g : Setting) (call : Call) (r : Hears g call) where
   -- ---- packets
 
   keeps_packets : (act : PacketAct Carried call) → InvAt g (before_packets act) → InvAt g (after_packets act)
-  keeps_packets (begins p m new) inv =
+  keeps_packets (begins p m new summed) inv =
       inv_made g (view_of m.state) m.context.options m.context.pack m.context.told.events m.packet.chunks inv p.chunks
       (subst (All (Tells g.own g.other)) (sym new) (All-nil (Tells g.own g.other)))
   keeps_packets (adds_plain chunk m plain others) inv =
       adds (view_of m.state) m.context.options m.context.pack m.context.told.events m.packet chunk inv (plain_right g.own g.other chunk plain)
-  keeps_packets (emits m some) inv =
+  keeps_packets (emits m some bundled) inv =
       inv_emitted g (view_of m.state) m.context.options m.context.pack m.context.told.events m.packet.chunks inv m.context.options m.packet.tag m.packet.is_summed
   keeps_packets (complains kind text m) inv =
       inv_view g (view_of m.state) m.context.options m.context.pack m.context.told.events m.packet.chunks inv (view_of m.state) (OnError kind text ∷ []) _ refl refl inv.able
@@ -428,7 +428,7 @@ module _ (g : Setting) (call : Call) (r : Hears g call) where
         said = told.said;
         made = told.made;
       }
-  keeps_resets (adds_responses responses phase t m are) inv =
+  keeps_resets (adds_responses responses phase t m are answers) inv =
       adds (view_of (Open phase t)) m.context.options m.context.pack m.context.told.events m.packet (re_config_chunk responses) inv refl
 
   -- ---- handover, and the end of a packet

@@ -8,15 +8,16 @@ use Rattle.sctp_state.specs.declared.api.ErrorKind.TheVariants.{ParseFailed, Pro
 use Rattle.sctp_capabilities.specs.declared.state_cookie.StateCookieError.{StateCookieError}
 use Rattle.sctp_state.specs.Options.{Options}
 use Rattle.sctp_state.specs.Timers.{Timer}
-use Rattle.sctp_capabilities.specs.Capabilities.{zero_checksum_enabled}
+use Rattle.sctp_capabilities.specs.Capabilities.{announced, zero_checksum_enabled}
 use Rattle.sctp_capabilities.specs.Cookie.{Cookie, read_cookie, refusal_text}
 use Rattle.sctp_state.specs.Events.{OnConnectionRestarted, OnAborted}
 use Rattle.sctp_table.specs.Association.{Tcb, tcb, Phase, CookieEchoed, Established, ShutdownPending, ShutdownSent, ShutdownReceived, ShutdownAckSent, State, Closed, CookieWait, Open, Context, Endpoint}
 use Rattle.sctp_table.specs.Packets.{Packet, fits, added_if, add, packet_to, new_packet, rounded, say, emit}
 use Rattle.sctp_table.specs.Sending.{is_alone}
-use Rattle.sctp_table.specs.Opening.{long_word, send_init, t1_init, connect_in, connect, agreed_by, answers, answers_new, answers_again, on_init_open, on_init_in, on_init, cookie_in, without_cookie, t1_cookie, names, echoed, on_init_ack_in, on_init_ack, connected, on_cookie_ack, Verdict, EstablishNew, RestartDetected, SimultaneousInit, MaintainExisting, Discard, InvalidTag, by_tags, new_if, compared, judged, cookie_ack, tcb_by, establishes as establishes_by, kept, too_late, restarts as restarts_by, restarts_in, on_verdict, on_read_cookie, on_cookie_echo}
+use Rattle.sctp_table.specs.Opening.{long_word, init_of, init_ack_of, next_first, send_init, t1_init, connect_in, connect, agreed_by, answers, answers_new, answers_again, on_init_open, on_init_in, on_init, cookie_in, without_cookie, t1_cookie, names, echoed, on_init_ack_in, on_init_ack, connected, on_cookie_ack, Verdict, EstablishNew, RestartDetected, SimultaneousInit, MaintainExisting, Discard, InvalidTag, by_tags, new_if, compared, judged, cookie_ack, tcb_by, establishes as establishes_by, kept, too_late, restarts as restarts_by, restarts_in, on_verdict, on_read_cookie, on_cookie_echo}
 use Rattle.sctp_table.specs.Laws.{Call, Connect}
-use Rattle.sctp_course.specs.Acts.{Making, at, nothing, idle, calm, drawn_first, drawn_tag, drew_two, drew_one, echoing, opened_by, IsHeard, IsEchoed, is_plain, adds_plain, connects, adds_init, answers_new as answers_new_act, answers_waiting, answers_echoed, answers_again as answers_again_act, echoes, establishes, opens, restarts, opens_again, maintains, adds_cookie_ack, Keeps}
+use Rattle.sctp_course.specs.Acts.{Making, at, nothing, idle, calm, drawn_first, drawn_tag, drawn_tag_alone, drew_two, drew_one, echoing, opened_by, IsHeard, IsEchoed, is_plain, IsBundled, an_init_alone, an_init_ack_alone, all_along, always, as_held, as_asked, adds_plain, connects, adds_init, answers_new as answers_new_act, answers_waiting, answers_echoed, answers_again as answers_again_act, echoes, establishes, opens, restarts, opens_again, maintains, adds_cookie_ack, Keeps}
+use Rattle.sctp_course.proofs.BundledLemmas.{added_more, one_bundled, first_more}
 use Rattle.sctp_course.proofs.PacketActsLemmas.{does_out, does_begin, does_plain, does_complain, does_send_with, does_send_buffered, does_send_cookie}
 use Rattle.sctp_course.proofs.RowActsLemmas.{placed, OpenActs, does_closed, does_send_shutdown_ack}
 
@@ -30,6 +31,10 @@ answering o i = record (packet_to i.initiate_tag o.mtu) { is_summed = not (zero_
 
 abbrev pub accepting : Options → (peer_tag : ℕ) → Tcb → Packet
 accepting o peer_tag t = record (packet_to peer_tag o.mtu) { is_summed = not (zero_checksum_enabled t.capabilities) }
+
+answered_bundled : (o : Options) (i : InitTree) (tag first tie : ℕ) → IsBundled (add (init_ack_chunk (init_ack_of o i tag first tie)) (answering o i)).chunks
+answered_bundled o i tag first tie =
+    let a : InitTree = init_ack_of o i tag first tie in one_bundled (init_ack_chunk a) (answering o i) refl (an_init_ack_alone a refl)
 
 no_new : (a b c d : Bool) → by_tags a b c d ≡ EstablishNew → ⊥
 no_new true true true d e = cc
@@ -47,7 +52,10 @@ module _ {P : Type 0} {call : Call} {R : Making P → Making P → Type 0} (k : 
   does_send_init tag first t1 c w =
       let s : State = CookieWait tag first t1 in
       let p : Packet = packet_to 0 c.options.mtu in
-      k.through (does_begin k s c w p refl) (k.through (k.opening (adds_init tag first t1 (at s c w p) refl)) (does_out k s c w _))
+      let i : InitTree = init_of c.options tag first (announced c.options c.options.zero_checksum_method) in
+      k.through (does_begin k s c w p refl (always refl))
+      (k.through (k.opening (adds_init tag first t1 (at s c w p) refl))
+      (does_out k s c w (add (init_chunk i) p) (one_bundled (init_chunk i) p refl (an_init_alone i refl))))
 
   does_opened : (c : Context P) (w : Stream) (s : Endpoint P) → call ≡ Connect → R (calm (end_in Closed s)) (calm (connect_in Closed (end_in Closed s)))
   does_opened c w s is =
@@ -68,8 +76,10 @@ module _ {P : Type 0} {call : Call} {R : Making P → Making P → Type 0} (k : 
         let c : Context P = s.standing.context in
         let p : Packet = answering c.options i in
         let m : Making P = at Closed c s.words p in
-        k.through (does_begin k Closed c s.words p refl)
-        (k.through (k.opening (answers_new_act tag i m h refl)) (does_out k Closed c (drew_two m).words _))
+        k.through (does_begin k Closed c s.words p refl (as_asked tag i h refl))
+        (k.through (k.opening (answers_new_act tag i m h refl))
+        (does_out k Closed c (drew_two m).words (add (init_ack_chunk (init_ack_of c.options i (drawn_tag m) (drawn_first m) 0)) p)
+        (answered_bundled c.options i (drawn_tag m) (drawn_first m) 0)))
 
     does_answers_waiting : (my_tag first : ℕ) (t1 : Timer) (s : Endpoint P)
         → R (calm (end_in (CookieWait my_tag first t1) s)) (calm (answers i my_tag first 0 (end_in (CookieWait my_tag first t1) s)))
@@ -78,8 +88,10 @@ module _ {P : Type 0} {call : Call} {R : Making P → Making P → Type 0} (k : 
         let st : State = CookieWait my_tag first t1 in
         let p : Packet = answering c.options i in
         let m : Making P = at st c s.words p in
-        k.through (does_begin k st c s.words p refl)
-        (k.through (k.opening (answers_waiting tag i my_tag first t1 m h refl)) (does_out k st c s.words _))
+        k.through (does_begin k st c s.words p refl (as_asked tag i h refl))
+        (k.through (k.opening (answers_waiting tag i my_tag first t1 m h refl))
+        (does_out k st c s.words (add (init_ack_chunk (init_ack_of c.options i my_tag first 0)) p)
+        (answered_bundled c.options i my_tag first 0)))
 
     does_answers_echoed : (t1 : Timer) (cookie : List ℕ) (t : Tcb) (s : Endpoint P) → R (calm (end_in (Open (CookieEchoed t1 cookie) t) s))
         (calm (answers i t.identity.my_tag t.identity.my_first 0 (end_in (Open (CookieEchoed t1 cookie) t) s)))
@@ -88,8 +100,10 @@ module _ {P : Type 0} {call : Call} {R : Making P → Making P → Type 0} (k : 
         let st : State = Open (CookieEchoed t1 cookie) t in
         let p : Packet = answering c.options i in
         let m : Making P = at st c s.words p in
-        k.through (does_begin k st c s.words p refl)
-        (k.through (k.opening (answers_echoed tag i t1 cookie t m h refl)) (does_out k st c s.words _))
+        k.through (does_begin k st c s.words p refl (as_asked tag i h refl))
+        (k.through (k.opening (answers_echoed tag i t1 cookie t m h refl))
+        (does_out k st c s.words (add (init_ack_chunk (init_ack_of c.options i t.identity.my_tag t.identity.my_first 0)) p)
+        (answered_bundled c.options i t.identity.my_tag t.identity.my_first 0)))
 
     does_answers_again : (phase : Phase) (t : Tcb) (s : Endpoint P) → is_alone phase ≡ false
         → R (calm (end_in (Open phase t) s)) (calm (answers_again i t (end_in (Open phase t) s)))
@@ -98,8 +112,10 @@ module _ {P : Type 0} {call : Call} {R : Making P → Making P → Type 0} (k : 
         let st : State = Open phase t in
         let p : Packet = answering c.options i in
         let m : Making P = at st c s.words p in
-        k.through (does_begin k st c s.words p refl)
-        (k.through (k.opening (answers_again_act tag i phase t m h late refl)) (does_out k st c (drew_one m).words _))
+        k.through (does_begin k st c s.words p refl (as_asked tag i h refl))
+        (k.through (k.opening (answers_again_act tag i phase t m h late refl))
+        (does_out k st c (drew_one m).words (add (init_ack_chunk (init_ack_of c.options i (drawn_tag_alone m) (next_first t) t.identity.tie)) p)
+        (answered_bundled c.options i (drawn_tag_alone m) (next_first t) t.identity.tie)))
 
     does_init_open : (phase : Phase) (t : Tcb) (s : Endpoint P)
         → R (calm (end_in (Open phase t) s)) (calm (on_init_open phase i t (end_in (Open phase t) s)))
@@ -126,7 +142,7 @@ module _ {P : Type 0} {call : Call} {R : Making P → Making P → Type 0} (k : 
       let s : State = CookieWait my_tag first t1 in
       let p : Packet = packet_to tag (rounded c.options.mtu) in
       let chunk : ChunkTree = abort_chunk false (missing_mandatory_parameter (7 ∷ []) ∷ []) in
-      k.through (does_plain k chunk p s c w refl refl)
+      k.through (does_plain k chunk p s c w refl refl (always refl))
       (does_closed k w (OnAborted ProtocolViolation (codes "InitAck chunk doesn't contain a cookie")) s (emit (add chunk p) c) refl refl)
 
   module _ (tag : ℕ) (i : InitTree) (h : IsHeard call tag (init_ack_chunk i)) where
@@ -167,8 +183,9 @@ module _ {P : Type 0} {call : Call} {R : Making P → Making P → Type 0} (k : 
         → R (idle (Open phase t) c w) (idle (Open phase (cookie_ack peer_tag t c).tcb) (cookie_ack peer_tag t c).context w)
     does_accept peer_tag phase t c w late =
         let p : Packet = accepting c.options peer_tag t in
-        k.through (does_begin k (Open phase t) c w p refl)
-        (k.through (k.opening (adds_cookie_ack tag a phase t (at (Open phase t) c w p) h late)) (does_send_with k phase w false (add cookie_ack_chunk p) t c))
+        k.through (does_begin k (Open phase t) c w p refl (as_held phase t refl refl))
+        (k.through (k.opening (adds_cookie_ack tag a phase t (at (Open phase t) c w p) h late))
+        (does_send_with k phase w false (add cookie_ack_chunk p) t c (first_more cookie_ack_chunk p refl refl)))
 
     -- a new control block, made from this state and context
     does_anew : (resets : Bool) (c : Context P) (s : Endpoint P) (m : Making P) → R m (opened_by resets a (idle s.standing.state c s.words))
@@ -199,10 +216,10 @@ module _ {P : Type 0} {call : Call} {R : Making P → Making P → Type 0} (k : 
         let q : Packet = add shutdown_ack_chunk p in
         let r : Packet = add (error_chunk (cookie_received_while_shutting_down ∷ [])) q in
         let s : State = Open phase t in
-        k.through (does_begin k s c w p refl)
+        k.through (does_begin k s c w p refl (as_held phase t refl refl))
         (k.through (k.packets (adds_plain shutdown_ack_chunk (at s c w p) refl refl))
         (k.through (k.packets (adds_plain (error_chunk (cookie_received_while_shutting_down ∷ [])) (at s c w q) refl (plain_added (fits p shutdown_ack_chunk) p refl)))
-        (k.through (does_out k s c w r) (does_complain k WrongSequence (codes "Received COOKIE-ECHO while shutting down") s (emit r c) w))))
+        (k.through (does_out k s c w r (all_along (added_more (error_chunk (cookie_received_while_shutting_down ∷ [])) q (first_more shutdown_ack_chunk p refl refl) refl))) (does_complain k WrongSequence (codes "Received COOKIE-ECHO while shutting down") s (emit r c) w))))
 
     does_restarts : (phase : Phase) (t : Tcb) (s : Endpoint P) → compared tag t.identity a ≡ RestartDetected
         → R (calm (end_in (Open phase t) s)) (calm (restarts_by a (end_in (Open phase t) s)))

@@ -18,7 +18,7 @@ use Rattle.sctp_table.specs.Data.{no_data, on_no_data, not_connected, takes, tak
 use Rattle.sctp_table.specs.Acknowledging.{cleaned, sampled, answered, send_after, heard, no_block, on_sack_in, on_sack}
 use Rattle.sctp_table.specs.Input.{misused, violation}
 use Rattle.sctp_table.specs.Laws.{Call, Shutdown, ending, is_closed}
-use Rattle.sctp_course.specs.Acts.{Making, idle, in_open, IsHeard, point_of, closes, shuts, shuts_on, takes_data, takes_idata, takes_forward, takes_iforward, takes_sack, samples, counts_errors, Keeps}
+use Rattle.sctp_course.specs.Acts.{always, Making, idle, in_open, IsHeard, point_of, closes, shuts, shuts_on, takes_data, takes_idata, takes_forward, takes_iforward, takes_sack, samples, counts_errors, Keeps}
 use Rattle.sctp_course.proofs.PacketActsLemmas.{does_plain, does_chunk, does_complain, does_send_buffered, does_send_lost}
 
 -- a standing with these words, and nothing begun
@@ -129,7 +129,7 @@ module _ {P : Type 0} {call : Call} {R : Making P → Making P → Type 0} (k : 
       (does_closed OnClosed (Open phase t) (emit_chunk (shutdown_complete_chunk false) t c) refl refl)
 
   does_out_of_the_blue : (tag : ℕ) (s : State) (c : Context P) → R (idle s c w) (idle s (out_of_the_blue tag c) w)
-  does_out_of_the_blue tag s c = does_plain k (shutdown_complete_chunk true) (packet_to tag c.options.mtu) s c w refl refl
+  does_out_of_the_blue tag s c = does_plain k (shutdown_complete_chunk true) (packet_to tag c.options.mtu) s c w refl refl (always refl)
 
   does_shutdown_ack_open : (tag : ℕ) → OpenActs R w (on_shutdown_ack_open tag)
   does_shutdown_ack_open tag (CookieEchoed t1 cookie) t c = does_out_of_the_blue tag (Open (CookieEchoed t1 cookie) t) c

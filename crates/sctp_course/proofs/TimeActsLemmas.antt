@@ -14,8 +14,9 @@ use Rattle.sctp_table.specs.Closing.{send_shutdown, send_shutdown_ack}
 use Rattle.sctp_table.specs.Heartbeats.{counted_on, heartbeat, beat_if, unanswered_if}
 use Rattle.sctp_table.specs.Time.{Ticking, tick_ack, t3_if, tick_t3, tick_interval, tick_timeout, request_again, errs_if, unanswered, requests_if, ticking, ticked, Left, standing_left, ended_if, ended, ended_or_sent, goes_on, settled_if, settled, t2_expired, t2_if, tick_t2, waits_if, t1_expired, t1_if, standing_waited, init_expired, init_if, tick_open, tick_in, advance_if, advance}
 use Rattle.sctp_table.specs.Laws.{Call, Advance}
-use Rattle.sctp_course.specs.Acts.{Making, idle, advances, delay_ends, times_out, beats, times_init, times_cookie, times_request, wakes_request, counts_errors, Keeps}
-use Rattle.sctp_course.proofs.PacketActsLemmas.{does_out, does_begin, does_chunk, does_add_request, does_send_buffered, does_send_cookie}
+use Rattle.sctp_course.specs.Acts.{all_along, Making, idle, advances, delay_ends, times_out, beats, times_init, times_cookie, times_request, wakes_request, counts_errors, Keeps}
+use Rattle.sctp_course.proofs.BundledLemmas.{request_more}
+use Rattle.sctp_course.proofs.PacketActsLemmas.{does_out, does_begin_new, does_chunk, does_add_request, does_send_buffered, does_send_cookie}
 use Rattle.sctp_course.proofs.RowActsLemmas.{placed, OpenActs, does_closed, does_shut_on, does_too_many, does_send_shutdown, does_send_shutdown_ack}
 use Rattle.sctp_course.proofs.OpeningActsLemmas.{does_send_init}
 
@@ -52,8 +53,8 @@ module _ {P : Type 0} {call : Call} {R : Making P → Making P → Type 0} (k : 
         let t : Tcb = record x.tcb { requests = lasting (rto x.tcb.rtt) x.tcb.requests } in
         let p : Packet = new_packet c.options t in
         k.through (k.time (times_request t.requests.timer phase x.tcb (idle (Open phase x.tcb) c w)))
-        (k.through (does_begin k (Open phase t) c w p refl)
-        (k.through (does_add_request k phase w t.requests.current t c p refl) (does_out k (Open phase t) c w (add_request t.requests.current p))))
+        (k.through (does_begin_new k phase t c w)
+        (k.through (does_add_request k phase w t.requests.current t c p refl) (does_out k (Open phase t) c w (add_request t.requests.current p) (all_along (request_more t.requests.current p refl)))))
 
     does_errs_if : (b : Bool) (t : Tcb) (c : Context P) → R (idle (Open phase t) c w) (idle (Open phase t) (errs_if b c) w)
     does_errs_if true t c = k.acknowledging (counts_errors (errs_if true c).errors (idle (Open phase t) c w))

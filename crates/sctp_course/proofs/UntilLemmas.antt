@@ -72,7 +72,7 @@ module _ {P : Type 0} {call : Call} where
   light_reset (takes_response rto number result sender receiver phase t m asked) = light_outcome (outcome number result t.requests.current) m.context
   light_reset (defers number response last_tsn streams phase t m asked known ahead) = tells_same m.context.told
   light_reset (processes number streams phase t m asked known) = tells_same m.context.told
-  light_reset (adds_responses responses phase t m are) = tells_same m.context.told
+  light_reset (adds_responses responses phase t m are answers) = tells_same m.context.told
 
   pub light_input : (act : InputAct P call) → Light (before_input act) (after_input act)
   light_input (ends_packet phase t m) = tells_same m.context.told
@@ -101,9 +101,9 @@ module _ {P : Type 0} where
 
 module _ {P : Type 0} {call : Call} where
   grows_packets : (act : PacketAct P call) → Grows (before_packets act) (after_packets act)
-  grows_packets (begins p m new) = grows_same m (after_packets {call = call} (begins p m new)) refl
+  grows_packets (begins p m new summed) = grows_same m (after_packets {call = call} (begins p m new summed)) refl
   grows_packets (adds_plain chunk m plain others) = grows_same m (after_packets {call = call} (adds_plain chunk m plain others)) refl
-  grows_packets (emits m some) = grows_one _ m (after_packets {call = call} (emits m some)) refl
+  grows_packets (emits m some bundled) = grows_one _ m (after_packets {call = call} (emits m some bundled)) refl
   grows_packets (complains kind text m) = grows_one (OnError kind text) m (after_packets {call = call} (complains kind text m)) refl
   grows_packets (counts m) = grows_same m (after_packets {call = call} (counts m)) refl
 
@@ -265,9 +265,9 @@ module _ {P : Type 0} {call : Call} {R : Making P → Making P → Type 0} (k : 
   first_packets act = still (before_packets act) (after_packets act) (grows_packets act).events (grows_packets act).behind (quiet act) (k.packets act)
     where
       quiet : (act : PacketAct P call) → endings (grows_packets act).events ≡ 0
-      quiet (begins p m new) = refl
+      quiet (begins p m new summed) = refl
       quiet (adds_plain chunk m plain others) = refl
-      quiet (emits m some) = refl
+      quiet (emits m some bundled) = refl
       quiet (complains kind text m) = refl
       quiet (counts m) = refl
 

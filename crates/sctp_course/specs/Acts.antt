@@ -1,6 +1,6 @@
 -- What rows do to an end, taken apart: each call on an end is one of these acts after another. A relation on ends that leads
 -- from each state to itself, goes on from step to step and holds of each act holds of each call.
-use Rattle.std.specs.Prelude.{◌≡◌, ℕ, ◌==◌, not, nat_lt, Bool, true, false, Option, Some, None, Ok, List, [], ◌∷◌, ◌++◌, length}
+use Rattle.std.specs.Prelude.{◌≡◌, ℕ, ◌==◌, ◌&&◌, not, nat_lt, Bool, true, false, Option, Some, None, Ok, List, [], ◌∷◌, ◌++◌, length, All}
 use Rattle.std.specs.List.{list_all}
 use Rattle.rand_core.specs.Stream.{Stream}
 use Rattle.sctp_serial.specs.Messages.{Message}
@@ -12,7 +12,7 @@ use Rattle.sctp_packet.specs.Chunk.{ChunkTree, FragmentTree, InitTree, SackTree,
 use Rattle.sctp_packet.specs.Packet.{PacketTree}
 use Rattle.sctp_state.specs.declared.api.ErrorKind.{ErrorKind}
 use Rattle.sctp_state.specs.declared.api.errors.SendError.{SendError}
-use Rattle.sctp_capabilities.specs.Capabilities.{announced, negotiated}
+use Rattle.sctp_capabilities.specs.Capabilities.{zero_checksum_enabled, announced, negotiated}
 use Rattle.sctp_capabilities.specs.Cookie.{Cookie, read_cookie}
 use Rattle.sctp_state.specs.Errors.{ErrorCounter, one_error}
 use Rattle.sctp_state.specs.Events.{Event, OnConnected, OnConnectionRestarted, OnClosed, OnIncomingStreamReset, numbers_of}
@@ -131,25 +131,57 @@ is_plain (heartbeat_request_chunk parameters) = true
 is_plain (heartbeat_ack_chunk parameters) = true
 is_plain chunk = false
 
+-- chunks that go along behind others: an INIT and an INIT ACK are alone, and a COOKIE ECHO comes first (RFC 9260 sections 3.3.2, 3.3.3, 3.3.11)
+abbrev pub goes_along : ChunkTree → Bool
+goes_along (init_chunk i) = false
+goes_along (init_ack_chunk i) = false
+goes_along (cookie_echo_chunk cookie) = false
+goes_along chunk = true
+
+-- others may go along behind it
+abbrev pub goes_first : ChunkTree → Bool
+goes_first (init_chunk i) = false
+goes_first (init_ack_chunk i) = false
+goes_first chunk = true
+
+-- more may be put behind these
+abbrev pub takes_more : List ChunkTree → Bool
+takes_more [] = true
+takes_more (c ∷ cs) = goes_first c && list_all goes_along cs
+
+pub data IsBundled (cs : List ChunkTree) : Type 0 where
+  an_init_alone : (i : InitTree) → cs ≡ init_chunk i ∷ [] → IsBundled cs
+  an_init_ack_alone : (i : InitTree) → cs ≡ init_ack_chunk i ∷ [] → IsBundled cs
+  all_along : takes_more cs ≡ true → IsBundled cs
+
+-- A packet has a checksum; or it has one as was agreed with the peer, by the association that is held or by the INIT that is answered; or it is
+-- the packet before it, into which nothing was put.
+pub data IsSummedSo {P : Type 0} (call : Call) (m : Making P) (p : Packet) : Type 0 where
+  always : p.is_summed ≡ true → IsSummedSo call m p
+  as_held : (phase : Phase) (t : Tcb) → m.state ≡ Open phase t → p.is_summed ≡ not (zero_checksum_enabled t.capabilities) → IsSummedSo call m p
+  as_asked : (tag : ℕ) (i : InitTree) → IsHeard call tag (init_chunk i) → p.is_summed ≡ not (zero_checksum_enabled (agreed_by m.context.options i))
+      → IsSummedSo call m p
+  as_before : p.is_summed ≡ m.packet.is_summed → IsSummedSo call m p
+
 pub data PacketAct (P : Type 0) (call : Call) : Type 0 where
   -- another packet is begun; one that didn't go out is dropped
-  begins : (p : Packet) (m : Making P) → p.chunks ≡ [] → PacketAct P call
+  begins : (p : Packet) (m : Making P) → p.chunks ≡ [] → IsSummedSo call m p → PacketAct P call
   adds_plain : (chunk : ChunkTree) (m : Making P) → is_plain chunk ≡ true → list_all is_plain m.packet.chunks ≡ true → PacketAct P call
-  emits : (m : Making P) → has_chunks m.packet ≡ true → PacketAct P call
+  emits : (m : Making P) → has_chunks m.packet ≡ true → IsBundled m.packet.chunks → PacketAct P call
   complains : (kind : ErrorKind) (text : List ℕ) (m : Making P) → PacketAct P call
   counts : (m : Making P) → PacketAct P call
 
 abbrev pub before_packets : {P : Type 0} {call : Call} → PacketAct P call → Making P
-before_packets (begins p m new) = m
+before_packets (begins p m new summed) = m
 before_packets (adds_plain chunk m plain others) = m
-before_packets (emits m some) = m
+before_packets (emits m some bundled) = m
 before_packets (complains kind text m) = m
 before_packets (counts m) = m
 
 abbrev pub after_packets : {P : Type 0} {call : Call} → PacketAct P call → Making P
-after_packets (begins p m new) = with_packet p m
+after_packets (begins p m new summed) = with_packet p m
 after_packets (adds_plain chunk m plain others) = with_chunk chunk m
-after_packets (emits m some) = record m { context = emit_if true m.packet m.context; packet = emptied m.packet }
+after_packets (emits m some bundled) = record m { context = emit_if true m.packet m.context; packet = emptied m.packet }
 after_packets (complains kind text m) = with_context (complain kind text m.context) m
 after_packets (counts m) = with_context (counted m.context) m
 
@@ -488,6 +520,17 @@ pub record IsAsked (call : Call) (parameter : ParameterTree) : Type 0 where
   pub heard : IsHeard call tag (re_config_chunk parameters)
   pub among : IsAmong parameter parameters
 
+-- the call has a request with this number
+pub data HasRequest (call : Call) (number : ℕ) : Type 0 where
+  for_outgoing : (response : ℕ) (last_tsn : Tsn) (streams : List StreamId) → IsAsked call (outgoing_reset_request number response last_tsn streams)
+      → HasRequest call number
+  for_incoming : (streams : List StreamId) → IsAsked call (incoming_reset_request number streams) → HasRequest call number
+
+-- it answers one of them
+abbrev pub Answers : Call → ParameterTree → Type 0
+Answers call (reset_response number result sender receiver) = HasRequest call number
+Answers call parameter = ⊥
+
 pub data ResetAct (P : Type 0) (call : Call) : Type 0 where
   prepares : (stream : ℕ) (phase : Phase) (t : Tcb) (m : Making P) → IsReset call stream → t.capabilities.reconfig ≡ true → ResetAct P call
   -- a request of the peer for its outgoing streams waits, or is performed
@@ -503,7 +546,8 @@ pub data ResetAct (P : Type 0) (call : Call) : Type 0 where
   -- an answer to the own request
   takes_response : (rto number result : ℕ) (sender receiver : Option Tsn) (phase : Phase) (t : Tcb) (m : Making P)
       → IsAsked call (reset_response number result sender receiver) → ResetAct P call
-  adds_responses : (responses : List ParameterTree) (phase : Phase) (t : Tcb) (m : Making P) → list_all is_response responses ≡ true → ResetAct P call
+  adds_responses : (responses : List ParameterTree) (phase : Phase) (t : Tcb) (m : Making P) → list_all is_response responses ≡ true
+      → All (Answers call) responses → ResetAct P call
 
 abbrev pub before_reset : {P : Type 0} {call : Call} → ResetAct P call → Making P
 before_reset (prepares stream phase t m asked can) = in_open phase t m
@@ -511,7 +555,7 @@ before_reset (defers number response last_tsn streams phase t m asked known ahea
 before_reset (performs number response last_tsn streams phase t m asked known there) = in_open phase t m
 before_reset (processes number streams phase t m asked known) = in_open phase t m
 before_reset (takes_response rto number result sender receiver phase t m asked) = in_open phase t m
-before_reset (adds_responses responses phase t m are) = in_open phase t m
+before_reset (adds_responses responses phase t m are answers) = in_open phase t m
 
 abbrev pub after_reset : {P : Type 0} {call : Call} → ResetAct P call → Making P
 after_reset (prepares stream phase t m asked can) = in_open phase t (with_context (prepared stream m.context) m)
@@ -524,7 +568,7 @@ after_reset (processes number streams phase t m asked known) = in_open phase (re
 after_reset (takes_response rto number result sender receiver phase t m asked) =
     in_open phase (record t { requests = answered m.context.now rto number result t.requests })
     (with_context (on_outcome (outcome number result t.requests.current) m.context) m)
-after_reset (adds_responses responses phase t m are) = with_chunk (re_config_chunk responses) (in_open phase t m)
+after_reset (adds_responses responses phase t m are answers) = with_chunk (re_config_chunk responses) (in_open phase t m)
 
 -- ---- handover
 

@@ -136,8 +136,8 @@ module _ (g : Setting) (call : Call) (r : Rules g call) (other : is_other call �
       let a : ResetAct Carried call = processes number streams phase t m asked known in let n = j.resets a none inv in (n, k.resets a tt inv n)
   frame_resets (takes_response rto number result sender receiver phase t m asked) none inv =
       let a : ResetAct Carried call = takes_response rto number result sender receiver phase t m asked in let n = j.resets a none inv in (n, k.resets a tt inv n)
-  frame_resets (adds_responses responses phase t m are) none inv =
-      let a : ResetAct Carried call = adds_responses responses phase t m are in let n = j.resets a none inv in (n, k.resets a tt inv n)
+  frame_resets (adds_responses responses phase t m are answers) none inv =
+      let a : ResetAct Carried call = adds_responses responses phase t m are answers in let n = j.resets a none inv in (n, k.resets a tt inv n)
 
   frame_handover : (act : HandoverAct Carried call) → HasNoEnd (after_handover act) → Joined g R (before_handover act) (after_handover act)
   frame_handover (leaves phase t m is) none inv = absurd (no_end m (after_handover {call = call} (leaves phase t m is)) OnClosed refl refl none)

@@ -39,9 +39,9 @@ stays_outcome (Denied streams) c l = l
 
 module _ (call : Call) (fits : (bytes : ℕ) → call ≡ SetMaxMessageSize bytes → bytes < 2 ^ 32) where
   stays_packets : (act : PacketAct Carried call) → Stays (before_packets act) (after_packets act)
-  stays_packets (begins p m new) l = l
+  stays_packets (begins p m new summed) l = l
   stays_packets (adds_plain chunk m plain others) l = l
-  stays_packets (emits m some) l = l
+  stays_packets (emits m some bundled) l = l
   stays_packets (complains kind text m) l = l
   stays_packets (counts m) l = l
 
@@ -113,7 +113,7 @@ module _ (call : Call) (fits : (bytes : ℕ) → call ≡ SetMaxMessageSize byte
   stays_reset (performs number response last_tsn streams phase t m asked known there) l = l
   stays_reset (processes number streams phase t m asked known) l = l
   stays_reset (takes_response rto number result sender receiver phase t m asked) l = stays_outcome (outcome number result t.requests.current) m.context l
-  stays_reset (adds_responses responses phase t m are) l = l
+  stays_reset (adds_responses responses phase t m are answers) l = l
 
   stays_handover : (act : HandoverAct Carried call) → Stays (before_handover act) (after_handover act)
   stays_handover (leaves phase t m is) l = l

@@ -140,9 +140,9 @@ module _ (accepted : List Acceptance) where
 
   module _ (call : Call) (offers : (m : Message) (o : SendOptions) → IsOffered call m o → ⊥) (restores : (s : HandoverState) → call ≡ Restore s → ⊥) where
     sound_packets : (act : PacketAct Carried call) → Onward (before_packets act) (after_packets act)
-    sound_packets (begins p m new) h = h
+    sound_packets (begins p m new summed) h = h
     sound_packets (adds_plain chunk m plain others) h = h
-    sound_packets (emits m some) h = h
+    sound_packets (emits m some bundled) h = h
     sound_packets (complains kind text m) h = h
     sound_packets (counts m) h = h
 
@@ -246,7 +246,7 @@ module _ (accepted : List Acceptance) where
     sound_resets (processes number streams phase t m asked known) h = h
     sound_resets (takes_response rto number result sender receiver phase t m asked) h =
         on_answer (outcome number result t.requests.current) t.sender.outstanding.items.kept m.context h
-    sound_resets (adds_responses responses phase t m are) h = h
+    sound_resets (adds_responses responses phase t m are answers) h = h
 
     sound_handover : (act : HandoverAct Carried call) → Onward (before_handover act) (after_handover act)
     sound_handover (leaves phase t m is) h = anew t.sender.outstanding.items.kept m.context.now m.context.queue m.context.queue m.context.told.gone (λ k. k) h

@@ -71,10 +71,10 @@ module _ (message : ℕ → Message) (lifecycle : ℕ → Option ℕ) (mixed : B
   -- ---- packets
 
   pub goes_packets : (act : PacketAct Carried call) → InvAt g (before_packets act) → Goes (before_packets act) (after_packets act)
-  goes_packets (begins packet m new) inv = goes_begun message lifecycle mixed from handed packet m new
+  goes_packets (begins packet m new summed) inv = goes_begun message lifecycle mixed from handed packet m new
   goes_packets (adds_plain chunk m plain others) inv =
       goes_adding message lifecycle mixed from handed m chunk (λ x. plain_says (first_in m.state) from.acknowledged (count from.sender) x chunk plain)
-  goes_packets (emits m some) inv = goes_emitted message lifecycle mixed from handed m inv.packing
+  goes_packets (emits m some bundled) inv = goes_emitted message lifecycle mixed from handed m inv.packing
   goes_packets (complains kind text m) inv =
       goes_same message lifecycle mixed from handed m (after_packets {call = call} (complains kind text m)) (λ x h. h) refl
       (one_more m.context.told.events (OnError kind text) refl) refl

@@ -176,7 +176,7 @@ module _ (message : ℕ → Message) (lifecycle : ℕ → Option ℕ) (mixed : B
       let act : ResetAct Carried call = takes_response rto number result sender receiver phase t m asked in
       goes_same message lifecycle mixed from handed (in_open phase t m) (after_reset act)
       (λ x h. rest_changes message mixed handed t t.sender t.rtt _ x h) refl (same_packets m.context.told (after_reset act).context.told (light_reset act)) refl
-  goes_resets (adds_responses responses phase t m are) heard =
+  goes_resets (adds_responses responses phase t m are answers) heard =
       goes_adding message lifecycle mixed from handed (in_open phase t m) (re_config_chunk responses) (λ x. tt)
 
   goes_input : (act : InputAct Carried call) → Goes (before_input act) (after_input act)

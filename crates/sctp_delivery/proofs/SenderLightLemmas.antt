@@ -156,9 +156,9 @@ module _ (message : ℕ → Message) (lifecycle : ℕ → Option ℕ) (mixed : B
 
   pub light_packet : {call : Call} (g : Setting) (act : PacketAct Carried call) → InvAt g (before_packets act)
       → SenderGoes message lifecycle mixed from (before_packets act) (after_packets act)
-  light_packet g (begins p m new) inv = goes_anew m p new
+  light_packet g (begins p m new summed) inv = goes_anew m p new
   light_packet g (adds_plain chunk m plain others) inv = goes_adding m chunk (says_plain chunk plain)
-  light_packet g (emits m some) inv = goes_emitting g m inv
+  light_packet g (emits m some bundled) inv = goes_emitting g m inv
   light_packet {call} g (complains kind text m) inv =
       goes_same m (after_packets {call = call} (complains kind text m)) (λ x h. h) (λ h. h) refl refl
       (same_packets m.context.told _ (tells_all (OnError kind text ∷ []) m.context.told refl))
@@ -263,7 +263,7 @@ module _ (message : ℕ → Message) (lifecycle : ℕ → Option ℕ) (mixed : B
   light_reset_act (processes number streams phase t m asked known) on =
       goes_open phase phase t (record t { requests = processed number nothing_to_do t.requests }) m refl refl refl (λ h. h)
   light_reset_act (takes_response rto number result sender receiver phase t m asked) on = goes_answered rto number result phase t m
-  light_reset_act (adds_responses responses phase t m are) on = goes_adding (in_open phase t m) (re_config_chunk responses) (λ first least x. are)
+  light_reset_act (adds_responses responses phase t m are answers) on = goes_adding (in_open phase t m) (re_config_chunk responses) (λ first least x. are)
 
   -- ---- the end of a packet
 

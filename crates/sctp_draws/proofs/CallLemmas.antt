@@ -41,7 +41,7 @@ module _ (n : Names) where
   taken_named (Open phase t) = refl
 
   -- why streams can't be reset
-  reset_refusal_named : (s : State) → reset_refusal (named_state n s) ≡ reset_refusal s
+  pub reset_refusal_named : (s : State) → reset_refusal (named_state n s) ≡ reset_refusal s
   reset_refusal_named Closed = refl
   reset_refusal_named (CookieWait tag first t1) = refl
   reset_refusal_named (Open phase t) = refl
@@ -66,7 +66,7 @@ module _ {P : Type 0} (n : Names) (pack : Packing P) where
   readiness_open_named ShutdownReceived t c = refl
   readiness_open_named (ShutdownAckSent t2) t c = refl
 
-  readiness_named : (s : State) (c : Context P) → readiness_in (named_state n s) (plain pack c) ≡ readiness_in s c
+  pub readiness_named : (s : State) (c : Context P) → readiness_in (named_state n s) (plain pack c) ≡ readiness_in s c
   readiness_named Closed c = refl
   readiness_named (CookieWait tag first t1) c = refl
   readiness_named (Open phase t) c = readiness_open_named phase t c

@@ -1,5 +1,5 @@
 -- Packets that open no association, chunk by chunk, under other names.
-use Rattle.std.proofs.Common.{◌≡◌, ℕ, ◌==◌, ◌&&◌, not, Bool, true, false, Option, Some, None, List, [], ◌∷◌, length, refl, ap, ◌∙◌}
+use Rattle.std.proofs.Common.{◌≡◌, ℕ, ◌==◌, ◌&&◌, not, Bool, true, false, Option, Some, None, List, [], ◌∷◌, length, map, refl, ap, ◌∙◌}
 use Rattle.std.specs.List.{list_all}
 use Rattle.sctp_wire.specs.Parameter.{ParameterTree}
 use Rattle.sctp_wire.specs.Cause.{no_user_data, protocol_violation}
@@ -19,15 +19,18 @@ use Rattle.sctp_table.specs.Data.{on_no_data, no_data, on_data_in, on_data_if, o
 use Rattle.sctp_table.specs.Acknowledging.{cleaned, sampled, heard, on_sack_in, on_sack}
 use Rattle.sctp_table.specs.Acknowledging as acks
 use Rattle.sctp_table.specs.Opening.{on_cookie_ack, stands, connected}
+use Rattle.sctp_table.specs.Resets.{on_reconfig}
 use Rattle.sctp_table.specs.Input.{misused, violation, is_reported, echoed, echoed_in, complained, on_unknown_if, on_unknown, on_heartbeat, Heard, on_standing, on_chunk, goes_on, heard_if, hear, hear_rest, hear_all, has_data, repeats, repeats_if, ended, handled}
-use Rattle.sctp_draws.specs.NamedChunks.{Names, AreNames, flipped, moved, named_sack, named_chunk, named_chunks}
+use Rattle.sctp_draws.specs.NamedChunks.{Names, AreNames, flipped, moved, named_parameter, named_sack, named_chunk, named_chunks}
 use Rattle.sctp_draws.specs.Names.{named_state, named_standing, named_end, plain}
-use Rattle.sctp_draws.specs.Laws.{is_flowing}
+use Rattle.sctp_draws.specs.Laws.{NumbersFitIn, number_fits, is_flowing}
 use Rattle.sctp_draws.proofs.WritingLemmas.{Knows, named_emit_chunk, emit_stays}
 use Rattle.sctp_draws.proofs.ReadingLemmas.{named_data, named_forward}
 use Rattle.sctp_draws.proofs.TagLemmas.{data_named}
 use Rattle.sctp_draws.proofs.FillingLemmas.{send_with_stays, send_lost_stays}
 use Rattle.sctp_draws.proofs.SackLemmas.{named_on_sack, go_on_stays}
+use Rattle.sctp_draws.proofs.NumberLemmas.{hear_fits, repeats_if_fits}
+use Rattle.sctp_draws.proofs.ResetLemmas.{reconfig_stays, reconfig_named}
 use Rattle.sctp_draws.proofs.ClosingLemmas.{OpenIsNamed, where_named, on_shutdown_named, shutdown_ack_named, shutdown_complete_named, violated_named, on_abort_named, on_error_named, on_cookie_ack_named, repeats_named, ended_named}
 
 abbrev pub heard_as : {P : Type 0} → Bool → Endpoint P → Heard P
@@ -168,7 +171,7 @@ module _ {P : Type 0} where
   chunk_stays tag (cookie_echo_chunk cookie) e h = cc
   chunk_stays tag cookie_ack_chunk e h = where_stays on_cookie_ack e.standing cookie_ack_stays
   chunk_stays tag (shutdown_complete_chunk reflected) e h = where_stays on_shutdown_complete e.standing complete_stays
-  chunk_stays tag (re_config_chunk parameters) e h = cc
+  chunk_stays tag (re_config_chunk parameters) e h = where_stays (on_reconfig parameters) e.standing (reconfig_stays parameters)
   chunk_stays tag (forward_tsn_chunk tsn skipped) e h = refl
   chunk_stays tag (i_forward_tsn_chunk tsn skipped) e h = refl
   chunk_stays tag (unknown_chunk typ flags value) e h = unknown_stays (is_reported typ) typ flags value e.standing
@@ -286,67 +289,75 @@ module _ {P : Type 0} (n : Names) (are : AreNames n) (pack : Packing P) where
       ap (λ (c : Context P). record (named_standing n pack s) { context = c }) (echoed_named s.state typ flags value (complained typ flags value s.context) k)
   unknown_named false typ flags value s k = refl
 
-  chunk_named : (tag : ℕ) (chunk : ChunkTree) (e : Endpoint P) → is_flowing chunk ≡ true → Knows n pack e.standing.context
+  -- RE-CONFIG, in an end whose request numbers are of 32 bits
+  reconfig_in_named : (ps : List ParameterTree) (st : State) (c : Context P) → list_all number_fits ps ≡ true → NumbersFitIn st → Knows n pack c
+      → where_open (on_reconfig (map (named_parameter (flipped n)) ps)) (record { state = named_state n st; context = plain pack c })
+      ≡ named_standing n pack (where_open (on_reconfig ps) (record { state = st; context = c }))
+  reconfig_in_named ps Closed c all f k = refl
+  reconfig_in_named ps (CookieWait tag first t1) c all f k = refl
+  reconfig_in_named ps (Open phase t) c all f k = reconfig_named n are pack ps phase t c all f k
+
+  chunk_named : (tag : ℕ) (chunk : ChunkTree) (e : Endpoint P) → is_flowing chunk ≡ true → NumbersFitIn e.standing.state → Knows n pack e.standing.context
       → on_chunk (n.tag tag) (named_chunk (flipped n) chunk) (named_end n pack e) ≡ named_end n pack (on_chunk tag chunk e)
-  chunk_named tag (data_chunk tsn immediate f) e h knows = on_named (on_data tsn immediate f) (on_data (moved n.peer tsn) immediate f) e (named_data n pack tsn immediate f e.standing (not_true (length f.payload == 0) h))
-  chunk_named tag (idata_chunk tsn immediate f) e h knows = on_named (on_data tsn immediate f) (on_data (moved n.peer tsn) immediate f) e (named_data n pack tsn immediate f e.standing (not_true (length f.payload == 0) h))
-  chunk_named tag (init_chunk i) e h knows = cc
-  chunk_named tag (init_ack_chunk i) e h knows = cc
-  chunk_named tag (sack_chunk k) e h knows = on_named (on_sack k) (on_sack (named_sack (flipped n) k)) e (named_on_sack n are pack k e.standing knows)
-  chunk_named tag (heartbeat_request_chunk parameters) e h knows = on_open (on_heartbeat parameters) e (heartbeat_named parameters) knows
-  chunk_named tag (heartbeat_ack_chunk parameters) e h knows = on_named (in_context (on_heartbeat_ack parameters)) (in_context (on_heartbeat_ack parameters)) e (ap (λ (c : Context P). record (named_standing n pack e.standing) { context = c }) (answered_named (info_in parameters) e.standing.context))
-  chunk_named tag (abort_chunk reflected causes) e h knows = on_open (on_abort causes) e (on_abort_named n are pack causes) knows
-  chunk_named tag (shutdown_chunk tsn) e h knows = on_open on_shutdown e (on_shutdown_named n are pack) knows
-  chunk_named tag shutdown_ack_chunk e h knows = on_named (on_shutdown_ack tag) (on_shutdown_ack (n.tag tag)) e (shutdown_ack_named n are pack tag e.standing knows)
-  chunk_named tag (error_chunk causes) e h knows = on_open (on_error causes) e (on_error_named n are pack causes) knows
-  chunk_named tag (cookie_echo_chunk cookie) e h knows = cc
-  chunk_named tag cookie_ack_chunk e h knows = on_open on_cookie_ack e (on_cookie_ack_named n are pack) knows
-  chunk_named tag (shutdown_complete_chunk reflected) e h knows = on_open on_shutdown_complete e (shutdown_complete_named n are pack) knows
-  chunk_named tag (re_config_chunk parameters) e h knows = cc
-  chunk_named tag (forward_tsn_chunk tsn skipped) e h knows = on_named (on_forward tsn skipped) (on_forward (moved n.peer tsn) skipped) e (named_forward n pack tsn skipped e.standing)
-  chunk_named tag (i_forward_tsn_chunk tsn skipped) e h knows = on_named (on_forward tsn skipped) (on_forward (moved n.peer tsn) skipped) e (named_forward n pack tsn skipped e.standing)
-  chunk_named tag (unknown_chunk typ flags value) e h knows = on_named (on_unknown typ flags value) (on_unknown typ flags value) e (unknown_named (is_reported typ) typ flags value e.standing knows)
+  chunk_named tag (data_chunk tsn immediate f) e h fit knows = on_named (on_data tsn immediate f) (on_data (moved n.peer tsn) immediate f) e (named_data n pack tsn immediate f e.standing (not_true (length f.payload == 0) h))
+  chunk_named tag (idata_chunk tsn immediate f) e h fit knows = on_named (on_data tsn immediate f) (on_data (moved n.peer tsn) immediate f) e (named_data n pack tsn immediate f e.standing (not_true (length f.payload == 0) h))
+  chunk_named tag (init_chunk i) e h f knows = cc
+  chunk_named tag (init_ack_chunk i) e h f knows = cc
+  chunk_named tag (sack_chunk k) e h f knows = on_named (on_sack k) (on_sack (named_sack (flipped n) k)) e (named_on_sack n are pack k e.standing knows)
+  chunk_named tag (heartbeat_request_chunk parameters) e h f knows = on_open (on_heartbeat parameters) e (heartbeat_named parameters) knows
+  chunk_named tag (heartbeat_ack_chunk parameters) e h f knows = on_named (in_context (on_heartbeat_ack parameters)) (in_context (on_heartbeat_ack parameters)) e (ap (λ (c : Context P). record (named_standing n pack e.standing) { context = c }) (answered_named (info_in parameters) e.standing.context))
+  chunk_named tag (abort_chunk reflected causes) e h f knows = on_open (on_abort causes) e (on_abort_named n are pack causes) knows
+  chunk_named tag (shutdown_chunk tsn) e h f knows = on_open on_shutdown e (on_shutdown_named n are pack) knows
+  chunk_named tag shutdown_ack_chunk e h f knows = on_named (on_shutdown_ack tag) (on_shutdown_ack (n.tag tag)) e (shutdown_ack_named n are pack tag e.standing knows)
+  chunk_named tag (error_chunk causes) e h f knows = on_open (on_error causes) e (on_error_named n are pack causes) knows
+  chunk_named tag (cookie_echo_chunk cookie) e h f knows = cc
+  chunk_named tag cookie_ack_chunk e h f knows = on_open on_cookie_ack e (on_cookie_ack_named n are pack) knows
+  chunk_named tag (shutdown_complete_chunk reflected) e h f knows = on_open on_shutdown_complete e (shutdown_complete_named n are pack) knows
+  chunk_named tag (re_config_chunk parameters) e h f knows = on_named (where_open (on_reconfig parameters)) (where_open (on_reconfig (map (named_parameter (flipped n)) parameters))) e (reconfig_in_named parameters e.standing.state e.standing.context h f knows)
+  chunk_named tag (forward_tsn_chunk tsn skipped) e h f knows = on_named (on_forward tsn skipped) (on_forward (moved n.peer tsn) skipped) e (named_forward n pack tsn skipped e.standing)
+  chunk_named tag (i_forward_tsn_chunk tsn skipped) e h f knows = on_named (on_forward tsn skipped) (on_forward (moved n.peer tsn) skipped) e (named_forward n pack tsn skipped e.standing)
+  chunk_named tag (unknown_chunk typ flags value) e h f knows = on_named (on_unknown typ flags value) (on_unknown typ flags value) e (unknown_named (is_reported typ) typ flags value e.standing knows)
 
-  heard_if_named : (o : Option (List ℕ)) (tag : ℕ) (chunk : ChunkTree) (e : Endpoint P) → is_flowing chunk ≡ true → Knows n pack e.standing.context
+  heard_if_named : (o : Option (List ℕ)) (tag : ℕ) (chunk : ChunkTree) (e : Endpoint P) → is_flowing chunk ≡ true → NumbersFitIn e.standing.state → Knows n pack e.standing.context
       → heard_if o (n.tag tag) (named_chunk (flipped n) chunk) (named_end n pack e) ≡ heard_as (heard_if o tag chunk e).goes_on (named_end n pack (heard_if o tag chunk e).end)
-  heard_if_named (Some reason) tag chunk e h k =
+  heard_if_named (Some reason) tag chunk e h f k =
       ap (λ (x : Endpoint P). heard_as false x) (on_open (λ phase t c. violated reason t c) e (λ phase t c knows. violated_named n are pack reason t c knows) k)
-  heard_if_named None tag chunk e h k =
+  heard_if_named None tag chunk e h f k =
       ap (λ (b : Bool). heard_as b (on_chunk (n.tag tag) (named_chunk (flipped n) chunk) (named_end n pack e))) (goes_on_named (flipped n) chunk)
-      ∙ ap (λ (x : Endpoint P). heard_as (goes_on chunk) x) (chunk_named tag chunk e h k)
+      ∙ ap (λ (x : Endpoint P). heard_as (goes_on chunk) x) (chunk_named tag chunk e h f k)
 
-  hear_named : (tag : ℕ) (chunk : ChunkTree) (e : Endpoint P) → is_flowing chunk ≡ true → Knows n pack e.standing.context
+  hear_named : (tag : ℕ) (chunk : ChunkTree) (e : Endpoint P) → is_flowing chunk ≡ true → NumbersFitIn e.standing.state → Knows n pack e.standing.context
       → hear (n.tag tag) (named_chunk (flipped n) chunk) (named_end n pack e) ≡ heard_as (hear tag chunk e).goes_on (named_end n pack (hear tag chunk e).end)
-  hear_named tag chunk e h k =
+  hear_named tag chunk e h f k =
       ap (λ (o : Option (List ℕ)). heard_if o (n.tag tag) (named_chunk (flipped n) chunk) (named_end n pack e)) (violation_named n (flipped n) e.standing.state chunk)
-      ∙ heard_if_named (violation e.standing.state chunk) tag chunk e h k
+      ∙ heard_if_named (violation e.standing.state chunk) tag chunk e h f k
 
   rest_named : (rest named : Endpoint P → Endpoint P) (b : Bool) (e : Endpoint P) → named (named_end n pack e) ≡ named_end n pack (rest e)
       → hear_rest named (heard_as b (named_end n pack e)) ≡ named_end n pack (hear_rest rest (heard_as b e))
   rest_named rest named true e h = h
   rest_named rest named false e h = refl
 
-  pub all_named : (tag : ℕ) (cs : List ChunkTree) (e : Endpoint P) → list_all is_flowing cs ≡ true → Knows n pack e.standing.context
+  pub all_named : (tag : ℕ) (cs : List ChunkTree) (e : Endpoint P) → list_all is_flowing cs ≡ true → NumbersFitIn e.standing.state → Knows n pack e.standing.context
       → hear_all (n.tag tag) (named_chunks (flipped n) cs) (named_end n pack e) ≡ named_end n pack (hear_all tag cs e)
-  all_named tag [] e h k = refl
-  all_named tag (c ∷ cs) e h k =
+  all_named tag [] e h f k = refl
+  all_named tag (c ∷ cs) e h f k =
       let both = both_true (is_flowing c) (list_all is_flowing cs) h in
       let x : Heard P = hear tag c e in
-      ap (λ (y : Heard P). hear_rest (hear_all (n.tag tag) (named_chunks (flipped n) cs)) y) (hear_named tag c e both.0 k)
+      ap (λ (y : Heard P). hear_rest (hear_all (n.tag tag) (named_chunks (flipped n) cs)) y) (hear_named tag c e both.0 f k)
       ∙ rest_named (hear_all tag cs) (hear_all (n.tag tag) (named_chunks (flipped n) cs)) x.goes_on x.end
-      (all_named tag cs x.end both.1 (heard_if_stays (violation e.standing.state c) tag c e both.0 ∙ k))
+      (all_named tag cs x.end both.1 (hear_fits tag c e both.0 f) (heard_if_stays (violation e.standing.state c) tag c e both.0 ∙ k))
 
   pub repeats_if_named : (b : Bool) (s : Standing P) → Knows n pack s.context → repeats_if b (named_standing n pack s) ≡ named_standing n pack (repeats_if b s)
   repeats_if_named true s k = where_named n are pack repeats s (repeats_named n are pack) k
   repeats_if_named false s k = refl
 
-  pub handled_named : (tag : ℕ) (cs : List ChunkTree) (e : Endpoint P) → list_all is_flowing cs ≡ true → Knows n pack e.standing.context
+  pub handled_named : (tag : ℕ) (cs : List ChunkTree) (e : Endpoint P) → list_all is_flowing cs ≡ true → NumbersFitIn e.standing.state → Knows n pack e.standing.context
       → handled (n.tag tag) (named_chunks (flipped n) cs) (named_end n pack e) ≡ named_end n pack (handled tag cs e)
-  handled_named tag cs e h k =
+  handled_named tag cs e h f k =
       let ds : List ChunkTree = named_chunks (flipped n) cs in
       let first : Endpoint P = on_standing (repeats_if (has_data cs)) e in
       let at_first : Knows n pack first.standing.context = repeats_if_stays (has_data cs) e.standing ∙ k in
       ap (λ (b : Bool). on_standing (where_open ended) (hear_all (n.tag tag) ds (on_standing (repeats_if b) (named_end n pack e)))) (data_named (flipped n) cs)
       ∙ (ap (λ (x : Endpoint P). on_standing (where_open ended) (hear_all (n.tag tag) ds x)) (on_named (repeats_if (has_data cs)) (repeats_if (has_data cs)) e (repeats_if_named (has_data cs) e.standing k))
-      ∙ (ap (λ (x : Endpoint P). on_standing (where_open ended) x) (all_named tag cs first h at_first)
+      ∙ (ap (λ (x : Endpoint P). on_standing (where_open ended) x) (all_named tag cs first h (repeats_if_fits (has_data cs) e.standing f) at_first)
       ∙ on_open ended (hear_all tag cs first) (ended_named n are pack) (all_stay tag cs first h ∙ at_first)))

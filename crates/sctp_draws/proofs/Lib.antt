@@ -13,6 +13,8 @@ pub mod ClosingLemmas
 pub mod TimeLemmas
 pub mod CallLemmas
 pub mod CookieLemmas
+pub mod NumberLemmas
+pub mod ResetLemmas
 pub mod HearLemmas
 pub mod ComingLemmas
 pub mod TakenLemmas

@@ -35,7 +35,7 @@ difference_near space a b d small less =
     ]
 
 -- by any number of rounds
-difference_moved : (space a b d : ℕ) → b < space → serial_difference space (serial_sum space a d) (serial_sum space b d) ≡ serial_difference space a b
+pub difference_moved : (space a b d : ℕ) → b < space → serial_difference space (serial_sum space a d) (serial_sum space b d) ≡ serial_difference space a b
 difference_moved space a b d small =
     let some : d % space < space = mod_below d space (omega (arith, small)) in
     let at : (k : ℕ) → (k + d) % space ≡ (k + d % space) % space =

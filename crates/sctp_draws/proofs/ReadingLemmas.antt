@@ -53,11 +53,11 @@ module _ (n : Names) where
   near_named None near tsn = refl
   near_named (Some first) near tsn = moved_nearest n.peer first near tsn
 
-  queue_number : (r : Reassembly) (tsn : ℕ) → reassembly.number_of (named_reassembly n r) (moved n.peer tsn) ≡ reassembly.number_of r tsn
+  pub queue_number : (r : Reassembly) (tsn : ℕ) → reassembly.number_of (named_reassembly n r) (moved n.peer tsn) ≡ reassembly.number_of r tsn
   queue_number r tsn = near_named r.first r.near tsn
 
   -- the first that came
-  first_named : (o : Option ℕ) (tsn : ℕ) → unwrap_or (option_map (moved n.peer) o) (moved n.peer tsn) ≡ moved n.peer (unwrap_or o tsn)
+  pub first_named : (o : Option ℕ) (tsn : ℕ) → unwrap_or (option_map (moved n.peer) o) (moved n.peer tsn) ≡ moved n.peer (unwrap_or o tsn)
   first_named None tsn = refl
   first_named (Some first) tsn = refl
 

@@ -11,11 +11,12 @@ use Rattle.sctp_table.specs.Input.{refusal, violation, on_chunk, goes_on, Heard,
 use Rattle.sctp_table_laws.proofs.OpeningStepsLemmas.{steps_init, steps_init_ack, steps_cookie_echo}
 use Rattle.sctp_draws.specs.NamedChunks.{Names, AreNames, flipped, named_chunk, named_chunks}
 use Rattle.sctp_draws.specs.Names.{named_state, named_standing, with_words}
-use Rattle.sctp_draws.specs.Laws.{TiesTell, is_flowing}
+use Rattle.sctp_draws.specs.Laws.{TiesTell, NumbersFitIn, is_flowing}
 use Rattle.sctp_draws.specs.NamedCalls.{is_new, CookieIsNamed, AreNamed, IsNamed, named_heard}
 use Rattle.sctp_draws.proofs.WritingLemmas.{Knows}
 use Rattle.sctp_draws.proofs.TagLemmas.{data_named, refused_named}
 use Rattle.sctp_draws.proofs.ClosingLemmas.{where_named, ended_named}
+use Rattle.sctp_draws.proofs.NumberLemmas.{repeats_if_fits, cookie_echo_fits}
 use Rattle.sctp_draws.proofs.HearLemmas.{heard_as, both_true, all_stay, repeats_if_stays, violation_named, all_named, repeats_if_named}
 use Rattle.sctp_draws.proofs.ComingLemmas.{init_named, init_ack_named, cookie_echo_named}
 
@@ -143,6 +144,15 @@ pub some_of : (o : Option (List ℕ)) → is_some o ≡ true → (text : List �
 some_of None h = cc
 some_of (Some text) h = (text, refl)
 
+-- request numbers are of 32 bits, where some chunk may read one
+abbrev FitsFor : List ChunkTree → State → Type 0
+FitsFor [] st = Unit {0}
+FitsFor (c ∷ cs) st = NumbersFitIn st
+
+fits_for : (cs : List ChunkTree) (st : State) → NumbersFitIn st → FitsFor cs st
+fits_for [] st f = tt
+fits_for (c ∷ cs) st f = f
+
 -- these chunks are heard under both names alike
 record HeardAlike {P : Type 0} (n : Names) (pack : Packing P) (tag : ℕ) (cs : List ChunkTree) (s : Standing P) (w v : Stream) : Type 0 where
   alike : (hear_all (n.tag tag) (named_chunks (flipped n) cs) (with_words v (named_standing n pack s))).standing ≡ named_standing n pack (hear_all tag cs (with_words w s)).standing
@@ -154,26 +164,27 @@ HandledAlike {P} n pack tag cs s w v =
 
 module _ {P : Type 0} (n : Names) (are : AreNames n) (pack : Packing P) where
   -- ends that stand alike
-  flow_alike : (tag : ℕ) (cs : List ChunkTree) (x y : Endpoint P) → list_all is_flowing cs ≡ true → Knows n pack x.standing.context → y.standing ≡ named_standing n pack x.standing
-      → (hear_all (n.tag tag) (named_chunks (flipped n) cs) y).standing ≡ named_standing n pack (hear_all tag cs x).standing
-  flow_alike tag cs x y h k same =
-      ap (λ (s : Standing P). (hear_all (n.tag tag) (named_chunks (flipped n) cs) (with_words y.words s)).standing) same
-      ∙ (ap (λ (e : Endpoint P). e.standing) (all_named n are pack tag cs (worded y.words x) h k)
-      ∙ ap (λ (e : Endpoint P). named_standing n pack e.standing) (all_quiet y.words tag cs x h))
+  flow_alike : (tag : ℕ) (cs : List ChunkTree) (x y : Endpoint P) → list_all is_flowing cs ≡ true → FitsFor cs x.standing.state → Knows n pack x.standing.context
+      → y.standing ≡ named_standing n pack x.standing → (hear_all (n.tag tag) (named_chunks (flipped n) cs) y).standing ≡ named_standing n pack (hear_all tag cs x).standing
+  flow_alike tag [] x y h f k same = same
+  flow_alike tag (c ∷ cs) x y h f k same =
+      ap (λ (s : Standing P). (hear_all (n.tag tag) (named_chunks (flipped n) (c ∷ cs)) (with_words y.words s)).standing) same
+      ∙ (ap (λ (e : Endpoint P). e.standing) (all_named n are pack tag (c ∷ cs) (worded y.words x) h f k)
+      ∙ ap (λ (e : Endpoint P). named_standing n pack e.standing) (all_quiet y.words tag (c ∷ cs) x h))
 
-  flow_heard : (tag : ℕ) (cs : List ChunkTree) (s : Standing P) (w v : Stream) → list_all is_flowing cs ≡ true → Knows n pack s.context → HeardAlike n pack tag cs s w v
-  flow_heard tag cs s w v h k = record {
-    alike = flow_alike tag cs (with_words w s) (with_words v (named_standing n pack s)) h k refl;
+  flow_heard : (tag : ℕ) (cs : List ChunkTree) (s : Standing P) (w v : Stream) → list_all is_flowing cs ≡ true → NumbersFitIn s.state → Knows n pack s.context → HeardAlike n pack tag cs s w v
+  flow_heard tag cs s w v h f k = record {
+    alike = flow_alike tag cs (with_words w s) (with_words v (named_standing n pack s)) h (fits_for cs s.state f) k refl;
     knows = all_stay tag cs (with_words w s) h ∙ k;
   }
 
   -- behind a first chunk that both take alike
   first_alike : (tag : ℕ) (c : ChunkTree) (cs : List ChunkTree) (s : Standing P) (w v : Stream)
       → violation s.state c ≡ None → goes_on c ≡ true → goes_on (named_chunk (flipped n) c) ≡ true → list_all is_flowing cs ≡ true
-      → Knows n pack (on_chunk tag c (with_words w s)).standing.context
+      → FitsFor cs (on_chunk tag c (with_words w s)).standing.state → Knows n pack (on_chunk tag c (with_words w s)).standing.context
       → (on_chunk (n.tag tag) (named_chunk (flipped n) c) (with_words v (named_standing n pack s))).standing ≡ named_standing n pack (on_chunk tag c (with_words w s)).standing
       → HeardAlike n pack tag (c ∷ cs) s w v
-  first_alike tag c cs s w v allowed on on_named h k alike =
+  first_alike tag c cs s w v allowed on on_named h f k alike =
       let x : Endpoint P = on_chunk tag c (with_words w s) in
       let d : ChunkTree = named_chunk (flipped n) c in
       let r : Standing P = named_standing n pack s in
@@ -183,7 +194,7 @@ module _ {P : Type 0} (n : Names) (are : AreNames n) (pack : Packing P) where
       first_heard (n.tag tag) d (named_chunks (flipped n) cs) (with_words v r) (violation_named n (flipped n) s.state c ∙ allowed) on_named in
       record {
         alike = ap (λ (e : Endpoint P). e.standing) there
-            ∙ (flow_alike tag cs x y h k alike ∙ sym (ap (λ (e : Endpoint P). named_standing n pack e.standing) here));
+            ∙ (flow_alike tag cs x y h f k alike ∙ sym (ap (λ (e : Endpoint P). named_standing n pack e.standing) here));
         knows = ap (λ (e : Endpoint P). e.standing.context.pack) here ∙ (all_stay tag cs x h ∙ k);
       }
 
@@ -204,27 +215,30 @@ module _ {P : Type 0} (n : Names) (are : AreNames n) (pack : Packing P) where
     reads = is.reads;
     ties = λ k e. ties_from n tag k st (repeats_if b (standing_in st c)).state (repeats_block b st c) (is.ties k e);
     draws = λ k e new. is.draws k e (sym (ap is_new (repeats_judged b tag k st c)) ∙ new);
+    first = is.first;
   }
 
-  taken_as : (tag : ℕ) (cs : List ChunkTree) (s : Standing P) (w v : Stream) → AreNamed n tag cs s.state w v → Knows n pack s.context → HandledAlike n pack tag cs s w v
-  taken_as tag cs s w v (AreNamed.flow h) k =
+  taken_as : (tag : ℕ) (cs : List ChunkTree) (s : Standing P) (w v : Stream) → AreNamed n tag cs s.state w v → NumbersFitIn s.state → Knows n pack s.context → HandledAlike n pack tag cs s w v
+  taken_as tag cs s w v (AreNamed.flow h) f k =
       let r : Standing P = repeats_if (has_data cs) s in
-      handled_alike tag cs s w v (flow_heard tag cs r w v h (repeats_if_stays (has_data cs) s ∙ k)) k
-  taken_as tag cs s w v (AreNamed.init i e is) k =
+      handled_alike tag cs s w v (flow_heard tag cs r w v h (repeats_if_fits (has_data cs) s f) (repeats_if_stays (has_data cs) s ∙ k)) k
+  taken_as tag cs s w v (AreNamed.init i e is) f k =
       subst (λ (ds : List ChunkTree). HandledAlike n pack tag ds s w v) (sym e)
       (handled_alike tag (init_chunk i ∷ []) s w v
-      (first_alike tag (init_chunk i) [] s w v (init_allowed s.state i) refl refl refl ((steps_init i (with_words w s)).pack ∙ k) (init_named n are pack i s w v is k)) k)
-  taken_as tag cs s w v (AreNamed.init_ack i e is) k =
+      (first_alike tag (init_chunk i) [] s w v (init_allowed s.state i) refl refl refl tt ((steps_init i (with_words w s)).pack ∙ k) (init_named n are pack i s w v is k)) k)
+  taken_as tag cs s w v (AreNamed.init_ack i e is) f k =
       subst (λ (ds : List ChunkTree). HandledAlike n pack tag ds s w v) (sym e)
       (handled_alike tag (init_ack_chunk i ∷ []) s w v
-      (first_alike tag (init_ack_chunk i) [] s w v (init_ack_allowed s.state i) refl refl refl ((steps_init_ack i (with_words w s)).pack ∙ k) (init_ack_named n are pack i s w v is k)) k)
-  taken_as tag cs s w v (AreNamed.cookie_echo cookie rest e is h) k =
+      (first_alike tag (init_ack_chunk i) [] s w v (init_ack_allowed s.state i) refl refl refl tt ((steps_init_ack i (with_words w s)).pack ∙ k) (init_ack_named n are pack i s w v is k)) k)
+  taken_as tag cs s w v (AreNamed.cookie_echo cookie rest e is h) f k =
       let b : Bool = has_data rest in
       let r : Standing P = repeats_if b s in
       let at : Knows n pack r.context = repeats_if_stays b s ∙ k in
       subst (λ (ds : List ChunkTree). HandledAlike n pack tag ds s w v) (sym e)
       (handled_alike tag (cookie_echo_chunk cookie ∷ rest) s w v
-      (first_alike tag (cookie_echo_chunk cookie) rest r w v (cookie_echo_allowed r.state cookie) refl refl h ((steps_cookie_echo tag cookie (with_words w r)).pack ∙ at)
+      (first_alike tag (cookie_echo_chunk cookie) rest r w v (cookie_echo_allowed r.state cookie) refl refl h
+      (fits_for rest (on_chunk tag (cookie_echo_chunk cookie) (with_words w r)).standing.state (cookie_echo_fits tag cookie (with_words w r) is.first (repeats_if_fits b s f)))
+      ((steps_cookie_echo tag cookie (with_words w r)).pack ∙ at)
       (cookie_echo_named n are pack tag cookie r w v (cookie_after b tag cookie s.state s.context w v is) at)) k)
 
   pub packet_named : (p : PacketTree) (s : Standing P) (w v : Stream) → IsNamed n p s.state w v → Knows n pack s.context
@@ -234,5 +248,5 @@ module _ {P : Type 0} (n : Names) (are : AreNames n) (pack : Packing P) where
       let ds : List ChunkTree = named_chunks (flipped n) p.chunks in
       let other : refusal (n.tag tag) ds (named_state n s.state) ≡ None = none_of (refusal (n.tag tag) ds (named_state n s.state)) (refused_named n are (flipped n) tag p.chunks s.state ∙ ap (λ (o : Option (List ℕ)). is_some o) is.taken) in
       ap (λ (o : Option (List ℕ)). (taken_if o (n.tag tag) ds (counts (with_words v (named_standing n pack s)))).standing) other
-      ∙ (taken_as tag p.chunks (with_context s (counted s.context)) w v is.chunks k
+      ∙ (taken_as tag p.chunks (with_context s (counted s.context)) w v is.chunks is.numbers k
       ∙ sym (ap (λ (o : Option (List ℕ)). named_standing n pack (taken_if o tag p.chunks (counts (with_words w s))).standing) is.taken))

@@ -1,15 +1,18 @@
 -- The laws: rows of the table under other names.
-use Rattle.std.specs.Prelude.{◌≡◌, ℕ, ◌==◌, not, Bool, true, false, is_some, List, length}
+use Rattle.std.specs.Prelude.{◌≡◌, ℕ, ◌<◌, ◌==◌, not, nat_lt, Bool, true, false, Option, Some, None, is_some, List, length}
 use Rattle.std.specs.List.{list_all}
 use Rattle.rand_core.specs.Stream.{Stream, next_u32}
 use Rattle.sctp_chunk.specs.declared.forward_tsn.SkippedStream.{SkippedStream}
+use Rattle.sctp_serial.specs.Unwrapped.{words}
 use Rattle.sctp_wire.specs.Cause.{CauseTree}
+use Rattle.sctp_wire.specs.Parameter.{ParameterTree, state_cookie, outgoing_reset_request, incoming_reset_request, reset_response}
 use Rattle.sctp_packet.specs.Chunk.{ChunkTree, FragmentTree, InitTree, SackTree, data_chunk, idata_chunk, init_chunk, init_ack_chunk, sack_chunk, heartbeat_request_chunk, heartbeat_ack_chunk, abort_chunk, shutdown_chunk, shutdown_ack_chunk, error_chunk, cookie_echo_chunk, cookie_ack_chunk, shutdown_complete_chunk, re_config_chunk, forward_tsn_chunk, i_forward_tsn_chunk, unknown_chunk}
 use Rattle.sctp_serial.specs.Messages.{Message}
 use Rattle.sctp_state.specs.Options.{SendOptions}
 use Rattle.sctp_capabilities.specs.Cookie.{Cookie, cookie_bytes}
-use Rattle.sctp_table.specs.Association.{Identity, Tcb, Phase, State, Closed, Open, Context, Standing, Endpoint, where_open, Packing}
+use Rattle.sctp_table.specs.Association.{Identity, Tcb, Phase, State, Closed, CookieWait, Open, Context, Standing, Endpoint, where_open, Packing}
 use Rattle.sctp_table.specs.Packets.{Packet}
+use Rattle.sctp_table.specs.Requests.{Request, Requests}
 use Rattle.sctp_table.specs.Sending.{sent, send_with}
 use Rattle.sctp_table.specs.Opening.{tsn_from, tag_from, connect, judged, cookie_for, answer, anew, echo, maker, on_cookie_ack}
 use Rattle.sctp_table.specs.Calls.{send, send_many, take_message}
@@ -134,9 +137,33 @@ pub record CallsAreNamed : Type 0 where
   pub send_many : (ms : List Message) (how : SendOptions) → RowIsNamed (send_many ms how)
   pub take_message : RowIsNamed take_message
 
+-- ---- request numbers, which are told apart on the circle of 32 bits
+
+abbrev pub NumberFits : Option Request → Type 0
+NumberFits None = Unit {0}
+NumberFits (Some r) = r.number < words
+
+pub record NumbersFit (r : Requests) : Type 0 where
+  pub next : r.next < words
+  pub current : NumberFits r.current
+  pub last : r.last < words
+
+abbrev pub NumbersFitIn : State → Type 0
+NumbersFitIn Closed = Unit {0}
+NumbersFitIn (CookieWait tag first t1) = Unit {0}
+NumbersFitIn (Open phase t) = NumbersFit t.requests
+
+-- and an INIT ACK alone has a cookie
+abbrev pub number_fits : ParameterTree → Bool
+number_fits (state_cookie cookie) = false
+number_fits (outgoing_reset_request number response last_tsn streams) = nat_lt number words
+number_fits (incoming_reset_request number streams) = nat_lt number words
+number_fits (reset_response number result sender receiver) = nat_lt number words
+number_fits parameter = true
+
 -- ---- packets
 
--- chunks that neither open an association nor reset streams; DATA has a payload
+-- chunks that open no association; DATA has a payload, and request numbers are of 32 bits
 abbrev pub is_flowing : ChunkTree → Bool
 is_flowing (data_chunk tsn immediate f) = not (length f.payload == 0)
 is_flowing (idata_chunk tsn immediate f) = not (length f.payload == 0)
@@ -152,7 +179,7 @@ is_flowing (error_chunk causes) = true
 is_flowing (cookie_echo_chunk cookie) = false
 is_flowing cookie_ack_chunk = true
 is_flowing (shutdown_complete_chunk reflected) = true
-is_flowing (re_config_chunk parameters) = false
+is_flowing (re_config_chunk parameters) = list_all number_fits parameters
 is_flowing (forward_tsn_chunk tsn skipped) = true
 is_flowing (i_forward_tsn_chunk tsn skipped) = true
 is_flowing (unknown_chunk typ flags value) = true
@@ -161,5 +188,5 @@ is_flowing (unknown_chunk typ flags value) = true
 abbrev pub PacketsAreNamed : Type 0
 PacketsAreNamed =
     (n : Names) → AreNames n → (pack : Packing (List ℕ)) (tag : ℕ) (chunks : List ChunkTree) (e : Endpoint (List ℕ)) → list_all is_flowing chunks ≡ true
-    → e.standing.context.pack ≡ under n pack
+    → NumbersFitIn e.standing.state → e.standing.context.pack ≡ under n pack
     → handled (n.tag tag) (named_chunks (flipped n) chunks) (named_end n pack e) ≡ named_end n pack (handled tag chunks e)

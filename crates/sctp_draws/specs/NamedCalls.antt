@@ -1,7 +1,8 @@
 -- Calls under other names: what the words that are drawn, the cookies and a packet that comes have to be, and the law of each call.
-use Rattle.std.specs.Prelude.{◌≡◌, ℕ, ◌==◌, Bool, true, false, Option, Some, None, Result, Ok, Err, List, [], ◌∷◌, ⊤}
+use Rattle.std.specs.Prelude.{◌≡◌, ℕ, ◌<◌, ◌==◌, Bool, true, false, Option, Some, None, Result, Ok, Err, List, [], ◌∷◌, ⊤}
 use Rattle.std.specs.List.{list_all}
 use Rattle.rand_core.specs.Stream.{Stream, next_u32, next_u64}
+use Rattle.sctp_serial.specs.Unwrapped.{words}
 use Rattle.sctp_packet.specs.Chunk.{ChunkTree, InitTree, init_chunk, init_ack_chunk, cookie_echo_chunk}
 use Rattle.sctp_packet.specs.Packet.{PacketTree}
 use Rattle.sctp_capabilities.specs.declared.state_cookie.StateCookieError.{StateCookieError}
@@ -13,7 +14,7 @@ use Rattle.sctp_table.specs.Laws.{Call, Connect, Restore, Packet, called}
 use Rattle.sctp_table_laws.specs.Mapped.{Carried}
 use Rattle.sctp_draws.specs.NamedChunks.{Names, AreNames, flipped, named_header, named_chunks}
 use Rattle.sctp_draws.specs.Names.{named_cookie, with_words}
-use Rattle.sctp_draws.specs.Laws.{DrawsTwo, TiesTell, Makes, is_flowing}
+use Rattle.sctp_draws.specs.Laws.{DrawsTwo, TiesTell, Makes, NumbersFitIn, is_flowing}
 use Rattle.sctp_draws.specs.Images.{as_carried, image}
 
 -- ---- draws
@@ -87,11 +88,12 @@ is_new MaintainExisting = false
 is_new Discard = false
 is_new InvalidTag = false
 
--- in a packet under this tag
+-- in a packet under this tag; the first TSN in it, where requests are counted from, is of 32 bits
 pub record CookieIsNamed (n : Names) (tag : ℕ) (cookie : List ℕ) (s : State) (w v : Stream) : Type 0 where
   pub reads : read_cookie (n.cookie cookie) ≡ read_under n (read_cookie cookie)
   pub ties : (k : Cookie) → read_cookie cookie ≡ Ok k → (phase : Phase) (t : Tcb) → s ≡ Open phase t → TiesTell n tag t.identity k
   pub draws : (k : Cookie) → read_cookie cookie ≡ Ok k → is_new (judged tag k s) ≡ true → DrawsTie n w v
+  pub first : (k : Cookie) → read_cookie cookie ≡ Ok k → k.my_initial_tsn < words
 
 -- ---- packets
 
@@ -103,9 +105,10 @@ pub data AreNamed (n : Names) (tag : ℕ) (chunks : List ChunkTree) (s : State) 
   cookie_echo : (cookie : List ℕ) (rest : List ChunkTree) → chunks ≡ cookie_echo_chunk cookie ∷ rest → CookieIsNamed n tag cookie s w v
       → list_all is_flowing rest ≡ true → AreNamed n tag chunks s w v
 
--- a packet that is taken in this state
+-- a packet that is taken in this state, whose request numbers are of 32 bits
 pub record IsNamed (n : Names) (p : PacketTree) (s : State) (w v : Stream) : Type 0 where
   pub taken : refusal p.header.verification_tag p.chunks s ≡ None
+  pub numbers : NumbersFitIn s
   pub chunks : AreNamed n p.header.verification_tag p.chunks s w v
 
 -- a packet of the peer, who writes it under the names that it sees

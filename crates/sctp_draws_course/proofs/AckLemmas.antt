@@ -23,6 +23,7 @@ use Rattle.sctp_course.proofs.CourseLemmas.{seen}
 use Rattle.sctp_draws.specs.NamedChunks.{Names, flipped, named_init, named_chunks}
 use Rattle.sctp_draws.specs.Names.{named_state}
 use Rattle.sctp_draws.specs.NamedCookies.{cookie_named}
+use Rattle.sctp_draws.specs.Laws.{NumbersFitIn}
 use Rattle.sctp_draws.specs.NamedCalls.{EchoIsNamed, InitAckIsNamed, AreNamed, init_ack, EachCallIsNamed}
 use Rattle.sctp_draws.proofs.CookieLemmas.{cookies_named}
 use Rattle.sctp_draws_course.specs.Pairing.{far, cookie_under, names, Knows}
@@ -44,7 +45,7 @@ IsThat i chunk = Unit {0}
 module _ (ps : List (Drawn × Drawn)) (k : Knows ps) (law : EachCallIsNamed) (o q : Options) (x y z : Side) (t : Twin ps x y z) (p r : Carried)
     (checksum other : ℕ) (packing : x.end.standing.context.pack ≡ as_carried) (quiet : x.end.standing.context.told.events ≡ []) (i : InitTree)
     (n : IsNamedBy ps (state_of y) (state_of x) p r) (alone : p.chunks ≡ init_ack_chunk i ∷ [])
-    (none : refusal p.header.verification_tag (map carried p.chunks) (state_of x) ≡ None) (said : IsInitAck q o (seen y) (seen x) y.is_asked i)
+    (none : refusal p.header.verification_tag (map carried p.chunks) (state_of x) ≡ None) (numbers : NumbersFitIn (state_of x)) (said : IsInitAck q o (seen y) (seen x) y.is_asked i)
     (taken : IsTaken i n.mine n.cookie_tie) where
   abbrev call : Call
   call = Packet (as_heard p checksum)
@@ -116,7 +117,7 @@ module _ (ps : List (Drawn × Drawn)) (k : Knows ps) (law : EachCallIsNamed) (o 
       tie = tie;
       cookie_tie = same_tie;
       before = state;
-      is = taken_too ps k x z p r checksum other n.mine n.peer n.tie n.cookie_tie n.is t.tie t.state law packing quiet t.context none tag i.initiate_tag tie same_tie
+      is = taken_too ps k x z p r checksum other n.mine n.peer n.tie n.cookie_tie n.is t.tie t.state law packing quiet t.context none numbers tag i.initiate_tag tie same_tie
           state chunks (init_ack i heard_alone ack_is);
       tags = λ stand. tags_after call tag i.initiate_tag (guides tag) x.end (subst (TagsAre tag i.initiate_tag) (sym waits) refl);
       ties = inl refl;
@@ -162,7 +163,7 @@ does_nothing n i (Open phase t) w v h = tt
 module _ (ps : List (Drawn × Drawn)) (k : Knows ps) (law : EachCallIsNamed) (x y z : Side) (t : Twin ps x y z) (p r : Carried)
     (checksum other : ℕ) (packing : x.end.standing.context.pack ≡ as_carried) (quiet : x.end.standing.context.told.events ≡ []) (i : InitTree)
     (n : IsNamedBy ps (state_of y) (state_of x) p r) (alone : p.chunks ≡ init_ack_chunk i ∷ [])
-    (none : refusal p.header.verification_tag (map carried p.chunks) (state_of x) ≡ None) (opened : is_opened (state_of x) ≡ true) where
+    (none : refusal p.header.verification_tag (map carried p.chunks) (state_of x) ≡ None) (numbers : NumbersFitIn (state_of x)) (opened : is_opened (state_of x) ≡ true) where
   pub ack_unheard : Named ps x z (state_of y) (Packet (as_heard p checksum)) (called (Packet (as_heard r other)) z.end)
   ack_unheard =
       let s : State = state_of x in
@@ -186,7 +187,7 @@ module _ (ps : List (Drawn × Drawn)) (k : Knows ps) (law : EachCallIsNamed) (x 
         tie = t.tie;
         cookie_tie = same_tie;
         before = t.state;
-        is = taken_as ps k x z p r checksum other n.mine n.peer n.tie n.cookie_tie n.is t.tie t.state law packing quiet t.context none (my_tag s) (peer_in s) t.tie same_tie
+        is = taken_as ps k x z p r checksum other n.mine n.peer n.tie n.cookie_tie n.is t.tie t.state law packing quiet t.context none numbers (my_tag s) (peer_in s) t.tie same_tie
             t.state does (init_ack i heard (does_nothing m i s x.end.words z.end.words opened));
         tags = λ stand. stand_tags s (called (Packet (as_heard p checksum)) x.end).standing.state stand opened;
         ties = inl refl;

@@ -11,14 +11,16 @@ use Rattle.sctp_course.specs.Course.{Side, Pair, emitted, Turn, turned, goes, ru
 use Rattle.sctp_course.specs.Agreement.{Draw as Drawn, Has}
 use Rattle.sctp_course.proofs.CourseLemmas.{Halves, swapped, before_run}
 use Rattle.sctp_course.proofs.HandingLemmas.{first_halves}
+use Rattle.sctp_draws.specs.Laws.{NumbersFitIn}
 use Rattle.sctp_draws.specs.NamedCalls.{EachCallIsNamed}
 use Rattle.sctp_draws_course.specs.Pairing.{drawn_at, NoTagTwice, pairs_of, pairs, Knows}
-use Rattle.sctp_draws_course.specs.Alike.{AreAlike, ArePairsAlike, gone_by, ActsAlike, SameTurn, SameTurns, TurnIsAlike}
+use Rattle.sctp_draws_course.specs.Alike.{AreAlike, ArePairsAlike, gone_by, ActsAlike, SameTurn, SameTurns, TurnIsAlike, CoursesAreAlike}
 use Rattle.sctp_draws_course.proofs.PairingLemmas.{pairs_know, has_left, has_right}
 use Rattle.sctp_draws_course.proofs.NamesLemmas.{same_tie}
 use Rattle.sctp_draws_course.proofs.TwinLemmas.{Stand, Twin, twins_on, are_alike}
-use Rattle.sctp_draws_course.specs.Kinds.{IsKind, AreOfAKind, KindsAlong, CoursesOfAKindAreAlike}
+use Rattle.sctp_draws_course.specs.Kinds.{IsKind, AreOfAKind, KindsAlong}
 use Rattle.sctp_draws_course.proofs.TurnLemmas.{EndsTellOwn, LateInitsAreNamed, Drew, Goes, turns_so, turn_alike, turn_twin, turn_stands, turn_halves}
+use Rattle.sctp_draws_course.proofs.WholeCourseLemmas.{along_of_a_kind, front_follows}
 use Rattle.sctp_draws_course.proofs.StaysLemmas.{turning_stays, turning_stayed, idle_stays, idle_stayed}
 
 -- ---- one end beside the other
@@ -43,30 +45,30 @@ twin_beside ps x y next v stand t = record {
 
 module _ (ps : List (Drawn × Drawn)) (k : Knows ps) (law : EachCallIsNamed) (late : LateInitsAreNamed ps) (tells : EndsTellOwn) where
   module _ (o q : Options) (own : AreGiven o) (other : AreGiven q) (x y z v : Side) (b : Beside ps o q x y z v)
-      (kinds : All (λ (p : Carried). IsKind p.chunks) (emitted y)) (t u : Turn) (same : SameTurn t u) (may : MayTurn t x)
-      (drew : Drew ps k law late o q own other x y z v b.halves b.own b.other kinds t u) where
-    goes_so : Goes ps k law late o q own other x y z v b.halves b.own b.other kinds t u
-    goes_so = turns_so ps k law late o q own other x y z v b.halves b.own b.other kinds t u same may drew
+      (kinds : All (λ (p : Carried). IsKind p.chunks) (emitted y)) (numbers : NumbersFitIn (state_of x)) (t u : Turn) (same : SameTurn t u) (may : MayTurn t x)
+      (drew : Drew ps k law late o q own other x y z v b.halves b.own b.other kinds numbers t u) where
+    goes_so : Goes ps k law late o q own other x y z v b.halves b.own b.other kinds numbers t u
+    goes_so = turns_so ps k law late o q own other x y z v b.halves b.own b.other kinds numbers t u same may drew
 
     pub beside_after : endings (turned t x y).told ≡ 0 → Beside ps o q (turned t x y) y (turned u z v) v
     beside_after none = record {
-      halves = turn_halves ps k law late o q own other x y z v b.halves b.own b.other kinds t may none;
-      own = turn_twin ps k law late o q own other x y z v b.halves b.own b.other kinds tells t u goes_so may none;
-      other = twin_beside ps x y (turned t x y) v (turn_stands ps k law late o q own other x y z v b.halves b.own b.other kinds t may none) b.other;
+      halves = turn_halves ps k law late o q own other x y z v b.halves b.own b.other kinds numbers t may none;
+      own = turn_twin ps k law late o q own other x y z v b.halves b.own b.other kinds numbers tells t u goes_so may none;
+      other = twin_beside ps x y (turned t x y) v (turn_stands ps k law late o q own other x y z v b.halves b.own b.other kinds numbers t may none) b.other;
     }
 
     pub alike_after : AreAlike (turned t x y) (turned u z v)
-    alike_after = (turn_alike ps k law late o q own other x y z v b.halves b.own b.other kinds t u goes_so).0
+    alike_after = (turn_alike ps k law late o q own other x y z v b.halves b.own b.other kinds numbers t u goes_so).0
 
-    stays_by : Goes ps k law late o q own other x y z v b.halves b.own b.other kinds t u → ActsAlike t u x y z v
+    stays_by : Goes ps k law late o q own other x y z v b.halves b.own b.other kinds numbers t u → ActsAlike t u x y z v
     stays_by (inl g) = record {
-      gone = (turn_alike ps k law late o q own other x y z v b.halves b.own b.other kinds t u (inl g)).1;
+      gone = (turn_alike ps k law late o q own other x y z v b.halves b.own b.other kinds numbers t u (inl g)).1;
       stays = turning_stays ps x z (state_of y) (turned t x y) (turned u z v) (gone_by t x y) (gone_by u z v) g;
       stayed = λ none. turning_stayed ps x z (state_of y) (turned t x y) (turned u z v) (gone_by t x y) (gone_by u z v) g
-          (turn_stands ps k law late o q own other x y z v b.halves b.own b.other kinds t may none);
+          (turn_stands ps k law late o q own other x y z v b.halves b.own b.other kinds numbers t may none);
     }
     stays_by (inr g) = record {
-      gone = (turn_alike ps k law late o q own other x y z v b.halves b.own b.other kinds t u (inr g)).1;
+      gone = (turn_alike ps k law late o q own other x y z v b.halves b.own b.other kinds numbers t u (inr g)).1;
       stays = idle_stays ps x z (state_of y) (turned t x y) (turned u z v) (gone_by t x y) (gone_by u z v) g;
       stayed = λ none. idle_stayed ps x z (state_of y) (turned t x y) (turned u z v) (gone_by t x y) (gone_by u z v) g;
     }
@@ -92,27 +94,27 @@ module _ (ps : List (Drawn × Drawn)) (k : Knows ps) (law : EachCallIsNamed) (la
     goes_both : (at_a : Bool) (t u : Turn) (w v : Pair) → Both a b w v → AreOfAKind w → SameTurn t u → MayTurn t (side_of at_a w) → Among at_a t u w v
         → HasNotEnded (goes at_a t w) → Both a b (goes at_a t w) (goes at_a u v)
     goes_both true t u w v h kinds same may drew none =
-        beside_after a b given_a given_b w.a w.b v.a v.b h kinds.b t u same may drew none.a
+        beside_after a b given_a given_b w.a w.b v.a v.b h kinds.b kinds.a_numbers t u same may drew none.a
     goes_both false t u w v h kinds same may drew none =
         beside_too ps b a (turned t w.b w.a) w.a (turned u v.b v.a) v.a
-        (beside_after b a given_b given_a w.b w.a v.b v.a (beside_too ps a b w.a w.b v.a v.b h) kinds.a t u same may drew none.b)
+        (beside_after b a given_b given_a w.b w.a v.b v.a (beside_too ps a b w.a w.b v.a v.b h) kinds.a kinds.b_numbers t u same may drew none.b)
 
     last_alike : (at_a : Bool) (t u : Turn) (w v : Pair) → Both a b w v → AreOfAKind w → SameTurn t u → MayTurn t (side_of at_a w) → Among at_a t u w v
         → TurnIsAlike (at_a, t) (at_a, u) w v
     last_alike true t u w v h kinds same may drew =
-        let now : AreAlike w.b v.b = still_alike a b given_a given_b w.a w.b v.a v.b h kinds.b t u same may drew in
+        let now : AreAlike w.b v.b = still_alike a b given_a given_b w.a w.b v.a v.b h kinds.b kinds.a_numbers t u same may drew in
         record {
-          before = record { a = was_alike a b given_a given_b w.a w.b v.a v.b h kinds.b t u same may drew; b = now };
-          after = record { a = alike_after a b given_a given_b w.a w.b v.a v.b h kinds.b t u same may drew; b = now };
-          acts = acts_alike a b given_a given_b w.a w.b v.a v.b h kinds.b t u same may drew;
+          before = record { a = was_alike a b given_a given_b w.a w.b v.a v.b h kinds.b kinds.a_numbers t u same may drew; b = now };
+          after = record { a = alike_after a b given_a given_b w.a w.b v.a v.b h kinds.b kinds.a_numbers t u same may drew; b = now };
+          acts = acts_alike a b given_a given_b w.a w.b v.a v.b h kinds.b kinds.a_numbers t u same may drew;
         }
     last_alike false t u w v h kinds same may drew =
         let g : Beside ps b a w.b w.a v.b v.a = beside_too ps a b w.a w.b v.a v.b h in
-        let now : AreAlike w.a v.a = still_alike b a given_b given_a w.b w.a v.b v.a g kinds.a t u same may drew in
+        let now : AreAlike w.a v.a = still_alike b a given_b given_a w.b w.a v.b v.a g kinds.a kinds.b_numbers t u same may drew in
         record {
-          before = record { a = now; b = was_alike b a given_b given_a w.b w.a v.b v.a g kinds.a t u same may drew };
-          after = record { a = now; b = alike_after b a given_b given_a w.b w.a v.b v.a g kinds.a t u same may drew };
-          acts = acts_alike b a given_b given_a w.b w.a v.b v.a g kinds.a t u same may drew;
+          before = record { a = now; b = was_alike b a given_b given_a w.b w.a v.b v.a g kinds.a kinds.b_numbers t u same may drew };
+          after = record { a = now; b = alike_after b a given_b given_a w.b w.a v.b v.a g kinds.a kinds.b_numbers t u same may drew };
+          acts = acts_alike b a given_b given_a w.b w.a v.b v.a g kinds.a kinds.b_numbers t u same may drew;
         }
 
     -- the turn of the same end
@@ -161,13 +163,14 @@ module _ (ps : List (Drawn × Drawn)) (k : Knows ps) (law : EachCallIsNamed) (la
 first_twin : (ps : List (Drawn × Drawn)) (o q : Options) (w v s : Stream) → Twin ps (new_side o w) (new_side q s) (new_side o v)
 first_twin ps o q w v s = record { tie = same_tie; state = refl; context = refl; told = tt; asked = refl }
 
--- Along each course whose packets are of a kind.
-pub courses_alike : EachCallIsNamed → EndsTellOwn → ((ps : List (Drawn × Drawn)) → Knows ps → LateInitsAreNamed ps) → CoursesOfAKindAreAlike
-courses_alike law tells late a b words_a words_b others_a others_b es fs e f given_a given_b same follows none once once_too kinds =
+-- The first course follows the rules, so that its packets are of a kind.
+pub courses_alike : EachCallIsNamed → EndsTellOwn → ((ps : List (Drawn × Drawn)) → Knows ps → LateInitsAreNamed ps) → CoursesAreAlike
+courses_alike law tells late a b words_a words_b others_a others_b es fs e f given_a given_b same follows none once once_too =
     let w : Pair = start a b words_a words_b in
     let v : Pair = start a b others_a others_b in
     let ps : List (Drawn × Drawn) = pairs (es ++ e ∷ []) (fs ++ f ∷ []) w v in
     let k : Knows ps = pairs_know (es ++ e ∷ []) (fs ++ f ∷ []) w v once once_too in
+    let kinds : KindsAlong es w = along_of_a_kind a b words_a words_b es given_a given_b (front_follows es (e ∷ []) w follows) none in
     along ps k law (late ps k) tells a b given_a given_b es fs e f w v same follows none kinds (λ d c m. m)
     (record {
       halves = first_halves a b words_a words_b;

@@ -4,6 +4,7 @@ use Rattle.std.specs.List.{list_all}
 use Rattle.std.proofs.lemmas.Bool.{both_ways, eq-eqb}
 use Rattle.std.proofs.lemmas.Bool.Decides.{nat_tests}
 use Rattle.std.proofs.lemmas.List.Elements.{All-nil, All-cons, All-head, All-tail, All-weaker}
+use Rattle.sctp_serial.specs.Unwrapped.{words}
 use Rattle.rand_core.specs.Stream.{Stream, next_u64}
 use Rattle.sctp_packet.specs.Chunk.{ChunkTree, InitTree, init_chunk, init_ack_chunk, cookie_echo_chunk}
 use Rattle.sctp_packet.specs.Grammar.{carried}
@@ -25,7 +26,7 @@ use Rattle.sctp_course.proofs.JoinLemmas.{Draw, Both, IsDraw, View, view_of, coo
 use Rattle.sctp_course.proofs.CourseLemmas.{SaysAll, seen}
 use Rattle.sctp_draws.specs.NamedChunks.{Names, flipped, named_chunks}
 use Rattle.sctp_draws.specs.Names.{named_state}
-use Rattle.sctp_draws.specs.Laws.{TiesTell, is_flowing}
+use Rattle.sctp_draws.specs.Laws.{NumbersFitIn, TiesTell, is_flowing}
 use Rattle.sctp_draws.specs.NamedCalls.{DrawsTie, read_under, is_new, CookieIsNamed, AreNamed, cookie_echo, EachCallIsNamed}
 use Rattle.sctp_draws_course.specs.Pairing.{far, names, Knows}
 use Rattle.sctp_draws_course.proofs.NamesLemmas.{same_tie, peer_in, names_in, TagsAre, state_by, IsOwn, Made, reads}
@@ -126,7 +127,7 @@ flows_as_that cookie c h = tt
 module _ (ps : List (Drawn × Drawn)) (k : Knows ps) (law : EachCallIsNamed) (o q : Options) (given : AreGiven q) (x y z : Side) (t : Twin ps x y z) (p r : Carried)
     (checksum other : ℕ) (packing : x.end.standing.context.pack ≡ as_carried) (quiet : x.end.standing.context.told.events ≡ []) (cookie : List ℕ)
     (rest : List ChunkTree) (n : IsNamedBy ps (state_of y) (state_of x) p r) (begins : p.chunks ≡ cookie_echo_chunk cookie ∷ rest)
-    (flows : list_all is_flowing rest ≡ true) (none : refusal p.header.verification_tag (map carried p.chunks) (state_of x) ≡ None)
+    (flows : list_all is_flowing rest ≡ true) (none : refusal p.header.verification_tag (map carried p.chunks) (state_of x) ≡ None) (numbers : NumbersFitIn (state_of x))
     (said : IsEcho q (seen y) p.header.verification_tag cookie) (echoing : IsEchoing (state_of y) n.mine n.peer n.cookie_tie) where
   abbrev call : Call
   call = Packet (as_heard p checksum)
@@ -212,6 +213,8 @@ module _ (ps : List (Drawn × Drawn)) (k : Knows ps) (law : EachCallIsNamed) (o 
       draws = λ c e new. record {
         tie = draws_by p.header.verification_tag c (state_of x) t.tie (next_u64 z.end.words).0 (next_u64 x.end.words).0 (keeps c e) new;
       };
+      first = λ c e. subst (λ (d : Cookie). d.my_initial_tsn < words)
+          (sym (read_back q said.both.mine said.both.peer cookie c given said.mine said.peer said.is e)) said.peer.first;
     }
 
     pub echo_named : Named ps x z (state_of y) call f
@@ -221,7 +224,7 @@ module _ (ps : List (Drawn × Drawn)) (k : Knows ps) (law : EachCallIsNamed) (o 
       tie = new_tie;
       cookie_tie = n.cookie_tie;
       before = state;
-      is = taken_too ps k x z p r checksum other n.mine n.peer n.tie n.cookie_tie n.is t.tie t.state law packing quiet t.context none n.peer n.mine new_tie n.cookie_tie
+      is = taken_too ps k x z p r checksum other n.mine n.peer n.tie n.cookie_tie n.is t.tie t.state law packing quiet t.context none numbers n.peer n.mine new_tie n.cookie_tie
           state (chunks_heard ps n.mine n.peer n.tie new_tie n.cookie_tie p.chunks) (cookie_echo cookie (map carried rest) heard_begins echo_is rest_flows);
       tags = λ stand. tags_after call n.peer n.mine guides x.end tags;
       ties = inl echoing.tie;

@@ -3,6 +3,7 @@ use Rattle.std.proofs.Common.{◌≡◌, ◌≢◌, ℕ, ◌&&◌, not, Bool, tr
 use Rattle.std.specs.List.{list_all}
 use Rattle.std.proofs.lemmas.Bool.{both_ways, and_parts, and_from}
 use Rattle.std.proofs.lemmas.List.Elements.{All-nil, All-cons, All-head, All-tail}
+use Rattle.sctp_wire.specs.Parameter.{ParameterTree, state_cookie}
 use Rattle.sctp_packet.specs.Chunk.{ChunkTree, InitTree, data_chunk, idata_chunk, init_chunk, init_ack_chunk, sack_chunk, heartbeat_request_chunk, heartbeat_ack_chunk, abort_chunk, shutdown_chunk, shutdown_ack_chunk, error_chunk, cookie_echo_chunk, cookie_ack_chunk, shutdown_complete_chunk, re_config_chunk, forward_tsn_chunk, i_forward_tsn_chunk, unknown_chunk}
 use Rattle.sctp_packet.specs.Grammar.{carried}
 use Rattle.sctp_capabilities.specs.Cookie.{Cookie}
@@ -15,9 +16,9 @@ use Rattle.sctp_course.specs.Acts.{IsHeard, IsEchoed}
 use Rattle.sctp_course.specs.Course.{Side, as_carried, as_heard, state_of}
 use Rattle.sctp_course.specs.Agreement.{Draw as Drawn}
 use Rattle.sctp_course.proofs.JoinLemmas.{Draw, Both, View, view_of, Faces, some_same}
-use Rattle.sctp_draws.specs.NamedChunks.{Names, flipped, named_chunk, named_chunks}
+use Rattle.sctp_draws.specs.NamedChunks.{Names, flipped, named_chunk, named_chunks, named_parameter}
 use Rattle.sctp_draws.specs.Names.{named_state}
-use Rattle.sctp_draws.specs.Laws.{is_flowing}
+use Rattle.sctp_draws.specs.Laws.{NumbersFitIn, number_fits, is_flowing}
 use Rattle.sctp_draws.specs.NamedCalls.{AreNamed, flow, EachCallIsNamed}
 use Rattle.sctp_draws.specs.Renamed.{renamed}
 use Rattle.sctp_draws_course.specs.Pairing.{tags_of, names, Knows}
@@ -74,6 +75,19 @@ flow_silent (c ∷ cs) h = refl
 -- ---- cookies are not in what flows
 
 module _ (tag : ℕ → ℕ) (own peer : ℕ) (cookie other : List ℕ → List ℕ) (t c u d : ℕ → ℕ) where
+  parameter_cookies : (p : ParameterTree) → number_fits p ≡ true
+      → named_parameter (named_with tag own peer cookie t c) p ≡ named_parameter (named_with tag own peer other u d) p
+  parameter_cookies (state_cookie k) h = cc
+  parameter_cookies p h = refl
+
+  parameters_cookies : (ps : List ParameterTree) → list_all number_fits ps ≡ true
+      → map (named_parameter (named_with tag own peer cookie t c)) ps ≡ map (named_parameter (named_with tag own peer other u d)) ps
+  parameters_cookies [] h = refl
+  parameters_cookies (p ∷ ps) h =
+      let parts = and_parts (number_fits p) (list_all number_fits ps) h in
+      ap (λ (z : ParameterTree). z ∷ map (named_parameter (named_with tag own peer cookie t c)) ps) (parameter_cookies p parts.0)
+      ∙ ap (λ (zs : List ParameterTree). named_parameter (named_with tag own peer other u d) p ∷ zs) (parameters_cookies ps parts.1)
+
   chunk_cookies : (k : ChunkTree) → is_flowing k ≡ true
       → named_chunk (named_with tag own peer cookie t c) k ≡ named_chunk (named_with tag own peer other u d) k
   chunk_cookies (data_chunk tsn immediate f) h = refl
@@ -90,7 +104,7 @@ module _ (tag : ℕ → ℕ) (own peer : ℕ) (cookie other : List ℕ → List 
   chunk_cookies (cookie_echo_chunk k) h = cc
   chunk_cookies cookie_ack_chunk h = refl
   chunk_cookies (shutdown_complete_chunk reflected) h = refl
-  chunk_cookies (re_config_chunk parameters) h = cc
+  chunk_cookies (re_config_chunk parameters) h = ap (λ (ps : List ParameterTree). re_config_chunk ps) (parameters_cookies parameters h)
   chunk_cookies (forward_tsn_chunk tsn skipped) h = refl
   chunk_cookies (i_forward_tsn_chunk tsn skipped) h = refl
   chunk_cookies (unknown_chunk typ flags value) h = refl
@@ -121,7 +135,7 @@ module _ (s u : State) (mine peer : ℕ) (cookie_tie : ℕ → ℕ) where
   chunk_holds (cookie_echo_chunk k) h m = cc
   chunk_holds cookie_ack_chunk h m = inr refl
   chunk_holds (shutdown_complete_chunk reflected) h m = inr refl
-  chunk_holds (re_config_chunk parameters) h m = cc
+  chunk_holds (re_config_chunk parameters) h m = inl m
   chunk_holds (forward_tsn_chunk tsn skipped) h m = inl m
   chunk_holds (i_forward_tsn_chunk tsn skipped) h m = inl m
   chunk_holds (unknown_chunk typ flags value) h m = inr refl
@@ -144,7 +158,7 @@ module _ (s u : State) (mine peer : ℕ) (cookie_tie : ℕ → ℕ) where
 
 module _ (ps : List (Drawn × Drawn)) (k : Knows ps) (law : EachCallIsNamed) (x y z : Side) (t : Twin ps x y z) (p q : Carried) (checksum other : ℕ)
     (packing : x.end.standing.context.pack ≡ as_carried) (quiet : x.end.standing.context.told.events ≡ [])
-    (none : refusal p.header.verification_tag (map carried p.chunks) (state_of x) ≡ None) (n : IsNamedBy ps (state_of y) (state_of x) p q)
+    (none : refusal p.header.verification_tag (map carried p.chunks) (state_of x) ≡ None) (numbers : NumbersFitIn (state_of x)) (n : IsNamedBy ps (state_of y) (state_of x) p q)
     (flows : list_all is_flowing p.chunks ≡ true) where
   abbrev call : Call
   call = Packet (as_heard p checksum)
@@ -187,7 +201,7 @@ module _ (ps : List (Drawn × Drawn)) (k : Knows ps) (law : EachCallIsNamed) (x 
         tie = t.tie;
         cookie_tie = same_tie;
         before = state;
-        is = taken_too ps k x z p q checksum other n.mine n.peer n.tie n.cookie_tie n.is t.tie t.state law packing quiet t.context none n.peer n.mine t.tie same_tie state chunks
+        is = taken_too ps k x z p q checksum other n.mine n.peer n.tie n.cookie_tie n.is t.tie t.state law packing quiet t.context none numbers n.peer n.mine t.tie same_tie state chunks
             (flow flow_heard);
         tags = λ stand. tags_after call n.peer n.mine (guides n.peer n.mine) x.end tags;
         ties = inl refl;
@@ -215,7 +229,7 @@ module _ (ps : List (Drawn × Drawn)) (k : Knows ps) (law : EachCallIsNamed) (x 
         tie = t.tie;
         cookie_tie = same_tie;
         before = t.state;
-        is = taken_as ps k x z p q checksum other n.mine n.peer n.tie n.cookie_tie n.is t.tie t.state law packing quiet t.context none (my_tag s) (peer_in s) t.tie same_tie
+        is = taken_as ps k x z p q checksum other n.mine n.peer n.tie n.cookie_tie n.is t.tie t.state law packing quiet t.context none numbers (my_tag s) (peer_in s) t.tie same_tie
             t.state (does bare) (flow flow_heard);
         tags = λ stand. tags_after call (my_tag s) (peer_in s) (guides (my_tag s) (peer_in s)) x.end (own_tags s);
         ties = inl refl;

@@ -20,7 +20,7 @@ use Rattle.sctp_course.proofs.JoinLemmas.{Draw, IsDraw, view_of, init_by, IsInit
 use Rattle.sctp_course.proofs.CourseLemmas.{SaysAll, seen, Halves}
 use Rattle.sctp_draws.specs.NamedChunks.{Names, named_init, named_chunks}
 use Rattle.sctp_draws.specs.Names.{named_state}
-use Rattle.sctp_draws.specs.Laws.{is_flowing}
+use Rattle.sctp_draws.specs.Laws.{NumbersFitIn, is_flowing}
 use Rattle.sctp_draws.specs.Images.{named_carried}
 use Rattle.sctp_draws.specs.NamedCalls.{EachCallIsNamed}
 use Rattle.sctp_draws_course.specs.Pairing.{names, pairs_of, Knows}
@@ -75,6 +75,7 @@ peer_at s phase u m d e f h =
 module _ (ps : List (Drawn × Drawn)) (k : Knows ps) (law : EachCallIsNamed) (o q : Options) (given : AreGiven q) (x y z v : Side) (h : Halves o q x y)
     (t : Twin ps x y z) (p r : Carried) (checksum other : ℕ) (n : IsNamedBy ps (state_of y) (state_of x) p r)
     (says : SaysAll q o (seen y) (seen x) y.is_asked p)
+    (numbers : NumbersFitIn (state_of x))
     (late : (i : InitTree) → p.chunks ≡ init_chunk i ∷ [] → refusal p.header.verification_tag (map carried p.chunks) (state_of x) ≡ None
     → (phase : Phase) (u : Tcb) → state_of x ≡ Open phase u → is_alone phase ≡ false → Named ps x z (state_of y) (Packet (as_heard p checksum)) (called (Packet (as_heard r other)) z.end))
     (pair : (d e : Drawn) → Has (d, e) (pairs_of (drawn_given (Some p) checksum x) (drawn_given (Some r) other z)) → Has (d, e) ps) where
@@ -119,14 +120,14 @@ module _ (ps : List (Drawn × Drawn)) (k : Knows ps) (law : EachCallIsNamed) (o 
 
     init_by_state : (i : InitTree) (s : State) → state_of x ≡ s → p.chunks ≡ init_chunk i ∷ [] → IsInit q (seen y) tag i → i.initiate_tag ≡ n.mine → Named ps x z u call f
     init_by_state i Closed is alone said mark =
-        closed_named ps k law o q given x y z t p r checksum other h.own.packing h.own.quiet i n alone none said
+        closed_named ps k law o q given x y z t p r checksum other h.own.packing h.own.quiet i n alone none numbers said
         (draw_is q u said.draw said.own h.other.stands.draw) mark is (closed_pair i alone is)
     init_by_state i (CookieWait own first t1) is alone said mark =
-        waiting_named ps k law o q given x y z t p r checksum other h.own.packing h.own.quiet i n alone none said
+        waiting_named ps k law o q given x y z t p r checksum other h.own.packing h.own.quiet i n alone none numbers said
         (draw_is q u said.draw said.own h.other.stands.draw) mark own first t1 is
         (subst (λ (s : State). IsDrawn (view_of s).mine) is h.own.stands.draw)
     init_by_state i (Open (CookieEchoed t1 cookie) b) is alone said mark =
-        echoing_named ps k law o q given x y z t p r checksum other h.own.packing h.own.quiet i n alone none said
+        echoing_named ps k law o q given x y z t p r checksum other h.own.packing h.own.quiet i n alone none numbers said
         (draw_is q u said.draw said.own h.other.stands.draw) mark t1 cookie b is
         (subst (λ (s : State). IsDrawn (view_of s).mine) is h.own.stands.draw)
         (peer_at (state_of x) (CookieEchoed t1 cookie) b (seen y).mine said.draw is said.own h.own.stands.faces ∙ sym (ap (λ (j : InitTree). j.initiate_tag) said.is))
@@ -139,13 +140,13 @@ module _ (ps : List (Drawn × Drawn)) (k : Knows ps) (law : EachCallIsNamed) (o 
     -- ---- INIT ACK
 
     ack_opened : (i : InitTree) → p.chunks ≡ init_ack_chunk i ∷ [] → is_opened (state_of x) ≡ true → Named ps x z u call f
-    ack_opened i alone opened = ack_unheard ps k law x y z t p r checksum other h.own.packing h.own.quiet i n alone none opened
+    ack_opened i alone opened = ack_unheard ps k law x y z t p r checksum other h.own.packing h.own.quiet i n alone none numbers opened
 
     ack_by_state : (i : InitTree) (s : State) → state_of x ≡ s → p.chunks ≡ init_ack_chunk i ∷ [] → IsInitAck q o (seen y) (seen x) y.is_asked i → IsTaken i n.mine n.cookie_tie
         → Named ps x z u call f
     ack_by_state i Closed is alone said mark = absurd (waits_not (state_of x) said.other said.to is)
     ack_by_state i (CookieWait own first t1) is alone said mark =
-        ack_named ps k law o q x y z t p r checksum other h.own.packing h.own.quiet i n alone none said mark own first t1 is
+        ack_named ps k law o q x y z t p r checksum other h.own.packing h.own.quiet i n alone none numbers said mark own first t1 is
     ack_by_state i (Open phase b) is alone said mark = ack_opened i alone (ap is_opened is)
 
     ack_by : (i : InitTree) → p.chunks ≡ init_ack_chunk i ∷ [] → IsInitAck q o (seen y) (seen x) y.is_asked i → HoldsOne (state_of x) ⊎ IsTaken i n.mine n.cookie_tie
@@ -162,9 +163,9 @@ module _ (ps : List (Drawn × Drawn)) (k : Knows ps) (law : EachCallIsNamed) (o 
     by_kind (an_echo cookie rest begins flows) =
         let said : IsEcho q (seen y) tag cookie = first_of SaysThis (cookie_echo_chunk cookie) rest begins says in
         let mark = first_of Marks (cookie_echo_chunk cookie) rest begins n.marks in
-        echo_named ps k law o q given x y z t p r checksum other h.own.packing h.own.quiet cookie rest n begins flows none said mark
+        echo_named ps k law o q given x y z t p r checksum other h.own.packing h.own.quiet cookie rest n begins flows none numbers said mark
         (faced_tags (state_of x) u n.mine n.peer mark.holds h.own.stands.faced h.own.stands.faces)
-    by_kind (a_flow flows) = flow_named ps k law x y z t p r checksum other h.own.packing h.own.quiet none n flows h.own.stands.faced h.own.stands.faces
+    by_kind (a_flow flows) = flow_named ps k law x y z t p r checksum other h.own.packing h.own.quiet none numbers n flows h.own.stands.faced h.own.stands.faces
 
   by_refusal : (a : Option (List ℕ)) → refusal tag heard (state_of x) ≡ a → IsKind p.chunks → Outcome ps x z u call f
   by_refusal None is kind = inl (by_kind is kind)

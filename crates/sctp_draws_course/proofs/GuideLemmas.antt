@@ -23,9 +23,9 @@ module _ (call : Call) (mine peer : ℕ) (g : Guides call mine peer) where
   Stays a b = TagsAre mine peer a.state → TagsAre mine peer b.state
 
   stays_packets : (act : PacketAct Carried call) → Stays (before_packets act) (after_packets act)
-  stays_packets (begins p m new) = λ h. h
+  stays_packets (begins p m new summed) = λ h. h
   stays_packets (adds_plain chunk m plain others) = λ h. h
-  stays_packets (emits m some) = λ h. h
+  stays_packets (emits m some bundled) = λ h. h
   stays_packets (complains kind text m) = λ h. h
   stays_packets (counts m) = λ h. h
 
@@ -97,7 +97,7 @@ module _ (call : Call) (mine peer : ℕ) (g : Guides call mine peer) where
   stays_resets (performs number response last_tsn streams phase t m asked known there) = λ h. h
   stays_resets (processes number streams phase t m asked known) = λ h. h
   stays_resets (takes_response rto number result sender receiver phase t m asked) = λ h. h
-  stays_resets (adds_responses responses phase t m are) = λ h. h
+  stays_resets (adds_responses responses phase t m are answers) = λ h. h
 
   stays_handover : (act : HandoverAct Carried call) → Stays (before_handover act) (after_handover act)
   stays_handover (leaves phase t m is) = λ h. tt

@@ -17,6 +17,7 @@ use Rattle.sctp_course.specs.Agreement.{Draw}
 use Rattle.sctp_course.proofs.AddedLemmas.{all_at}
 use Rattle.sctp_draws.specs.NamedChunks.{Names, AreNames, flipped, named_chunks}
 use Rattle.sctp_draws.specs.Names.{named_state}
+use Rattle.sctp_draws.specs.Laws.{NumbersFitIn}
 use Rattle.sctp_draws.specs.NamedCalls.{AreNamed, named_heard, named_call, EachCallIsNamed}
 use Rattle.sctp_draws.specs.Images.{named_carried, image}
 use Rattle.sctp_draws.proofs.TagLemmas.{refused_named}
@@ -158,7 +159,7 @@ module _ (ps : List (Draw × Draw)) (k : Knows ps) (x z : Side) (p q : Carried) 
   -- ---- taken by both
 
   module _ (law : EachCallIsNamed) (packing : x.end.standing.context.pack ≡ as_carried) (quiet : x.end.standing.context.told.events ≡ [])
-      (same : z.end.standing.context ≡ x.end.standing.context) (none : refusal tag heard (state_of x) ≡ None) where
+      (same : z.end.standing.context ≡ x.end.standing.context) (none : refusal tag heard (state_of x) ≡ None) (numbers : NumbersFitIn (state_of x)) where
     -- under names by which the reader's image hears it, or what does the same
     pub taken_as : (own other_tag : ℕ) (t c : ℕ → ℕ) → state_of z ≡ named_state (names ps own other_tag t c) (state_of x)
         → (on_chunks (m.tag tag) heard_too z.end).standing ≡ (on_chunks (m.tag tag) (named_chunks (flipped (names ps own other_tag t c)) heard) z.end).standing
@@ -167,7 +168,7 @@ module _ (ps : List (Draw × Draw)) (k : Knows ps) (x z : Side) (p q : Carried) 
     taken_as own other_tag t c state does are =
         let n : Names = names ps own other_tag t c in
         ap (λ (e : Endpoint Carried). e.standing) second_is
-        ∙ (does ∙ mirrored law n (are_names ps k own other_tag t c) call x.end z.end packing quiet state same (record { taken = none; chunks = are }))
+        ∙ (does ∙ mirrored law n (are_names ps k own other_tag t c) call x.end z.end packing quiet state same (record { taken = none; numbers = numbers; chunks = are }))
 
     pub taken_too : (own other_tag : ℕ) (t c : ℕ → ℕ) → state_of z ≡ named_state (names ps own other_tag t c) (state_of x)
         → heard_too ≡ named_chunks (flipped (names ps own other_tag t c)) heard

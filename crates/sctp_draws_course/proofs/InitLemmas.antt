@@ -20,7 +20,7 @@ use Rattle.sctp_course.proofs.JoinLemmas.{Draw, IsDraw, drawn_is, view_of, init_
 use Rattle.sctp_course.proofs.CourseLemmas.{seen}
 use Rattle.sctp_draws.specs.NamedChunks.{Names, flipped, named_init, named_chunks}
 use Rattle.sctp_draws.specs.Names.{named_state}
-use Rattle.sctp_draws.specs.Laws.{Makes, DrawsTwo}
+use Rattle.sctp_draws.specs.Laws.{NumbersFitIn, Makes, DrawsTwo}
 use Rattle.sctp_draws.specs.NamedCalls.{KnowsAnswer, InitIsNamed, AreNamed, init, EachCallIsNamed}
 use Rattle.sctp_draws_course.specs.Pairing.{far, names, Knows}
 use Rattle.sctp_draws_course.proofs.NamesLemmas.{same_tie, names_in, TagsAre, state_by, makes}
@@ -65,7 +65,7 @@ not_closed b e f = cc
 module _ (ps : List (Drawn × Drawn)) (k : Knows ps) (law : EachCallIsNamed) (o q : Options) (given : AreGiven q) (x y z : Side) (t : Twin ps x y z) (p r : Carried)
     (checksum other : ℕ) (packing : x.end.standing.context.pack ≡ as_carried) (quiet : x.end.standing.context.told.events ≡ []) (i : InitTree)
     (n : IsNamedBy ps (state_of y) (state_of x) p r) (alone : p.chunks ≡ init_chunk i ∷ [])
-    (none : refusal p.header.verification_tag (map carried p.chunks) (state_of x) ≡ None) (said : IsInit q (seen y) p.header.verification_tag i)
+    (none : refusal p.header.verification_tag (map carried p.chunks) (state_of x) ≡ None) (numbers : NumbersFitIn (state_of x)) (said : IsInit q (seen y) p.header.verification_tag i)
     (peer_is : IsDraw said.draw) (mark : i.initiate_tag ≡ n.mine) where
   abbrev call : Call
   call = Packet (as_heard p checksum)
@@ -135,7 +135,7 @@ module _ (ps : List (Drawn × Drawn)) (k : Knows ps) (law : EachCallIsNamed) (o 
       tie = t.tie;
       cookie_tie = same_tie;
       before = state;
-      is = taken_too ps k x z p r checksum other n.mine n.peer n.tie n.cookie_tie n.is t.tie t.state law packing quiet t.context none own.tag i.initiate_tag t.tie same_tie
+      is = taken_too ps k x z p r checksum other n.mine n.peer n.tie n.cookie_tie n.is t.tie t.state law packing quiet t.context none numbers own.tag i.initiate_tag t.tie same_tie
           state chunks (init i heard_alone is);
       tags = λ stand. tags_after call own.tag i.initiate_tag (guides own.tag i.initiate_tag) x.end tags;
       ties = inl refl;

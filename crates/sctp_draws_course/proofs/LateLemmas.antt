@@ -177,7 +177,7 @@ holds_one (Open phase t) h = record { association = _; held = refl }
 
 module _ (ps : List (Drawn × Drawn)) (k : Knows ps) (law : EachCallIsNamed) where
   pub late_named : LateInitsAreNamed ps
-  late_named o q x y z p r checksum other given h t n says pair i alone none phase u is late =
+  late_named o q x y z p r checksum other given h t n says pair i alone none numbers phase u is late =
       let tag : ℕ = p.header.verification_tag in
       let heard : map carried p.chunks ≡ init_chunk i ∷ [] = ap (λ (cs : List ChunkTree). map carried cs) alone in
       let s : State = state_of x in
@@ -255,7 +255,7 @@ module _ (ps : List (Drawn × Drawn)) (k : Knows ps) (law : EachCallIsNamed) whe
         tie = tie;
         cookie_tie = tie;
         before = state;
-        is = taken_too ps k x z p r checksum other n.mine n.peer n.tie n.cookie_tie n.is t.tie t.state law h.own.packing h.own.quiet t.context none own peer tie tie state
+        is = taken_too ps k x z p r checksum other n.mine n.peer n.tie n.cookie_tie n.is t.tie t.state law h.own.packing h.own.quiet t.context none numbers own peer tie tie state
             chunks (init i heard (subst (λ (a : State). InitIsNamed m i a x.end.words z.end.words) (sym is) (open_is m i phase u x.end.words z.end.words late again)));
         tags = λ stand. tags_after call own peer guides x.end tags;
         ties = inr (record {

@@ -15,8 +15,14 @@ pub mod CallLemmas
 pub mod GivenLemmas
 pub mod TurnLemmas
 pub mod StaysLemmas
+pub mod FilledItemsLemmas
+pub mod FilledSendLemmas
+pub mod WholeLemmas
+pub mod WholeActsLemmas
+pub mod WholeCourseLemmas
 pub mod CourseLemmas
 pub mod LateLemmas
 pub mod OwnLemmas
 pub mod TellsLemmas
 pub mod PassLemmas
+pub mod LawLemmas

@@ -195,9 +195,9 @@ module _ (call : Call) (g : Hears call) where
   settled (Denied streams) P c cs h = told_one P c.pack c.told.events cs h (OnStreamsResetFailed streams) tt
 
   own_packets : (act : PacketAct Carried call) → R (before_packets act) (after_packets act)
-  own_packets (begins p m new) = λ h. told_made (May call m.state) m.context.pack m.context.told.events m.packet.chunks h p.chunks (subst (All (May call m.state)) (sym new) (All-nil (May call m.state)))
+  own_packets (begins p m new summed) = λ h. told_made (May call m.state) m.context.pack m.context.told.events m.packet.chunks h p.chunks (subst (All (May call m.state)) (sym new) (All-nil (May call m.state)))
   own_packets (adds_plain chunk m plain others) = adds_to m.state m chunk (plain_may call m.state chunk plain)
-  own_packets (emits m some) = λ h. told_emitted (May call m.state) m.context.pack m.context.told.events m.packet.chunks h m.context.options m.packet.tag m.packet.is_summed
+  own_packets (emits m some bundled) = λ h. told_emitted (May call m.state) m.context.pack m.context.told.events m.packet.chunks h m.context.options m.packet.tag m.packet.is_summed
   own_packets (complains kind text m) = λ h. told_one (May call m.state) m.context.pack m.context.told.events m.packet.chunks h (OnError kind text) tt
   own_packets (counts m) = λ z. z
 
@@ -269,7 +269,7 @@ module _ (call : Call) (g : Hears call) where
   own_resets (performs number response last_tsn streams phase t m asked known there) = lightly_at (May call (Open phase t)) m (after_reset {call = call} (performs number response last_tsn streams phase t m asked known there)) (light_reset {call = call} (performs number response last_tsn streams phase t m asked known there))
   own_resets (processes number streams phase t m asked known) = λ z. z
   own_resets (takes_response rto number result sender receiver phase t m asked) = λ h. settled (outcome number result t.requests.current) (May call (Open phase t)) m.context m.packet.chunks h
-  own_resets (adds_responses responses phase t m are) = adds_to (Open phase t) m (re_config_chunk responses) (λ e. refl)
+  own_resets (adds_responses responses phase t m are answers) = adds_to (Open phase t) m (re_config_chunk responses) (λ e. refl)
 
   own_handover : (act : HandoverAct Carried call) → HasNoEnd (after_handover act) → R (before_handover act) (after_handover act)
   own_handover (leaves phase t m is) none = absurd (no_end m (after_handover {call = call} (leaves phase t m is)) OnClosed refl refl none)

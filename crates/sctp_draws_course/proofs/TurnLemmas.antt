@@ -22,6 +22,7 @@ use Rattle.sctp_course.proofs.HandingLemmas.{hands}
 use Rattle.sctp_draws.specs.NamedChunks.{Names, AreNames}
 use Rattle.sctp_draws.specs.Names.{named_state}
 use Rattle.sctp_draws.specs.Images.{named_carried}
+use Rattle.sctp_draws.specs.Laws.{NumbersFitIn}
 use Rattle.sctp_draws.specs.NamedCalls.{EachCallIsNamed}
 use Rattle.sctp_draws_course.specs.Pairing.{names, pairs_of, Knows}
 use Rattle.sctp_draws_course.specs.Alike.{AreAlike, gone_given, gone_by, SameTurn}
@@ -54,10 +55,10 @@ LateInitsAreNamed ps =
     → (n : IsNamedBy ps (state_of y) (state_of x) p r) → SaysAll q o (seen y) (seen x) y.is_asked p
     → ((d e : Drawn) → Has (d, e) (pairs_of (drawn_given (Some p) checksum x) (drawn_given (Some r) other z)) → Has (d, e) ps)
     → (i : InitTree) → p.chunks ≡ init_chunk i ∷ [] → refusal p.header.verification_tag (map carried p.chunks) (state_of x) ≡ None
-    → (phase : Phase) (u : Tcb) → state_of x ≡ Open phase u → is_alone phase ≡ false
+    → NumbersFitIn (state_of x) → (phase : Phase) (u : Tcb) → state_of x ≡ Open phase u → is_alone phase ≡ false
     → Named ps x z (state_of y) (Packet (as_heard p checksum)) (called (Packet (as_heard r other)) z.end)
 
-kind_heard : (cs : List ChunkTree) → IsKind cs → IsKind (map carried cs)
+pub kind_heard : (cs : List ChunkTree) → IsKind cs → IsKind (map carried cs)
 kind_heard cs (an_init i alone) = an_init i (ap (λ (z : List ChunkTree). map carried z) alone)
 kind_heard cs (an_answer i alone) = an_answer i (ap (λ (z : List ChunkTree). map carried z) alone)
 kind_heard cs (an_echo cookie rest begins flows) =
@@ -145,7 +146,6 @@ hears_call x (Restore h) may = absurd may
 hears_call x c may = tt
 
 same_turn : (c : Call) (u : Turn) → SameTurn (Calls c) u → u ≡ Calls c
-same_turn (ResetStreams streams) u h = absurd h
 same_turn c u h = h
 
 two_connect : (s r : State) (e f : Endpoint Carried) → s ≡ Closed → r ≡ Closed → Has (two_of e, two_of f) (pairs_of (drawn_to_connect s e) (drawn_to_connect r f))
@@ -156,7 +156,8 @@ two_connect (CookieWait tag first t1) r e f p q = cc
 two_connect (Open phase t) r e f p q = cc
 
 module _ (ps : List (Drawn × Drawn)) (k : Knows ps) (law : EachCallIsNamed) (late : LateInitsAreNamed ps) (o q : Options) (own : AreGiven o) (other : AreGiven q)
-    (x y z v : Side) (h : Halves o q x y) (t : Twin ps x y z) (b : Twin ps y x v) (kinds : All (λ (p : Carried). IsKind p.chunks) (emitted y)) where
+    (x y z v : Side) (h : Halves o q x y) (t : Twin ps x y z) (b : Twin ps y x v) (kinds : All (λ (p : Carried). IsKind p.chunks) (emitted y))
+    (numbers : NumbersFitIn (state_of x)) where
   -- none of it is drawn but what stands among the pairs
   abbrev pub Drew : (t u : Turn) → Type 0
   Drew t u = (d e : Drawn) → Has (d, e) (pairs_of (drawn_in t x y) (drawn_in u z v)) → Has (d, e) ps
@@ -208,8 +209,8 @@ module _ (ps : List (Drawn × Drawn)) (k : Knows ps) (law : EachCallIsNamed) (la
         second_is = refl;
         gone_is = refl;
         gone_too = refl;
-        outcome = given_outcome ps k law o q other x y z v h t p r checksum other_checksum n says
-            (λ i alone none phase u is l. late o q x y z p r checksum other_checksum other h t n says pair i alone none phase u is l) pair kind;
+        outcome = given_outcome ps k law o q other x y z v h t p r checksum other_checksum n says numbers
+            (λ i alone none phase u is l. late o q x y z p r checksum other_checksum other h t n says pair i alone none numbers phase u is l) pair kind;
         hears = kind_heard p.chunks kind;
       }
 

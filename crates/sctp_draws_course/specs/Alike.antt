@@ -3,7 +3,7 @@ use Rattle.std.specs.Prelude.{◌≡◌, ℕ, ◌==◌, not, Bool, true, false, 
 use Rattle.rand_core.specs.Stream.{Stream}
 use Rattle.sctp_state.specs.Events.{Event, SendPacket, OnError, OnAborted, GivenUp}
 use Rattle.sctp_state.specs.Options.{Options}
-use Rattle.sctp_table.specs.Laws.{Call, ResetStreams, Packet, called, endings}
+use Rattle.sctp_table.specs.Laws.{Call, Packet, called, endings}
 use Rattle.sctp_table.specs.Shown.{association_in}
 use Rattle.sctp_table_laws.specs.Mapped.{Carried}
 use Rattle.sctp_course.specs.Course.{Side, Pair, emitted, Turn, Calls, Gives, Refuses, as_heard, turned, goes, run, side_of, FollowsTheRules, HasNotEnded, AreGiven, start, state_of}
@@ -73,9 +73,8 @@ pub record ActsAlike (t u : Turn) (x y v w : Side) : Type 0 where
 
 -- ---- the same turns
 
--- A packet's checksum may be another one, since its bytes are. None comes from elsewhere, and no stream is reset.
+-- A packet's checksum may be another one, since its bytes are. None comes from elsewhere.
 abbrev pub SameTurn : Turn → Turn → Type 0
-SameTurn (Calls (ResetStreams streams)) t = ⊥
 SameTurn (Calls call) t = t ≡ Calls call
 SameTurn (Gives which checksum) t = (other : ℕ) × (t ≡ Gives which other)
 SameTurn (Refuses p) t = ⊥

@@ -1,38 +1,37 @@
--- Packets by what opens an association in them; and the law of two courses, the packets of the first of which are of these kinds.
+-- Packets by what opens an association in them.
 use Rattle.std.specs.Prelude.{◌≡◌, ℕ, Bool, true, List, [], ◌∷◌, ◌++◌, All}
 use Rattle.std.specs.List.{list_all}
 use Rattle.rand_core.specs.Stream.{Stream}
 use Rattle.sctp_packet.specs.Chunk.{ChunkTree, InitTree, init_chunk, init_ack_chunk, cookie_echo_chunk}
 use Rattle.sctp_state.specs.Options.{Options}
 use Rattle.sctp_table_laws.specs.Mapped.{Carried}
-use Rattle.sctp_course.specs.Course.{Pair, emitted, Turn, goes, run, FollowsTheRules, HasNotEnded, AreGiven, start}
-use Rattle.sctp_draws.specs.Laws.{is_flowing}
-use Rattle.sctp_draws_course.specs.Pairing.{NoTagTwice}
-use Rattle.sctp_draws_course.specs.Alike.{SameTurns, TurnIsAlike}
+use Rattle.sctp_course.specs.Course.{Pair, emitted, Turn, goes, run, FollowsTheRules, HasNotEnded, AreGiven, start, state_of}
+use Rattle.sctp_draws.specs.Laws.{NumbersFitIn, is_flowing}
 
 -- INIT and INIT ACK are alone in their packets, and a COOKIE ECHO comes first (RFC 9260 sections 3.3.2, 3.3.3, 3.3.11). What else there is
--- opens no association and resets no stream, and DATA has a payload.
+-- opens no association, DATA has a payload, and request numbers are of 32 bits.
 pub data IsKind (cs : List ChunkTree) : Type 0 where
   an_init : (i : InitTree) → cs ≡ init_chunk i ∷ [] → IsKind cs
   an_answer : (i : InitTree) → cs ≡ init_ack_chunk i ∷ [] → IsKind cs
   an_echo : (cookie : List ℕ) (rest : List ChunkTree) → cs ≡ cookie_echo_chunk cookie ∷ rest → list_all is_flowing rest ≡ true → IsKind cs
   a_flow : list_all is_flowing cs ≡ true → IsKind cs
 
--- all packets that were emitted so far
+-- all packets that were emitted so far; and the request numbers that both ends hold are of 32 bits
 pub record AreOfAKind (w : Pair) : Type 0 where
   pub a : All (λ (p : Carried). IsKind p.chunks) (emitted w.a)
   pub b : All (λ (p : Carried). IsKind p.chunks) (emitted w.b)
+  pub a_numbers : NumbersFitIn (state_of w.a)
+  pub b_numbers : NumbersFitIn (state_of w.b)
 
 -- at each point of a course
 abbrev pub KindsAlong : List (Bool × Turn) → Pair → Type 0
 KindsAlong [] w = AreOfAKind w
 KindsAlong (e ∷ es) w = AreOfAKind w × KindsAlong es (goes e.0 e.1 w)
 
--- The two courses of `CoursesAreAlike`, up to the last turn of which all packets of the first are of these kinds.
-abbrev pub CoursesOfAKindAreAlike : Type 0
-CoursesOfAKindAreAlike =
-    (a b : Options) (words_a words_b others_a others_b : Stream) (es fs : List (Bool × Turn)) (e f : Bool × Turn) → AreGiven a → AreGiven b
-    → SameTurns (es ++ e ∷ []) (fs ++ f ∷ []) → FollowsTheRules (es ++ e ∷ []) (start a b words_a words_b)
-    → HasNotEnded (run es (start a b words_a words_b)) → NoTagTwice (es ++ e ∷ []) (start a b words_a words_b)
-    → NoTagTwice (fs ++ f ∷ []) (start a b others_a others_b) → KindsAlong es (start a b words_a words_b)
-    → TurnIsAlike e f (run es (start a b words_a words_b)) (run fs (start a b others_a others_b))
+-- ---- the law
+
+-- along each course that follows the rules, until an association first ends
+abbrev pub PacketsAreOfAKind : Type 0
+PacketsAreOfAKind =
+    (a b : Options) (words_a words_b : Stream) (es : List (Bool × Turn)) → AreGiven a → AreGiven b → FollowsTheRules es (start a b words_a words_b)
+    → HasNotEnded (run es (start a b words_a words_b)) → AreOfAKind (run es (start a b words_a words_b))

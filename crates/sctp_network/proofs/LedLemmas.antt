@@ -46,7 +46,7 @@ more_bytes old new sent n grown counted fresh h =
     subst (Each AreBytes) (ap (λ (k : ℕ). drop k new) counted ∙ (ap (drop (length old)) grown ∙ dropped old sent)) fresh in
     subst (All AreBytes) (sym grown) (All-append AreBytes old sent h (all_of_each AreBytes sent sent_bytes))
 
-in_bytes_after : (actions : List Action) (w v : World) (a b : ℕ) → Runs actions w v → a ≡ length w.a.packets → b ≡ length w.b.packets
+pub in_bytes_after : (actions : List Action) (w v : World) (a b : ℕ) → Runs actions w v → a ≡ length w.a.packets → b ≡ length w.b.packets
     → Each AreBytes (drop a v.a.packets) → Each AreBytes (drop b v.b.packets) → IsInBytes w → IsInBytes v
 in_bytes_after actions w v a b runs sent_a sent_b bytes_a bytes_b h =
     let e : Extends w v = runs_extends actions w v runs in
@@ -62,7 +62,7 @@ from_place f held xs part first packets is shown range h =
 
 -- ---- worlds
 
-front_fits : (actions before : List Action) (action : Action) (rest : List Action) → actions ≡ before ++ action ∷ rest → All ActionFits actions → All ActionFits before
+pub front_fits : (actions before : List Action) (action : Action) (rest : List Action) → actions ≡ before ++ action ∷ rest → All ActionFits actions → All ActionFits before
 front_fits actions before action rest split h =
     subst (All ActionFits) (took before (action ∷ rest)) (All-take ActionFits (length before) (before ++ action ∷ rest) (subst (All ActionFits) split h))
   where

@@ -3,3 +3,4 @@ pub mod SideLemmas
 pub mod HandingLemmas
 pub mod GoesLemmas
 pub mod LedLemmas
+pub mod PairedLemmas

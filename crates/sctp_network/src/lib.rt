@@ -5,4 +5,4 @@
 pub mod arguments;
 mod world;
 
-pub use world::{Answer, Call, End, Entry, Event, World, WorldError, run, step};
+pub use world::{Answer, Call, End, Entry, Event, World, WorldError, run, run_pair, step};

@@ -15,10 +15,12 @@ ghost use Rattle.sctp_network.specs.WorldView.{action_of, end_tree, entry_tree, 
 
 mod calling;
 mod log;
+mod pair;
 mod side;
 
 use crate::arguments::{an_event_fits, events_fit};
 pub use log::{Answer, Call, End, Entry, Event};
+pub use pair::run_pair;
 use rand_core::Rng;
 use sctp_state::{CallError, Options};
 use sctp_table_laws::arguments::options_fit;

@@ -9,5 +9,5 @@ mod printing;
 mod script;
 
 pub use script::{ScriptFault, run_script};
-pub use sctp_network::{Answer, Call, End, Entry, Event, World, WorldError, run, step};
+pub use sctp_network::{Answer, Call, End, Entry, Event, World, WorldError, run, run_pair, step};
 pub use sctp_probe::{ByteSum, Probe, ProbeError, one_answer, probe};

@@ -1,0 +1,142 @@
+//! Two worlds that the same events lead on.
+
+ghost use Rattle.std.specs.Prelude.{◌≡◌, ◌⊎◌, true, false, [], ◌∷◌, map, IfErr, OnOk, Err};
+ghost use Rattle.sctp_network_table.specs.World.{Happens, Lacks};
+ghost use Rattle.sctp_network_draws.specs.Alike.{ArePaired, AreComparable, ShowAlong, first_new, second_new};
+ghost use Rattle.sctp_network_draws.specs.Pairs.{Both, BothUpToLack, RanOut};
+ghost use Rattle.sctp_network.specs.WorldView.{action_of, world_of};
+
+use crate::arguments::events_fit;
+use crate::world::{End, Event, World, WorldError};
+use rand_core::Rng;
+use sctp_wire::Checksum;
+
+/// Makes events happen in two worlds, one after the other, in the first world first. Before an event that names a packet it looks
+/// whether both have it: where one lacks it the answer is `NoSuchPacket`, and both stand as before that event. The first error ends
+/// it; where memory ran out in the first world, the second isn't stepped. Where it ran out before, in either, the answer is `Memory`.
+///
+/// Two worlds that began with the same options in pairs and one checksum function, and were led by the same events, show the same whatever
+/// words their ends drew, until an end of the first tells that an association is over, and up to and with the event in which it does.
+pub fn run_pair<R: Rng, S: Rng, C: Checksum>(
+    first: &mut World<R, C>,
+    second: &mut World<S, C>,
+    events: &[Event],
+) -> Result<(), WorldError>
+    ensures ok { OnOk result (Both (map action_of events.now) (world_of R.stream C.word_of first.old) (world_of S.stream C.word_of second.old)
+        (world_of R.stream C.word_of first.new) (world_of S.stream C.word_of second.new)) }
+    ensures works { OnOk result ((first.new.has_failed ≡ false) × (second.new.has_failed ≡ false)) }
+    ensures lacks { IfErr result (λ e. e ≡ WorldError.NoSuchPacket → BothUpToLack (map action_of events.now)
+        (world_of R.stream C.word_of first.old) (world_of S.stream C.word_of second.old)
+        (world_of R.stream C.word_of first.new) (world_of S.stream C.word_of second.new)) }
+    ensures stands { IfErr result (λ e. e ≡ WorldError.NoSuchPacket → (first.new.has_failed ≡ false) × (second.new.has_failed ≡ false)) }
+    ensures memory { IfErr result (λ e. e ≡ WorldError.Memory → (first.new.has_failed ≡ true) ⊎ (second.new.has_failed ≡ true)) }
+    ensures ran_out { first.old.has_failed ≡ false → second.old.has_failed ≡ false → IfErr result (λ e. e ≡ WorldError.Memory
+        → RanOut (map action_of events.now) (world_of R.stream C.word_of first.old) (world_of S.stream C.word_of second.old)
+        (world_of R.stream C.word_of first.new) (world_of S.stream C.word_of second.new) first.new.has_failed second.new.has_failed) }
+    ensures failed { (first.old.has_failed ≡ true) ⊎ (second.old.has_failed ≡ true)
+        → (result ≡ Err WorldError.Memory) × (first.new ≡ first.old) × (second.new ≡ second.old) }
+    ensures pairs { first.new.has_failed ≡ false → second.new.has_failed ≡ false
+        → ArePaired (world_of R.stream C.word_of first.old) (world_of S.stream C.word_of second.old)
+        → ArePaired (world_of R.stream C.word_of first.new) (world_of S.stream C.word_of second.new) }
+    ensures alike { (p : ArePaired (world_of R.stream C.word_of first.new) (world_of S.stream C.word_of second.new)) → AreComparable p
+        → ShowAlong p.actions (first_new p) (second_new p) (world_of R.stream C.word_of first.new) (world_of S.stream C.word_of second.new) p.first p.second }
+{
+    let first_a = first.sent(End::A);
+    let first_b = first.sent(End::B);
+    let second_a = second.sent(End::A);
+    let second_b = second.sent(End::B);
+    let answer = lead(first, second, events);
+    events_fit(events);
+    first.sent_bytes(End::A, first_a);
+    first.sent_bytes(End::B, first_b);
+    second.sent_bytes(End::A, second_a);
+    second.sent_bytes(End::B, second_b);
+    answer
+}
+
+fn lead<R: Rng, S: Rng, C: Checksum>(
+    first: &mut World<R, C>,
+    second: &mut World<S, C>,
+    events: &[Event],
+) -> Result<(), WorldError>
+    ensures ok { OnOk result (Both (map action_of events.now) (world_of R.stream C.word_of first.old) (world_of S.stream C.word_of second.old)
+        (world_of R.stream C.word_of first.new) (world_of S.stream C.word_of second.new)) }
+    ensures works { OnOk result ((first.new.has_failed ≡ false) × (second.new.has_failed ≡ false)) }
+    ensures lacks { IfErr result (λ e. e ≡ WorldError.NoSuchPacket → BothUpToLack (map action_of events.now)
+        (world_of R.stream C.word_of first.old) (world_of S.stream C.word_of second.old)
+        (world_of R.stream C.word_of first.new) (world_of S.stream C.word_of second.new)) }
+    ensures stands { IfErr result (λ e. e ≡ WorldError.NoSuchPacket → (first.new.has_failed ≡ false) × (second.new.has_failed ≡ false)) }
+    ensures memory { IfErr result (λ e. e ≡ WorldError.Memory → (first.new.has_failed ≡ true) ⊎ (second.new.has_failed ≡ true)) }
+    ensures ran_out { first.old.has_failed ≡ false → second.old.has_failed ≡ false → IfErr result (λ e. e ≡ WorldError.Memory
+        → RanOut (map action_of events.now) (world_of R.stream C.word_of first.old) (world_of S.stream C.word_of second.old)
+        (world_of R.stream C.word_of first.new) (world_of S.stream C.word_of second.new) first.new.has_failed second.new.has_failed) }
+    ensures failed { (first.old.has_failed ≡ true) ⊎ (second.old.has_failed ≡ true)
+        → (result ≡ Err WorldError.Memory) × (first.new ≡ first.old) × (second.new ≡ second.old) }
+{
+    if first.has_failed || second.has_failed {
+        return Err(WorldError::Memory);
+    }
+    lead_each(first, second, events)
+}
+
+/// As `lead`, where both worlds work.
+fn lead_each<R: Rng, S: Rng, C: Checksum>(
+    first: &mut World<R, C>,
+    second: &mut World<S, C>,
+    events: &[Event],
+) -> Result<(), WorldError>
+    requires first { first.now.has_failed ≡ false }
+    requires second { second.now.has_failed ≡ false }
+    ensures ok { OnOk result (Both (map action_of events.now) (world_of R.stream C.word_of first.old) (world_of S.stream C.word_of second.old)
+        (world_of R.stream C.word_of first.new) (world_of S.stream C.word_of second.new)) }
+    ensures works { OnOk result ((first.new.has_failed ≡ false) × (second.new.has_failed ≡ false)) }
+    ensures lacks { IfErr result (λ e. e ≡ WorldError.NoSuchPacket → BothUpToLack (map action_of events.now)
+        (world_of R.stream C.word_of first.old) (world_of S.stream C.word_of second.old)
+        (world_of R.stream C.word_of first.new) (world_of S.stream C.word_of second.new)) }
+    ensures stands { IfErr result (λ e. e ≡ WorldError.NoSuchPacket → (first.new.has_failed ≡ false) × (second.new.has_failed ≡ false)) }
+    ensures ran_out { IfErr result (λ e. e ≡ WorldError.Memory
+        → RanOut (map action_of events.now) (world_of R.stream C.word_of first.old) (world_of S.stream C.word_of second.old)
+        (world_of R.stream C.word_of first.new) (world_of S.stream C.word_of second.new) first.new.has_failed second.new.has_failed) }
+{
+    for event in events {
+        step_both(first, second, event)?;
+    }
+    Ok(())
+}
+
+/// Makes one event happen in both, where both have the packet that it names.
+fn step_both<R: Rng, S: Rng, C: Checksum>(
+    first: &mut World<R, C>,
+    second: &mut World<S, C>,
+    event: &Event,
+) -> Result<(), WorldError>
+    requires first { first.now.has_failed ≡ false }
+    requires second { second.now.has_failed ≡ false }
+    ensures first { OnOk result (Happens (action_of event.now) (world_of R.stream C.word_of first.old) (world_of R.stream C.word_of first.new)) }
+    ensures second { OnOk result (Happens (action_of event.now) (world_of S.stream C.word_of second.old) (world_of S.stream C.word_of second.new)) }
+    ensures works { OnOk result ((first.new.has_failed ≡ false) × (second.new.has_failed ≡ false)) }
+    ensures lacks { IfErr result (λ e. e ≡ WorldError.NoSuchPacket
+        → Lacks (action_of event.now) (world_of R.stream C.word_of first.old) ⊎ Lacks (action_of event.now) (world_of S.stream C.word_of second.old)) }
+    ensures same { IfErr result (λ e. e ≡ WorldError.NoSuchPacket → (first.new ≡ first.old) × (second.new ≡ second.old)) }
+    ensures ran_out { IfErr result (λ e. e ≡ WorldError.Memory
+        → RanOut (action_of event.now ∷ []) (world_of R.stream C.word_of first.old) (world_of S.stream C.word_of second.old)
+        (world_of R.stream C.word_of first.new) (world_of S.stream C.word_of second.new) first.new.has_failed second.new.has_failed) }
+{
+    if !has_packet(first, event) || !has_packet(second, event) {
+        return Err(WorldError::NoSuchPacket);
+    }
+    first.happen(event)?;
+    second.happen(event)
+}
+
+/// Whether the world has the packet that the event names, if it names one.
+fn has_packet<R: Rng, C: Checksum>(world: &World<R, C>, event: &Event) -> bool
+    ensures there { result ≡ true → Lacks (action_of event.now) (world_of R.stream C.word_of world.now) → ⊥ }
+    ensures lacks { result ≡ false → Lacks (action_of event.now) (world_of R.stream C.word_of world.now) }
+{
+    match event {
+        Event::Give(number, End::A) => world.packet(End::B, *number).is_some(),
+        Event::Give(number, End::B) => world.packet(End::A, *number).is_some(),
+        _ => true,
+    }
+}

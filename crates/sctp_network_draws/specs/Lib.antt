@@ -1,0 +1,3 @@
+pub mod Visible
+pub mod Pairs
+pub mod Alike

@@ -1,0 +1,124 @@
+//! Two worlds, and what a script asks of them.
+
+use rand_pcg::Pcg32;
+use sctp_state::{CallError, Options};
+use sctp_world::{ByteSum, End, Entry, Event, World, WorldError, run_pair};
+use std::alloc::Global;
+
+/// What a script asks of two worlds. Its helpers know no more of them than this.
+pub trait Pair: Drop {
+    fn lead(&mut self, events: &[Event]) -> Result<(), WorldError>;
+
+    fn first(&self) -> &[Entry];
+
+    fn second(&self) -> &[Entry];
+
+    /// Whether the end sent the packet of this number in the first world.
+    fn has_sent(&self, end: End, number: usize) -> bool;
+}
+
+#[derive(Drop)]
+pub struct Two {
+    first: World<Pcg32, ByteSum>,
+    second: World<Pcg32, ByteSum>,
+}
+
+impl Pair for Two {
+    fn lead(&mut self, events: &[Event]) -> Result<(), WorldError> {
+        run_pair(&mut self.first, &mut self.second, events)
+    }
+
+    fn first(&self) -> &[Entry] {
+        self.first.log()
+    }
+
+    fn second(&self) -> &[Entry] {
+        self.second.log()
+    }
+
+    fn has_sent(&self, end: End, number: usize) -> bool {
+        self.first.packet(end, number).is_some()
+    }
+}
+
+/// State and stream of a generator.
+#[derive(Clone, Copy)]
+struct Seed {
+    state: u64,
+    stream: u64,
+}
+
+/// Of both ends, in the first world and in the second.
+#[derive(Clone, Copy)]
+pub struct Seeds {
+    a: Seed,
+    b: Seed,
+    other_a: Seed,
+    other_b: Seed,
+}
+
+fn seed(state: u64, stream: u64) -> Seed {
+    Seed { state, stream }
+}
+
+impl Default for Seeds {
+    fn default() -> Seeds {
+        Seeds {
+            a: seed(1, 1),
+            b: seed(2, 2),
+            other_a: seed(3, 3),
+            other_b: seed(4, 4),
+        }
+    }
+}
+
+/// The number behind so many spaces; 0 where there is none.
+fn number_at(words: &str, place: usize) -> u64 {
+    match words.split(' ').nth(place) {
+        Some(word) => word.parse::<u64>().unwrap_or(0),
+        None => 0,
+    }
+}
+
+/// Of the numbers at this place and at the next one.
+fn seed_at(words: &str, place: usize) -> Seed {
+    seed(
+        number_at(words, place),
+        number_at(words, place.saturating_add(1)),
+    )
+}
+
+/// As eight numbers say them.
+pub fn seeds_of(words: &str) -> Seeds {
+    Seeds {
+        a: seed_at(words, 0),
+        b: seed_at(words, 2),
+        other_a: seed_at(words, 4),
+        other_b: seed_at(words, 6),
+    }
+}
+
+fn world(alloc: Global, a: Seed, b: Seed) -> Result<World<Pcg32, ByteSum>, CallError> {
+    let options = Options::default();
+    World::new(
+        alloc,
+        &options,
+        &options,
+        Pcg32::new(a.state, a.stream),
+        Pcg32::new(b.state, b.stream),
+        ByteSum,
+        ByteSum,
+    )
+}
+
+/// Two new worlds with default options, and generators of these seeds.
+pub fn made(alloc: Global, seeds: Seeds) -> Result<Two, CallError> {
+    let first = world(alloc, seeds.a, seeds.b)?;
+    match world(alloc, seeds.other_a, seeds.other_b) {
+        Ok(second) => Ok(Two { first, second }),
+        Err(fault) => {
+            drop(first);
+            Err(fault)
+        }
+    }
+}
