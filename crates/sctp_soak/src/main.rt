@@ -59,10 +59,26 @@ fn plan_of(rt: &HostRuntime, line: &str) -> Result<Option<Plan>> {
     })
 }
 
+type Soaking = Socket<Pcg32, OneWord>;
+
+fn socket(rt: &HostRuntime, name: &str, seed: u64) -> Result<Soaking> {
+    let words = Pcg32::new(seed, seed);
+    Ok(Socket::new(rt.alloc(), name, &Options::default(), words, OneWord)?)
+}
+
+fn sockets(rt: &HostRuntime) -> Result<(Soaking, Soaking)> {
+    let a = socket(rt, "a", 1)?;
+    match socket(rt, "b", 2) {
+        Ok(b) => Ok((a, b)),
+        Err(fault) => {
+            drop(a);
+            Err(fault)
+        }
+    }
+}
+
 fn answer(rt: &HostRuntime, plan: Plan) -> Result<()> {
-    let options = Options::default();
-    let a = Socket::new(rt.alloc(), "a", &options, Pcg32::new(1, 1), OneWord)?;
-    let b = Socket::new(rt.alloc(), "b", &options, Pcg32::new(2, 2), OneWord)?;
+    let (a, b) = sockets(rt)?;
     let link = Link::new(Pcg32::new(u64::from(plan.seed), 3), plan);
     converse(rt, a, b, link, plan)
 }
