@@ -2,11 +2,12 @@
 
 use crate::answer::{Answer, Line, Subject, low_half, low_word, run_commands, tell_all, tell_hex};
 use crate::options::set_option;
+use hex::FromHexError;
 use sctp_capabilities::{Capabilities, announced_parameters};
 use sctp_parameter::{Parameter, parameters_from_bytes};
 use sctp_serial::ZeroChecksumAlternateErrorDetectionMethod;
 use sctp_state::Options;
-use sctp_wire::{all_encodable, parameters_serialize_to};
+use sctp_wire::{ChunkParseError, all_encodable, parameters_serialize_to};
 use std::alloc::{AllocError, Global};
 
 /// What an end has been set to, and what it was told last.
@@ -36,7 +37,7 @@ impl Subject for End {
         match line.name {
             "announce" => announce(alloc, &self.options, line.numbers[0], output),
             "told" => {
-                read(alloc, &mut self.told, line);
+                read(alloc, &mut self.told, line)?;
                 show(self.told, output)
             }
             "nothing" => show(Capabilities::from_parameters(0, 0, &[]), output),
@@ -78,17 +79,33 @@ fn write_parameters(
 }
 
 // What is no list of parameters tells nothing.
-fn read(alloc: Global, told: &mut Capabilities, line: Line<'_>) {
-    if let Ok(bytes) = hex::decode(alloc, line.last) {
-        read_parameters(alloc, told, line.numbers, &bytes);
+fn read(alloc: Global, told: &mut Capabilities, line: Line<'_>) -> Result<(), AllocError> {
+    match hex::decode(alloc, line.last) {
+        Ok(bytes) => read_parameters(alloc, told, line.numbers, &bytes),
+        Err(FromHexError::OutOfMemory) => Err(AllocError),
+        Err(_) => Ok(()),
     }
 }
 
-fn read_parameters(alloc: Global, told: &mut Capabilities, streams: [u64; 4], bytes: &[u8]) {
-    if let Ok(parameters) = parameters_from_bytes(alloc, bytes) {
-        let [outgoing, incoming, _, _] = streams;
-        *told = Capabilities::from_parameters(low_half(outgoing), low_half(incoming), &parameters);
-        drop(parameters);
+fn read_parameters(
+    alloc: Global,
+    told: &mut Capabilities,
+    streams: [u64; 4],
+    bytes: &[u8],
+) -> Result<(), AllocError> {
+    match parameters_from_bytes(alloc, bytes) {
+        Ok(parameters) => {
+            let [outgoing, incoming, _, _] = streams;
+            *told = Capabilities::from_parameters(
+                low_half(outgoing),
+                low_half(incoming),
+                &parameters,
+            );
+            drop(parameters);
+            Ok(())
+        }
+        Err(ChunkParseError::Memory) => Err(AllocError),
+        Err(_) => Ok(()),
     }
 }
 

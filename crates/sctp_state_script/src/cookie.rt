@@ -4,6 +4,7 @@ use crate::answer::{
     Answer, Line, Subject, low_half, low_word, run_commands, tell, tell_all, tell_hex,
 };
 use sctp_capabilities::{Capabilities, StateCookie};
+use hex::FromHexError;
 use sctp_serial::{Tsn, ZeroChecksumAlternateErrorDetectionMethod};
 use std::alloc::{AllocError, Global};
 
@@ -62,6 +63,7 @@ fn read(
             drop(bytes);
             outcome
         }
+        Err(FromHexError::OutOfMemory) => Err(AllocError),
         Err(_) => Ok(Answer::Unknown),
     }
 }
