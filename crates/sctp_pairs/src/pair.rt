@@ -57,17 +57,17 @@ pub struct Seeds {
     other_b: Seed,
 }
 
-fn seed(state: u64, stream: u64) -> Seed {
+fn seed_of(state: u64, stream: u64) -> Seed {
     Seed { state, stream }
 }
 
 impl Default for Seeds {
     fn default() -> Seeds {
         Seeds {
-            a: seed(1, 1),
-            b: seed(2, 2),
-            other_a: seed(3, 3),
-            other_b: seed(4, 4),
+            a: seed_of(1, 1),
+            b: seed_of(2, 2),
+            other_a: seed_of(3, 3),
+            other_b: seed_of(4, 4),
         }
     }
 }
