@@ -82,7 +82,7 @@ fn number_at(words: &str, place: usize) -> u64 {
 
 /// Of the numbers at this place and at the next one.
 fn seed_at(words: &str, place: usize) -> Seed {
-    seed(
+    seed_of(
         number_at(words, place),
         number_at(words, place.saturating_add(1)),
     )
