@@ -1,0 +1,58 @@
+//! Draws a conversation of two sockets: reads the commands of `sctp-world` from standard input, and writes what its one argument names:
+//! `text`, a ladder; `chart`, the same as an SVG; `pcap`, the packets as a pcapng capture.
+//!
+//! Status 0 at the end of input; 1 at a line that is no command, and without such an argument, with a line of text on standard output,
+//! on standard error for `chart` and `pcap`; 2, without a text, at want of memory or a failed read or write. A chart or a capture is
+//! written when it is whole, or not at all. What `probe` and `show` print is left out.
+#![tactic(auto)]
+
+mod log;
+mod note;
+mod script;
+
+use log::Watched;
+use rand_pcg::Pcg32;
+use script::{Fault, Format, trace};
+use sctp_state::Options;
+use sctp_world::{ByteSum, End, Entry, Event, World, WorldError, step};
+use std::process::ExitCode;
+
+impl Watched for World<Pcg32, ByteSum> {
+    fn happen(&mut self, event: &Event) -> Result<(), WorldError> {
+        step(self, event)
+    }
+
+    fn entries(&self) -> &[Entry] {
+        self.log()
+    }
+
+    fn bytes_of(&self, end: End, number: usize) -> &[u8] {
+        match self.packet(end, number) {
+            Some(bytes) => bytes,
+            None => &[],
+        }
+    }
+}
+
+fn run(rt: &HostRuntime) -> Result<(), Fault> {
+    let format = Format::asked(rt)?;
+    let options = Options::default();
+    let world = World::new(
+        rt.alloc(),
+        &options,
+        &options,
+        Pcg32::new(1, 1),
+        Pcg32::new(2, 2),
+        ByteSum,
+        ByteSum,
+    )?;
+    trace(rt, world, format)
+}
+
+fn main(rt: HostRuntime) -> ExitCode {
+    match run(&rt) {
+        Ok(()) => ExitCode::SUCCESS,
+        Err(Fault::Told) => ExitCode::from(1),
+        Err(Fault::Silent) => ExitCode::from(2),
+    }
+}
