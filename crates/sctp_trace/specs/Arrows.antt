@@ -1,5 +1,5 @@
 -- Arrows: one for each giving of a packet.
-use Rattle.std.specs.Prelude.{ℕ, ◌+◌, Bool, Option, Some, None, List, [], ◌∷◌, ◌++◌, if◌then◌else◌}
+use Rattle.std.specs.Prelude.{ℕ, ◌+◌, Option, Some, None, List, [], ◌∷◌, ◌++◌, if◌then◌else◌}
 use Rattle.std.specs.List.{count_by}
 use Rattle.sctp_trace.specs.declared.rows.End.{End}
 use Rattle.sctp_trace.specs.declared.rows.What.{What}

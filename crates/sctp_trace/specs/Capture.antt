@@ -1,5 +1,5 @@
 -- A capture in the format pcapng: blocks, of which each tells its length at both ends. Numbers have their lowest byte first.
-use Rattle.std.specs.Prelude.{ℕ, ◌+◌, ◌/◌, ◌%◌, ◌^◌, Bool, true, false, List, [], ◌∷◌, ◌++◌, length, codes, replicate, zero, suc, nat_lt}
+use Rattle.std.specs.Prelude.{ℕ, ◌+◌, ◌/◌, ◌%◌, ◌^◌, Bool, false, List, [], ◌∷◌, ◌++◌, length, codes, replicate, zero, suc, nat_lt}
 use Rattle.std.specs.List.{flat_map, list_any}
 use Rattle.sctp_wire.specs.Item.{padding}
 use Rattle.sctp_trace.specs.declared.rows.End.{End}
@@ -12,10 +12,10 @@ use Rattle.sctp_trace.specs.Arrows.{times_given}
 use Rattle.sctp_trace.specs.Bytes.{le16, le32, with_crc32c}
 
 -- zeros up to a multiple of four
-abbrev pub padded : List ℕ → List ℕ
+unfoldable pub padded : List ℕ → List ℕ
 padded bytes = bytes ++ replicate (padding (length bytes)) 0
 
-abbrev pub option_bytes : (code : ℕ) → (value : List ℕ) → List ℕ
+unfoldable pub option_bytes : (code : ℕ) → (value : List ℕ) → List ℕ
 option_bytes code value = le16 code ++ (le16 (length value) ++ padded value)
 
 -- the option that ends a list of options
@@ -23,18 +23,18 @@ abbrev pub end_of_options : List ℕ
 end_of_options = le32 0
 
 -- a type, the length of the whole, the body, and the length again
-abbrev pub block : (kind : ℕ) → (body : List ℕ) → List ℕ
+unfoldable pub block : (kind : ℕ) → (body : List ℕ) → List ℕ
 block kind body = le32 kind ++ (le32 (length body + 12) ++ (body ++ le32 (length body + 12)))
 
 -- the order of bytes, version 1.0, and a length that isn't told
-abbrev pub section_body : List ℕ
+unfoldable pub section_body : List ℕ
 section_body = le32 0x1a2b3c4d ++ (le16 1 ++ (le16 0 ++ (le32 0xffffffff ++ le32 0xffffffff)))
 
 abbrev pub section_header : List ℕ
 section_header = block 0x0a0d0d0a section_body
 
 -- link type 248, SCTP without IP; no limit of a packet's length; a name; times in nanoseconds
-abbrev pub interface_body : (name : List ℕ) → List ℕ
+unfoldable pub interface_body : (name : List ℕ) → List ℕ
 interface_body name = le16 248 ++ (le16 0 ++ (le32 0 ++ (option_bytes 2 name ++ (option_bytes 9 (9 ∷ []) ++ end_of_options))))
 
 abbrev pub interface : End → List ℕ
@@ -52,7 +52,7 @@ interface_number ends.A = 0
 interface_number ends.B = 1
 
 -- the interface, the time's upper and lower half, the length as captured and as sent, the packet, and a comment
-abbrev pub packet_body : (interface nanoseconds : ℕ) → (packet comment : List ℕ) → List ℕ
+unfoldable pub packet_body : (interface nanoseconds : ℕ) → (packet comment : List ℕ) → List ℕ
 packet_body interface nanoseconds packet comment =
     le32 interface ++ (le32 (nanoseconds / 2 ^ 32) ++ (le32 (nanoseconds % 2 ^ 32) ++ (le32 (length packet) ++ (le32 (length packet)
     ++ (padded packet ++ (option_bytes 1 comment ++ end_of_options))))))

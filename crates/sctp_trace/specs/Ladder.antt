@@ -1,6 +1,6 @@
 -- The ladder: a line a row, in which what a says stands left of the lifelines, packets between them, and what b says right of them.
-use Rattle.std.specs.Prelude.{ℕ, ◌+◌, ◌-◌, List, [], ◌∷◌, ◌++◌, length, map, take, replicate, zero, suc, codes, string_bytes}
-use Rattle.std.specs.List.{flat_map}
+use Rattle.std.specs.Prelude.{◌≡◌, ℕ, ◌-◌, ◌≤◌, List, [], ◌∷◌, ◌++◌, length, map, take, replicate, zero, suc, codes, string_bytes}
+use Rattle.std.specs.List.{flat_map, AllPass}
 use Rattle.std.specs.Fmt.{decimal}
 use Rattle.sctp_trace.specs.declared.rows.End.{End}
 use Rattle.sctp_trace.specs.declared.rows.End.TheVariants as ends
@@ -8,7 +8,7 @@ use Rattle.sctp_trace.specs.declared.rows.What.{What}
 use Rattle.sctp_trace.specs.declared.rows.What.TheVariants as kinds
 use Rattle.sctp_trace.specs.declared.rows.Row.{Row}
 use Rattle.sctp_trace.specs.Arrows.{times_given}
-use Rattle.sctp_trace.specs.Ascii.{plain}
+use Rattle.sctp_trace.specs.Ascii.{plain, is_printable}
 
 -- the front of the text, and spaces up to this many columns, behind it or before it
 abbrev pub left_cell : (width : ℕ) → (text : List ℕ) → List ℕ
@@ -61,5 +61,18 @@ abbrev pub line_of : (all : List Row) → Row → List ℕ
 line_of all row = what_line all row.end row.what
 
 -- the ends' names stand over their lifelines
+abbrev pub heading : List ℕ
+heading = row_of_cells (right_cell 29 (codes "a")) (replicate 36 32) (codes " b")
+
 abbrev pub ladder_text : List Row → List ℕ
-ladder_text rows = row_of_cells (right_cell 29 (codes "a")) (replicate 36 32) (codes " b") ++ flat_map (line_of rows) rows
+ladder_text rows = heading ++ flat_map (line_of rows) rows
+
+-- printable ASCII of at most 98 columns, and the line's end
+pub record IsLine (line : List ℕ) : Type 0 where
+  pub text : List ℕ
+  pub ended : line ≡ text ++ (10 ∷ [])
+  pub fits : length text ≤ 98
+  pub printable : AllPass is_printable text
+
+abbrev pub EachLineFits : Type 0
+EachLineFits = (rows : List Row) (row : Row) → IsLine (line_of rows row)

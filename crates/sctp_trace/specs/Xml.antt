@@ -1,5 +1,5 @@
 -- A tree of elements as XML. Text is printable ASCII; what would be markup is written as a reference.
-use Rattle.std.specs.Prelude.{◌≡◌, ℕ, ◌==◌, List, [], ◌∷◌, ◌++◌, codes, string_bytes, if◌then◌else◌}
+use Rattle.std.specs.Prelude.{ℕ, ◌==◌, List, [], ◌∷◌, ◌++◌, codes, string_bytes, if◌then◌else◌}
 use Rattle.std.specs.List.{flat_map}
 use Rattle.sctp_trace.specs.declared.xml.Tag.{Tag}
 use Rattle.sctp_trace.specs.declared.xml.Tag.TheVariants as tags
@@ -34,7 +34,7 @@ key_name keys.Y2 = codes "y2"
 key_name keys.D = codes "d"
 
 -- `"` 34, `&` 38, `'` 39, `<` 60, `>` 62
-abbrev pub escaped_code : ℕ → List ℕ
+unfoldable pub escaped_code : ℕ → List ℕ
 escaped_code n =
     if n == 34 then codes "&quot;" else if n == 38 then codes "&amp;" else if n == 39 then codes "&apos;"
     else if n == 60 then codes "&lt;" else if n == 62 then codes "&gt;" else (plain n ∷ [])
@@ -58,7 +58,3 @@ element_step e = opening e.tag e.attributes.items ++ (escaped (string_bytes e.te
 -- an element: its attributes, its text, and its children
 abbrev pub written : Element → List ℕ
 written = fold-Element (List ℕ) element_step
-
--- the bytes are an element, written
-abbrev pub IsDocument : List ℕ → Type 0
-IsDocument bytes = (root : Element) × (bytes ≡ written root)

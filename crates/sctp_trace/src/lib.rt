@@ -6,6 +6,7 @@
 mod crc;
 mod giving;
 mod label;
+mod laws;
 mod pcapng;
 mod rows;
 mod svg;
@@ -15,6 +16,7 @@ mod xml;
 pub use crc::with_crc32c;
 pub use giving::{Arrow, arrows, sending, times_given};
 pub use label::packet_label;
+pub use laws::lines_fit;
 pub use pcapng::{CaptureError, capture};
 pub use rows::{End, Row, What};
 pub use svg::chart;

@@ -1,13 +1,13 @@
 //! The packets as a capture that Wireshark reads: pcapng, link type 248 (SCTP without IP).
 
-ghost use Rattle.std.specs.Prelude.{◌≡◌, ℕ, ◌+◌, ◌<◌, ◌≤◌, ◌^◌, ◌++◌, true, false, length, IfOk, IfErr, OnOk};
+ghost use Rattle.std.specs.Prelude.{◌≡◌, ℕ, ◌+◌, ◌<◌, ◌≤◌, ◌^◌, ◌++◌, true, false, length, replicate, IfOk, IfErr, OnOk};
 ghost use Rattle.sctp_trace.specs.Bytes.{le16, le32, with_crc32c};
 ghost use Rattle.sctp_trace.specs.Rows.{end_name};
-ghost use Rattle.sctp_trace.specs.Capture.{padded, option_bytes, block, section_header, interface, interface_number, fate, packet_block, row_bytes, capture_bytes, is_too_long, has_long_packet};
+ghost use Rattle.sctp_trace.specs.Capture.{padded, option_bytes, block, section_body, section_header, interface_body, interface, interface_number, fate, packet_body, packet_block, row_bytes, capture_bytes, is_too_long, has_long_packet};
 ghost use Rattle.sctp_trace.specs.declared.pcapng.CaptureError.TheVariants.{Memory as no_memory};
 
-use crate::giving::times_given;
 use crate::crc::with_crc32c;
+use crate::giving::times_given;
 use crate::rows::{End, Row, What};
 use sctp_wire::padding_len;
 use std::alloc::{AllocError, Global};
@@ -67,14 +67,23 @@ fn push_u32(bytes: &mut Vec<u8>, n: u32) -> Result<(), AllocError>
     bytes.extend_from_slice(&n.to_le_bytes())
 }
 
+/// Appends up to three zeros.
+fn push_zeros(bytes: &mut Vec<u8>, count: usize) -> Result<(), AllocError>
+    requires { count < 4 }
+    ensures { OnOk result (bytes.new.items ≡ bytes.old.items ++ replicate count 0) }
+{
+    bytes.extend_from_slice(&[0, 0, 0][..count])
+}
+
+#[tactic(auto, unfolding(crate::specs::Capture::padded))]
 fn push_padded(bytes: &mut Vec<u8>, value: &[u8]) -> Result<(), AllocError>
     ensures { OnOk result (bytes.new.items ≡ bytes.old.items ++ padded value.now) }
 {
     bytes.extend_from_slice(value)?;
-    let count = padding_len(value.len());
-    bytes.extend_from_slice(&[0, 0, 0][..count])
+    push_zeros(bytes, padding_len(value.len()))
 }
 
+#[tactic(auto, unfolding(crate::specs::Capture::option_bytes))]
 fn push_option(bytes: &mut Vec<u8>, code: u16, value: &[u8]) -> Result<(), AllocError>
     requires { length value.now < 2 ^ 16 }
     ensures { OnOk result (bytes.new.items ≡ bytes.old.items ++ option_bytes code value.now) }
@@ -84,6 +93,7 @@ fn push_option(bytes: &mut Vec<u8>, code: u16, value: &[u8]) -> Result<(), Alloc
     push_padded(bytes, value)
 }
 
+#[tactic(auto, unfolding(crate::specs::Capture::block))]
 fn push_block(bytes: &mut Vec<u8>, kind: u32, body: &[u8]) -> Result<(), AllocError>
     requires { length body.now + 12 < 2 ^ 32 }
     ensures { OnOk result (bytes.new.items ≡ bytes.old.items ++ block kind body.now) }
@@ -95,8 +105,9 @@ fn push_block(bytes: &mut Vec<u8>, kind: u32, body: &[u8]) -> Result<(), AllocEr
     push_u32(bytes, size)
 }
 
-fn push_section_header(bytes: &mut Vec<u8>, alloc: Global) -> Result<(), AllocError>
-    ensures { OnOk result (bytes.new.items ≡ bytes.old.items ++ section_header) }
+#[tactic(auto, unfolding(crate::specs::Capture::section_body))]
+fn section_body(alloc: Global) -> Result<Vec<u8>, AllocError>
+    ensures { IfOk result (λ body. body.items ≡ section_body) }
 {
     let mut body = Vec::new(alloc);
     push_u32(&mut body, BYTE_ORDER)?;
@@ -104,11 +115,20 @@ fn push_section_header(bytes: &mut Vec<u8>, alloc: Global) -> Result<(), AllocEr
     push_u16(&mut body, 0)?;
     push_u32(&mut body, u32::MAX)?;
     push_u32(&mut body, u32::MAX)?;
+    Ok(body)
+}
+
+#[tactic(auto, using(crate::proofs::Lengths::length_section_body))]
+fn push_section_header(bytes: &mut Vec<u8>, alloc: Global) -> Result<(), AllocError>
+    ensures { OnOk result (bytes.new.items ≡ bytes.old.items ++ section_header) }
+{
+    let body = section_body(alloc)?;
     push_block(bytes, SECTION_HEADER, &body)
 }
 
 fn end_name(end: End) -> &'static str
-    ensures { result.now ≡ end_name end }
+    ensures name { result.now ≡ end_name end }
+    ensures short { length result.now ≡ 1 }
 {
     match end {
         End::A => "a",
@@ -116,8 +136,9 @@ fn end_name(end: End) -> &'static str
     }
 }
 
-fn push_interface(bytes: &mut Vec<u8>, alloc: Global, end: End) -> Result<(), AllocError>
-    ensures { OnOk result (bytes.new.items ≡ bytes.old.items ++ interface end) }
+#[tactic(auto, unfolding(crate::specs::Capture::interface_body))]
+fn interface_body(alloc: Global, end: End) -> Result<Vec<u8>, AllocError>
+    ensures { IfOk result (λ body. body.items ≡ interface_body (end_name end)) }
 {
     let mut body = Vec::new(alloc);
     push_u16(&mut body, LINK_TYPE_SCTP)?;
@@ -126,6 +147,14 @@ fn push_interface(bytes: &mut Vec<u8>, alloc: Global, end: End) -> Result<(), Al
     push_option(&mut body, OPTION_NAME, end_name(end).as_bytes())?;
     push_option(&mut body, OPTION_TIME_RESOLUTION, &[NANOSECONDS])?;
     push_u32(&mut body, 0)?;
+    Ok(body)
+}
+
+#[tactic(auto, using(crate::proofs::Lengths::length_interface))]
+fn push_interface(bytes: &mut Vec<u8>, alloc: Global, end: End) -> Result<(), AllocError>
+    ensures { OnOk result (bytes.new.items ≡ bytes.old.items ++ interface end) }
+{
+    let body = interface_body(alloc, end)?;
     push_block(bytes, INTERFACE, &body)
 }
 
@@ -151,6 +180,32 @@ fn interface_number(end: End) -> u32
     }
 }
 
+#[tactic(auto, unfolding(crate::specs::Capture::packet_body))]
+fn packet_body(
+    alloc: Global,
+    end: End,
+    nanoseconds: u64,
+    packet: &[u8],
+    comment: &str,
+) -> Result<Vec<u8>, AllocError>
+    requires packet { length packet.now < 2 ^ 16 }
+    requires comment { length comment.now < 2 ^ 16 }
+    ensures { IfOk result (λ body. body.items ≡ packet_body (interface_number end) nanoseconds packet.now comment.now) }
+{
+    let size = packet.len() as u32;
+    let mut body = Vec::new(alloc);
+    push_u32(&mut body, interface_number(end))?;
+    push_u32(&mut body, (nanoseconds / UPPER) as u32)?;
+    push_u32(&mut body, (nanoseconds % UPPER) as u32)?;
+    push_u32(&mut body, size)?;
+    push_u32(&mut body, size)?;
+    push_padded(&mut body, packet)?;
+    push_option(&mut body, OPTION_COMMENT, comment.as_bytes())?;
+    push_u32(&mut body, 0)?;
+    Ok(body)
+}
+
+#[tactic(auto, using(crate::proofs::Lengths::length_packet_body))]
 fn push_packet(
     bytes: &mut Vec<u8>,
     alloc: Global,
@@ -163,19 +218,11 @@ fn push_packet(
     requires comment { length comment.now < 2 ^ 16 }
     ensures { OnOk result (bytes.new.items ≡ bytes.old.items ++ packet_block end nanoseconds packet.now comment.now) }
 {
-    let size = packet.len() as u32;
-    let mut body = Vec::new(alloc);
-    push_u32(&mut body, interface_number(end))?;
-    push_u32(&mut body, (nanoseconds / UPPER) as u32)?;
-    push_u32(&mut body, (nanoseconds % UPPER) as u32)?;
-    push_u32(&mut body, size)?;
-    push_u32(&mut body, size)?;
-    push_padded(&mut body, packet)?;
-    push_option(&mut body, OPTION_COMMENT, comment.as_bytes())?;
-    push_u32(&mut body, 0)?;
+    let body = packet_body(alloc, end, nanoseconds, packet, comment)?;
     push_block(bytes, ENHANCED_PACKET, &body)
 }
 
+#[tactic(auto, using(crate::proofs::Lengths::length_with_crc32c))]
 fn push_sent(
     bytes: &mut Vec<u8>,
     alloc: Global,
@@ -195,12 +242,7 @@ fn push_sent(
     Ok(())
 }
 
-fn push_row(
-    bytes: &mut Vec<u8>,
-    alloc: Global,
-    rows: &[Row],
-    row: &Row,
-) -> Result<(), CaptureError>
+fn push_row(bytes: &mut Vec<u8>, alloc: Global, rows: &[Row], row: &Row) -> Result<(), CaptureError>
     ensures wrote { OnOk result (bytes.new.items ≡ bytes.old.items ++ row_bytes rows.now row.now) }
     ensures short { OnOk result (is_too_long row.now.what ≡ false) }
     ensures long { IfErr result (λ e. e ≡ CaptureError.TooLong → is_too_long row.now.what ≡ true) }

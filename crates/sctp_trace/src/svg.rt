@@ -2,12 +2,13 @@
 //! the ends say.
 
 ghost use Rattle.std.specs.Prelude.{◌≡◌, IfOk, length};
+ghost use Rattle.sctp_trace.specs.declared.xml.Element.TheViews.{out-Element};
 ghost use Rattle.sctp_trace.specs.Arrows.{arrows};
-ghost use Rattle.sctp_trace.specs.Xml.{IsDocument};
+ghost use Rattle.sctp_trace.specs.Chart.{HasArrows, IsChart};
 
 use crate::giving::{Arrow, arrows, times_given};
-use crate::xml::{Attribute, Element, Key, Tag, write};
 use crate::rows::{End, Row, What};
+use crate::xml::{Attribute, Element, Key, Tag, write};
 use std::alloc::{AllocError, Global};
 
 const ROW_HEIGHT: usize = 14;
@@ -20,7 +21,8 @@ const RIGHT: usize = 670;
 
 const WIDTH: usize = 1000;
 
-const STYLE: &str = "text{font:11px sans-serif;paint-order:stroke;stroke:white;stroke-width:3px}.end{text-anchor:end}\
+const STYLE: &str =
+    "text{font:11px sans-serif;paint-order:stroke;stroke:white;stroke-width:3px}.end{text-anchor:end}\
 .name{font-weight:bold;text-anchor:middle}.life{stroke:gray}.way{stroke:black}.head{fill:black}.lost{stroke:red;fill:none}";
 
 fn height_of(row: usize) -> usize {
@@ -118,7 +120,9 @@ fn arrow_group(alloc: Global, arrow: &Arrow) -> Result<Element, AllocError> {
         End::B => format!(in alloc; "M{to},{end} l9,-4 v7 z")?,
     };
     let mut group = element(alloc, Tag::Group, "arrow")?;
-    group.children.push(line(alloc, "way", (from, start), (to, end))?)?;
+    group
+        .children
+        .push(line(alloc, "way", (from, start), (to, end))?)?;
     group.children.push(path(alloc, "head", way)?)?;
     Ok(group)
 }
@@ -142,7 +146,9 @@ fn lost_group(alloc: Global, from: End, row: usize) -> Result<Element, AllocErro
     let end = height.saturating_add(5);
     let cross = format!(in alloc; "M{middle},{end} m-5,-5 l10,10 m0,-10 l-10,10")?;
     let mut group = element(alloc, Tag::Group, "lost")?;
-    group.children.push(line(alloc, "lost", (start, height), (middle, end))?)?;
+    group
+        .children
+        .push(line(alloc, "lost", (start, height), (middle, end))?)?;
     group.children.push(path(alloc, "lost", cross)?)?;
     Ok(group)
 }
@@ -189,59 +195,86 @@ fn lifeline(alloc: Global, end: End, bottom: usize) -> Result<Element, AllocErro
     let x = lifeline_of(end);
     let name = format!(in alloc; "{end}")?;
     let mut group = element(alloc, Tag::Group, "life")?;
-    group.children.push(words_at(alloc, "name", (x, 16), &name)?)?;
-    group.children.push(line(alloc, "life", (x, 22), (x, bottom))?)?;
+    group
+        .children
+        .push(words_at(alloc, "name", (x, 16), &name)?)?;
+    group
+        .children
+        .push(line(alloc, "life", (x, 22), (x, bottom))?)?;
     Ok(group)
 }
 
-fn root(alloc: Global, height: usize) -> Result<Element, AllocError> {
-    let mut root = element(alloc, Tag::Svg, "chart")?;
+fn root_attributes(alloc: Global, height: usize) -> Result<Vec<Attribute>, AllocError> {
+    let mut attributes = Vec::new(alloc);
     let space = String::from_str(alloc, "http://www.w3.org/2000/svg")?;
-    root.attributes.push(Attribute {
+    attributes.push(Attribute {
         key: Key::Xmlns,
         value: space,
     })?;
     let view = format!(in alloc; "0 0 {WIDTH} {height}")?;
-    root.attributes.push(Attribute {
+    attributes.push(Attribute {
         key: Key::ViewBox,
         value: view,
     })?;
-    push_number(alloc, &mut root.attributes, Key::Width, WIDTH)?;
-    push_number(alloc, &mut root.attributes, Key::Height, height)?;
-    Ok(root)
+    push_number(alloc, &mut attributes, Key::Width, WIDTH)?;
+    push_number(alloc, &mut attributes, Key::Height, height)?;
+    Ok(attributes)
 }
 
-fn push_style(alloc: Global, children: &mut Vec<Element>) -> Result<(), AllocError> {
+fn style_element(alloc: Global) -> Result<Element, AllocError> {
     let mut style = element(alloc, Tag::Style, "")?;
     style.text.push_str(STYLE)?;
-    children.push(style)?;
-    Ok(())
+    Ok(style)
 }
 
-fn push_arrows(alloc: Global, children: &mut Vec<Element>, rows: &[Row]) -> Result<(), AllocError> {
+/// One group with all arrows.
+fn arrows_group(alloc: Global, rows: &[Row]) -> Result<Element, AllocError>
+    ensures { IfOk result (λ group. length (out-Element group).children.items ≡ length (arrows rows.now)) }
+{
     let arrows = arrows(alloc, rows)?;
-    let mut group = element(alloc, Tag::Group, "arrows")?;
-    group.children = arrow_groups(alloc, &arrows)?;
-    children.push(group)?;
-    Ok(())
+    let children = arrow_groups(alloc, &arrows)?;
+    let attributes = Vec::new(alloc);
+    let text = String::new(alloc);
+    Ok(Element {
+        tag: Tag::Group,
+        attributes,
+        text,
+        children,
+    })
 }
 
-fn tree(alloc: Global, rows: &[Row]) -> Result<Element, AllocError> {
-    let bottom = height_of(rows.len());
-    let mut root = root(alloc, bottom)?;
-    push_style(alloc, &mut root.children)?;
-    root.children.push(lifeline(alloc, End::A, bottom)?)?;
-    root.children.push(lifeline(alloc, End::B, bottom)?)?;
-    push_arrows(alloc, &mut root.children, rows)?;
+/// One group with what stands beside the lifelines and on the arrows.
+fn words_group(alloc: Global, rows: &[Row]) -> Result<Element, AllocError> {
+    let mut group = element(alloc, Tag::Group, "words")?;
     for at in 0..rows.len() {
-        push_row(alloc, &mut root.children, rows, at, &rows[at])?;
+        push_row(alloc, &mut group.children, rows, at, &rows[at])?;
     }
-    Ok(root)
+    Ok(group)
+}
+
+fn tree(alloc: Global, rows: &[Row]) -> Result<Element, AllocError>
+    ensures { IfOk result (HasArrows rows.now) }
+{
+    let bottom = height_of(rows.len());
+    let mut children = Vec::new(alloc);
+    children.push(style_element(alloc)?)?;
+    children.push(lifeline(alloc, End::A, bottom)?)?;
+    children.push(lifeline(alloc, End::B, bottom)?)?;
+    children.push(arrows_group(alloc, rows)?)?;
+    children.push(words_group(alloc, rows)?)?;
+    let attributes = root_attributes(alloc, bottom)?;
+    let text = String::new(alloc);
+    Ok(Element {
+        tag: Tag::Svg,
+        attributes,
+        text,
+        children,
+    })
 }
 
 /// An SVG of 1,000 units' width, in which a row has 14 units' height. Bytes of texts that are no printable ASCII are question marks.
 pub fn chart(alloc: Global, rows: &[Row]) -> Result<Vec<u8>, AllocError>
-    ensures { IfOk result (λ bytes. IsDocument bytes.items) }
+    ensures { IfOk result (λ bytes. IsChart rows.now bytes.items) }
 {
     let tree = tree(alloc, rows)?;
     let mut bytes = Vec::new(alloc);

@@ -6,8 +6,8 @@ ghost use Rattle.sctp_trace.specs.Ascii.{plain};
 ghost use Rattle.sctp_trace.specs.Ladder.{left_cell, right_cell, note_cell, mark, sent_caption, given_caption, sent_cell, given_cell, row_of_cells, told_line, packet_line, line_of, ladder_text};
 
 use crate::giving::times_given;
-use crate::xml::plain;
 use crate::rows::{End, Row, What};
+use crate::xml::plain;
 use std::alloc::{AllocError, Global};
 
 const NOTE_WIDTH: usize = 29;
@@ -96,12 +96,7 @@ fn given_caption(alloc: Global, number: usize) -> Result<String, AllocError>
     format!(in alloc; " {number} ")
 }
 
-fn push_sent(
-    line: &mut Vec<u8>,
-    alloc: Global,
-    end: End,
-    caption: &[u8],
-) -> Result<(), AllocError>
+fn push_sent(line: &mut Vec<u8>, alloc: Global, end: End, caption: &[u8]) -> Result<(), AllocError>
     ensures { OnOk result (line.new.items ≡ line.old.items ++ sent_cell end caption.now) }
 {
     match end {
@@ -116,12 +111,7 @@ fn push_sent(
     }
 }
 
-fn push_given(
-    line: &mut Vec<u8>,
-    alloc: Global,
-    end: End,
-    caption: &[u8],
-) -> Result<(), AllocError>
+fn push_given(line: &mut Vec<u8>, alloc: Global, end: End, caption: &[u8]) -> Result<(), AllocError>
     ensures { OnOk result (line.new.items ≡ line.old.items ++ given_cell end caption.now) }
 {
     match end {
@@ -160,12 +150,7 @@ fn spaces(alloc: Global, count: usize) -> Result<Vec<u8>, AllocError>
     Ok(found)
 }
 
-fn push_told(
-    text: &mut Vec<u8>,
-    alloc: Global,
-    end: End,
-    words: &[u8],
-) -> Result<(), AllocError>
+fn push_told(text: &mut Vec<u8>, alloc: Global, end: End, words: &[u8]) -> Result<(), AllocError>
     ensures { OnOk result (text.new.items ≡ text.old.items ++ told_line end words.now) }
 {
     let middle = spaces(alloc, ARROW_WIDTH)?;
@@ -187,12 +172,7 @@ fn push_packet(text: &mut Vec<u8>, alloc: Global, cell: &[u8]) -> Result<(), All
     push_cells(text, &note, cell, b"")
 }
 
-fn push_line(
-    text: &mut Vec<u8>,
-    alloc: Global,
-    rows: &[Row],
-    row: &Row,
-) -> Result<(), AllocError>
+fn push_line(text: &mut Vec<u8>, alloc: Global, rows: &[Row], row: &Row) -> Result<(), AllocError>
     ensures { OnOk result (text.new.items ≡ text.old.items ++ line_of rows.now row.now) }
 {
     let mut cell = Vec::new(alloc);

@@ -86,9 +86,14 @@ fn key_name(key: Key) -> &'static str
 pub fn plain(byte: u8) -> u8
     ensures { result ≡ plain byte }
 {
-    if (32..=126).contains(&byte) { byte } else { b'?' }
+    if (32..=126).contains(&byte) {
+        byte
+    } else {
+        b'?'
+    }
 }
 
+#[tactic(auto, unfolding(crate::specs::Xml::escaped_code))]
 fn push_escaped_byte(output: &mut Vec<u8>, byte: u8) -> Result<(), AllocError>
     ensures { OnOk result (output.new.items ≡ output.old.items ++ escaped_code byte) }
 {
@@ -130,11 +135,7 @@ fn push_attributes(output: &mut Vec<u8>, attributes: &[Attribute]) -> Result<(),
     Ok(())
 }
 
-fn push_opening(
-    output: &mut Vec<u8>,
-    tag: Tag,
-    attributes: &[Attribute],
-) -> Result<(), AllocError>
+fn push_opening(output: &mut Vec<u8>, tag: Tag, attributes: &[Attribute]) -> Result<(), AllocError>
     ensures { OnOk result (output.new.items ≡ output.old.items ++ opening tag attributes.now) }
 {
     output.extend_from_slice(b"<")?;
@@ -152,13 +153,23 @@ fn push_closing(output: &mut Vec<u8>, tag: Tag) -> Result<(), AllocError>
 }
 
 /// Appends the element with all below it.
+#[cycle(write)]
 pub fn write(output: &mut Vec<u8>, element: &Element) -> Result<(), AllocError>
     ensures { OnOk result (output.new.items ≡ output.old.items ++ written element.now) }
 {
     push_opening(output, element.tag, &element.attributes)?;
     push_escaped(output, element.text.as_bytes())?;
-    for child in &element.children {
-        write(output, child)?;
-    }
+    write_all(output, &element.children)?;
     push_closing(output, element.tag)
+}
+
+/// Appends the elements one after the other.
+#[cycle(write)]
+fn write_all(output: &mut Vec<u8>, elements: &Vec<Element>) -> Result<(), AllocError>
+    ensures { OnOk result (output.new.items ≡ output.old.items ++ flat_map written elements.now.items) }
+{
+    for element in elements {
+        write(output, element)?;
+    }
+    Ok(())
 }
