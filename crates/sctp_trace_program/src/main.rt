@@ -6,18 +6,27 @@
 //! written when it is whole, or not at all. What `probe` and `show` print is left out.
 #![tactic(auto)]
 
+ghost use Rattle.sctp_network_table.specs.World.{side_of};
+ghost use Rattle.sctp_network.specs.WorldView.{world_of};
+
 mod log;
 mod note;
 mod script;
 
 use log::Watched;
+use rand_core::Rng;
 use rand_pcg::Pcg32;
 use script::{Fault, Format, trace};
 use sctp_state::Options;
+use sctp_wire::Checksum;
 use sctp_world::{ByteSum, End, Entry, Event, World, WorldError, step};
 use std::process::ExitCode;
 
-impl Watched for World<Pcg32, ByteSum> {
+impl<R: Rng + Drop, C: Checksum + Drop> Watched for World<R, C> {
+    ghost log_of = { λ w. w.log };
+
+    ghost packets_of = { λ w x. (side_of x (world_of R.stream C.word_of w)).packets };
+
     fn happen(&mut self, event: &Event) -> Result<(), WorldError> {
         step(self, event)
     }
