@@ -7,8 +7,8 @@
 use anyhow::Result;
 use rand_pcg::Pcg32;
 use sctp_association::{
-    Checksum, DcSctpSocket, Message, Options, PpId, SendOptions, Socket, SocketEvent, SocketState,
-    SocketTime, StreamId,
+    CallError, Checksum, DcSctpSocket, Message, Options, PpId, SendOptions, Socket, SocketEvent,
+    SocketState, SocketTime, StreamId,
 };
 
 /// More turns, or events of one turn, are not looked for.
@@ -106,26 +106,25 @@ fn send<S: DcSctpSocket>(rt: &HostRuntime, end: &mut End<S>, number: u8) -> Resu
 
 /// `a` opens an association and sends; once `b` has all messages, `a` shuts it down, which ends at `b` last. Where nothing is on its
 /// way, time passes up to the moment at which the first of the sockets has something to do.
-fn talk<S: DcSctpSocket + Drop>(rt: &HostRuntime, a: S, b: S) -> Result<()> {
-    let (mut a, mut b) = (new_end(rt, a), new_end(rt, b));
+fn talk<S: DcSctpSocket>(rt: &HostRuntime, a: &mut End<S>, b: &mut End<S>) -> Result<()> {
     let mut now = SocketTime::zero();
     a.socket.connect()?;
     for number in 1..4u8 {
-        send(rt, &mut a, number)?;
+        send(rt, a, number)?;
     }
     for _ in 0..MANY {
         if b.message_count == 3 && a.socket.state() == SocketState::Connected {
             a.socket.shutdown()?;
         }
-        let due_a = turn(&mut a, now)?;
-        let due_b = turn(&mut b, now)?;
-        show(rt, "a", &mut a)?;
-        show(rt, "b", &mut b)?;
+        let due_a = turn(a, now)?;
+        let due_b = turn(b, now)?;
+        show(rt, "a", a)?;
+        show(rt, "b", b)?;
         if b.message_count == 3 && b.socket.state() == SocketState::Closed {
             break;
         }
-        carry(&mut a, &mut b)?;
-        carry(&mut b, &mut a)?;
+        carry(a, b)?;
+        carry(b, a)?;
         if a.came.is_empty() && b.came.is_empty() {
             now = due_a.min(due_b);
             println!(rt; "{} ms", (now - SocketTime::zero()).as_millis())?;
@@ -134,9 +133,23 @@ fn talk<S: DcSctpSocket + Drop>(rt: &HostRuntime, a: S, b: S) -> Result<()> {
     Ok(())
 }
 
+/// Two sockets talk, where both could be made.
+fn meet<S: DcSctpSocket + Drop>(
+    rt: &HostRuntime,
+    a: Result<S, CallError>,
+    b: Result<S, CallError>,
+) -> Result<()> {
+    let (a, b) = (a?, b?);
+    let (mut a, mut b) = (new_end(rt, a), new_end(rt, b));
+    let outcome = talk(rt, &mut a, &mut b);
+    drop(a);
+    drop(b);
+    outcome
+}
+
 fn main(rt: HostRuntime) -> Result<()> {
     let options = Options::default();
-    let a = Socket::new(rt.alloc(), "a", &options, Pcg32::new(1, 1), OneWord)?;
-    let b = Socket::new(rt.alloc(), "b", &options, Pcg32::new(2, 2), OneWord)?;
-    talk(&rt, a, b)
+    let a = Socket::new(rt.alloc(), "a", &options, Pcg32::new(1, 1), OneWord);
+    let b = Socket::new(rt.alloc(), "b", &options, Pcg32::new(2, 2), OneWord);
+    meet(&rt, a, b)
 }
