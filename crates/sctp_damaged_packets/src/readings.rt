@@ -52,7 +52,7 @@ fn reading(alloc: Global, bytes: &[u8], look: Look) -> Result<String, AllocError
     match SctpPacket::from_bytes(alloc, bytes, word_of(&ByteSum, bytes), &look.policy()) {
         Ok(packet) => {
             let text = texts(alloc, &packet.chunks);
-            drop(packet);
+            packet.let_go();
             text
         }
         Err(fault) => format!(in alloc; "{fault}"),

@@ -4,7 +4,7 @@
 //! is none.
 #![tactic(auto)]
 
-use sctp_packet::{SctpPacket, SctpPacketBuilder};
+use sctp_packet::{PacketParseError, SctpPacket, SctpPacketBuilder};
 use sctp_wire::Policy;
 use std::alloc::{AllocError, Global};
 
@@ -31,16 +31,26 @@ fn written(alloc: Global, packet: &SctpPacket) -> Result<Option<Vec<u8>>, AllocE
 }
 
 fn show(rt: &HostRuntime, bytes: &[u8]) -> anyhow::Result<()> {
+    let packet = read(rt.alloc(), bytes)?;
+    let outcome = tell(rt, bytes, &packet);
+    packet.let_go();
+    outcome
+}
+
+fn read(alloc: Global, bytes: &[u8]) -> Result<SctpPacket, PacketParseError> {
     // The checksums are CRC32c, which this repository leaves to its caller: they are not looked at.
     let policy = Policy {
         disable_checksum_verification: true,
         ..Policy::default()
     };
-    let packet = SctpPacket::from_bytes(rt.alloc(), bytes, 0, &policy)?;
+    SctpPacket::from_bytes(alloc, bytes, 0, &policy)
+}
+
+fn tell(rt: &HostRuntime, bytes: &[u8], packet: &SctpPacket) -> anyhow::Result<()> {
     for chunk in &packet.chunks {
         println!(rt; "{chunk}")?;
     }
-    let again = written(rt.alloc(), &packet)?;
+    let again = written(rt.alloc(), packet)?;
     let alike = match &again {
         Some(again) => again.as_slice() == bytes,
         None => false,
