@@ -1,1 +1,2 @@
 pub mod HearLemmas
+pub mod KindLemmas

@@ -1,6 +1,7 @@
 //! Chunks that what was negotiated forbids, and chunks of unknown types (RFC 8260, RFC 3758, RFC 9260 section 3.2).
 
-ghost use Rattle.std.specs.Prelude.{◌≡◌, ◌++◌, codes, option_map, string_bytes, take, OnOk, IfOk};
+ghost use Rattle.std.specs.Prelude.{◌≡◌, ◌++◌, ℕ, Bool, true, false, codes, option_map, string_bytes, take, OnOk, IfOk};
+ghost use Rattle.sctp_packet.specs.Chunk.{FragmentTree, data_chunk, idata_chunk};
 ghost use Rattle.sctp_packet.specs.ChunkText.{chunk_text};
 ghost use Rattle.sctp_packet.specs.ChunkView.{chunk_tree};
 ghost use Rattle.sctp_control_chunk.specs.Views.{unknown_tree};
@@ -93,6 +94,26 @@ pub fn violation(state: &State, chunk: &Chunk) -> Option<Misuse>
         State::Closed => None,
         State::CookieWait(_) => None,
         State::Open(_, tcb) => misused(&tcb.capabilities, chunk),
+    }
+}
+
+/// How DATA, or I-DATA where messages are interleaved in it, breaks what was negotiated, if it does.
+pub fn data_violation(state: &State, is_interleaved: bool) -> Option<Misuse>
+    ensures data { is_interleaved ≡ false → (tsn : ℕ) (immediate_ack : Bool) (f : FragmentTree)
+        → option_map misuse_text result ≡ table.violation (state_of state.now) (data_chunk tsn immediate_ack f) }
+    ensures idata { is_interleaved ≡ true → (tsn : ℕ) (immediate_ack : Bool) (f : FragmentTree)
+        → option_map misuse_text result ≡ table.violation (state_of state.now) (idata_chunk tsn immediate_ack f) }
+{
+    match state {
+        State::Closed => None,
+        State::CookieWait(_) => None,
+        State::Open(_, tcb) if is_interleaved => {
+            unless(tcb.capabilities.message_interleaving, Misuse::Interleaved)
+        }
+        State::Open(_, tcb) => unless(
+            !tcb.capabilities.message_interleaving,
+            Misuse::NotInterleaved,
+        ),
     }
 }
 
