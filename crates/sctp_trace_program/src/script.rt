@@ -6,7 +6,7 @@ use sctp_trace::{CaptureError, Row, capture, chart, ladder};
 use sctp_world::{Command, End, Event, WorldError, parse_command};
 use std::alloc::{AllocError, Global};
 use std::env;
-use std::io::{self, Write};
+use std::io::{self, Read, Write};
 
 /// Why the program ends before its time.
 pub enum Fault {
@@ -96,11 +96,11 @@ fn run_command<W: Watched>(world: &mut W, command: &Command) -> Result<(), Fault
 }
 
 /// Runs the line, and says whether it was empty or a command.
-fn run_line<W: Watched>(alloc: Global, world: &mut W, line: &str) -> Result<bool, Fault> {
+fn run_line<W: Watched>(alloc: Global, world: &mut W, line: &[u8]) -> Result<bool, Fault> {
     if line.is_empty() {
         return Ok(true);
     }
-    let Some(command) = parse_command(alloc, line.as_bytes())? else {
+    let Some(command) = parse_command(alloc, line)? else {
         return Ok(false);
     };
     run_command(world, &command)?;
@@ -108,16 +108,27 @@ fn run_line<W: Watched>(alloc: Global, world: &mut W, line: &str) -> Result<bool
 }
 
 /// Runs the lines up to the first that is no command, whose number it answers, from 1 on.
-fn run_lines<W: Watched>(rt: &HostRuntime, world: &mut W) -> Result<Option<u64>, Fault> {
+fn run_lines<W: Watched>(
+    alloc: Global,
+    world: &mut W,
+    lines: &[&[u8]],
+) -> Result<Option<u64>, Fault> {
     let mut number = 0u64;
-    for line in rt.lines(rt.alloc()) {
-        let line = line?;
+    for line in lines {
         number = number.saturating_add(1);
-        if !run_line(rt.alloc(), world, &line)? {
+        if !run_line(alloc, world, line)? {
             return Ok(Some(number));
         }
     }
     Ok(None)
+}
+
+/// Runs what standard input has.
+fn run_input<W: Watched>(rt: &HostRuntime, world: &mut W) -> Result<Option<u64>, Fault> {
+    let mut input = Vec::new(rt.alloc());
+    rt.reader().read_to_end(&mut input)?;
+    let lines: Vec<&[u8]> = input.split(|b| *b == b'\n').collect(rt.alloc())?;
+    run_lines(rt.alloc(), world, &lines)
 }
 
 fn drawing(alloc: Global, rows: &[Row], format: Format) -> Result<Vec<u8>, Fault> {
@@ -149,7 +160,7 @@ fn stop(rt: &HostRuntime, rows: &[Row], format: Format, number: u64) -> Result<(
 /// Runs the commands of standard input on the world, and writes what was asked for.
 pub fn trace<W: Watched>(rt: &HostRuntime, world: W, format: Format) -> Result<(), Fault> {
     let mut world = world;
-    let stopped = run_lines(rt, &mut world)?;
+    let stopped = run_input(rt, &mut world)?;
     let rows = rows_of(rt.alloc(), &world)?;
     drop(world);
     match stopped {
