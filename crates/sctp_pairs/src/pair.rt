@@ -98,7 +98,7 @@ pub fn seeds_of(words: &str) -> Seeds {
     }
 }
 
-fn world(alloc: Global, a: Seed, b: Seed) -> Result<World<Pcg32, ByteSum>, CallError> {
+fn new_world(alloc: Global, a: Seed, b: Seed) -> Result<World<Pcg32, ByteSum>, CallError> {
     let options = Options::default();
     World::new(
         alloc,
@@ -113,8 +113,8 @@ fn world(alloc: Global, a: Seed, b: Seed) -> Result<World<Pcg32, ByteSum>, CallE
 
 /// Two new worlds with default options, and generators of these seeds.
 pub fn made(alloc: Global, seeds: Seeds) -> Result<Two, CallError> {
-    let first = world(alloc, seeds.a, seeds.b)?;
-    match world(alloc, seeds.other_a, seeds.other_b) {
+    let first = new_world(alloc, seeds.a, seeds.b)?;
+    match new_world(alloc, seeds.other_a, seeds.other_b) {
         Ok(second) => Ok(Two { first, second }),
         Err(fault) => {
             drop(first);

@@ -3,8 +3,8 @@
 use crate::answer::{
     Answer, Line, Subject, low_half, low_word, run_commands, tell, tell_all, tell_hex,
 };
-use sctp_capabilities::{Capabilities, StateCookie};
 use hex::FromHexError;
+use sctp_capabilities::{Capabilities, StateCookie};
 use sctp_serial::{Tsn, ZeroChecksumAlternateErrorDetectionMethod};
 use std::alloc::{AllocError, Global};
 
