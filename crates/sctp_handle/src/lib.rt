@@ -1,4 +1,5 @@
-//! A box as its pointer.
+//! A box as its pointer: what a handle that C holds is made of.
+#![tactic(auto)]
 
 ghost use Rattle.std.specs.Prelude.{◌≡◌};
 ghost use Rattle.std_alloc.specs.Box.Ownership.{box_owns};
@@ -6,11 +7,11 @@ ghost use Rattle.std_alloc.specs.Box.Ownership.{box_owns};
 use std::alloc::Allocator;
 use std::marker::Model;
 
-/// A box taken apart.
-pub(crate) struct Loose<T, A: Allocator> {
-    pub(crate) at: *mut T,
-    pub(crate) alloc: A,
-    pub(crate) ghost value: { T },
+/// A box taken apart: whoever has its pointer and its allocator owns the value.
+pub struct Loose<T, A: Allocator> {
+    pub at: *mut T,
+    pub alloc: A,
+    pub ghost value: { T },
 }
 
 impl<T, A: Allocator> Model for Loose<T, A> {
@@ -18,14 +19,16 @@ impl<T, A: Allocator> Model for Loose<T, A> {
 }
 
 impl<T: Drop, A: Allocator> Loose<T, A> {
-    pub(crate) fn of(value: Box<T, A>) -> Loose<T, A>
+    /// Takes a box apart.
+    pub fn of(value: Box<T, A>) -> Loose<T, A>
         ensures { result.value ≡ value.value }
     {
         let (at, alloc) = Box::into_raw_with_allocator(value);
         Loose { at, alloc }
     }
 
-    pub(crate) fn into_box(self) -> Box<T, A>
+    /// Makes the box again.
+    pub fn into_box(self) -> Box<T, A>
         ensures { result.value ≡ self.value }
     {
         let Loose { at, alloc } = self;
