@@ -31,7 +31,7 @@ use Rattle.std.proofs.GlobalToken.{dealloc_token-Testable}
 use Rattle.sctp_c.specs.contracts.endpoint.Endpoint.{the_row as R}
 use Rattle.sctp_c.specs.Held.{held_at}
 use Rattle.sctp_c.specs.contracts.handle.Handle as handle
-use Rattle.sctp_c.proofs.Values.{both}
+use Rattle.sctp_handle.proofs.Values.{both}
 
 abbrev pub Z : RattleType
 Z = heap.the_row

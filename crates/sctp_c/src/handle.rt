@@ -4,7 +4,7 @@ ghost use Rattle.std.specs.Prelude.{◌≡◌, Option, Some, None, option_map};
 ghost use Rattle.sctp_c.specs.declared.endpoint.Endpoint.{Endpoint as EndpointValue};
 
 use crate::endpoint::Endpoint;
-use crate::loose::Loose;
+use sctp_handle::Loose;
 use std::alloc::Global;
 use std::marker::Model;
 
@@ -26,6 +26,21 @@ impl Model for Handle {
 }
 
 impl Handle {
+    ghost use Rattle.std.specs.Borrow.{sem};
+    ghost use Rattle.std.specs.Option.{option_copied_mut};
+    ghost use Rattle.sctp_c.specs.Lending.{LendsHeld};
+
+    /// The socket behind the pointer, for one call.
+    pub(crate) fn as_mut(&mut self) -> Option<&mut Endpoint>
+        ensures* writes_back { sem 𝓛 (LendsHeld self.entry result) }
+        ensures value { option_copied_mut result ≡ self.old.held }
+    {
+        if self.at.is_null() {
+            return None;
+        }
+        Some(unsafe { &mut *(self.at as *mut Endpoint) })
+    }
+
     fn none(alloc: Global) -> Handle
         ensures { result.held ≡ None }
     {

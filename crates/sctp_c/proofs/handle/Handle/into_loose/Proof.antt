@@ -29,7 +29,7 @@ use Rattle.std.specs.contracts.impls.GlobalAllocator.TheImpl.{ghosts}
 use Rattle.std_alloc.proofs.ResultValues.{and_tt}
 use Rattle.std.proofs.raw_atomic.Walks.{proved_at, leaves}
 use Rattle.sctp_c.specs.contracts.endpoint.Endpoint.{the_row as R}
-use Rattle.sctp_c.proofs.Values.{both, Loose, loose_good, loose_in}
+use Rattle.sctp_handle.proofs.Values.{both, Loose, loose_good, loose_in}
 use Rattle.sctp_c.proofs.Handles.{Z, Held, owns_box, tested, either_held, handle_out, null_good}
 use Rattle.sctp_c.specs.contracts.handle.Handle.into_loose.{ended, clauses}
 use Rattle.sctp_c.specs.contracts.handle.Handle.into_loose.Key.{name as #self}

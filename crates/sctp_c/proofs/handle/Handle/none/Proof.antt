@@ -22,7 +22,7 @@ use Rattle.core.proofs.alloc.Calls.{handle_tells}
 use Rattle.std_alloc.proofs.ResultValues.{and_tt}
 use Rattle.sctp_c.specs.contracts.endpoint.Endpoint.{the_row as R}
 use Rattle.std.proofs.raw_atomic.Walks.{proved_at, leaves}
-use Rattle.sctp_c.proofs.Values.{both}
+use Rattle.sctp_handle.proofs.Values.{both}
 use Rattle.sctp_c.proofs.Handles.{Z, al, handle_in, null_good}
 use Rattle.sctp_c.specs.contracts.handle.Handle.none.{ended, clauses}
 use Rattle.sctp_c.specs.contracts.handle.Handle.none.Key.{name as #self}

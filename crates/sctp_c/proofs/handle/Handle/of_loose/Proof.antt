@@ -21,7 +21,7 @@ use Rattle.std.proofs.raw_atomic.Walks.{proved_at, leaves}
 use Rattle.std.proofs.alloc.Global.TheLaws as heap_laws
 use Rattle.std.specs.contracts.impls.GlobalAllocator.TheImpl.{ghosts}
 use Rattle.sctp_c.specs.contracts.endpoint.Endpoint.{the_row as R}
-use Rattle.sctp_c.proofs.Values.{both, Loose, loose_good, loose_out}
+use Rattle.sctp_handle.proofs.Values.{both, Loose, loose_good, loose_out}
 use Rattle.sctp_c.proofs.Handles.{Z, handle_in}
 use Rattle.sctp_c.specs.contracts.handle.Handle.of_loose.{ended, clauses}
 use Rattle.sctp_c.specs.contracts.handle.Handle.of_loose.Key.{name as #self}

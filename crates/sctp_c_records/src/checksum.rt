@@ -1,6 +1,6 @@
 //! The checksum of packets.
 
-use sctp_association::Checksum;
+use sctp_wire::Checksum;
 use sctp_crc32c::Crc32c;
 
 /// What stands in the checksum field of packets.
@@ -13,7 +13,7 @@ pub enum PacketChecksum {
 }
 
 impl Checksum for PacketChecksum {
-    ghost use Rattle.sctp_c.specs.Checksums.{word_by};
+    ghost use Rattle.sctp_c_records.specs.Checksums.{word_by};
 
     ghost word_of = { word_by };
 
