@@ -1,23 +1,40 @@
 -- What a call through a handle does to the socket behind it.
-use Rattle.std.specs.Prelude.{◌≡◌, ℕ, zero, suc, Option, Some, None, List, [], ◌∷◌, ◌++◌, option_map}
-use Rattle.sctp_state.specs.Events.{Event, event_of}
-use Rattle.sctp_association.specs.Socket.{Ending, Worked, RanOut, HadFailed}
+use Rattle.std.specs.Prelude.{◌≡◌, ℕ, Option, Some, None, List}
+use Rattle.rand_core.specs.Steps.{stream_of, steps_u32}
+use Rattle.rand_core.specs.Stream.{Stream}
+use Rattle.rand_pcg.specs.Lcg.{Lcg}
+use Rattle.rand_pcg.specs.Pcg.{pcg32}
+use Rattle.sctp_association.specs.Socket.{SocketValue, Ends, endpoint}
+use Rattle.sctp_c_calls.specs.Answers.{OnAnswer, ending_at}
+use Rattle.sctp_c_records.specs.Checksums.{word_by}
+use Rattle.sctp_c_records.specs.declared.checksum.PacketChecksum.{PacketChecksum}
+use Rattle.sctp_table.specs.Association.{Endpoint as End}
 use Rattle.sctp_c.specs.declared.endpoint.Endpoint.{Endpoint}
 
--- where a socket was, and is, these two are as said
-abbrev pub Called : (old new : Option Endpoint) → (Endpoint → Endpoint → Type 0) → Type 0
-Called old new rel = (e f : Endpoint) → old ≡ Some e → new ≡ Some f → rel e f
+abbrev pub CSocket : Type 0
+CSocket = SocketValue Lcg PacketChecksum
 
--- how a call ends, by its number
-abbrev pub ending_at : ℕ → Ending
-ending_at zero = Worked
-ending_at (suc zero) = RanOut
-ending_at (suc (suc n)) = HadFailed
+abbrev pub stream : Lcg → Stream
+stream = stream_of (steps_u32 pcg32)
 
--- what was told and isn't handed out
-abbrev pub waiting_first : Option (Event (List ℕ)) → List (Event (List ℕ)) → List (Event (List ℕ))
-waiting_first None events = events
-waiting_first (Some event) events = event ∷ events
+-- the end that the socket is
+abbrev pub end_of : CSocket → End (List ℕ)
+end_of s = endpoint stream word_by s
 
-abbrev pub waiting : Endpoint → List (Event (List ℕ))
-waiting e = waiting_first (option_map event_of e.event) e.socket.context.told.events
+-- A handle with a socket makes the call on it. One without answers 3, and stays so.
+abbrev pub Answers : (call : Endpoint → ℕ → Endpoint → Type 0) → (old : Option Endpoint) → ℕ → (new : Option Endpoint) → Type 0
+Answers call None n new = (n ≡ 3) × (new ≡ None)
+Answers call (Some e) n None = ⊥
+Answers call (Some e) n (Some f) = call e n f
+
+-- the event that is kept stays
+abbrev pub OnSocket : (call : CSocket → ℕ → CSocket → Type 0) → Endpoint → ℕ → Endpoint → Type 0
+OnSocket call e n f = call e.socket n f.socket × (f.event ≡ e.event)
+
+-- a changing call
+abbrev pub Makes : (effect : CSocket → End (List ℕ) → Type 0) → (old : Option Endpoint) → ℕ → (new : Option Endpoint) → Type 0
+Makes effect = Answers (OnSocket (λ s n t. Ends (ending_at n) s t × OnAnswer 0 n (effect s (end_of t))))
+
+-- a question changes nothing
+abbrev pub Tells : (answer : CSocket → Type 0) → (old : Option Endpoint) → ℕ → (new : Option Endpoint) → Type 0
+Tells answer = Answers (λ e n f. answer e.socket × ((n ≡ 0) × (f ≡ e)))

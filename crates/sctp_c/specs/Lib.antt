@@ -1,3 +1,4 @@
 pub mod Calls
-pub mod Checksums
 pub mod Held
+pub mod Lending
+pub mod Made

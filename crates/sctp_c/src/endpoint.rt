@@ -1,8 +1,8 @@
 //! A socket as C holds it.
 
-use crate::checksum::PacketChecksum;
 use rand_pcg::Pcg32;
 use sctp_association::{Socket, SocketEvent};
+use sctp_c_records::PacketChecksum;
 
 /// A socket, and the event that was taken from it and didn't fit yet.
 #[derive(Drop)]

@@ -33,7 +33,7 @@ impl Handle {
     /// The socket behind the pointer, for one call.
     pub(crate) fn as_mut(&mut self) -> Option<&mut Endpoint>
         ensures* writes_back { sem 𝓛 (LendsHeld self.entry result) }
-        ensures value { option_copied_mut result ≡ self.old.held }
+        ensures value { self.old.held ≡ option_copied_mut result }
     {
         if self.at.is_null() {
             return None;

@@ -1,14 +1,11 @@
-//! A socket for C: each function of `include/sctp.h`, over `sctp_association`.
+//! A socket for C: each function of `include/sctp.h`, over `sctp_c_calls`.
 #![tactic(auto)]
 
-mod answers;
 mod asking;
 mod calls;
-mod checksum;
 mod endpoint;
 mod events;
 mod handle;
-mod loose;
 mod making;
 mod messages;
-mod options;
+mod settings;

@@ -1,17 +1,20 @@
 //! A socket is made, and let go.
 
-ghost use Rattle.std.specs.Prelude.{◌≡◌, Option, Some, None, is_some, false, true, IfOk};
-ghost use Rattle.sctp_state.specs.Options.{IsValid, options_of};
-ghost use Rattle.sctp_c.specs.declared.endpoint.Endpoint.{Endpoint as EndpointValue};
+ghost use Rattle.std.specs.Prelude.{◌≡◌, None, is_some, true, false, IfOk};
+ghost use Rattle.rand_pcg.specs.Lcg.{increment_of, started};
+ghost use Rattle.rand_pcg.specs.Pcg.{multiplier_64};
+ghost use Rattle.sctp_c.specs.Made.{IsFresh, Made, NamesKnown};
+ghost use Rattle.sctp_c_calls.specs.Answers.{OnAnswer, OnOthers};
+ghost use Rattle.sctp_c_records.specs.Records.{given_options};
+ghost use Rattle.sctp_state.specs.Options.{IsValid, defaults, options_of};
 
-use crate::answers::{IN_USE, INVALID_ARGUMENT, INVALID_OPTIONS, MEMORY, OK};
-use crate::checksum::PacketChecksum;
 use crate::endpoint::Endpoint;
 use crate::handle::Handle;
-use crate::options::OptionsRecord;
 use rand_pcg::Pcg32;
-use sctp_association::{CallError, Options, Socket};
-use std::alloc::Global;
+use sctp_association::{Options, Socket};
+use sctp_c_records::answers::{IN_USE, INVALID_ARGUMENT, INVALID_OPTIONS, NO_ROOM, OK};
+use sctp_c_records::{OptionsRecord, PacketChecksum};
+use std::alloc::{AllocError, Global};
 
 /// A closed socket in a box.
 fn boxed(
@@ -19,23 +22,34 @@ fn boxed(
     options: &Options,
     checksum: PacketChecksum,
     rng: Pcg32,
-) -> Result<Box<Endpoint>, CallError>
+) -> Result<Box<Endpoint>, AllocError>
     requires { IsValid (options_of options.now) }
-    ensures working { IfOk result (λ b. b.value.socket.has_failed ≡ false) }
-    ensures event { IfOk result (λ b. b.value.event ≡ None) }
+    ensures { IfOk result (λ b. IsFresh (options_of options.now) checksum rng b.value) }
 {
-    let socket = Socket::new(alloc, "socket", options, rng, checksum)?;
-    let end = Endpoint {
-        socket,
-        event: None,
-    };
-    match Box::new(alloc, end) {
-        Ok(end) => Ok(end),
-        Err(failed) => {
-            drop(failed);
-            Err(CallError::Memory)
-        }
+    match Socket::new(alloc, "socket", options, rng, checksum) {
+        Err(_error) => Err(AllocError),
+        Ok(socket) => match Box::new(
+            alloc,
+            Endpoint {
+                socket,
+                event: None,
+            },
+        ) {
+            Ok(end) => Ok(end),
+            Err(failed) => {
+                drop(failed);
+                Err(AllocError)
+            }
+        },
     }
+}
+
+/// Writes the options that a socket has where nothing else is said.
+#[unsafe(no_mangle)]
+pub extern "C" fn sctp_default_options(options: &mut OptionsRecord)
+    ensures { given_options options.new ≡ defaults }
+{
+    *options = OptionsRecord::defaults();
 }
 
 /// Makes a closed socket at moment zero, whose words come from this state and stream of a PCG.
@@ -48,35 +62,28 @@ pub extern "C" fn sctp_new(
     stream: u64,
 ) -> u32
     ensures used { is_some socket.old.held ≡ true → (result ≡ 4) × (socket.new.held ≡ socket.old.held) }
-    ensures made { result ≡ 0 → is_some socket.new.held ≡ true }
-    ensures fresh { (e : EndpointValue) → result ≡ 0 → socket.new.held ≡ Some e → (e.socket.has_failed ≡ false) × (e.event ≡ None) }
+    ensures failed { is_some socket.old.held ≡ false → OnOthers 0 result (socket.new.held ≡ None) }
+    ensures made { OnAnswer 0 result (Made options.now (started 64 multiplier_64 seed (increment_of 64 stream)) socket.new.held) }
+    ensures known { OnAnswer 0 result (NamesKnown options.now) }
+    ensures valid { OnAnswer 0 result (IsValid (given_options options.now)) }
 {
-    match socket.take(alloc) {
-        Some(end) => {
+    if socket.as_mut().is_some() {
+        return IN_USE;
+    }
+    if !options.names_known_ones() {
+        return INVALID_ARGUMENT;
+    }
+    let given = options.options();
+    if !given.is_valid() {
+        return INVALID_OPTIONS;
+    }
+    let rng = Pcg32::new(seed, stream);
+    match boxed(alloc, &given, options.packet_checksum(), rng) {
+        Ok(end) => {
             socket.put(end);
-            IN_USE
+            OK
         }
-        None => {
-            if !options.names_known_ones() {
-                return INVALID_ARGUMENT;
-            }
-            let checksum = if options.checksum == 0 {
-                PacketChecksum::Crc32c
-            } else {
-                PacketChecksum::Zero
-            };
-            let options = options.options();
-            if !options.is_valid() {
-                return INVALID_OPTIONS;
-            }
-            match boxed(alloc, &options, checksum, Pcg32::new(seed, stream)) {
-                Ok(end) => {
-                    socket.put(end);
-                    OK
-                }
-                Err(_error) => MEMORY,
-            }
-        }
+        Err(_error) => NO_ROOM,
     }
 }
 

@@ -1,6 +1,8 @@
 -- The records of C, as the socket's values: spans in nanoseconds, flags by their values.
-use Rattle.std.specs.Prelude.{ℕ, ℤ, ◌+◌, ◌-◌, ◌/◌, ◌%◌, ◌^◌, ◌==◌, Bool, true, false, Option, Some, None}
+use Rattle.std.specs.Prelude.{ℕ, ℤ, ◌-◌, ◌<◌, ◌/◌, ◌%◌, ◌^◌, ◌==◌, Bool, true, false, Option, Some, None}
 use Rattle.sctp_state.specs.Options.{Options, SendOptions, at_least_zero}
+use Rattle.sctp_c_records.specs.declared.checksum.PacketChecksum.{PacketChecksum}
+use Rattle.sctp_c_records.specs.declared.checksum.PacketChecksum.TheVariants.{Crc32c, Zero}
 use Rattle.sctp_c_records.specs.declared.options.OptionsRecord.{OptionsRecord}
 use Rattle.sctp_c_records.specs.declared.message.SendRecord.{SendRecord}
 
@@ -62,6 +64,17 @@ given_options r = record {
   disable_checksum_verification = has_flag r.flags 4;
   enable_handover_with_outstanding_data = has_flag r.flags 8;
 }
+
+abbrev pub checksum_by : (is_zero : Bool) → PacketChecksum
+checksum_by true = Crc32c
+checksum_by false = Zero
+
+abbrev pub given_checksum : OptionsRecord → PacketChecksum
+given_checksum r = checksum_by (r.checksum == 0)
+
+-- flags that there are, and a count of 16 bits
+abbrev pub IsKnown : SendRecord → Type 0
+IsKnown r = (r.flags < 8) × (r.max_retransmissions < 2 ^ 16)
 
 -- how a message is sent; a number of 0 names no message
 abbrev pub given_send_options : SendRecord → SendOptions

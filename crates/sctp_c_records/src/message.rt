@@ -1,8 +1,8 @@
 //! A message as C has it, and how it is sent.
 
-ghost use Rattle.std.specs.Prelude.{◌≡◌, ◌<◌, ◌×◌, ◌↔◌, ◌^◌, IsTrue};
+ghost use Rattle.std.specs.Prelude.{◌≡◌, ◌<◌, ◌↔◌, ◌^◌, IsTrue};
 ghost use Rattle.sctp_state.specs.Options.{send_options_of};
-ghost use Rattle.sctp_c_records.specs.Records.{given_send_options};
+ghost use Rattle.sctp_c_records.specs.Records.{IsKnown, given_send_options};
 
 use crate::options::has_flag;
 use sctp_serial::LifecycleId;
@@ -31,7 +31,7 @@ pub struct SendRecord {
 impl SendRecord {
     /// Whether the flags are ones that there are, and the count is one of 16 bits.
     pub fn is_known(&self) -> bool
-        ensures { IsTrue result ↔ (self.now.flags < 8) × (self.now.max_retransmissions < 2 ^ 16) }
+        ensures { IsTrue result ↔ IsKnown self.now }
     {
         self.flags < 8 && self.max_retransmissions < 65_536
     }

@@ -1,9 +1,9 @@
 //! What a socket is made with, as C has it.
 
-ghost use Rattle.std.specs.Prelude.{◌≡◌, ◌<◌, ◌^◌, ◌×◌, ◌↔◌, IsTrue, option_map};
+ghost use Rattle.std.specs.Prelude.{◌≡◌, ◌<◌, ◌^◌, ◌↔◌, IsTrue, option_map};
 ghost use Rattle.std.specs.Duration.{as_nanos};
 ghost use Rattle.sctp_state.specs.Options.{defaults, options_of};
-ghost use Rattle.sctp_c_records.specs.Records.{given_options, has_flag, limit_at, span_at};
+ghost use Rattle.sctp_c_records.specs.Records.{given_checksum, given_options, has_flag, limit_at, span_at};
 
 use crate::checksum::PacketChecksum;
 use sctp_serial::ZeroChecksumAlternateErrorDetectionMethod;
@@ -129,7 +129,9 @@ impl OptionsRecord {
     }
 
     /// The checksum of packets.
-    pub fn packet_checksum(&self) -> PacketChecksum {
+    pub fn packet_checksum(&self) -> PacketChecksum
+        ensures { result ≡ given_checksum self.now }
+    {
         if self.checksum == 0 {
             PacketChecksum::Crc32c
         } else {

@@ -80,7 +80,7 @@ as_mut_spec 𝓤 𝓛 𝓜 𝓡 wired =
     use0 𝓛 (‵ ((Opt.the_row Lent).own_val None (live 0 vnil ∷ []))) (none_of 𝓛 Lent) $
     returns_within ! (W.post y) refl (look_at ! 0 refl) $ free_all ! refl $ keep ! (0 ∷ 2 ∷ 1 ∷ []) $
     suffices ! _ (ends_at 𝓛 f.ended stayed c y (live 0 vnil) None (tt, tt) (tt, tt)) $
-    nothing ! $ nothing ! $ fjoin ! $ join ! $ nothing ! $ move ! (2 ∷ 0 ∷ []) $ join ! $ join ! $ frame ! $ says ! (sym empty) $ done !)
+    nothing ! $ nothing ! $ fjoin ! $ join ! $ nothing ! $ move ! (2 ∷ 0 ∷ []) $ join ! $ join ! $ frame ! $ says ! empty $ done !)
     (λ wrong. absurd wrong))
     (λ b o x is_block full.
     use1 𝓛 (given (Testable (block_ptr b o)) (‵ (owns_box d.alloc (block_ptr b o) x))) (tested 𝓛 d.alloc (block_ptr b o) x) $ learn ! (λ t.
@@ -100,4 +100,4 @@ as_mut_spec 𝓤 𝓛 𝓜 𝓡 wired =
     split3 ! $ use1 𝓛 (‵ ((Opt.the_row Lent).own_val (Some r) (live 1 (vcons (vptr b o) vnil) ∷ []))) (Some-of 𝓛 Lent r (vptr b o)) $
     returns ! (look_at ! 0 refl) $ free_all ! refl $ keep ! (0 ∷ 1 ∷ 2 ∷ []) $
     suffices ! _ (ends_at 𝓛 f.ended stayed c y (live 1 (vcons (vptr b o) vnil)) (Some r) (tt, tt) (tt, tt)) $
-    nothing ! $ nothing ! $ fjoin ! $ join ! $ nothing ! $ move ! (2 ∷ 0 ∷ []) $ join ! $ join ! $ frame ! $ says ! (sym full) $ done !))))))))
+    nothing ! $ nothing ! $ fjoin ! $ join ! $ nothing ! $ move ! (2 ∷ 0 ∷ []) $ join ! $ join ! $ frame ! $ says ! full $ done !))))))))
