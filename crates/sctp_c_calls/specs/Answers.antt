@@ -15,9 +15,9 @@ ending_at (suc zero) = RanOut
 ending_at (suc (suc zero)) = HadFailed
 ending_at (suc (suc (suc n))) = Worked
 
-abbrev pub by_test : {A : Type 1} → Bool → A → A → A
-by_test true yes no = yes
-by_test false yes no = no
+abbrev pub by_test : Bool → Type 0 → Type 0 → Type 0
+by_test true P Q = P
+by_test false P Q = Q
 
 -- P, where the answer is this one
 abbrev pub OnAnswer : (expected answer : ℕ) → Type 0 → Type 0
