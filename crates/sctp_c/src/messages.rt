@@ -58,6 +58,13 @@ pub extern "C" fn sctp_send(
     }
     match socket.as_mut() {
         None => NO_SOCKET,
-        Some(end) => calls::send(alloc, &mut end.socket, stream as u16, ppid, payload, options),
+        Some(end) => calls::send(
+            alloc,
+            &mut end.socket,
+            stream as u16,
+            ppid,
+            payload,
+            options,
+        ),
     }
 }

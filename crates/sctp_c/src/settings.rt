@@ -43,7 +43,11 @@ pub extern "C" fn sctp_set_buffered_amount_low_threshold(
     }
     match socket.as_mut() {
         None => NO_SOCKET,
-        Some(end) => calls::set_buffered_amount_low_threshold(&mut end.socket, stream as u16, bytes),
+        Some(end) => calls::set_buffered_amount_low_threshold(
+            &mut end.socket,
+            stream as u16,
+            bytes,
+        ),
     }
 }
 
