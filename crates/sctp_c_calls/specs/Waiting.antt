@@ -1,5 +1,5 @@
 -- What was told and isn't handed out, and what C sees of it.
-use Rattle.std.specs.Prelude.{◌≡◌, ◌<◌, ℕ, Option, Some, None, List, [], ◌∷◌, ◌++◌, option_map, length, take}
+use Rattle.std.specs.Prelude.{◌≡◌, ◌<◌, ℕ, Option, Some, None, List, [], ◌∷◌, option_map, length, take}
 use Rattle.sctp_serial.specs.Messages.{Message}
 use Rattle.sctp_state.specs.declared.api.SocketEvent.{SocketEvent}
 use Rattle.sctp_state.specs.Events.{Event, event_of}

@@ -11,9 +11,7 @@ ghost use Rattle.sctp_table.specs.Calls as calls;
 ghost use Rattle.sctp_table.specs.Input.{on_standing};
 
 use rand_core::Rng;
-use sctp_association::{
-    Checksum, DcSctpSocket, Message, PpId, SendError, Socket, StreamId,
-};
+use sctp_association::{Checksum, DcSctpSocket, Message, PpId, SendError, Socket, StreamId};
 use sctp_c_records::answers::{
     EMPTY_PAYLOAD, FAILED, MEMORY, MESSAGE_TOO_LARGE, NO_ROOM, NOTHING, OK, RESOURCE_EXHAUSTION,
     SHORT_BUFFER, SHUTTING_DOWN,

@@ -1,5 +1,5 @@
 -- The records of C, as the socket's values: spans in nanoseconds, flags by their values.
-use Rattle.std.specs.Prelude.{ℕ, ℤ, ◌-◌, ◌<◌, ◌/◌, ◌%◌, ◌^◌, ◌==◌, Bool, true, false, Option, Some, None}
+use Rattle.std.specs.Prelude.{ℕ, ◌-◌, ◌<◌, ◌/◌, ◌%◌, ◌^◌, ◌==◌, Bool, true, false, Option, Some, None}
 use Rattle.sctp_state.specs.Options.{Options, SendOptions, at_least_zero}
 use Rattle.sctp_c_records.specs.declared.checksum.PacketChecksum.{PacketChecksum}
 use Rattle.sctp_c_records.specs.declared.checksum.PacketChecksum.TheVariants.{Crc32c, Zero}

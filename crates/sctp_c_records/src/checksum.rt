@@ -1,7 +1,7 @@
 //! The checksum of packets.
 
-use sctp_wire::Checksum;
 use sctp_crc32c::Crc32c;
+use sctp_wire::Checksum;
 
 /// What stands in the checksum field of packets.
 #[derive(Clone, Copy, Drop)]
