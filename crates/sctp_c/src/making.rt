@@ -67,7 +67,7 @@ pub extern "C" fn sctp_new(
     ensures known { OnAnswer 0 result (NamesKnown options.now) }
     ensures valid { OnAnswer 0 result (IsValid (given_options options.now)) }
 {
-    if socket.as_mut().is_some() {
+    if let Some(_end) = socket.as_mut() {
         return IN_USE;
     }
     if !options.names_known_ones() {
