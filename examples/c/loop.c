@@ -29,6 +29,8 @@ static int take_events(const char *name, sctp_socket *from, sctp_socket *to) {
             printf("%s: connected\n", name);
         } else if (event.kind == SCTP_ON_CLOSED) {
             printf("%s: closed\n", name);
+        } else if (event.kind == SCTP_BUFFERED_AMOUNT_LOW) {
+            printf("%s: stream %u has room\n", name, (unsigned)event.stream);
         } else {
             printf("%s: event %u %.*s\n", name, (unsigned)event.kind, (int)event.length, (const char *)buffer);
         }

@@ -78,6 +78,7 @@ int main(int count, char **words) {
     while (goes_on) {
         uint8_t bytes[65536];
         uint64_t due = UINT64_MAX, now = nanos() - start;
+        uint32_t state;
         goes_on = take_all(&end, wire, &peer);
         sctp_poll_timeout(&end, &due);
         int wait = due <= now ? 0 : due - now > 1000000000u ? 1000 : (int)((due - now) / 1000000 + 1);
@@ -93,7 +94,7 @@ int main(int count, char **words) {
                 if (length > 0)
                     sctp_send(&end, 0, 51, bytes, (size_t)length, &plainly);
                 else
-                    reads = 0, sctp_shutdown(&end);
+                    reads = 0, goes_on = sctp_shutdown(&end) == SCTP_OK && sctp_state(&end, &state) == SCTP_OK && state != SCTP_CLOSED;
             }
         }
         sctp_advance_time(&end, nanos() - start);
