@@ -91,10 +91,13 @@ int main(int count, char **words) {
             }
             if (ready[1].revents & (POLLIN | POLLHUP)) {
                 ssize_t length = read(STDIN_FILENO, bytes, sizeof bytes);
-                if (length > 0)
+                if (length > 0) {
                     sctp_send(&end, 0, 51, bytes, (size_t)length, &plainly);
-                else
-                    reads = 0, goes_on = sctp_shutdown(&end) == SCTP_OK && sctp_state(&end, &state) == SCTP_OK && state != SCTP_CLOSED;
+                } else {
+                    reads = 0;
+                    sctp_shutdown(&end);
+                    goes_on = sctp_state(&end, &state) == SCTP_OK && state != SCTP_CLOSED;
+                }
             }
         }
         sctp_advance_time(&end, nanos() - start);
