@@ -8,6 +8,7 @@ mod command;
 mod printing;
 mod script;
 
+pub use command::{Command, parse_command};
 pub use script::{ScriptFault, run_script};
 pub use sctp_network::{Answer, Call, End, Entry, Event, World, WorldError, run, run_pair, step};
 pub use sctp_probe::{ByteSum, Probe, ProbeError, one_answer, probe};

@@ -1,0 +1,40 @@
+-- What a call through a handle does to the socket behind it.
+use Rattle.std.specs.Prelude.{◌≡◌, ℕ, Option, Some, None, List}
+use Rattle.rand_core.specs.Steps.{stream_of, steps_u32}
+use Rattle.rand_core.specs.Stream.{Stream}
+use Rattle.rand_pcg.specs.Lcg.{Lcg}
+use Rattle.rand_pcg.specs.Pcg.{pcg32}
+use Rattle.sctp_association.specs.Socket.{SocketValue, Ends, endpoint}
+use Rattle.sctp_c_calls.specs.Answers.{OnAnswer, ending_at}
+use Rattle.sctp_c_records.specs.Checksums.{word_by}
+use Rattle.sctp_c_records.specs.declared.checksum.PacketChecksum.{PacketChecksum}
+use Rattle.sctp_table.specs.Association.{Endpoint as End}
+use Rattle.sctp_c.specs.declared.endpoint.Endpoint.{Endpoint}
+
+abbrev pub CSocket : Type 0
+CSocket = SocketValue Lcg PacketChecksum
+
+abbrev pub stream : Lcg → Stream
+stream = stream_of (steps_u32 pcg32)
+
+-- the end that the socket is
+abbrev pub end_of : CSocket → End (List ℕ)
+end_of s = endpoint stream word_by s
+
+-- A handle with a socket makes the call on it. One without answers 3, and stays so.
+abbrev pub Answers : (call : Endpoint → ℕ → Endpoint → Type 0) → (old : Option Endpoint) → ℕ → (new : Option Endpoint) → Type 0
+Answers call None n new = (n ≡ 3) × (new ≡ None)
+Answers call (Some e) n None = ⊥
+Answers call (Some e) n (Some f) = call e n f
+
+-- the event that is kept stays
+abbrev pub OnSocket : (call : CSocket → ℕ → CSocket → Type 0) → Endpoint → ℕ → Endpoint → Type 0
+OnSocket call e n f = call e.socket n f.socket × (f.event ≡ e.event)
+
+-- a changing call
+abbrev pub Makes : (effect : CSocket → End (List ℕ) → Type 0) → (old : Option Endpoint) → ℕ → (new : Option Endpoint) → Type 0
+Makes effect = Answers (OnSocket (λ s n t. Ends (ending_at n) s t × OnAnswer 0 n (effect s (end_of t))))
+
+-- a question changes nothing
+abbrev pub Tells : (answer : CSocket → Type 0) → (old : Option Endpoint) → ℕ → (new : Option Endpoint) → Type 0
+Tells answer = Answers (λ e n f. answer e.socket × ((n ≡ 0) × (f ≡ e)))

@@ -1,0 +1,33 @@
+//! What a socket told, handed out. What doesn't fit stays.
+
+ghost use Rattle.std.specs.Prelude.{◌≡◌, [], length, drop};
+ghost use Rattle.sctp_c.specs.Calls.{Answers};
+ghost use Rattle.sctp_c_calls.specs.Answers.{OnAnswer, OnOthers};
+ghost use Rattle.sctp_c_calls.specs.Waiting.{Needs, Shows, waiting, with_events};
+
+use crate::handle::Handle;
+use sctp_c_calls as calls;
+use sctp_c_records::EventRecord;
+use sctp_c_records::answers::NO_SOCKET;
+use std::alloc::Global;
+
+/// Hands out the event that was told first. Where it doesn't fit its length is told, and it stays.
+#[unsafe(no_mangle)]
+pub extern "C" fn sctp_poll_event(
+    alloc: Global,
+    socket: &mut Handle,
+    head: &mut EventRecord,
+    buffer: &mut [u8],
+) -> u32
+    ensures taken { Answers (λ e n f. OnAnswer 0 n (waiting f.event f.socket ≡ drop 1 (waiting e.event e.socket))) socket.old.held result socket.new.held }
+    ensures shown { Answers (λ e n f. OnAnswer 0 n (Shows head.new buffer.new (waiting e.event e.socket))) socket.old.held result socket.new.held }
+    ensures stays { Answers (λ e n f. OnOthers 0 n (waiting f.event f.socket ≡ waiting e.event e.socket)) socket.old.held result socket.new.held }
+    ensures nothing { Answers (λ e n f. OnAnswer 8 n (waiting e.event e.socket ≡ [])) socket.old.held result socket.new.held }
+    ensures needed { Answers (λ e n f. OnAnswer 9 n (Needs head.new (length buffer.old) (waiting e.event e.socket))) socket.old.held result socket.new.held }
+    ensures rest { Answers (λ e n f. f.socket ≡ with_events e.socket f.socket.context.told.events) socket.old.held result socket.new.held }
+{
+    match socket.as_mut() {
+        None => NO_SOCKET,
+        Some(end) => calls::poll_event(alloc, &mut end.socket, &mut end.event, head, buffer),
+    }
+}

@@ -1,0 +1,11 @@
+//! A socket for C: each function of `include/sctp.h`, over `sctp_c_calls`.
+#![tactic(auto)]
+
+mod asking;
+mod calls;
+mod endpoint;
+mod events;
+mod handle;
+mod making;
+mod messages;
+mod settings;

@@ -1,0 +1,70 @@
+//! Messages, in and out.
+
+ghost use Rattle.std.specs.Prelude.{◌≡◌, [], length, ◌<◌, ◌≤◌};
+ghost use Rattle.sctp_c.specs.Calls.{Answers, OnSocket, end_of};
+ghost use Rattle.sctp_c_calls.specs.Answers.{Ended, OnAnswer, OnOthers, OnSettled, refusal_number};
+ghost use Rattle.sctp_c_calls.specs.Waiting.{HasMessage, NeedsMore};
+ghost use Rattle.sctp_c_records.specs.Records.{IsKnown, given_send_options};
+ghost use Rattle.sctp_table.specs.Calls as table;
+ghost use Rattle.sctp_table.specs.Input.{on_standing};
+
+use crate::handle::Handle;
+use sctp_c_calls as calls;
+use sctp_c_records::answers::{INVALID_ARGUMENT, INVALID_STREAM, NO_SOCKET};
+use sctp_c_records::{MessageRecord, SendRecord};
+use std::alloc::Global;
+
+/// Hands out the message that was ready first. Where it doesn't fit its length is told, and it stays.
+#[unsafe(no_mangle)]
+pub extern "C" fn sctp_next_message(
+    socket: &mut Handle,
+    head: &mut MessageRecord,
+    buffer: &mut [u8],
+) -> u32
+    ensures message { Answers (OnSocket (λ s n t. OnAnswer 0 n (HasMessage head.new buffer.new (table.ready_in s.state)))) socket.old.held result socket.new.held }
+    ensures taken { Answers (OnSocket (λ s n t. OnAnswer 0 n (end_of t ≡ on_standing table.take_message (end_of s)))) socket.old.held result socket.new.held }
+    ensures stays { Answers (OnSocket (λ s n t. OnOthers 0 n (t ≡ s))) socket.old.held result socket.new.held }
+    ensures nothing { Answers (OnSocket (λ s n t. OnAnswer 8 n (table.ready_in s.state ≡ []))) socket.old.held result socket.new.held }
+    ensures needed { Answers (OnSocket (λ s n t. OnAnswer 9 n (NeedsMore head.new (length buffer.old) (table.ready_in s.state)))) socket.old.held result socket.new.held }
+{
+    match socket.as_mut() {
+        None => NO_SOCKET,
+        Some(end) => calls::next_message(&mut end.socket, head, buffer),
+    }
+}
+
+/// Queues a copy of a message, and sends as much as may be sent.
+#[unsafe(no_mangle)]
+pub extern "C" fn sctp_send(
+    alloc: Global,
+    socket: &mut Handle,
+    stream: u32,
+    ppid: u32,
+    payload: &[u8],
+    options: &SendRecord,
+) -> u32
+    ensures stream { 65535 < stream → (result ≡ 6) × (socket.new.held ≡ socket.old.held) }
+    ensures unknown { stream ≤ 65535 → (IsKnown options.now → ⊥) → (result ≡ 7) × (socket.new.held ≡ socket.old.held) }
+    ensures ends { stream ≤ 65535 → IsKnown options.now → Answers (OnSocket (λ s n t. Ended n s t)) socket.old.held result socket.new.held }
+    ensures answer { stream ≤ 65535 → IsKnown options.now → Answers (OnSocket (λ s n t. OnSettled n (n ≡ refusal_number (table.refusal_of (record { stream = stream; ppid = ppid; payload = payload.now }) (end_of s).standing)))) socket.old.held result socket.new.held }
+    ensures sent { stream ≤ 65535 → IsKnown options.now → Answers (OnSocket (λ s n t. OnSettled n (end_of t
+        ≡ on_standing (table.send (record { stream = stream; ppid = ppid; payload = payload.now }) (given_send_options options.now)) (end_of s)))) socket.old.held result socket.new.held }
+{
+    if 65_535 < stream {
+        return INVALID_STREAM;
+    }
+    if !options.is_known() {
+        return INVALID_ARGUMENT;
+    }
+    match socket.as_mut() {
+        None => NO_SOCKET,
+        Some(end) => calls::send(
+            alloc,
+            &mut end.socket,
+            stream as u16,
+            ppid,
+            payload,
+            options,
+        ),
+    }
+}

@@ -1,0 +1,69 @@
+//! Settings of streams, and their reset.
+
+ghost use Rattle.std.specs.Prelude.{◌≡◌, ◌∷◌, [], ◌<◌, ◌≤◌};
+ghost use Rattle.sctp_association.specs.Socket.{Ends};
+ghost use Rattle.sctp_c.specs.Calls.{Answers, Makes, OnSocket, end_of};
+ghost use Rattle.sctp_c_calls.specs.Answers.{OnSettled, ending_at, reset_number};
+ghost use Rattle.sctp_table.specs.Association.{in_context};
+ghost use Rattle.sctp_table.specs.Calls as table;
+ghost use Rattle.sctp_table.specs.Input.{on_standing};
+ghost use Rattle.sctp_table.specs.Resets as resets;
+
+use crate::handle::Handle;
+use sctp_c_calls as calls;
+use sctp_c_records::answers::{INVALID_STREAM, NO_SOCKET};
+
+/// Sets the priority of a stream.
+#[unsafe(no_mangle)]
+pub extern "C" fn sctp_set_stream_priority(socket: &mut Handle, stream: u32, priority: u16) -> u32
+    ensures stream { 65535 < stream → (result ≡ 6) × (socket.new.held ≡ socket.old.held) }
+    ensures call { stream ≤ 65535 → Makes (λ s f. f ≡ on_standing (in_context (table.set_priority stream priority)) (end_of s)) socket.old.held result socket.new.held }
+{
+    if 65_535 < stream {
+        return INVALID_STREAM;
+    }
+    match socket.as_mut() {
+        None => NO_SOCKET,
+        Some(end) => calls::set_stream_priority(&mut end.socket, stream as u16, priority),
+    }
+}
+
+/// Sets the amount in bytes at which a stream is low.
+#[unsafe(no_mangle)]
+pub extern "C" fn sctp_set_buffered_amount_low_threshold(
+    socket: &mut Handle,
+    stream: u32,
+    bytes: usize,
+) -> u32
+    ensures stream { 65535 < stream → (result ≡ 6) × (socket.new.held ≡ socket.old.held) }
+    ensures call { stream ≤ 65535 → Makes (λ s f. f ≡ on_standing (in_context (table.set_low_threshold stream bytes)) (end_of s)) socket.old.held result socket.new.held }
+{
+    if 65_535 < stream {
+        return INVALID_STREAM;
+    }
+    match socket.as_mut() {
+        None => NO_SOCKET,
+        Some(end) => calls::set_buffered_amount_low_threshold(
+            &mut end.socket,
+            stream as u16,
+            bytes,
+        ),
+    }
+}
+
+/// Resets a stream (RFC 6525).
+#[unsafe(no_mangle)]
+pub extern "C" fn sctp_reset_stream(socket: &mut Handle, stream: u32) -> u32
+    ensures stream { 65535 < stream → (result ≡ 6) × (socket.new.held ≡ socket.old.held) }
+    ensures call { stream ≤ 65535 → Answers (OnSocket (λ s n t. Ends (ending_at n) s t
+        × (OnSettled n (n ≡ reset_number (resets.reset_refusal s.state))
+        × OnSettled n (end_of t ≡ on_standing (resets.reset_streams (stream ∷ [])) (end_of s))))) socket.old.held result socket.new.held }
+{
+    if 65_535 < stream {
+        return INVALID_STREAM;
+    }
+    match socket.as_mut() {
+        None => NO_SOCKET,
+        Some(end) => calls::reset_stream(&mut end.socket, stream as u16),
+    }
+}

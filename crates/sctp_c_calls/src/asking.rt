@@ -1,0 +1,49 @@
+//! What a socket is asked.
+
+ghost use Rattle.std.specs.Prelude.{◌≡◌, ◌-◌, ◌^◌, ◌<◌, ◌≤◌};
+ghost use Rattle.sctp_association.specs.Socket.{endpoint};
+ghost use Rattle.sctp_c_calls.specs.Answers.{state_number};
+ghost use Rattle.sctp_send_queue.specs.Queue.{amount_of, stream};
+ghost use Rattle.sctp_table.specs.Calls as calls;
+ghost use Rattle.sctp_table.specs.Time as time;
+
+use rand_core::Rng;
+use sctp_association::{Checksum, DcSctpSocket, Socket, SocketState, StreamId};
+
+/// The moment by which the time is to be told next, in nanoseconds; the greatest number where none so early is.
+pub fn nanos_until<R: Rng, C: Checksum>(socket: &Socket<R, C>) -> u64
+    ensures due { time.poll_timeout (endpoint R.stream C.word_of socket.now).standing < 2 ^ 64 → result ≡ time.poll_timeout (endpoint R.stream C.word_of socket.now).standing }
+    ensures never { 2 ^ 64 ≤ time.poll_timeout (endpoint R.stream C.word_of socket.now).standing → result ≡ 2 ^ 64 - 1 }
+{
+    let nanos = socket.poll_timeout().as_nanos();
+    if nanos < 1 << 64 {
+        nanos as u64
+    } else {
+        u64::MAX
+    }
+}
+
+fn number_of(state: SocketState) -> u32
+    ensures { result ≡ state_number state }
+{
+    match state {
+        SocketState::Closed => 0,
+        SocketState::Connecting => 1,
+        SocketState::Connected => 2,
+        SocketState::ShuttingDown => 3,
+    }
+}
+
+/// The state: 0 closed, 1 connecting, 2 connected, 3 shutting down.
+pub fn state_number<R: Rng, C: Checksum>(socket: &Socket<R, C>) -> u32
+    ensures { result ≡ state_number (calls.shown_state socket.now.state) }
+{
+    number_of(socket.state())
+}
+
+/// The bytes of a stream that wait to be sent.
+pub fn buffered_amount<R: Rng, C: Checksum>(socket: &Socket<R, C>, id: u16) -> usize
+    ensures { result ≡ amount_of (stream id socket.now.context.queue.streams) }
+{
+    socket.buffered_amount(StreamId(id))
+}

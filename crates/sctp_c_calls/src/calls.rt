@@ -1,0 +1,82 @@
+//! The calls that answer a number alone.
+
+ghost use Rattle.std.specs.Prelude.{◌≡◌};
+ghost use Rattle.sctp_association.specs.Socket.{Ends, endpoint};
+ghost use Rattle.sctp_c_calls.specs.Answers.{OnAnswer, ending_at};
+ghost use Rattle.sctp_table.specs.Closing as closing;
+ghost use Rattle.sctp_table.specs.Hearing.{Hears};
+ghost use Rattle.sctp_table.specs.Input.{on_standing};
+ghost use Rattle.sctp_table.specs.Opening as opening;
+ghost use Rattle.sctp_table.specs.Time as time;
+
+use rand_core::Rng;
+use sctp_association::{CallError, Checksum, DcSctpSocket, Socket, SocketTime};
+use sctp_c_records::answers::{FAILED, MEMORY, OK};
+use std::time::Duration;
+
+/// Opens an association, where the socket is closed.
+pub fn connect<R: Rng, C: Checksum>(socket: &mut Socket<R, C>) -> u32
+    ensures ends { Ends (ending_at result) socket.old socket.new }
+    ensures ok { OnAnswer 0 result (endpoint R.stream C.word_of socket.new ≡ opening.connect (endpoint R.stream C.word_of socket.old)) }
+{
+    match socket.connect() {
+        Ok(()) => OK,
+        Err(CallError::Memory) => MEMORY,
+        Err(CallError::Failed) => FAILED,
+    }
+}
+
+/// Shuts the association down (RFC 9260 section 9.2).
+pub fn shutdown<R: Rng, C: Checksum>(socket: &mut Socket<R, C>) -> u32
+    ensures ends { Ends (ending_at result) socket.old socket.new }
+    ensures ok { OnAnswer 0 result (endpoint R.stream C.word_of socket.new ≡ on_standing closing.shutdown (endpoint R.stream C.word_of socket.old)) }
+{
+    match socket.shutdown() {
+        Ok(()) => OK,
+        Err(CallError::Memory) => MEMORY,
+        Err(CallError::Failed) => FAILED,
+    }
+}
+
+/// Ends the association at once, with an ABORT to the peer (RFC 9260 section 9.1).
+pub fn close<R: Rng, C: Checksum>(socket: &mut Socket<R, C>) -> u32
+    ensures ends { Ends (ending_at result) socket.old socket.new }
+    ensures ok { OnAnswer 0 result (endpoint R.stream C.word_of socket.new ≡ on_standing closing.close (endpoint R.stream C.word_of socket.old)) }
+{
+    match socket.close() {
+        Ok(()) => OK,
+        Err(CallError::Memory) => MEMORY,
+        Err(CallError::Failed) => FAILED,
+    }
+}
+
+/// Takes the bytes of a packet that came.
+pub fn handle_input<R: Rng, C: Checksum>(socket: &mut Socket<R, C>, bytes: &[u8]) -> u32
+    ensures ends { Ends (ending_at result) socket.old socket.new }
+    ensures ok { OnAnswer 0 result (Hears (C.word_of socket.old.context.checksum) bytes.now (endpoint R.stream C.word_of socket.old) (endpoint R.stream C.word_of socket.new)) }
+{
+    match socket.handle_input(bytes) {
+        Ok(()) => OK,
+        Err(CallError::Memory) => MEMORY,
+        Err(CallError::Failed) => FAILED,
+    }
+}
+
+/// Tells the time, in nanoseconds since the socket was made.
+pub fn advance_time<R: Rng, C: Checksum>(socket: &mut Socket<R, C>, nanos: u64) -> u32
+    ensures ends { Ends (ending_at result) socket.old socket.new }
+    ensures ok { OnAnswer 0 result (endpoint R.stream C.word_of socket.new ≡ on_standing (time.advance nanos) (endpoint R.stream C.word_of socket.old)) }
+{
+    match socket.advance_time(moment(nanos)) {
+        Ok(()) => OK,
+        Err(CallError::Memory) => MEMORY,
+        Err(CallError::Failed) => FAILED,
+    }
+}
+
+/// The moment so many nanoseconds after the socket was made.
+fn moment(nanos: u64) -> SocketTime
+    ensures { result ≡ nanos }
+{
+    SocketTime::zero() + Duration::from_nanos(nanos)
+}

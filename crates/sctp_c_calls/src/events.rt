@@ -1,0 +1,57 @@
+//! What a socket told, handed out. What doesn't fit stays.
+
+ghost use Rattle.std.specs.Prelude.{◌≡◌, [], length, drop, IfNone};
+ghost use Rattle.sctp_c_calls.specs.Answers.{OnAnswer, OnOthers};
+ghost use Rattle.sctp_c_calls.specs.Waiting.{Needs, Shows, waiting, with_events};
+
+use rand_core::Rng;
+use sctp_association::{Checksum, DcSctpSocket, Socket, SocketEvent};
+use sctp_c_records::answers::{NO_ROOM, NOTHING, OK, SHORT_BUFFER};
+use sctp_c_records::{EventRecord, hand_out};
+use std::alloc::Global;
+
+/// Where no event is kept, takes the first one out of the socket.
+fn keep_first<R: Rng, C: Checksum>(socket: &mut Socket<R, C>, kept: &mut Option<SocketEvent>)
+    ensures waits { waiting kept.new socket.new ≡ waiting kept.old socket.old }
+    ensures none { IfNone kept.new (waiting kept.old socket.old ≡ []) }
+    ensures rest { socket.new ≡ with_events socket.old socket.new.context.told.events }
+{
+    if kept.is_none() {
+        drop(std::mem::replace(kept, socket.poll_event()));
+    }
+}
+
+/// Hands out the event that was told first. Where it doesn't fit its length is told, and it is kept.
+pub fn poll_event<R: Rng, C: Checksum>(
+    alloc: Global,
+    socket: &mut Socket<R, C>,
+    kept: &mut Option<SocketEvent>,
+    head: &mut EventRecord,
+    buffer: &mut [u8],
+) -> u32
+    ensures taken { OnAnswer 0 result (waiting kept.new socket.new ≡ drop 1 (waiting kept.old socket.old)) }
+    ensures shown { OnAnswer 0 result (Shows head.new buffer.new (waiting kept.old socket.old)) }
+    ensures stays { OnOthers 0 result (waiting kept.new socket.new ≡ waiting kept.old socket.old) }
+    ensures nothing { OnAnswer 8 result (waiting kept.old socket.old ≡ []) }
+    ensures needed { OnAnswer 9 result (Needs head.new (length buffer.old) (waiting kept.old socket.old)) }
+    ensures rest { socket.new ≡ with_events socket.old socket.new.context.told.events }
+{
+    keep_first(socket, kept);
+    match kept.take() {
+        None => NOTHING,
+        Some(told) => match hand_out(alloc, &told, head, buffer) {
+            Ok(true) => {
+                drop(told);
+                OK
+            }
+            Ok(false) => {
+                drop(std::mem::replace(kept, Some(told)));
+                SHORT_BUFFER
+            }
+            Err(_error) => {
+                drop(std::mem::replace(kept, Some(told)));
+                NO_ROOM
+            }
+        },
+    }
+}

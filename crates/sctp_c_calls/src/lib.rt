@@ -1,0 +1,14 @@
+//! The calls of a socket as C has them: answers are numbers, what is handed out is copied into buffers. For every generator and checksum.
+#![tactic(auto)]
+
+mod asking;
+mod calls;
+mod events;
+mod messages;
+mod settings;
+
+pub use asking::{buffered_amount, nanos_until, state_number};
+pub use calls::{advance_time, close, connect, handle_input, shutdown};
+pub use events::poll_event;
+pub use messages::{next_message, send};
+pub use settings::{reset_stream, set_buffered_amount_low_threshold, set_stream_priority};

@@ -1,0 +1,87 @@
+//! Messages, in and out.
+
+ghost use Rattle.std.specs.Prelude.{◌≡◌, ◌<◌, ◌^◌, [], length};
+ghost use Rattle.sctp_association.specs.Socket.{endpoint};
+ghost use Rattle.sctp_c_calls.specs.Answers.{Ended, OnAnswer, OnOthers, OnSettled, refusal_number};
+ghost use Rattle.sctp_c_calls.specs.Waiting.{HasMessage, NeedsMore, message_record};
+ghost use Rattle.sctp_c_records.specs.Shown.{Copied};
+ghost use Rattle.sctp_serial.specs.Messages.{message_of};
+ghost use Rattle.sctp_c_records.specs.Records.{given_send_options};
+ghost use Rattle.sctp_table.specs.Calls as calls;
+ghost use Rattle.sctp_table.specs.Input.{on_standing};
+
+use rand_core::Rng;
+use sctp_association::{Checksum, DcSctpSocket, Message, PpId, SendError, Socket, StreamId};
+use sctp_c_records::answers::{
+    EMPTY_PAYLOAD, FAILED, MEMORY, MESSAGE_TOO_LARGE, NO_ROOM, NOTHING, OK, RESOURCE_EXHAUSTION,
+    SHORT_BUFFER, SHUTTING_DOWN,
+};
+use sctp_c_records::{MessageRecord, SendRecord, put_bytes};
+use std::alloc::Global;
+
+/// Writes a message's record and, where they fit, its bytes. Answers whether they do.
+fn show(message: &Message, head: &mut MessageRecord, buffer: &mut [u8]) -> bool
+    ensures head { head.new ≡ message_record (message_of message.now) }
+    ensures bytes { Copied result message.now.payload.items buffer.old buffer.new }
+{
+    *head = MessageRecord {
+        stream: message.stream_id.0 as u32,
+        ppid: message.ppid.0,
+        length: message.payload.len(),
+    };
+    put_bytes(&message.payload, buffer)
+}
+
+/// Hands out the message that was ready first. Where it doesn't fit its length is told, and it stays.
+pub fn next_message<R: Rng, C: Checksum>(
+    socket: &mut Socket<R, C>,
+    head: &mut MessageRecord,
+    buffer: &mut [u8],
+) -> u32
+    ensures message { OnAnswer 0 result (HasMessage head.new buffer.new (calls.ready_in socket.old.state)) }
+    ensures taken { OnAnswer 0 result (endpoint R.stream C.word_of socket.new ≡ on_standing calls.take_message (endpoint R.stream C.word_of socket.old)) }
+    ensures failure { socket.new.has_failed ≡ socket.old.has_failed }
+    ensures stays { OnOthers 0 result (socket.new ≡ socket.old) }
+    ensures nothing { OnAnswer 8 result (calls.ready_in socket.old.state ≡ []) }
+    ensures needed { OnAnswer 9 result (NeedsMore head.new (length buffer.old) (calls.ready_in socket.old.state)) }
+{
+    let fits = match socket.ready_message(0) {
+        None => return NOTHING,
+        Some(message) => show(message, head, buffer),
+    };
+    if !fits {
+        return SHORT_BUFFER;
+    }
+    drop(socket.get_next_message());
+    OK
+}
+
+/// Queues a copy of a message, and sends as much as may be sent.
+pub fn send<R: Rng, C: Checksum>(
+    alloc: Global,
+    socket: &mut Socket<R, C>,
+    stream: u16,
+    ppid: u32,
+    payload: &[u8],
+    options: &SendRecord,
+) -> u32
+    requires { options.now.max_retransmissions < 2 ^ 16 }
+    ensures ends { Ended result socket.old socket.new }
+    ensures answer { OnSettled result (result ≡ refusal_number (calls.refusal_of (record { stream = stream; ppid = ppid; payload = payload.now }) (endpoint R.stream C.word_of socket.old).standing)) }
+    ensures sent { OnSettled result (endpoint R.stream C.word_of socket.new
+        ≡ on_standing (calls.send (record { stream = stream; ppid = ppid; payload = payload.now }) (given_send_options options.now)) (endpoint R.stream C.word_of socket.old)) }
+{
+    let Ok(payload) = Vec::from_slice(alloc, payload) else {
+        return NO_ROOM;
+    };
+    let message = Message::new(StreamId(stream), PpId(ppid), payload);
+    match socket.send(message, &options.options()) {
+        Ok(()) => OK,
+        Err(SendError::EmptyPayload) => EMPTY_PAYLOAD,
+        Err(SendError::MessageTooLarge { len: _, limit: _ }) => MESSAGE_TOO_LARGE,
+        Err(SendError::ShuttingDown) => SHUTTING_DOWN,
+        Err(SendError::ResourceExhaustion) => RESOURCE_EXHAUSTION,
+        Err(SendError::Memory) => MEMORY,
+        Err(SendError::Failed) => FAILED,
+    }
+}

@@ -1,0 +1,60 @@
+//! Settings of streams, and their reset.
+
+ghost use Rattle.std.specs.Prelude.{◌≡◌, [], ◌∷◌};
+ghost use Rattle.sctp_association.specs.Socket.{Ends, endpoint};
+ghost use Rattle.sctp_c_calls.specs.Answers.{OnAnswer, OnSettled, ending_at, reset_number};
+ghost use Rattle.sctp_table.specs.Association.{in_context};
+ghost use Rattle.sctp_table.specs.Calls as calls;
+ghost use Rattle.sctp_table.specs.Input.{on_standing};
+ghost use Rattle.sctp_table.specs.Resets as resets;
+
+use rand_core::Rng;
+use sctp_association::{CallError, Checksum, DcSctpSocket, ResetStreamsError, Socket, StreamId};
+use sctp_c_records::answers::{FAILED, MEMORY, NOT_CONNECTED, NOT_SUPPORTED, OK};
+
+/// Sets the priority of a stream.
+pub fn set_stream_priority<R: Rng, C: Checksum>(
+    socket: &mut Socket<R, C>,
+    id: u16,
+    priority: u16,
+) -> u32
+    ensures ends { Ends (ending_at result) socket.old socket.new }
+    ensures ok { OnAnswer 0 result (endpoint R.stream C.word_of socket.new ≡ on_standing (in_context (calls.set_priority id priority)) (endpoint R.stream C.word_of socket.old)) }
+{
+    match socket.set_stream_priority(StreamId(id), priority) {
+        Ok(()) => OK,
+        Err(CallError::Memory) => MEMORY,
+        Err(CallError::Failed) => FAILED,
+    }
+}
+
+/// Sets the amount in bytes at which a stream is low.
+pub fn set_buffered_amount_low_threshold<R: Rng, C: Checksum>(
+    socket: &mut Socket<R, C>,
+    id: u16,
+    bytes: usize,
+) -> u32
+    ensures ends { Ends (ending_at result) socket.old socket.new }
+    ensures ok { OnAnswer 0 result (endpoint R.stream C.word_of socket.new ≡ on_standing (in_context (calls.set_low_threshold id bytes)) (endpoint R.stream C.word_of socket.old)) }
+{
+    match socket.set_buffered_amount_low_threshold(StreamId(id), bytes) {
+        Ok(()) => OK,
+        Err(CallError::Memory) => MEMORY,
+        Err(CallError::Failed) => FAILED,
+    }
+}
+
+/// Resets a stream (RFC 6525).
+pub fn reset_stream<R: Rng, C: Checksum>(socket: &mut Socket<R, C>, id: u16) -> u32
+    ensures ends { Ends (ending_at result) socket.old socket.new }
+    ensures answer { OnSettled result (result ≡ reset_number (resets.reset_refusal socket.old.state)) }
+    ensures reset { OnSettled result (endpoint R.stream C.word_of socket.new ≡ on_standing (resets.reset_streams (id ∷ [])) (endpoint R.stream C.word_of socket.old)) }
+{
+    match socket.reset_streams(&[StreamId(id)]) {
+        Ok(()) => OK,
+        Err(ResetStreamsError::NotConnected) => NOT_CONNECTED,
+        Err(ResetStreamsError::NotSupported) => NOT_SUPPORTED,
+        Err(ResetStreamsError::Memory) => MEMORY,
+        Err(ResetStreamsError::Failed) => FAILED,
+    }
+}

@@ -1,0 +1,3 @@
+pub mod Checksums
+pub mod Records
+pub mod Shown

@@ -1,0 +1,69 @@
+-- What C sees of an event: a kind, numbers, and bytes.
+use Rattle.std.specs.Prelude.{◌≡◌, ◌<◌, ℕ, Bool, true, false, List, [], length, take}
+use Rattle.std.specs.List.{flat_map}
+use Rattle.sctp_wire.specs.Fields.{be16}
+use Rattle.sctp_state.specs.Events.{Event, SendPacket, OnConnected, OnClosed, OnConnectionRestarted, OnAborted, OnError, OnBufferedAmountLow, OnTotalBufferedAmountLow, OnStreamsResetFailed, OnStreamsResetPerformed, OnIncomingStreamReset, OnLifecycleMessageFullySent, OnLifecycleMessageMaybeExpired, OnLifecycleMessageExpired, OnLifecycleMessageDelivered, OnLifecycleEnd}
+use Rattle.sctp_state.specs.declared.api.ErrorKind.{ErrorKind}
+use Rattle.sctp_state.specs.declared.api.ErrorKind.TheVariants as kinds
+use Rattle.sctp_c_records.specs.declared.event.EventRecord.{EventRecord}
+
+abbrev pub error_number : ErrorKind → ℕ
+error_number kinds.NoError = 0
+error_number kinds.TooManyRetries = 1
+error_number kinds.NotConnected = 2
+error_number kinds.ParseFailed = 3
+error_number kinds.WrongSequence = 4
+error_number kinds.PeerReported = 5
+error_number kinds.ProtocolViolation = 6
+error_number kinds.ResourceExhaustion = 7
+error_number kinds.UnsupportedOperation = 8
+
+-- an event of a kind, with its error, its stream and its message, 0 where it has none
+abbrev pub shown : (kind error stream lifecycle length : ℕ) → EventRecord
+shown kind error stream lifecycle length = record { kind = kind; error = error; stream = stream; unused = 0; lifecycle = lifecycle; length = length }
+
+-- a packet, a text, or streams, each in two bytes
+abbrev pub bytes_of : Event (List ℕ) → List ℕ
+bytes_of (SendPacket bytes) = bytes
+bytes_of OnConnected = []
+bytes_of OnClosed = []
+bytes_of OnConnectionRestarted = []
+bytes_of (OnAborted kind text) = text
+bytes_of (OnError kind text) = text
+bytes_of (OnBufferedAmountLow stream) = []
+bytes_of OnTotalBufferedAmountLow = []
+bytes_of (OnStreamsResetFailed streams) = flat_map be16 streams
+bytes_of (OnStreamsResetPerformed streams) = flat_map be16 streams
+bytes_of (OnIncomingStreamReset streams) = flat_map be16 streams
+bytes_of (OnLifecycleMessageFullySent id) = []
+bytes_of (OnLifecycleMessageMaybeExpired id) = []
+bytes_of (OnLifecycleMessageExpired id) = []
+bytes_of (OnLifecycleMessageDelivered id) = []
+bytes_of (OnLifecycleEnd id) = []
+
+abbrev pub with_length : Event (List ℕ) → ℕ → EventRecord
+with_length (SendPacket bytes) = shown 0 0 0 0
+with_length OnConnected = shown 1 0 0 0
+with_length OnClosed = shown 2 0 0 0
+with_length OnConnectionRestarted = shown 3 0 0 0
+with_length (OnAborted kind text) = shown 4 (error_number kind) 0 0
+with_length (OnError kind text) = shown 5 (error_number kind) 0 0
+with_length (OnBufferedAmountLow stream) = shown 6 0 stream 0
+with_length OnTotalBufferedAmountLow = shown 7 0 0 0
+with_length (OnStreamsResetFailed streams) = shown 8 0 0 0
+with_length (OnStreamsResetPerformed streams) = shown 9 0 0 0
+with_length (OnIncomingStreamReset streams) = shown 10 0 0 0
+with_length (OnLifecycleMessageFullySent id) = shown 11 0 0 id
+with_length (OnLifecycleMessageMaybeExpired id) = shown 12 0 0 id
+with_length (OnLifecycleMessageExpired id) = shown 13 0 0 id
+with_length (OnLifecycleMessageDelivered id) = shown 14 0 0 id
+with_length (OnLifecycleEnd id) = shown 15 0 0 id
+
+-- the record of an event
+abbrev pub record_of : Event (List ℕ) → EventRecord
+record_of e = with_length e (length (bytes_of e))
+
+-- bytes were copied into a buffer, or are too many for it
+abbrev pub Copied : (fits : Bool) → (bytes old new : List ℕ) → Type 0
+Copied true bytes old new = take (length bytes) new ≡ bytes
+Copied false bytes old new = length old < length bytes

@@ -1,0 +1,67 @@
+//! The numbers that calls answer, and their texts.
+
+/// The call was done.
+pub const OK: u32 = 0;
+/// Too little memory: the socket has failed for good.
+pub const MEMORY: u32 = 1;
+/// An earlier call found too little memory.
+pub const FAILED: u32 = 2;
+/// The handle holds no socket.
+pub const NO_SOCKET: u32 = 3;
+/// The handle holds a socket already.
+pub const IN_USE: u32 = 4;
+/// No socket can be made with these options.
+pub const INVALID_OPTIONS: u32 = 5;
+/// No stream has this number.
+pub const INVALID_STREAM: u32 = 6;
+/// An argument is beyond what it can be.
+pub const INVALID_ARGUMENT: u32 = 7;
+/// No event waits, or no message is ready.
+pub const NOTHING: u32 = 8;
+/// The buffer is too short; what didn't fit stays.
+pub const SHORT_BUFFER: u32 = 9;
+/// A message has to have a byte.
+pub const EMPTY_PAYLOAD: u32 = 10;
+/// A message is larger than the options allow.
+pub const MESSAGE_TOO_LARGE: u32 = 11;
+/// The socket is shutting down, or closed.
+pub const SHUTTING_DOWN: u32 = 12;
+/// The send queue is full.
+pub const RESOURCE_EXHAUSTION: u32 = 13;
+/// There is no association.
+pub const NOT_CONNECTED: u32 = 14;
+/// The peer can't reset streams.
+pub const NOT_SUPPORTED: u32 = 15;
+/// Something stands in the way of a handover.
+pub const NOT_READY: u32 = 16;
+/// Too little memory to begin with: nothing changed.
+pub const NO_ROOM: u32 = 17;
+
+const TEXTS: [&str; 18] = [
+    "done",
+    "out of memory",
+    "socket has failed",
+    "no socket",
+    "the handle holds a socket",
+    "options are not valid",
+    "no such stream",
+    "argument is not valid",
+    "nothing there",
+    "buffer is too short",
+    "message payload cannot be empty",
+    "message exceeds the configured size",
+    "socket is shutting down or closed",
+    "send queue is full",
+    "socket is not connected",
+    "peer does not support stream resetting",
+    "socket is not in a ready state for handover",
+    "out of memory, nothing changed",
+];
+
+/// The text of an answer.
+pub fn text_of(answer: u32) -> &'static str {
+    match TEXTS.get(answer as usize) {
+        Some(text) => text,
+        None => "unknown answer",
+    }
+}

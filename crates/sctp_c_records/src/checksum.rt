@@ -1,0 +1,26 @@
+//! The checksum of packets.
+
+use sctp_crc32c::Crc32c;
+use sctp_wire::Checksum;
+
+/// What stands in the checksum field of packets.
+#[derive(Clone, Copy, Drop)]
+pub enum PacketChecksum {
+    /// CRC32c (RFC 9260 section 6.8).
+    Crc32c,
+    /// Zero, over a lower layer that finds damage (RFC 9653).
+    Zero,
+}
+
+impl Checksum for PacketChecksum {
+    ghost use Rattle.sctp_c_records.specs.Checksums.{word_by};
+
+    ghost word_of = { word_by };
+
+    fn word(&self, before: &[u8], after: &[u8]) -> u32 {
+        match self {
+            PacketChecksum::Crc32c => Crc32c.word(before, after),
+            PacketChecksum::Zero => 0,
+        }
+    }
+}

@@ -1,0 +1,155 @@
+//! An event as C has it: a record, and bytes that are copied.
+
+ghost use Rattle.std.specs.Prelude.{◌≡◌, IfOk};
+ghost use Rattle.std.specs.List.{flat_map};
+ghost use Rattle.sctp_wire.specs.Fields.{be16};
+ghost use Rattle.sctp_state.specs.Events.{event_of, numbers_of};
+ghost use Rattle.sctp_c_records.specs.Shown.{Copied, bytes_of, error_number, record_of, shown, with_length};
+
+use sctp_serial::StreamId;
+use sctp_state::{ErrorKind, SocketEvent};
+use sctp_wire::push_entries;
+use std::alloc::{AllocError, Global};
+
+/// What an event is beside its bytes; in C `sctp_event`.
+#[repr(C)]
+#[derive(Clone, Copy)]
+pub struct EventRecord {
+    pub kind: u32,
+    pub error: u32,
+    pub stream: u32,
+    pub unused: u32,
+    pub lifecycle: u64,
+    pub length: usize,
+}
+
+fn error_number(kind: ErrorKind) -> u32
+    ensures { result ≡ error_number kind }
+{
+    match kind {
+        ErrorKind::NoError => 0,
+        ErrorKind::TooManyRetries => 1,
+        ErrorKind::NotConnected => 2,
+        ErrorKind::ParseFailed => 3,
+        ErrorKind::WrongSequence => 4,
+        ErrorKind::PeerReported => 5,
+        ErrorKind::ProtocolViolation => 6,
+        ErrorKind::ResourceExhaustion => 7,
+        ErrorKind::UnsupportedOperation => 8,
+    }
+}
+
+impl EventRecord {
+    fn of(kind: u32, error: u32, stream: u32, lifecycle: u64, length: usize) -> EventRecord
+        ensures { result ≡ shown kind error stream lifecycle length }
+    {
+        EventRecord {
+            kind,
+            error,
+            stream,
+            unused: 0,
+            lifecycle,
+            length,
+        }
+    }
+}
+
+/// The record of an event with so many bytes.
+fn record_of(told: &SocketEvent, length: usize) -> EventRecord
+    ensures { result ≡ with_length (event_of told.now) length }
+{
+    match told {
+        SocketEvent::SendPacket(_) => EventRecord::of(0, 0, 0, 0, length),
+        SocketEvent::OnConnected() => EventRecord::of(1, 0, 0, 0, length),
+        SocketEvent::OnClosed() => EventRecord::of(2, 0, 0, 0, length),
+        SocketEvent::OnConnectionRestarted() => EventRecord::of(3, 0, 0, 0, length),
+        SocketEvent::OnAborted(kind, _) => EventRecord::of(4, error_number(*kind), 0, 0, length),
+        SocketEvent::OnError(kind, _) => EventRecord::of(5, error_number(*kind), 0, 0, length),
+        SocketEvent::OnBufferedAmountLow(id) => EventRecord::of(6, 0, id.0 as u32, 0, length),
+        SocketEvent::OnTotalBufferedAmountLow() => EventRecord::of(7, 0, 0, 0, length),
+        SocketEvent::OnStreamsResetFailed(_) => EventRecord::of(8, 0, 0, 0, length),
+        SocketEvent::OnStreamsResetPerformed(_) => EventRecord::of(9, 0, 0, 0, length),
+        SocketEvent::OnIncomingStreamReset(_) => EventRecord::of(10, 0, 0, 0, length),
+        SocketEvent::OnLifecycleMessageFullySent(id) => {
+            EventRecord::of(11, 0, 0, id.value(), length)
+        }
+        SocketEvent::OnLifecycleMessageMaybeExpired(id) => {
+            EventRecord::of(12, 0, 0, id.value(), length)
+        }
+        SocketEvent::OnLifecycleMessageExpired(id) => {
+            EventRecord::of(13, 0, 0, id.value(), length)
+        }
+        SocketEvent::OnLifecycleMessageDelivered(id) => {
+            EventRecord::of(14, 0, 0, id.value(), length)
+        }
+        SocketEvent::OnLifecycleEnd(id) => EventRecord::of(15, 0, 0, id.value(), length),
+    }
+}
+
+/// Copies the bytes where they fit, and answers whether they do.
+pub fn put_bytes(bytes: &[u8], buffer: &mut [u8]) -> bool
+    ensures { Copied result bytes.now buffer.old buffer.new }
+{
+    if buffer.len() < bytes.len() {
+        return false;
+    }
+    let (front, _) = buffer.split_at_mut(bytes.len());
+    front.copy_from_slice(bytes);
+    true
+}
+
+/// Writes the record of an event that has these bytes and, where they fit, the bytes.
+fn put(told: &SocketEvent, bytes: &[u8], head: &mut EventRecord, buffer: &mut [u8]) -> bool
+    requires { bytes.now ≡ bytes_of (event_of told.now) }
+    ensures head { head.new ≡ record_of (event_of told.now) }
+    ensures bytes { Copied result (bytes_of (event_of told.now)) buffer.old buffer.new }
+{
+    *head = record_of(told, bytes.len());
+    put_bytes(bytes, buffer)
+}
+
+fn put_streams(
+    alloc: Global,
+    told: &SocketEvent,
+    ids: &[StreamId],
+    head: &mut EventRecord,
+    buffer: &mut [u8],
+) -> Result<bool, AllocError>
+    requires { flat_map be16 (numbers_of ids.now) ≡ bytes_of (event_of told.now) }
+    ensures head { IfOk result (λ fits. head.new ≡ record_of (event_of told.now)) }
+    ensures bytes { IfOk result (λ fits. Copied fits (bytes_of (event_of told.now)) buffer.old buffer.new) }
+{
+    let mut bytes = Vec::new(alloc);
+    push_entries(&mut bytes, ids)?;
+    Ok(put(told, &bytes, head, buffer))
+}
+
+/// Writes what an event is and, where they fit, its bytes. Answers whether they do.
+pub fn hand_out(
+    alloc: Global,
+    told: &SocketEvent,
+    head: &mut EventRecord,
+    buffer: &mut [u8],
+) -> Result<bool, AllocError>
+    ensures head { IfOk result (λ fits. head.new ≡ record_of (event_of told.now)) }
+    ensures bytes { IfOk result (λ fits. Copied fits (bytes_of (event_of told.now)) buffer.old buffer.new) }
+{
+    match told {
+        SocketEvent::SendPacket(bytes) => Ok(put(told, bytes, head, buffer)),
+        SocketEvent::OnAborted(_, text) => Ok(put(told, text.as_bytes(), head, buffer)),
+        SocketEvent::OnError(_, text) => Ok(put(told, text.as_bytes(), head, buffer)),
+        SocketEvent::OnStreamsResetFailed(ids) => put_streams(alloc, told, ids, head, buffer),
+        SocketEvent::OnStreamsResetPerformed(ids) => put_streams(alloc, told, ids, head, buffer),
+        SocketEvent::OnIncomingStreamReset(ids) => put_streams(alloc, told, ids, head, buffer),
+        SocketEvent::OnConnected() => Ok(put(told, &[], head, buffer)),
+        SocketEvent::OnClosed() => Ok(put(told, &[], head, buffer)),
+        SocketEvent::OnConnectionRestarted() => Ok(put(told, &[], head, buffer)),
+        SocketEvent::OnBufferedAmountLow(_) => Ok(put(told, &[], head, buffer)),
+        SocketEvent::OnTotalBufferedAmountLow() => Ok(put(told, &[], head, buffer)),
+        SocketEvent::OnLifecycleMessageFullySent(_) => Ok(put(told, &[], head, buffer)),
+        SocketEvent::OnLifecycleMessageMaybeExpired(_) => Ok(put(told, &[], head, buffer)),
+        SocketEvent::OnLifecycleMessageExpired(_) => Ok(put(told, &[], head, buffer)),
+        SocketEvent::OnLifecycleMessageDelivered(_) => Ok(put(told, &[], head, buffer)),
+        SocketEvent::OnLifecycleEnd(_) => Ok(put(told, &[], head, buffer)),
+    }
+}

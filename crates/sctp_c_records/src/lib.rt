@@ -1,0 +1,13 @@
+//! What crosses to C: the numbers that calls answer, and the records of `include/sctp.h`, as the socket's own values.
+#![tactic(auto)]
+
+pub mod answers;
+mod checksum;
+mod event;
+mod message;
+mod options;
+
+pub use checksum::PacketChecksum;
+pub use event::{EventRecord, hand_out, put_bytes};
+pub use message::{MessageRecord, SendRecord};
+pub use options::OptionsRecord;

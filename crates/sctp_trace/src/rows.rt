@@ -1,0 +1,77 @@
+//! What happened, row by row.
+
+ghost use Rattle.std.specs.Prelude.{◌≡◌, ◌&&◌, ◌==◌, Some};
+ghost use Rattle.sctp_trace.specs.Rows.{other, end_name, same_end, sends, is_given};
+
+use std::fmt;
+
+/// One of the two ends; the lifeline of `A` is the left one.
+#[derive(Clone, Copy, Debug, PartialEq, Eq)]
+pub enum End {
+    A,
+    B,
+}
+
+impl fmt::Display for End {
+    ghost output = { λ end. Some (end_name end) };
+
+    fn fmt<W: fmt::Write>(&self, f: &mut fmt::Formatter<W>) -> fmt::Result {
+        match self {
+            End::A => write!(f, "a"),
+            End::B => write!(f, "b"),
+        }
+    }
+}
+
+impl End {
+    /// The other end.
+    pub fn other(self) -> End
+        ensures { result ≡ other self }
+    {
+        match self {
+            End::A => End::B,
+            End::B => End::A,
+        }
+    }
+}
+
+/// What a row shows.
+#[derive(Debug, Drop)]
+pub enum What {
+    /// The end sent its packet of this number, from 0 on: its bytes, and its chunks in a few words.
+    Sent(usize, Vec<u8>, String),
+    /// The packet of this number of the other end was given to this one.
+    Given(usize),
+    /// A call, an event, a message or a state.
+    Told(String),
+}
+
+/// What happened at an end, and when by its clock, in nanoseconds.
+#[derive(Debug, Drop)]
+pub struct Row {
+    pub end: End,
+    pub nanoseconds: u64,
+    pub what: What,
+}
+
+impl Row {
+    /// Whether the end sends its packet of this number here.
+    pub fn sends(&self, from: End, number: usize) -> bool
+        ensures { result ≡ sends from number self.now }
+    {
+        match &self.what {
+            What::Sent(sent, _, _) => self.end == from && *sent == number,
+            _ => false,
+        }
+    }
+
+    /// Whether the packet of this number that `from` sent is given here.
+    pub fn is_given(&self, from: End, number: usize) -> bool
+        ensures { result ≡ is_given from number self.now }
+    {
+        match &self.what {
+            What::Given(given) => self.end == from.other() && *given == number,
+            _ => false,
+        }
+    }
+}

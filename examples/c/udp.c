@@ -1,0 +1,108 @@
+/* A chat over UDP on the loopback (UDP encapsulation as RFC 6951): `udp listen`, and in another terminal `udp connect`. Lines that are
+ * typed go to the other end; the end of the input shuts the association down. */
+#define _POSIX_C_SOURCE 200809L
+#include "sctp.h"
+#include <arpa/inet.h>
+#include <poll.h>
+#include <stdio.h>
+#include <stdlib.h>
+#include <string.h>
+#include <sys/socket.h>
+#include <time.h>
+#include <unistd.h>
+
+static uint64_t nanos(void) {
+    struct timespec t;
+    clock_gettime(CLOCK_MONOTONIC, &t);
+    return (uint64_t)t.tv_sec * 1000000000u + (uint64_t)t.tv_nsec;
+}
+
+static struct sockaddr_in loopback(uint16_t port) {
+    struct sockaddr_in address;
+    memset(&address, 0, sizeof address);
+    address.sin_family = AF_INET;
+    address.sin_port = htons(port);
+    address.sin_addr.s_addr = htonl(INADDR_LOOPBACK);
+    return address;
+}
+
+/* Sends the packets that wait, and prints the other events and the messages. Answers whether the association goes on. */
+static int take_all(sctp_socket *end, int wire, const struct sockaddr_in *peer) {
+    uint8_t buffer[65536];
+    sctp_event event;
+    sctp_message message;
+    int goes_on = 1;
+    while (sctp_poll_event(end, &event, buffer, sizeof buffer) == SCTP_OK) {
+        if (event.kind == SCTP_SEND_PACKET) {
+            /* a packet that the network refuses is lost: it is sent again in time */
+            (void)!sendto(wire, buffer, event.length, 0, (const struct sockaddr *)peer, sizeof *peer);
+        } else if (event.kind == SCTP_ON_CONNECTED) {
+            fprintf(stderr, "connected\n");
+        } else if (event.kind == SCTP_ON_CLOSED || event.kind == SCTP_ON_ABORTED) {
+            fprintf(stderr, "closed\n");
+            goes_on = 0;
+        }
+    }
+    while (sctp_next_message(end, &message, buffer, sizeof buffer) == SCTP_OK) {
+        fwrite(buffer, 1, message.length, stdout);
+        fflush(stdout);
+    }
+    return goes_on;
+}
+
+int main(int count, char **words) {
+    if (count != 2 || (strcmp(words[1], "listen") != 0 && strcmp(words[1], "connect") != 0)) {
+        fprintf(stderr, "usage: udp listen|connect\n");
+        return 2;
+    }
+    int connects = strcmp(words[1], "connect") == 0, reads = 1, goes_on = 1;
+    struct sockaddr_in own = loopback(connects ? 9900 : 9899), peer = loopback(connects ? 9899 : 9900);
+    int wire = socket(AF_INET, SOCK_DGRAM, 0);
+    if (wire < 0 || bind(wire, (const struct sockaddr *)&own, sizeof own) != 0) {
+        perror("bind");
+        return 1;
+    }
+    sctp_socket end = SCTP_NO_HANDLE;
+    sctp_options options;
+    sctp_send_options plainly = {0, 0, 0, 0};
+    uint64_t seeds[2], start = nanos();
+    FILE *random = fopen("/dev/urandom", "rb");
+    if (random == NULL || fread(seeds, sizeof seeds, 1, random) != 1)
+        return 1;
+    fclose(random);
+    sctp_default_options(&options);
+    if (sctp_new(&end, &options, seeds[0], seeds[1]) != SCTP_OK)
+        return 1;
+    if (connects)
+        sctp_connect(&end);
+    while (goes_on) {
+        uint8_t bytes[65536];
+        uint64_t due = UINT64_MAX, now = nanos() - start;
+        uint32_t state;
+        goes_on = take_all(&end, wire, &peer);
+        sctp_poll_timeout(&end, &due);
+        int wait = due <= now ? 0 : due - now > 1000000000u ? 1000 : (int)((due - now) / 1000000 + 1);
+        struct pollfd ready[2] = {{wire, POLLIN, 0}, {reads ? STDIN_FILENO : -1, POLLIN, 0}};
+        if (goes_on && poll(ready, 2, wait) > 0) {
+            if (ready[0].revents & POLLIN) {
+                ssize_t length = recv(wire, bytes, sizeof bytes, 0);
+                if (length > 0)
+                    sctp_handle_input(&end, bytes, (size_t)length);
+            }
+            if (ready[1].revents & (POLLIN | POLLHUP)) {
+                ssize_t length = read(STDIN_FILENO, bytes, sizeof bytes);
+                if (length > 0) {
+                    sctp_send(&end, 0, 51, bytes, (size_t)length, &plainly);
+                } else {
+                    reads = 0;
+                    sctp_shutdown(&end);
+                    goes_on = sctp_state(&end, &state) == SCTP_OK && state != SCTP_CLOSED;
+                }
+            }
+        }
+        sctp_advance_time(&end, nanos() - start);
+    }
+    sctp_free(&end);
+    close(wire);
+    return 0;
+}

@@ -1,0 +1,67 @@
+#!/usr/bin/env python3
+"""Two sockets over memory, by ctypes: python3 loop.py build/libsctp.so"""
+import ctypes as c
+import sys
+
+
+class Socket(c.Structure):
+    _fields_ = [("at", c.c_void_p)]
+
+
+class SendOptions(c.Structure):
+    _fields_ = [("flags", c.c_uint32), ("max_retransmissions", c.c_uint32), ("lifetime", c.c_uint64), ("lifecycle", c.c_uint64)]
+
+
+class Message(c.Structure):
+    _fields_ = [("stream", c.c_uint32), ("ppid", c.c_uint32), ("length", c.c_size_t)]
+
+
+class Event(c.Structure):
+    _fields_ = [(name, c.c_uint32) for name in ("kind", "error", "stream", "unused")] + [("lifecycle", c.c_uint64), ("length", c.c_size_t)]
+
+
+OK, NOTHING, SEND_PACKET = 0, 8, 0
+sctp = c.CDLL(sys.argv[1])
+buffer = c.create_string_buffer(65536)
+
+
+def call(name, *arguments):
+    answer = getattr(sctp, name)(*arguments)
+    assert answer in (OK, NOTHING), f"{name} answers {answer}"
+    return answer
+
+
+def new(seed):
+    end, options = Socket(), c.create_string_buffer(256)
+    sctp.sctp_default_options(options)
+    call("sctp_new", c.byref(end), options, c.c_uint64(seed), c.c_uint64(seed))
+    return end
+
+
+def settle(ends):
+    """Hands each packet to the other end, until none is told."""
+    goes_on = True
+    while goes_on:
+        goes_on = False
+        for i, end in enumerate(ends):
+            event = Event()
+            while call("sctp_poll_event", c.byref(end), c.byref(event), buffer, c.c_size_t(65536)) == OK:
+                if event.kind == SEND_PACKET:
+                    packet = buffer.raw[: event.length]
+                    call("sctp_handle_input", c.byref(ends[1 - i]), packet, c.c_size_t(len(packet)))
+                    goes_on = True
+                else:
+                    print("ab"[i], "event", event.kind)
+
+
+a, b = ends = new(1), new(2)
+call("sctp_connect", c.byref(a))
+settle(ends)
+text = b"hello from python"
+call("sctp_send", c.byref(a), 1, 51, text, c.c_size_t(len(text)), c.byref(SendOptions()))
+settle(ends)
+message = Message()
+call("sctp_next_message", c.byref(b), c.byref(message), buffer, c.c_size_t(65536))
+print("b stream", message.stream, buffer.raw[: message.length].decode())
+for end in ends:
+    sctp.sctp_free(c.byref(end))
