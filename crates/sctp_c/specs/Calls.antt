@@ -1,11 +1,11 @@
 -- What a call through a handle does to the socket behind it.
-use Rattle.std.specs.Prelude.{◌≡◌, ℕ, Option, Some, None, List}
+use Rattle.std.specs.Prelude.{◌≡◌, ℕ, Option, Some, None, List, [], ◌∷◌}
 use Rattle.rand_core.specs.Steps.{stream_of, steps_u32}
 use Rattle.rand_core.specs.Stream.{Stream}
 use Rattle.rand_pcg.specs.Lcg.{Lcg}
 use Rattle.rand_pcg.specs.Pcg.{pcg32}
 use Rattle.sctp_association.specs.Socket.{SocketValue, Ends, endpoint}
-use Rattle.sctp_c_calls.specs.Answers.{OnAnswer, ending_at}
+use Rattle.sctp_c_calls.specs.Answers.{IsAmong, OnAnswer, ending_at}
 use Rattle.sctp_c_records.specs.Checksums.{word_by}
 use Rattle.sctp_c_records.specs.declared.checksum.PacketChecksum.{PacketChecksum}
 use Rattle.sctp_table.specs.Association.{Endpoint as End}
@@ -31,9 +31,9 @@ Answers call (Some e) n (Some f) = call e n f
 abbrev pub OnSocket : (call : CSocket → ℕ → CSocket → Type 0) → Endpoint → ℕ → Endpoint → Type 0
 OnSocket call e n f = call e.socket n f.socket × (f.event ≡ e.event)
 
--- a changing call
+-- a changing call: done, or out of memory, now or earlier
 abbrev pub Makes : (effect : CSocket → End (List ℕ) → Type 0) → (old : Option Endpoint) → ℕ → (new : Option Endpoint) → Type 0
-Makes effect = Answers (OnSocket (λ s n t. Ends (ending_at n) s t × OnAnswer 0 n (effect s (end_of t))))
+Makes effect = Answers (OnSocket (λ s n t. IsAmong (0 ∷ 1 ∷ 2 ∷ []) n × (Ends (ending_at n) s t × OnAnswer 0 n (effect s (end_of t)))))
 
 -- a question changes nothing
 abbrev pub Tells : (answer : CSocket → Type 0) → (old : Option Endpoint) → ℕ → (new : Option Endpoint) → Type 0

@@ -1,8 +1,8 @@
 //! What a socket told, handed out. What doesn't fit stays.
 
-ghost use Rattle.std.specs.Prelude.{◌≡◌, [], length, drop};
+ghost use Rattle.std.specs.Prelude.{◌≡◌, [], ◌∷◌, length, drop};
 ghost use Rattle.sctp_c.specs.Calls.{Answers};
-ghost use Rattle.sctp_c_calls.specs.Answers.{OnAnswer, OnOthers};
+ghost use Rattle.sctp_c_calls.specs.Answers.{IsAmong, OnAnswer, OnOthers};
 ghost use Rattle.sctp_c_calls.specs.Waiting.{Needs, Shows, waiting, with_events};
 
 use crate::handle::Handle;
@@ -19,6 +19,7 @@ pub extern "C" fn sctp_poll_event(
     head: &mut EventRecord,
     buffer: &mut [u8],
 ) -> u32
+    ensures answers { Answers (λ e n f. IsAmong (0 ∷ 8 ∷ 9 ∷ 17 ∷ []) n) socket.old.held result socket.new.held }
     ensures taken { Answers (λ e n f. OnAnswer 0 n (waiting f.event f.socket ≡ drop 1 (waiting e.event e.socket))) socket.old.held result socket.new.held }
     ensures shown { Answers (λ e n f. OnAnswer 0 n (Shows head.new buffer.new (waiting e.event e.socket))) socket.old.held result socket.new.held }
     ensures stays { Answers (λ e n f. OnOthers 0 n (waiting f.event f.socket ≡ waiting e.event e.socket)) socket.old.held result socket.new.held }

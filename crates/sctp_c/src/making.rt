@@ -1,10 +1,10 @@
 //! A socket is made, and let go.
 
-ghost use Rattle.std.specs.Prelude.{◌≡◌, None, is_some, true, false, IfOk};
+ghost use Rattle.std.specs.Prelude.{◌≡◌, [], ◌∷◌, None, is_some, true, false, IfOk};
 ghost use Rattle.rand_pcg.specs.Lcg.{increment_of, started};
 ghost use Rattle.rand_pcg.specs.Pcg.{multiplier_64};
 ghost use Rattle.sctp_c.specs.Made.{IsFresh, Made, NamesKnown};
-ghost use Rattle.sctp_c_calls.specs.Answers.{OnAnswer, OnOthers};
+ghost use Rattle.sctp_c_calls.specs.Answers.{IsAmong, OnAnswer, OnOthers};
 ghost use Rattle.sctp_c_records.specs.Records.{given_options};
 ghost use Rattle.sctp_state.specs.Options.{IsValid, defaults, options_of};
 
@@ -61,6 +61,10 @@ pub extern "C" fn sctp_new(
     seed: u64,
     stream: u64,
 ) -> u32
+    ensures answers { IsAmong (0 ∷ 4 ∷ 5 ∷ 7 ∷ 17 ∷ []) result }
+    ensures in_use { OnAnswer 4 result (is_some socket.old.held ≡ true) }
+    ensures unknown { OnAnswer 7 result (NamesKnown options.now → ⊥) }
+    ensures invalid { OnAnswer 5 result (IsValid (given_options options.now) → ⊥) }
     ensures used { is_some socket.old.held ≡ true → (result ≡ 4) × (socket.new.held ≡ socket.old.held) }
     ensures failed { is_some socket.old.held ≡ false → OnOthers 0 result (socket.new.held ≡ None) }
     ensures made { OnAnswer 0 result (Made options.now (started 64 multiplier_64 seed (increment_of 64 stream)) socket.new.held) }

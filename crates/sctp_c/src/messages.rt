@@ -1,8 +1,8 @@
 //! Messages, in and out.
 
-ghost use Rattle.std.specs.Prelude.{◌≡◌, [], length, ◌<◌, ◌≤◌};
+ghost use Rattle.std.specs.Prelude.{◌≡◌, [], ◌∷◌, length, ◌<◌, ◌≤◌};
 ghost use Rattle.sctp_c.specs.Calls.{Answers, OnSocket, end_of};
-ghost use Rattle.sctp_c_calls.specs.Answers.{Ended, OnAnswer, OnOthers, OnSettled, refusal_number};
+ghost use Rattle.sctp_c_calls.specs.Answers.{Ended, IsAmong, OnAnswer, OnOthers, OnSettled, refusal_number};
 ghost use Rattle.sctp_c_calls.specs.Waiting.{HasMessage, NeedsMore};
 ghost use Rattle.sctp_c_records.specs.Records.{IsKnown, given_send_options};
 ghost use Rattle.sctp_table.specs.Calls as table;
@@ -21,6 +21,7 @@ pub extern "C" fn sctp_next_message(
     head: &mut MessageRecord,
     buffer: &mut [u8],
 ) -> u32
+    ensures answers { Answers (λ e n f. IsAmong (0 ∷ 8 ∷ 9 ∷ []) n) socket.old.held result socket.new.held }
     ensures message { Answers (OnSocket (λ s n t. OnAnswer 0 n (HasMessage head.new buffer.new (table.ready_in s.state)))) socket.old.held result socket.new.held }
     ensures taken { Answers (OnSocket (λ s n t. OnAnswer 0 n (end_of t ≡ on_standing table.take_message (end_of s)))) socket.old.held result socket.new.held }
     ensures stays { Answers (OnSocket (λ s n t. OnOthers 0 n (t ≡ s))) socket.old.held result socket.new.held }
@@ -45,6 +46,7 @@ pub extern "C" fn sctp_send(
 ) -> u32
     ensures stream { 65535 < stream → (result ≡ 6) × (socket.new.held ≡ socket.old.held) }
     ensures unknown { stream ≤ 65535 → (IsKnown options.now → ⊥) → (result ≡ 7) × (socket.new.held ≡ socket.old.held) }
+    ensures answers { stream ≤ 65535 → IsKnown options.now → Answers (λ e n f. IsAmong (0 ∷ 1 ∷ 2 ∷ 10 ∷ 11 ∷ 12 ∷ 13 ∷ 17 ∷ []) n) socket.old.held result socket.new.held }
     ensures ends { stream ≤ 65535 → IsKnown options.now → Answers (OnSocket (λ s n t. Ended n s t)) socket.old.held result socket.new.held }
     ensures answer { stream ≤ 65535 → IsKnown options.now → Answers (OnSocket (λ s n t. OnSettled n (n ≡ refusal_number (table.refusal_of (record { stream = stream; ppid = ppid; payload = payload.now }) (end_of s).standing)))) socket.old.held result socket.new.held }
     ensures sent { stream ≤ 65535 → IsKnown options.now → Answers (OnSocket (λ s n t. OnSettled n (end_of t

@@ -3,7 +3,7 @@
 ghost use Rattle.std.specs.Prelude.{◌≡◌, ◌∷◌, [], ◌<◌, ◌≤◌};
 ghost use Rattle.sctp_association.specs.Socket.{Ends};
 ghost use Rattle.sctp_c.specs.Calls.{Answers, Makes, OnSocket, end_of};
-ghost use Rattle.sctp_c_calls.specs.Answers.{OnSettled, ending_at, reset_number};
+ghost use Rattle.sctp_c_calls.specs.Answers.{IsAmong, OnSettled, ending_at, reset_number};
 ghost use Rattle.sctp_table.specs.Association.{in_context};
 ghost use Rattle.sctp_table.specs.Calls as table;
 ghost use Rattle.sctp_table.specs.Input.{on_standing};
@@ -55,9 +55,9 @@ pub extern "C" fn sctp_set_buffered_amount_low_threshold(
 #[unsafe(no_mangle)]
 pub extern "C" fn sctp_reset_stream(socket: &mut Handle, stream: u32) -> u32
     ensures stream { 65535 < stream → (result ≡ 6) × (socket.new.held ≡ socket.old.held) }
-    ensures call { stream ≤ 65535 → Answers (OnSocket (λ s n t. Ends (ending_at n) s t
+    ensures call { stream ≤ 65535 → Answers (OnSocket (λ s n t. IsAmong (0 ∷ 1 ∷ 2 ∷ 14 ∷ 15 ∷ []) n × (Ends (ending_at n) s t
         × (OnSettled n (n ≡ reset_number (resets.reset_refusal s.state))
-        × OnSettled n (end_of t ≡ on_standing (resets.reset_streams (stream ∷ [])) (end_of s))))) socket.old.held result socket.new.held }
+        × OnSettled n (end_of t ≡ on_standing (resets.reset_streams (stream ∷ [])) (end_of s)))))) socket.old.held result socket.new.held }
 {
     if 65_535 < stream {
         return INVALID_STREAM;

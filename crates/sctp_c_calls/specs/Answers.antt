@@ -1,5 +1,5 @@
 -- What a call did, by the number that it answers.
-use Rattle.std.specs.Prelude.{◌≡◌, ℕ, zero, suc, ◌==◌, ◌||◌, ◌&&◌, nat_le, Bool, true, false, Option, Some, None}
+use Rattle.std.specs.Prelude.{◌≡◌, ℕ, zero, suc, ◌==◌, ◌||◌, ◌&&◌, nat_le, Bool, true, false, Option, Some, None, List, [], ◌∷◌}
 use Rattle.sctp_state.specs.declared.api.errors.SendError.{SendError}
 use Rattle.sctp_state.specs.declared.api.errors.SendError.TheVariants.{EmptyPayload, MessageTooLarge, ShuttingDown, ResourceExhaustion, Memory, Failed}
 use Rattle.sctp_state.specs.declared.api.errors.ResetStreamsError.{ResetStreamsError}
@@ -18,6 +18,14 @@ ending_at (suc (suc (suc n))) = Worked
 abbrev pub by_test : Bool → Type 0 → Type 0 → Type 0
 by_test true P Q = P
 by_test false P Q = Q
+
+-- the answer is one of these
+abbrev pub is_among : List ℕ → ℕ → Bool
+is_among [] answer = false
+is_among (n ∷ ns) answer = answer == n || is_among ns answer
+
+abbrev pub IsAmong : List ℕ → ℕ → Type 0
+IsAmong ns answer = is_among ns answer ≡ true
 
 -- P, where the answer is this one
 abbrev pub OnAnswer : (expected answer : ℕ) → Type 0 → Type 0

@@ -1,8 +1,8 @@
 //! The calls that answer a number alone.
 
-ghost use Rattle.std.specs.Prelude.{◌≡◌};
+ghost use Rattle.std.specs.Prelude.{◌≡◌, [], ◌∷◌};
 ghost use Rattle.sctp_association.specs.Socket.{Ends, endpoint};
-ghost use Rattle.sctp_c_calls.specs.Answers.{OnAnswer, ending_at};
+ghost use Rattle.sctp_c_calls.specs.Answers.{IsAmong, OnAnswer, ending_at};
 ghost use Rattle.sctp_table.specs.Closing as closing;
 ghost use Rattle.sctp_table.specs.Hearing.{Hears};
 ghost use Rattle.sctp_table.specs.Input.{on_standing};
@@ -16,6 +16,7 @@ use std::time::Duration;
 
 /// Opens an association, where the socket is closed.
 pub fn connect<R: Rng, C: Checksum>(socket: &mut Socket<R, C>) -> u32
+    ensures answers { IsAmong (0 ∷ 1 ∷ 2 ∷ []) result }
     ensures ends { Ends (ending_at result) socket.old socket.new }
     ensures ok { OnAnswer 0 result (endpoint R.stream C.word_of socket.new ≡ opening.connect (endpoint R.stream C.word_of socket.old)) }
 {
@@ -28,6 +29,7 @@ pub fn connect<R: Rng, C: Checksum>(socket: &mut Socket<R, C>) -> u32
 
 /// Shuts the association down (RFC 9260 section 9.2).
 pub fn shutdown<R: Rng, C: Checksum>(socket: &mut Socket<R, C>) -> u32
+    ensures answers { IsAmong (0 ∷ 1 ∷ 2 ∷ []) result }
     ensures ends { Ends (ending_at result) socket.old socket.new }
     ensures ok { OnAnswer 0 result (endpoint R.stream C.word_of socket.new ≡ on_standing closing.shutdown (endpoint R.stream C.word_of socket.old)) }
 {
@@ -40,6 +42,7 @@ pub fn shutdown<R: Rng, C: Checksum>(socket: &mut Socket<R, C>) -> u32
 
 /// Ends the association at once, with an ABORT to the peer (RFC 9260 section 9.1).
 pub fn close<R: Rng, C: Checksum>(socket: &mut Socket<R, C>) -> u32
+    ensures answers { IsAmong (0 ∷ 1 ∷ 2 ∷ []) result }
     ensures ends { Ends (ending_at result) socket.old socket.new }
     ensures ok { OnAnswer 0 result (endpoint R.stream C.word_of socket.new ≡ on_standing closing.close (endpoint R.stream C.word_of socket.old)) }
 {
@@ -52,6 +55,7 @@ pub fn close<R: Rng, C: Checksum>(socket: &mut Socket<R, C>) -> u32
 
 /// Takes the bytes of a packet that came.
 pub fn handle_input<R: Rng, C: Checksum>(socket: &mut Socket<R, C>, bytes: &[u8]) -> u32
+    ensures answers { IsAmong (0 ∷ 1 ∷ 2 ∷ []) result }
     ensures ends { Ends (ending_at result) socket.old socket.new }
     ensures ok { OnAnswer 0 result (Hears (C.word_of socket.old.context.checksum) bytes.now (endpoint R.stream C.word_of socket.old) (endpoint R.stream C.word_of socket.new)) }
 {
@@ -64,6 +68,7 @@ pub fn handle_input<R: Rng, C: Checksum>(socket: &mut Socket<R, C>, bytes: &[u8]
 
 /// Tells the time, in nanoseconds since the socket was made.
 pub fn advance_time<R: Rng, C: Checksum>(socket: &mut Socket<R, C>, nanos: u64) -> u32
+    ensures answers { IsAmong (0 ∷ 1 ∷ 2 ∷ []) result }
     ensures ends { Ends (ending_at result) socket.old socket.new }
     ensures ok { OnAnswer 0 result (endpoint R.stream C.word_of socket.new ≡ on_standing (time.advance nanos) (endpoint R.stream C.word_of socket.old)) }
 {

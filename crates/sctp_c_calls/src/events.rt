@@ -1,7 +1,7 @@
 //! What a socket told, handed out. What doesn't fit stays.
 
-ghost use Rattle.std.specs.Prelude.{◌≡◌, [], length, drop, IfNone};
-ghost use Rattle.sctp_c_calls.specs.Answers.{OnAnswer, OnOthers};
+ghost use Rattle.std.specs.Prelude.{◌≡◌, [], ◌∷◌, length, drop, IfNone};
+ghost use Rattle.sctp_c_calls.specs.Answers.{IsAmong, OnAnswer, OnOthers};
 ghost use Rattle.sctp_c_calls.specs.Waiting.{Needs, Shows, waiting, with_events};
 
 use rand_core::Rng;
@@ -29,6 +29,7 @@ pub fn poll_event<R: Rng, C: Checksum>(
     head: &mut EventRecord,
     buffer: &mut [u8],
 ) -> u32
+    ensures answers { IsAmong (0 ∷ 8 ∷ 9 ∷ 17 ∷ []) result }
     ensures taken { OnAnswer 0 result (waiting kept.new socket.new ≡ drop 1 (waiting kept.old socket.old)) }
     ensures shown { OnAnswer 0 result (Shows head.new buffer.new (waiting kept.old socket.old)) }
     ensures stays { OnOthers 0 result (waiting kept.new socket.new ≡ waiting kept.old socket.old) }

@@ -1,8 +1,8 @@
 //! Messages, in and out.
 
-ghost use Rattle.std.specs.Prelude.{◌≡◌, ◌<◌, ◌^◌, [], length};
+ghost use Rattle.std.specs.Prelude.{◌≡◌, ◌<◌, ◌^◌, [], ◌∷◌, length};
 ghost use Rattle.sctp_association.specs.Socket.{endpoint};
-ghost use Rattle.sctp_c_calls.specs.Answers.{Ended, OnAnswer, OnOthers, OnSettled, refusal_number};
+ghost use Rattle.sctp_c_calls.specs.Answers.{Ended, IsAmong, OnAnswer, OnOthers, OnSettled, refusal_number};
 ghost use Rattle.sctp_c_calls.specs.Waiting.{HasMessage, NeedsMore, message_record};
 ghost use Rattle.sctp_c_records.specs.Shown.{Copied};
 ghost use Rattle.sctp_serial.specs.Messages.{message_of};
@@ -38,6 +38,7 @@ pub fn next_message<R: Rng, C: Checksum>(
     head: &mut MessageRecord,
     buffer: &mut [u8],
 ) -> u32
+    ensures answers { IsAmong (0 ∷ 8 ∷ 9 ∷ []) result }
     ensures message { OnAnswer 0 result (HasMessage head.new buffer.new (calls.ready_in socket.old.state)) }
     ensures taken { OnAnswer 0 result (endpoint R.stream C.word_of socket.new ≡ on_standing calls.take_message (endpoint R.stream C.word_of socket.old)) }
     ensures failure { socket.new.has_failed ≡ socket.old.has_failed }
@@ -66,6 +67,7 @@ pub fn send<R: Rng, C: Checksum>(
     options: &SendRecord,
 ) -> u32
     requires { options.now.max_retransmissions < 2 ^ 16 }
+    ensures answers { IsAmong (0 ∷ 1 ∷ 2 ∷ 10 ∷ 11 ∷ 12 ∷ 13 ∷ 17 ∷ []) result }
     ensures ends { Ended result socket.old socket.new }
     ensures answer { OnSettled result (result ≡ refusal_number (calls.refusal_of (record { stream = stream; ppid = ppid; payload = payload.now }) (endpoint R.stream C.word_of socket.old).standing)) }
     ensures sent { OnSettled result (endpoint R.stream C.word_of socket.new

@@ -2,7 +2,7 @@
 
 ghost use Rattle.std.specs.Prelude.{◌≡◌, [], ◌∷◌};
 ghost use Rattle.sctp_association.specs.Socket.{Ends, endpoint};
-ghost use Rattle.sctp_c_calls.specs.Answers.{OnAnswer, OnSettled, ending_at, reset_number};
+ghost use Rattle.sctp_c_calls.specs.Answers.{IsAmong, OnAnswer, OnSettled, ending_at, reset_number};
 ghost use Rattle.sctp_table.specs.Association.{in_context};
 ghost use Rattle.sctp_table.specs.Calls as calls;
 ghost use Rattle.sctp_table.specs.Input.{on_standing};
@@ -18,6 +18,7 @@ pub fn set_stream_priority<R: Rng, C: Checksum>(
     id: u16,
     priority: u16,
 ) -> u32
+    ensures answers { IsAmong (0 ∷ 1 ∷ 2 ∷ []) result }
     ensures ends { Ends (ending_at result) socket.old socket.new }
     ensures ok { OnAnswer 0 result (endpoint R.stream C.word_of socket.new ≡ on_standing (in_context (calls.set_priority id priority)) (endpoint R.stream C.word_of socket.old)) }
 {
@@ -34,6 +35,7 @@ pub fn set_buffered_amount_low_threshold<R: Rng, C: Checksum>(
     id: u16,
     bytes: usize,
 ) -> u32
+    ensures answers { IsAmong (0 ∷ 1 ∷ 2 ∷ []) result }
     ensures ends { Ends (ending_at result) socket.old socket.new }
     ensures ok { OnAnswer 0 result (endpoint R.stream C.word_of socket.new ≡ on_standing (in_context (calls.set_low_threshold id bytes)) (endpoint R.stream C.word_of socket.old)) }
 {
@@ -46,6 +48,7 @@ pub fn set_buffered_amount_low_threshold<R: Rng, C: Checksum>(
 
 /// Resets a stream (RFC 6525).
 pub fn reset_stream<R: Rng, C: Checksum>(socket: &mut Socket<R, C>, id: u16) -> u32
+    ensures answers { IsAmong (0 ∷ 1 ∷ 2 ∷ 14 ∷ 15 ∷ []) result }
     ensures ends { Ends (ending_at result) socket.old socket.new }
     ensures answer { OnSettled result (result ≡ reset_number (resets.reset_refusal socket.old.state)) }
     ensures reset { OnSettled result (endpoint R.stream C.word_of socket.new ≡ on_standing (resets.reset_streams (id ∷ [])) (endpoint R.stream C.word_of socket.old)) }
