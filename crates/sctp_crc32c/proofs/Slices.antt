@@ -1,5 +1,6 @@
 -- Bytes at once: the division's steps are linear, so what is left of several bytes is the sum of what is left of each, with zeros behind it.
-use Rattle.std.proofs.Common.{◌≡◌, ℕ, zero, suc, ◌+◌, ◌*◌, ◌/◌, ◌%◌, ◌^◌, ◌<◌, List, [], ◌∷◌, length, refl, ap, ap₂, sym, ◌∙◌, arith, bit_xor, slice_index_or}
+use Rattle.std.proofs.Common.{◌≡◌, ℕ, zero, suc, ◌+◌, ◌-◌, ◌≤◌, ◌*◌, ◌/◌, ◌%◌, ◌^◌, ◌<◌, List, [], ◌∷◌, length, refl, ap, ap₂, sym, ◌∙◌, arith, bit_xor, slice_index_or, take, drop}
+use Rattle.std.proofs.Math.Seq.{take-length}
 use Rattle.std.proofs.lemmas.Nat.{xor_block, xor_comm}
 use Rattle.std.specs.Int.{w32, to_le_bytes}
 use Rattle.std.specs.Int.Bits.{xor_zero_l, xor_zero_r}
@@ -130,3 +131,20 @@ front_from word b0 b1 b2 b3 parts e0 e1 e2 e3 fits p q0 q1 q2 q3 =
     let at3 : e3 ≡ take_zeros 5 (bit_xor b3 (word / 16777216 % 256)) = q3 ∙ ap (λ (t : List ℕ). take_zeros 5 (bit_xor b3 (slice_index_or t 3 0))) p in
     ap₂ bit_xor at0 (ap₂ bit_xor at1 (ap₂ bit_xor at2 at3))
     ∙ front_at word b0 b1 b2 b3 (word % 256) (word / 256 % 256) (word / 65536 % 256) (word / 16777216 % 256) (word_parts word fits)
+
+-- a word, and the next eight bytes taken at once
+pub on_by_eight : (word n : ℕ) (bytes : List ℕ) (f b : ℕ) → n ≡ length bytes → 8 ≤ length bytes
+    → f ≡ remainder word (slice_index_or bytes 0 0 ∷ slice_index_or bytes 1 0 ∷ slice_index_or bytes 2 0 ∷ slice_index_or bytes 3 0 ∷ 0 ∷ 0 ∷ 0 ∷ 0 ∷ [])
+    → b ≡ remainder 0 (slice_index_or bytes 4 0 ∷ slice_index_or bytes 5 0 ∷ slice_index_or bytes 6 0 ∷ slice_index_or bytes 7 0 ∷ [])
+    → remainder (bit_xor f b) (take (n - 8) (drop 8 bytes)) ≡ remainder word bytes
+on_by_eight word n [] f b p long q r = absurd (omega arith)
+on_by_eight word n (b0 ∷ []) f b p long q r = absurd (omega arith)
+on_by_eight word n (b0 ∷ b1 ∷ []) f b p long q r = absurd (omega arith)
+on_by_eight word n (b0 ∷ b1 ∷ b2 ∷ []) f b p long q r = absurd (omega arith)
+on_by_eight word n (b0 ∷ b1 ∷ b2 ∷ b3 ∷ []) f b p long q r = absurd (omega arith)
+on_by_eight word n (b0 ∷ b1 ∷ b2 ∷ b3 ∷ b4 ∷ []) f b p long q r = absurd (omega arith)
+on_by_eight word n (b0 ∷ b1 ∷ b2 ∷ b3 ∷ b4 ∷ b5 ∷ []) f b p long q r = absurd (omega arith)
+on_by_eight word n (b0 ∷ b1 ∷ b2 ∷ b3 ∷ b4 ∷ b5 ∷ b6 ∷ []) f b p long q r = absurd (omega arith)
+on_by_eight word n (b0 ∷ b1 ∷ b2 ∷ b3 ∷ b4 ∷ b5 ∷ b6 ∷ b7 ∷ tail) f b p long q r =
+    let left : n - 8 ≡ length tail = omega arith in
+    ap₂ remainder (ap₂ bit_xor q r ∙ eight word b0 b1 b2 b3 b4 b5 b6 b7) (ap (λ (k : ℕ). take k tail) left ∙ take-length tail)
