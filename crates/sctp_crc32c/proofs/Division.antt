@@ -5,10 +5,10 @@ use Rattle.std.proofs.lemmas.List.FromFn.{get_or-map-range_with_len}
 use Rattle.std.specs.List.{range_with_len}
 use Rattle.std.specs.Int.Bits.{xor_zero_l, xor_zero_r}
 use lib.Bits.{xor_assoc}
-use Rattle.sctp_crc32c.specs.Crc32c.{polynomial, take_bit, take_bits, take_byte, table}
+use Rattle.sctp_crc32c.specs.Crc32c.{polynomial, take_bit, take_bits, take_byte, take_zeros, tables}
 
 -- two sums of two are turned about
-xor_turned : (a b c d : ℕ) → bit_xor (bit_xor a b) (bit_xor c d) ≡ bit_xor (bit_xor a c) (bit_xor b d)
+pub xor_turned : (a b c d : ℕ) → bit_xor (bit_xor a b) (bit_xor c d) ≡ bit_xor (bit_xor a c) (bit_xor b d)
 xor_turned a b c d =
     xor_assoc a b (bit_xor c d)
     ∙ ap (bit_xor a) (sym (xor_assoc b c d) ∙ ap (λ (x : ℕ). bit_xor x d) (xor_comm b c) ∙ xor_assoc c b d)
@@ -53,7 +53,7 @@ take_bits_high (suc count) a =
     let e : a * 2 ^ suc count ≡ a * 2 ^ count * 2 = ap (λ (x : ℕ). a * x) (pow-suc 2 count) ∙ sym (mul_assoc a (2 ^ count) 2) in
     ap (λ (x : ℕ). take_bits count (take_bit x)) e ∙ ap (take_bits count) (take_bit_even (a * 2 ^ count)) ∙ take_bits_high count a
 
-parted : (word : ℕ) → word ≡ bit_xor (word % 2 ^ 8) (word / 2 ^ 8 * 2 ^ 8)
+pub parted : (word : ℕ) → word ≡ bit_xor (word % 2 ^ 8) (word / 2 ^ 8 * 2 ^ 8)
 parted word =
     let high : ℕ = word / 2 ^ 8 in
     let low : ℕ = word % 2 ^ 8 in
@@ -75,14 +75,24 @@ take_byte_parted word byte fits =
     ∙ take_bits-xor 8 (added % 2 ^ 8) (added / 2 ^ 8 * 2 ^ 8)
     ∙ ap₂ (λ (x y : ℕ). bit_xor (take_bits 8 x) y) (sym (and_mask added 8)) (take_bits_high 8 (added / 2 ^ 8) ∙ high)
 
--- the table holds each byte's steps
-pub table_at : (entries : List ℕ) (word byte : ℕ) → entries ≡ table → byte < 2 ^ 8
+-- the entry of so many zeros behind a byte
+pub entry_at : (entries : List ℕ) (zeros byte place : ℕ) → entries ≡ tables → zeros < 8 → byte < 256 → place ≡ 256 * zeros + byte
+    → slice_index_or entries place 0 ≡ take_zeros (suc zeros) byte
+unfolding tables
+entry_at entries zeros byte place e few fits is =
+    let inside : place < 2048 = omega arith in
+    let at : 0 + place ≡ place = omega arith in
+    let read : get_or (map (λ (x : ℕ). take_zeros (suc (x / 256)) (x % 256)) (range_with_len 0 2048)) place 0 ≡ take_zeros (suc (place / 256)) (place % 256) =
+    get_or-map-range_with_len (λ (x : ℕ). take_zeros (suc (x / 256)) (x % 256)) 0 2048 place place 0 inside at in
+    let table : place / 256 ≡ zeros = omega arith in
+    let left : place % 256 ≡ byte = omega arith in
+    ap (λ (t : List ℕ). slice_index_or t place 0) e ∙ (read ∙ ap₂ (λ (x y : ℕ). take_zeros (suc x) y) table left)
+
+-- the first table holds each byte's steps
+pub table_at : (entries : List ℕ) (word byte : ℕ) → entries ≡ tables → byte < 2 ^ 8
     → bit_xor (slice_index_or entries (bit_and (bit_xor word byte) 255) 0) (word / 256) ≡ take_byte word byte
-unfolding table
+unfolding take_zeros
 table_at entries word byte e fits =
     let place : ℕ = bit_and (bit_xor word byte) 255 in
     let inside : place < 256 = omega (arith, and_le_r (bit_xor word byte) 255) in
-    let at : 0 + place ≡ place = omega arith in
-    let read : get_or (map (take_bits 8) (range_with_len 0 256)) place 0 ≡ take_bits 8 place = get_or-map-range_with_len (take_bits 8) 0 256 place place 0 inside at in
-    let found : slice_index_or entries place 0 ≡ take_bits 8 place = ap (λ (t : List ℕ). slice_index_or t place 0) e ∙ read in
-    ap (λ (x : ℕ). bit_xor x (word / 256)) found ∙ sym (take_byte_parted word byte fits)
+    ap (λ (x : ℕ). bit_xor x (word / 256)) (entry_at entries 0 place place e (omega arith) inside (omega arith)) ∙ sym (take_byte_parted word byte fits)

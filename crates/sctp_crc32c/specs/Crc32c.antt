@@ -22,9 +22,14 @@ take_bits (suc count) word = take_bits count (take_bit word)
 abbrev pub take_byte : ℕ → ℕ → ℕ
 take_byte word byte = take_bits 8 (bit_xor word byte)
 
--- what the steps of a byte make of each word below 256
-unfoldable pub table : List ℕ
-table = map (take_bits 8) (range_with_len 0 256)
+-- so many zero bytes behind the word
+unfoldable pub take_zeros : ℕ → ℕ → ℕ
+take_zeros zero word = word
+take_zeros (suc count) word = take_zeros count (take_bits 8 word)
+
+-- what one zero byte makes of each word below 256; what two make of each; up to eight
+unfoldable pub tables : List ℕ
+tables = map (λ at. take_zeros (suc (at / 256)) (at % 256)) (range_with_len 0 2048)
 
 -- the remainder of the bytes behind this word
 abbrev pub remainder : ℕ → List ℕ → ℕ
