@@ -1,5 +1,6 @@
 //! What commands say and answer, and the loop over the commands of a section.
 
+use hex::FromHexError;
 use std::alloc::{AllocError, Global};
 use std::fmt::Display;
 
@@ -89,6 +90,15 @@ pub fn low_word(number: u64) -> u32 {
 /// The number, or the greatest one of 16 bits.
 pub fn low_half(number: u64) -> u16 {
     u16::try_from(number).unwrap_or(u16::MAX)
+}
+
+/// The bytes that hex digits say, if the word has such digits alone.
+pub fn bytes_of(alloc: Global, digits: &str) -> Result<Option<Vec<u8>>, AllocError> {
+    match hex::decode(alloc, digits) {
+        Ok(bytes) => Ok(Some(bytes)),
+        Err(FromHexError::OutOfMemory) => Err(AllocError),
+        Err(_) => Ok(None),
+    }
 }
 
 /// Lets the subject do each of the commands, and tells the answers.

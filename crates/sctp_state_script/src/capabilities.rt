@@ -1,8 +1,9 @@
 //! `capabilities`: what two ends announce and negotiate.
 
-use crate::answer::{Answer, Line, Subject, low_half, low_word, run_commands, tell_all, tell_hex};
+use crate::answer::{
+    Answer, Line, Subject, bytes_of, low_half, low_word, run_commands, tell_all, tell_hex,
+};
 use crate::options::set_option;
-use hex::FromHexError;
 use sctp_capabilities::{Capabilities, announced_parameters};
 use sctp_parameter::{Parameter, parameters_from_bytes};
 use sctp_serial::ZeroChecksumAlternateErrorDetectionMethod;
@@ -80,10 +81,9 @@ fn write_parameters(
 
 // What is no list of parameters tells nothing.
 fn read(alloc: Global, told: &mut Capabilities, line: Line<'_>) -> Result<(), AllocError> {
-    match hex::decode(alloc, line.last) {
-        Ok(bytes) => read_parameters(alloc, told, line.numbers, &bytes),
-        Err(FromHexError::OutOfMemory) => Err(AllocError),
-        Err(_) => Ok(()),
+    match bytes_of(alloc, line.last)? {
+        Some(bytes) => read_parameters(alloc, told, line.numbers, &bytes),
+        None => Ok(()),
     }
 }
 

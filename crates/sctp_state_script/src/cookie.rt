@@ -1,9 +1,8 @@
 //! `cookie`: what an end keeps of an INIT by sending it to the peer.
 
 use crate::answer::{
-    Answer, Line, Subject, low_half, low_word, run_commands, tell, tell_all, tell_hex,
+    Answer, Line, Subject, bytes_of, low_half, low_word, run_commands, tell, tell_all, tell_hex,
 };
-use hex::FromHexError;
 use sctp_capabilities::{Capabilities, StateCookie};
 use sctp_serial::{Tsn, ZeroChecksumAlternateErrorDetectionMethod};
 use std::alloc::{AllocError, Global};
@@ -57,14 +56,13 @@ fn read(
     digits: &str,
     output: &mut String,
 ) -> Result<Answer, AllocError> {
-    match hex::decode(alloc, digits) {
-        Ok(bytes) => {
+    match bytes_of(alloc, digits)? {
+        Some(bytes) => {
             let outcome = read_bytes(cookie, &bytes, output);
             drop(bytes);
             outcome
         }
-        Err(FromHexError::OutOfMemory) => Err(AllocError),
-        Err(_) => Ok(Answer::Unknown),
+        None => Ok(Answer::Unknown),
     }
 }
 

@@ -1,7 +1,6 @@
 //! `events`: what a socket tells, and the records of messages given up.
 
-use crate::answer::{Answer, Line, Subject, low_half, low_word, run_commands, tell_all};
-use hex::FromHexError;
+use crate::answer::{Answer, Line, Subject, bytes_of, low_half, low_word, run_commands, tell_all};
 use sctp_serial::{LifecycleId, OutgoingMessageId, StreamId};
 use sctp_state::{ErrorKind, EventMark, EventSink, Events, GivenUp, GivenUpCause, SocketEvent};
 use std::alloc::{AllocError, Global};
@@ -132,10 +131,9 @@ fn happen_long(alloc: Global, events: &mut Events, line: Line<'_>) -> Result<Ans
 }
 
 fn packet(alloc: Global, events: &mut Events, digits: &str) -> Result<Answer, AllocError> {
-    match hex::decode(alloc, digits) {
-        Ok(bytes) => add(events, SocketEvent::SendPacket(bytes)),
-        Err(FromHexError::OutOfMemory) => Err(AllocError),
-        Err(_) => Ok(Answer::Unknown),
+    match bytes_of(alloc, digits)? {
+        Some(bytes) => add(events, SocketEvent::SendPacket(bytes)),
+        None => Ok(Answer::Unknown),
     }
 }
 
