@@ -8,7 +8,7 @@ use Rattle.sctp_wire.specs.Fields.{be16, be32, be64}
 use Rattle.sctp_wire.proofs.ItemLemmas.{IsBytes}
 use Rattle.sctp_wire.proofs.TilesLemmas.{cut_same}
 
-IsBytes-take : (n : ℕ) (bytes : List ℕ) → IsBytes bytes → IsBytes (take n bytes)
+pub IsBytes-take : (n : ℕ) (bytes : List ℕ) → IsBytes bytes → IsBytes (take n bytes)
 IsBytes-take n bytes h i =
     elim (cases_lt i n) [
       | inl lt ↦ rw (get_or-take n bytes i 0 lt) (h i)

@@ -4,6 +4,10 @@ use Rattle.sctp_wire.specs.Item.{Item, Takes, TakesNone, Tiles}
 use Rattle.sctp_wire.specs.declared.error.ChunkParseError.{ChunkParseError}
 use Rattle.sctp_wire.specs.declared.error.ChunkParseError.TheVariants.{InvalidLength}
 
+-- the item stands for some value
+abbrev pub StandsForSome : {X : Type 0} → (Item → X → Type 0) → Item → Type 0
+StandsForSome {X} R i = (x : X) × R i x
+
 -- no item stands at the front of the bytes, or one that is refused so
 abbrev pub IsStuck : (Item → ChunkParseError → Type 0) → List ℕ → ChunkParseError → Type 0
 IsStuck Refuses bytes fault = ((fault ≡ InvalidLength) × TakesNone bytes)

@@ -2,6 +2,7 @@
 //! parameters and causes say, as definitions.
 #![tactic(auto)]
 
+mod check;
 mod checksum;
 mod error;
 mod field;
@@ -12,6 +13,7 @@ mod show;
 mod text;
 mod unknown;
 
+pub use check::{CheckItem, check_at_least, check_exactly, check_in_steps, check_items};
 pub use checksum::{Checksum, Policy};
 pub use error::ChunkParseError;
 pub use field::{
