@@ -61,7 +61,7 @@ parameter_shaped typ value (unknown_parameter kept bytes) s =
     shape_at typ kept value s.typed (subst (λ (shape : Shape). HasShape shape value) (sym (unknown_shape kept s.of_its_variant)) tt)
 
 -- two responses of the same bytes have the same result
-same_result : (a b m n : ℕ) (x y : List ℕ) → m < 2 ^ 32 → n < 2 ^ 32 → be32 a ++ (be32 m ++ x) ≡ be32 b ++ (be32 n ++ y) → m ≡ n
+pub same_result : (a b m n : ℕ) (x y : List ℕ) → m < 2 ^ 32 → n < 2 ^ 32 → be32 a ++ (be32 m ++ x) ≡ be32 b ++ (be32 n ++ y) → m ≡ n
 same_result a b m n x y hm hn e =
     (be32_same m n x y hm hn (cut_same (be32 a) (be32 m ++ x) (be32 b) (be32 n ++ y) (length_be32 a ∙ sym (length_be32 b)) e).1).0
 

@@ -1,3 +1,4 @@
 pub mod ParameterLemmas
 pub mod LawLemmas
 pub mod OneParameterLemmas
+pub mod ShapedLemmas

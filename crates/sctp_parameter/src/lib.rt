@@ -1,6 +1,7 @@
 //! Parameters: each kind read, written and shown (RFC 9260 sections 3.3.2 and 3.3.5, RFC 6525, RFC 3758, RFC 5061, RFC 9653).
 #![tactic(auto)]
 
+mod check;
 mod laws;
 mod parameter;
 mod parameters;
@@ -16,7 +17,7 @@ pub use parameter::{
 };
 pub use parameters::{
     PARAMETER_TYPE_ADD_INCOMING_STREAMS_REQUEST, PARAMETER_TYPE_ADD_OUTGOING_STREAMS_REQUEST,
-    PARAMETER_TYPE_SSN_TSN_RESET_REQUEST, Parameter, parameters_from_bytes,
+    PARAMETER_TYPE_SSN_TSN_RESET_REQUEST, Parameter, check_parameters, parameters_from_bytes,
 };
 pub use reset::{
     IncomingSsnResetRequestParameter, OutgoingSsnResetRequestParameter,

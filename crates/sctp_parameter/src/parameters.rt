@@ -1,12 +1,13 @@
 //! Parameters, by their types.
 
-ghost use Rattle.std.specs.Prelude.{◌≡◌, ◌⊎◌, [], map, IfOk, IfErr, Some};
+ghost use Rattle.std.specs.Prelude.{◌≡◌, ◌≢◌, ◌⊎◌, List, [], map, IfOk, OnOk, IfErr, Some};
 ghost use Rattle.sctp_wire.specs.ParameterText.{parameter_text};
 ghost use Rattle.sctp_wire.specs.Item.{Tiles};
 ghost use Rattle.sctp_wire.specs.Refusal.{BreaksAs};
-ghost use Rattle.sctp_wire.specs.Parameter.{SaysParameter, RefusesParameterAs, IsParameter, RefusesParameter, parameter_item, parameter_is_whole};
+ghost use Rattle.sctp_wire.specs.Parameter.{ParameterTree, SaysParameter, RefusesParameterAs, IsParameter, RefusesParameter, parameter_item, parameter_is_whole};
 ghost use Rattle.sctp_parameter.specs.ParameterViews.{parameter_tree};
 
+use crate::check::check_value;
 use crate::parameter::{
     ForwardTsnSupportedParameter, HeartbeatInfoParameter, StateCookieParameter,
     SupportedExtensionsParameter, ZeroChecksumAcceptableParameter,
@@ -16,8 +17,8 @@ use crate::reset::{
     ReconfigurationResponseParameter,
 };
 use sctp_wire::{
-    ChunkParseError, FromItem, RawItem, RawParameter, SerializableTlv, UnknownParameter,
-    items_from_bytes,
+    CheckItem, ChunkParseError, FromItem, RawItem, RawParameter, SerializableTlv, UnknownParameter,
+    check_items, items_from_bytes,
 };
 use std::alloc::{AllocError, Global};
 use std::fmt;
@@ -103,6 +104,15 @@ impl Parameter {
             )),
             _ => Ok(Parameter::Unknown(UnknownParameter::try_from(alloc, raw)?)),
         }
+    }
+
+    /// Whether a parameter says something. It has the faults of `try_from`, but for want of memory, since it builds nothing.
+    pub fn check(raw: RawParameter<'_>) -> Result<(), ChunkParseError>
+        ensures ok { OnOk result ((t : ParameterTree) × SaysParameter raw.entry.typ raw.entry.value.now t) }
+        ensures refused { IfErr result (RefusesParameterAs raw.entry.typ raw.entry.typ raw.entry.value.now) }
+        ensures never_memory { IfErr result (λ fault. fault ≢ ChunkParseError.Memory) }
+    {
+        check_value(raw.typ, raw.value)
     }
 }
 
@@ -219,4 +229,28 @@ pub fn parameters_from_bytes(alloc: Global, bytes: &[u8]) -> Result<Vec<Paramete
     ensures refused { IfErr result (λ fault. (fault ≡ ChunkParseError.Memory) ⊎ BreaksAs IsParameter RefusesParameter bytes.now fault) }
 {
     items_from_bytes(alloc, bytes)
+}
+
+impl CheckItem for Parameter {
+    ghost use Rattle.sctp_wire.specs.Parameter.{ParameterTree};
+
+    ghost Tree = { ParameterTree };
+
+    ghost stands_for = { IsParameter };
+
+    ghost refuses = { RefusesParameter };
+
+    fn check_item(item: RawItem<'_>) -> Result<(), ChunkParseError> {
+        Parameter::check(RawParameter::from_item(item))
+    }
+}
+
+/// Whether the bytes are parameters, from the left. It has the faults of `parameters_from_bytes`, but for want of memory, since
+/// it builds nothing.
+pub fn check_parameters(bytes: &[u8]) -> Result<(), ChunkParseError>
+    ensures ok { OnOk result ((ts : List ParameterTree) × Tiles IsParameter bytes.now ts []) }
+    ensures refused { IfErr result (BreaksAs IsParameter RefusesParameter bytes.now) }
+    ensures never_memory { IfErr result (λ fault. fault ≢ ChunkParseError.Memory) }
+{
+    check_items::<Parameter>(bytes)
 }

@@ -1,0 +1,10 @@
+use Rattle.std.proofs.Common.{arith}
+use Rattle.std.proofs.lemmas.Result.{on_ok_weaker}
+use Rattle.sctp_parameter.proofs.ShapedLemmas.{shaped_says}
+use Rattle.sctp_parameter.proofs.check.check_value.Goals as goal
+
+pub returns-clause-ok : goal.returns-clause-ok
+returns-clause-ok c =
+    on_ok_weaker c.check_shape.result
+    (λ free. shaped_says c.args.typ c.args.value.now (λ i. omega (arith, c.type_inv.value i)) free.0 free.1)
+    c.check_shape.ensures.ok
