@@ -1,3 +1,4 @@
 pub mod CauseLemmas
 pub mod LawLemmas
 pub mod OneCauseLemmas
+pub mod ShapedLemmas

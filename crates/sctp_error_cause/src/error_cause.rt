@@ -1,10 +1,10 @@
 //! Error causes, by their types.
 
-ghost use Rattle.std.specs.Prelude.{◌≡◌, ◌⊎◌, true, [], map, IfOk, IfErr, Some};
+ghost use Rattle.std.specs.Prelude.{◌≡◌, ◌≢◌, ◌⊎◌, true, List, [], map, IfOk, OnOk, IfErr, Some};
 ghost use Rattle.sctp_wire.specs.CauseText.{cause_text};
 ghost use Rattle.sctp_wire.specs.Item.{Tiles};
 ghost use Rattle.sctp_wire.specs.Refusal.{BreaksAs};
-ghost use Rattle.sctp_wire.specs.Cause.{SaysCause, RefusesCauseAs, IsCause, RefusesCause, cause_item};
+ghost use Rattle.sctp_wire.specs.Cause.{CauseTree, SaysCause, RefusesCauseAs, IsCause, RefusesCause, cause_item};
 ghost use Rattle.sctp_error_cause.specs.CauseViews.{cause_tree};
 
 use crate::cause::{
@@ -12,9 +12,10 @@ use crate::cause::{
     NoUserDataErrorCause, ProtocolViolationErrorCause, UnrecognizedChunkErrorCause,
     UserInitiatedAbortErrorCause,
 };
+use crate::check::check_value;
 use sctp_wire::{
-    ChunkParseError, FromItem, RawItem, RawParameter, SerializableTlv, UnknownParameter,
-    items_from_bytes,
+    CheckItem, ChunkParseError, FromItem, RawItem, RawParameter, SerializableTlv, UnknownParameter,
+    check_items, items_from_bytes,
 };
 use std::alloc::{AllocError, Global};
 use std::fmt;
@@ -68,6 +69,15 @@ impl ErrorCause {
             )),
             _ => Ok(ErrorCause::Unknown(UnknownParameter::try_from(alloc, raw)?)),
         }
+    }
+
+    /// Whether a cause says something. It has the faults of `try_from`, but for want of memory, since it builds nothing.
+    pub fn check(raw: RawParameter<'_>) -> Result<(), ChunkParseError>
+        ensures ok { OnOk result ((t : CauseTree) × SaysCause raw.entry.typ raw.entry.value.now t) }
+        ensures refused { IfErr result (RefusesCauseAs raw.entry.typ raw.entry.typ raw.entry.value.now) }
+        ensures never_memory { IfErr result (λ fault. fault ≢ ChunkParseError.Memory) }
+    {
+        check_value(raw.typ, raw.value)
     }
 }
 
@@ -169,4 +179,28 @@ pub fn error_cause_from_bytes(
     ensures refused { IfErr result (λ fault. (fault ≡ ChunkParseError.Memory) ⊎ BreaksAs IsCause RefusesCause bytes.now fault) }
 {
     items_from_bytes(alloc, bytes)
+}
+
+impl CheckItem for ErrorCause {
+    ghost use Rattle.sctp_wire.specs.Cause.{CauseTree};
+
+    ghost Tree = { CauseTree };
+
+    ghost stands_for = { IsCause };
+
+    ghost refuses = { RefusesCause };
+
+    fn check_item(item: RawItem<'_>) -> Result<(), ChunkParseError> {
+        ErrorCause::check(RawParameter::from_item(item))
+    }
+}
+
+/// Whether the bytes are causes, from the left. It has the faults of `error_cause_from_bytes`, but for want of memory, since it
+/// builds nothing.
+pub fn check_causes(bytes: &[u8]) -> Result<(), ChunkParseError>
+    ensures ok { OnOk result ((ts : List CauseTree) × Tiles IsCause bytes.now ts []) }
+    ensures refused { IfErr result (BreaksAs IsCause RefusesCause bytes.now) }
+    ensures never_memory { IfErr result (λ fault. fault ≢ ChunkParseError.Memory) }
+{
+    check_items::<ErrorCause>(bytes)
 }

@@ -2,6 +2,7 @@
 #![tactic(auto)]
 
 mod cause;
+mod check;
 mod error_cause;
 mod laws;
 
@@ -10,5 +11,5 @@ pub use cause::{
     NoUserDataErrorCause, ProtocolViolationErrorCause, UnrecognizedChunkErrorCause,
     UserInitiatedAbortErrorCause,
 };
-pub use error_cause::{ErrorCause, error_cause_from_bytes};
+pub use error_cause::{ErrorCause, check_causes, error_cause_from_bytes};
 pub use laws::{cause_fits, cause_is_not_refused, causes_read_back, one_cause, one_list_of_causes};
