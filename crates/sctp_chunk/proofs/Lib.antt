@@ -3,3 +3,4 @@ pub mod FieldLemmas
 pub mod FragmentLemmas
 pub mod SackLemmas
 pub mod SkipLemmas
+pub mod ShapedLemmas

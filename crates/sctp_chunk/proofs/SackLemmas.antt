@@ -2,7 +2,7 @@
 use Rattle.std.proofs.Common.{◌≡◌, ℕ, ◌+◌, ◌*◌, ◌^◌, ◌<◌, ◌≢◌, List, ◌++◌, length, sym, ap, ◌∙◌, append_assoc, arith}
 use Rattle.std.specs.List.{flat_map}
 use Rattle.std.proofs.lemmas.List.{length-append}
-use Rattle.sctp_wire.specs.Fields.{be16, be32, length_be16}
+use Rattle.sctp_wire.specs.Fields.{be16, be32, length_be16, length_be32}
 use Rattle.sctp_serial.specs.declared.types.tsn.Tsn.{Tsn}
 use Rattle.sctp_wire.proofs.SerializeLemmas.{length_entries}
 use Rattle.sctp_chunk.specs.declared.sack.GapAckBlock.{GapAckBlock}
@@ -59,3 +59,18 @@ pub sack_read : (s : SackTree) (value front back rest : List ℕ) (m n : ℕ)
     → value ≡ sack_value s
 unfolding sack_value
 sack_read s value front back rest m n e er ef eb em en = rw (em, en, ← ef, ← eb, ← er) e
+
+-- fields in front of as many entries as they count
+pub counted_as : (value : List ℕ) (a b m n : ℕ) (rest : List ℕ) → m < 2 ^ 16 → n < 2 ^ 16
+    → value ≡ be32 a ++ (be32 b ++ (be16 m ++ (be16 n ++ rest))) → length rest ≡ 4 * m + 4 * n → IsCounted value
+counted_as value a b m n rest hm hn e len = (
+  be32 a ++ be32 b,
+  m,
+  n,
+  rest,
+  omega (arith, length-append (be32 a) (be32 b), length_be32 a, length_be32 b),
+  hm,
+  hn,
+  e ∙ sym (append_assoc (be32 a) (be32 b) (be16 m ++ (be16 n ++ rest))),
+  len,
+)

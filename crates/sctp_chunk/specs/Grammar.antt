@@ -7,8 +7,8 @@ use Rattle.sctp_wire.specs.declared.error.ChunkParseError.TheVariants.{InvalidLe
 use Rattle.sctp_wire.specs.Fields.{be16, be32}
 use Rattle.sctp_wire.specs.Item.{Item, Tiles}
 use Rattle.sctp_wire.specs.Refusal.{BreaksAs}
-use Rattle.sctp_wire.specs.Parameter.{IsParameter, RefusesParameter}
-use Rattle.sctp_wire.specs.Cause.{IsCause, RefusesCause}
+use Rattle.sctp_wire.specs.Parameter.{ParameterTree, IsParameter, RefusesParameter}
+use Rattle.sctp_wire.specs.Cause.{CauseTree, IsCause, RefusesCause}
 use Rattle.sctp_chunk.specs.declared.sack.GapAckBlock.{GapAckBlock}
 use Rattle.sctp_chunk.specs.declared.forward_tsn.SkippedStream.{SkippedStream}
 use Rattle.sctp_chunk.specs.declared.forward_tsn.SkippedStream.TheVariants as skips
@@ -233,6 +233,16 @@ IsFaulty by_counts value fault = (fault ≡ InvalidLength) × (IsCounted value �
 IsFaulty (parameters_behind n) value fault =
     ((fault ≡ InvalidLength) × (length value < n)) ⊎ ((n ≤ length value) × BreaksAs IsParameter RefusesParameter (drop n value) fault)
 IsFaulty of_causes value fault = BreaksAs IsCause RefusesCause value fault
+
+-- the values that a shape allows: those without a fault
+abbrev pub HasChunkShape : ValueShape → List ℕ → Type 0
+HasChunkShape any_value value = Unit {0}
+HasChunkShape (exactly n) value = length value ≡ n
+HasChunkShape (at_least n) value = n ≤ length value
+HasChunkShape (in_steps n width) value = (n ≤ length value) × ((length value - n) % width ≡ 0)
+HasChunkShape by_counts value = IsCounted value
+HasChunkShape (parameters_behind n) value = (n ≤ length value) × ((ps : List ParameterTree) × Tiles IsParameter (drop n value) ps [])
+HasChunkShape of_causes value = (cs : List CauseTree) × Tiles IsCause value cs []
 
 -- An item, read as a chunk of type `asked`, is refused: there was no memory, it is of another type, or its value has this fault.
 abbrev pub RefusesChunkAs : ℕ → Item → ChunkParseError → Type 0

@@ -5,6 +5,7 @@ use Rattle.sctp_serial.specs.declared.types.StreamKey.TheVariants as keys
 use Rattle.sctp_wire.specs.Item.{Item}
 use Rattle.sctp_chunk.specs.declared.raw.RawChunk.{RawChunk}
 use Rattle.sctp_chunk.specs.declared.data.Data.{Data}
+use Rattle.sctp_chunk.specs.declared.data.DataView.{DataView}
 use Rattle.sctp_chunk.specs.declared.data.DataChunk.{DataChunk}
 use Rattle.sctp_chunk.specs.declared.data.IDataChunk.{IDataChunk}
 use Rattle.sctp_chunk.specs.declared.sack.SackChunk.{SackChunk}
@@ -32,6 +33,27 @@ fragment_tree d = record {
   is_beginning = d.is_beginning;
   is_end = d.is_end;
 }
+
+-- the fragment that lies in the bytes
+abbrev pub viewed_fragment : DataView → FragmentTree
+viewed_fragment v = record {
+  stream_id = key_stream v.stream_key;
+  is_unordered = is_unordered_key v.stream_key;
+  ssn = v.ssn.0;
+  mid = v.mid.0;
+  fsn = v.fsn.0;
+  ppid = v.ppid.0;
+  payload = v.payload.now;
+  is_beginning = v.is_beginning;
+  is_end = v.is_end;
+}
+
+-- the DATA, or the I-DATA, that carries it
+abbrev pub viewed_data : DataView → ChunkTree
+viewed_data v = data_chunk v.tsn.0 v.immediate_ack (viewed_fragment v)
+
+abbrev pub viewed_idata : DataView → ChunkTree
+viewed_idata v = idata_chunk v.tsn.0 v.immediate_ack (viewed_fragment v)
 
 abbrev pub data_chunk_tree : DataChunk → ChunkTree
 data_chunk_tree c = data_chunk c.tsn.0 c.immediate_ack (fragment_tree c.data)

@@ -1,9 +1,9 @@
 //! DATA (RFC 9260 section 3.3.1) and I-DATA (RFC 8260 section 2.1): fragments of messages.
 
-ghost use Rattle.std.specs.Prelude.{◌≡◌, ℕ, ◌+◌, ◌^◌, ◌-◌, min, true, false, [], ◌∷◌, ◌++◌, IfOk, IfErr, OnOk};
+ghost use Rattle.std.specs.Prelude.{◌≡◌, ◌≢◌, ◌⊎◌, ◌<◌, length, OnErr, ℕ, ◌+◌, ◌^◌, ◌-◌, min, true, false, [], ◌∷◌, ◌++◌, IfOk, IfErr, OnOk};
 ghost use Rattle.sctp_chunk.specs.Written.{chunk_item, chunk_value, data_value, idata_value, fragment_flags, ppid_or_fsn, flag, key_stream};
 ghost use Rattle.sctp_chunk.specs.Grammar.{IsChunk, RefusesChunkAs};
-ghost use Rattle.sctp_chunk.specs.Views.{raw_chunk, fragment_tree, data_chunk_tree, idata_chunk_tree, is_unordered_key};
+ghost use Rattle.sctp_chunk.specs.Views.{raw_chunk, fragment_tree, viewed_fragment, viewed_data, viewed_idata, data_chunk_tree, idata_chunk_tree, is_unordered_key};
 ghost use Rattle.std.specs.Prelude.{Some};
 ghost use Rattle.sctp_chunk.specs.ChunkText.{chunk_text};
 
@@ -124,6 +124,106 @@ fn has_flag(flags: u8, mask: u8) -> bool
     flags & mask != 0
 }
 
+/// A fragment of a message, borrowed from the bytes of the DATA or I-DATA that carries it.
+#[derive(Clone, Copy, Debug, PartialEq, Eq)]
+pub struct DataView<'a> {
+    pub tsn: Tsn,
+    pub stream_key: StreamKey,
+    /// The message's number in its stream, in DATA; else 0.
+    pub ssn: Ssn,
+    /// The message's number in its stream, in I-DATA; else 0.
+    pub mid: Mid,
+    /// The fragment's number in its message, in I-DATA; else 0.
+    pub fsn: Fsn,
+    pub ppid: PpId,
+    pub payload: &'a [u8],
+    /// Whether the message begins here.
+    pub is_beginning: bool,
+    /// Whether the message ends here.
+    pub is_end: bool,
+    /// Whether the sender asks for an acknowledgement at once.
+    pub immediate_ack: bool,
+}
+
+#[tactic(auto, unfolding(crate::specs::Written::data_value, crate::specs::Written::idata_value))]
+impl<'a> DataView<'a> {
+    /// What lies in a DATA; `InvalidType` where the chunk is of another type, `InvalidLength` where its value has under 12
+    /// bytes.
+    pub(crate) fn of_data(raw: RawChunk<'a>) -> Result<DataView<'a>, ChunkParseError>
+        ensures ok { IfOk result (λ v. IsChunk (raw_chunk raw.entry) (viewed_data v)) }
+        ensures refused { IfErr result (RefusesChunkAs 0 (raw_chunk raw.entry)) }
+        ensures other { OnErr result ((raw.entry.typ ≢ 0) ⊎ (length raw.entry.value.now < 12)) }
+    {
+        let value = raw.value_as(DataChunk::TYPE)?;
+        if value.len() < 12 {
+            return Err(ChunkParseError::InvalidLength);
+        }
+        let (tsn, rest) = first_u32(value);
+        let (stream_id, rest) = first_u16(rest);
+        let (ssn, rest) = first_u16(rest);
+        let (ppid, payload) = first_u32(rest);
+        Ok(DataView {
+            tsn: Tsn(tsn),
+            stream_key: stream_key(has_flag(raw.flags, FLAG_UNORDERED), stream_id),
+            ssn: Ssn(ssn),
+            mid: Mid(0),
+            fsn: Fsn(0),
+            ppid: PpId(ppid),
+            payload,
+            is_beginning: has_flag(raw.flags, FLAG_BEGINNING),
+            is_end: has_flag(raw.flags, FLAG_END),
+            immediate_ack: has_flag(raw.flags, FLAG_IMMEDIATE),
+        })
+    }
+
+    /// What lies in an I-DATA; `InvalidType` where the chunk is of another type, `InvalidLength` where its value has under 16
+    /// bytes.
+    pub(crate) fn of_idata(raw: RawChunk<'a>) -> Result<DataView<'a>, ChunkParseError>
+        ensures ok { IfOk result (λ v. IsChunk (raw_chunk raw.entry) (viewed_idata v)) }
+        ensures refused { IfErr result (RefusesChunkAs 64 (raw_chunk raw.entry)) }
+        ensures other { OnErr result ((raw.entry.typ ≢ 64) ⊎ (length raw.entry.value.now < 16)) }
+    {
+        let value = raw.value_as(IDataChunk::TYPE)?;
+        if value.len() < 16 {
+            return Err(ChunkParseError::InvalidLength);
+        }
+        let (tsn, rest) = first_u32(value);
+        let (stream_id, rest) = first_u16(rest);
+        let (_reserved, rest) = first_u16(rest);
+        let (mid, rest) = first_u32(rest);
+        let (ppid_or_fsn, payload) = first_u32(rest);
+        let is_beginning = has_flag(raw.flags, FLAG_BEGINNING);
+        Ok(DataView {
+            tsn: Tsn(tsn),
+            stream_key: stream_key(has_flag(raw.flags, FLAG_UNORDERED), stream_id),
+            ssn: Ssn(0),
+            mid: Mid(mid),
+            fsn: Fsn(if is_beginning { 0 } else { ppid_or_fsn }),
+            ppid: PpId(if is_beginning { ppid_or_fsn } else { 0 }),
+            payload,
+            is_beginning,
+            is_end: has_flag(raw.flags, FLAG_END),
+            immediate_ack: has_flag(raw.flags, FLAG_IMMEDIATE),
+        })
+    }
+
+    /// The fragment with a copy of its payload: what takes memory of all that a view does.
+    pub fn to_data(self, alloc: Global) -> Result<Data, AllocError>
+        ensures { IfOk result (λ d. fragment_tree d ≡ viewed_fragment self.entry) }
+    {
+        Ok(Data {
+            stream_key: self.stream_key,
+            ssn: self.ssn,
+            mid: self.mid,
+            fsn: self.fsn,
+            ppid: self.ppid,
+            payload: Vec::from_slice(alloc, self.payload)?,
+            is_beginning: self.is_beginning,
+            is_end: self.is_end,
+        })
+    }
+}
+
 /// A fragment of a message that is not interleaved with others.
 #[derive(Debug, Drop)]
 pub struct DataChunk {
@@ -142,28 +242,11 @@ impl DataChunk {
         ensures ok { IfOk result (λ c. IsChunk (raw_chunk raw.entry) (data_chunk_tree c)) }
         ensures refused { IfErr result (RefusesChunkAs 0 (raw_chunk raw.entry)) }
     {
-        let value = raw.value_as(Self::TYPE)?;
-        if value.len() < 12 {
-            return Err(ChunkParseError::InvalidLength);
-        }
-        let (tsn, rest) = first_u32(value);
-        let (stream_id, rest) = first_u16(rest);
-        let (ssn, rest) = first_u16(rest);
-        let (ppid, payload) = first_u32(rest);
-        let payload = Vec::from_slice(alloc, payload)?;
+        let view = DataView::of_data(raw)?;
         Ok(DataChunk {
-            tsn: Tsn(tsn),
-            data: Data {
-                stream_key: stream_key(has_flag(raw.flags, FLAG_UNORDERED), stream_id),
-                ssn: Ssn(ssn),
-                mid: Mid(0),
-                fsn: Fsn(0),
-                ppid: PpId(ppid),
-                payload,
-                is_beginning: has_flag(raw.flags, FLAG_BEGINNING),
-                is_end: has_flag(raw.flags, FLAG_END),
-            },
-            immediate_ack: has_flag(raw.flags, FLAG_IMMEDIATE),
+            tsn: view.tsn,
+            data: view.to_data(alloc)?,
+            immediate_ack: view.immediate_ack,
         })
     }
 }
@@ -215,30 +298,11 @@ impl IDataChunk {
         ensures ok { IfOk result (λ c. IsChunk (raw_chunk raw.entry) (idata_chunk_tree c)) }
         ensures refused { IfErr result (RefusesChunkAs 64 (raw_chunk raw.entry)) }
     {
-        let value = raw.value_as(Self::TYPE)?;
-        if value.len() < 16 {
-            return Err(ChunkParseError::InvalidLength);
-        }
-        let (tsn, rest) = first_u32(value);
-        let (stream_id, rest) = first_u16(rest);
-        let (_reserved, rest) = first_u16(rest);
-        let (mid, rest) = first_u32(rest);
-        let (ppid_or_fsn, payload) = first_u32(rest);
-        let payload = Vec::from_slice(alloc, payload)?;
-        let is_beginning = has_flag(raw.flags, FLAG_BEGINNING);
+        let view = DataView::of_idata(raw)?;
         Ok(IDataChunk {
-            tsn: Tsn(tsn),
-            data: Data {
-                stream_key: stream_key(has_flag(raw.flags, FLAG_UNORDERED), stream_id),
-                ssn: Ssn(0),
-                mid: Mid(mid),
-                fsn: Fsn(if is_beginning { 0 } else { ppid_or_fsn }),
-                ppid: PpId(if is_beginning { ppid_or_fsn } else { 0 }),
-                payload,
-                is_beginning,
-                is_end: has_flag(raw.flags, FLAG_END),
-            },
-            immediate_ack: has_flag(raw.flags, FLAG_IMMEDIATE),
+            tsn: view.tsn,
+            data: view.to_data(alloc)?,
+            immediate_ack: view.immediate_ack,
         })
     }
 }

@@ -9,7 +9,7 @@ mod raw;
 mod runs;
 mod sack;
 
-pub use data::{Data, DataChunk, IDataChunk};
+pub use data::{Data, DataChunk, DataView, IDataChunk};
 pub use forward_tsn::{ForwardTsnChunk, IForwardTsnChunk, SkippedStream};
 pub use raw::{RawChunk, write_chunk_header};
 pub use runs::are_runs;

@@ -1,13 +1,15 @@
 //! Chunks as they lie in a packet: type, flags, length, value, and padding to a multiple of four bytes (RFC 9260
 //! section 3.2).
 
-ghost use Rattle.std.specs.Prelude.{◌≡◌, ◌≢◌, ◌+◌, ◌<◌, ◌^◌, ◌∷◌, [], ◌++◌, IfOk, OnOk, OnErr, IfErr};
+ghost use Rattle.std.specs.Prelude.{◌≡◌, ◌≢◌, ◌⊎◌, ◌+◌, ◌<◌, ◌^◌, ◌∷◌, [], ◌++◌, length, IfOk, OnOk, OnErr, IfErr, IfSome, OnSome, IfNone};
 ghost use Rattle.sctp_wire.specs.Fields.{be16};
 ghost use Rattle.sctp_wire.specs.Item.{Takes, TakesNone};
 ghost use Rattle.sctp_wire.specs.Views.{raw_item};
 ghost use Rattle.sctp_wire.specs.Room.{Fills};
-ghost use Rattle.sctp_chunk.specs.Views.{raw_chunk};
+ghost use Rattle.sctp_chunk.specs.Grammar.{IsChunk};
+ghost use Rattle.sctp_chunk.specs.Views.{raw_chunk, viewed_data, viewed_idata};
 
+use crate::data::{DataChunk, DataView, IDataChunk};
 use sctp_wire::{ChunkParseError, RawItem, write_item_header};
 use std::alloc::AllocError;
 
@@ -51,6 +53,21 @@ impl<'a> RawChunk<'a> {
             return Err(ChunkParseError::InvalidType);
         }
         Ok(self.value)
+    }
+
+    /// The fragment that a DATA or an I-DATA carries, where it lies; none where the chunk is of another type, or too short.
+    pub fn data_view(self) -> Option<DataView<'a>>
+        ensures data { self.entry.typ ≡ 0 → IfSome result (λ v. IsChunk (raw_chunk self.entry) (viewed_data v)) }
+        ensures idata { self.entry.typ ≡ 64 → IfSome result (λ v. IsChunk (raw_chunk self.entry) (viewed_idata v)) }
+        ensures carrier { OnSome result ((self.entry.typ ≡ 0) ⊎ (self.entry.typ ≡ 64)) }
+        ensures no_data { IfNone result (self.entry.typ ≡ 0 → length self.entry.value.now < 12) }
+        ensures no_idata { IfNone result (self.entry.typ ≡ 64 → length self.entry.value.now < 16) }
+    {
+        match self.typ {
+            DataChunk::TYPE => DataView::of_data(self).ok(),
+            IDataChunk::TYPE => DataView::of_idata(self).ok(),
+            _ => None,
+        }
     }
 }
 

@@ -2,7 +2,8 @@
 
 ghost use Rattle.std.specs.Prelude.{◌≡◌, ◌≢◌, ◌⊎◌, ℕ, ◌+◌, ◌*◌, ◌%◌, ◌^◌, ◌-◌, ◌<◌, min, true, [], ◌∷◌, ◌++◌, length, IfOk, IfErr, OnOk, OnErr};
 ghost use Rattle.sctp_chunk.specs.Written.{chunk_item};
-ghost use Rattle.sctp_chunk.specs.Grammar.{IsChunk, RefusesChunkAs};
+ghost use Rattle.sctp_wire.specs.Fields.{be16, be32};
+ghost use Rattle.sctp_chunk.specs.Grammar.{IsChunk, RefusesChunkAs, IsCounted};
 ghost use Rattle.sctp_chunk.specs.Views.{raw_chunk, sack_chunk_tree};
 ghost use Rattle.std.specs.Prelude.{Some};
 ghost use Rattle.sctp_chunk.specs.ChunkText.{chunk_text, block_text};
@@ -85,6 +86,52 @@ impl SackChunk {
         ensures refused { IfErr result (RefusesChunkAs 3 (raw_chunk raw.entry)) }
     {
         let value = raw.value_as(Self::TYPE)?;
+        let front = SackFront::at(value)?;
+        let (blocks, duplicates) = front.rest.split_at(4 * front.block_count as usize);
+        let gap_ack_blocks = entries_from_bytes(alloc, blocks)?;
+        let duplicate_tsns = entries_from_bytes(alloc, duplicates)?;
+        Ok(SackChunk {
+            cumulative_tsn_ack: Tsn(front.cumulative_tsn_ack),
+            a_rwnd: front.a_rwnd,
+            gap_ack_blocks,
+            duplicate_tsns,
+        })
+    }
+
+    /// Whether a SACK may have this value: `InvalidLength` where it does not hold just the blocks and duplicates that its counts
+    /// say.
+    pub fn check_value(value: &[u8]) -> Result<(), ChunkParseError>
+        ensures ok { OnOk result (IsCounted value.now) }
+        ensures other { OnErr result (IsCounted value.now → ⊥) }
+        ensures fault { IfErr result (λ e. e ≡ ChunkParseError.InvalidLength) }
+    {
+        SackFront::at(value)?;
+        Ok(())
+    }
+}
+
+/// The fields that a SACK begins with, and the bytes of its blocks and duplicates behind them.
+#[derive(Clone, Copy)]
+struct SackFront<'a> {
+    cumulative_tsn_ack: u32,
+    a_rwnd: u32,
+    block_count: u16,
+    duplicate_count: u16,
+    rest: &'a [u8],
+}
+
+impl<'a> SackFront<'a> {
+    /// The fields of a value; `InvalidLength` where it does not hold just the blocks and duplicates that its counts say.
+    fn at(value: &'a [u8]) -> Result<SackFront<'a>, ChunkParseError>
+        ensures ok { IfOk result (λ f. value.now ≡ be32 f.cumulative_tsn_ack ++ (be32 f.a_rwnd ++ (be16 f.block_count ++ (be16 f.duplicate_count ++ f.rest.now)))) }
+        ensures tsn_fits { IfOk result (λ f. f.cumulative_tsn_ack < 2 ^ 32) }
+        ensures window_fits { IfOk result (λ f. f.a_rwnd < 2 ^ 32) }
+        ensures blocks_fit { IfOk result (λ f. f.block_count < 2 ^ 16) }
+        ensures duplicates_fit { IfOk result (λ f. f.duplicate_count < 2 ^ 16) }
+        ensures counted { IfOk result (λ f. length f.rest.now ≡ 4 * f.block_count + 4 * f.duplicate_count) }
+        ensures other { OnErr result (IsCounted value.now → ⊥) }
+        ensures fault { IfErr result (λ e. e ≡ ChunkParseError.InvalidLength) }
+    {
         if value.len() < 12 {
             return Err(ChunkParseError::InvalidLength);
         }
@@ -96,14 +143,12 @@ impl SackChunk {
         if rest.len() != blocks_size + 4 * duplicate_count as usize {
             return Err(ChunkParseError::InvalidLength);
         }
-        let (blocks, duplicates) = rest.split_at(blocks_size);
-        let gap_ack_blocks = entries_from_bytes(alloc, blocks)?;
-        let duplicate_tsns = entries_from_bytes(alloc, duplicates)?;
-        Ok(SackChunk {
-            cumulative_tsn_ack: Tsn(cumulative_tsn_ack),
+        Ok(SackFront {
+            cumulative_tsn_ack,
             a_rwnd,
-            gap_ack_blocks,
-            duplicate_tsns,
+            block_count,
+            duplicate_count,
+            rest,
         })
     }
 }

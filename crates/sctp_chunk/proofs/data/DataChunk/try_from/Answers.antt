@@ -1,11 +1,9 @@
-use Rattle.std.proofs.Common.{◌≡◌, ◌++◌, ℕ, List, rules, ap, sym, ◌∙◌}
-use Rattle.sctp_wire.specs.Fields.{be16, be32}
-use Rattle.sctp_chunk.specs.Written.{data_value}
+use Rattle.std.proofs.Common.{sym, subst}
+use Rattle.sctp_chunk.specs.Chunk.{FragmentTree, data_chunk}
+use Rattle.sctp_chunk.specs.Grammar.{IsChunk}
+use Rattle.sctp_chunk.specs.Views.{raw_chunk}
 use Rattle.sctp_chunk.proofs.data.DataChunk.try_from.Goals as goal
 
 pub returns-clause-ok : goal.returns-clause-ok
-unfolding data_value
 returns-clause-ok c =
-    let whole : c.args.raw.value.now ≡ be32 c.first_u32-tsn.result.0 ++ (be16 c.first_u16-stream_id.result.0 ++ (be16 c.first_u16-ssn.result.0 ++ (be32 c.first_u32-ppid.result.0 ++ c.first_u32-ppid.result.1.now))) =
-    sym c.in_ok-value.ensures.ok.1 ∙ (c.first_u32-tsn.ensures.number ∙ ap (λ (x : List ℕ). be32 c.first_u32-tsn.result.0 ++ x) (c.first_u16-stream_id.ensures.number ∙ ap (λ (x : List ℕ). be16 c.first_u16-stream_id.result.0 ++ x) (c.first_u16-ssn.ensures.number ∙ ap (λ (x : List ℕ). be16 c.first_u16-ssn.result.0 ++ x) (c.first_u32-ppid.ensures.number)))) in
-    search rules
+    subst (λ (f : FragmentTree). IsChunk (raw_chunk c.args.raw) (data_chunk c.in_ok-view.view.tsn.0 c.in_ok-view.view.immediate_ack f)) (sym c.in_ok-to_data.ensures) c.in_ok-view.ensures.ok
