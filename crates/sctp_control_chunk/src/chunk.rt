@@ -1,12 +1,14 @@
 //! A chunk of any kind.
 
-ghost use Rattle.std.specs.Prelude.{◌≡◌, ◌+◌, ◌^◌, ◌-◌, min, true, [], ◌∷◌, ◌++◌, IfOk, IfErr, OnOk, Some};
+ghost use Rattle.std.specs.Prelude.{◌≡◌, ◌≢◌, ◌+◌, ◌^◌, ◌-◌, min, true, [], ◌∷◌, ◌++◌, IfOk, IfErr, OnOk, Some};
 ghost use Rattle.sctp_chunk.specs.Written.{chunk_item, chunk_is_whole};
+ghost use Rattle.sctp_chunk.specs.Chunk.{ChunkTree};
 ghost use Rattle.sctp_chunk.specs.Grammar.{IsChunk, RefusesChunk};
 ghost use Rattle.sctp_chunk.specs.Views.{raw_chunk};
 ghost use Rattle.sctp_control_chunk.specs.ChunkView.{chunk_tree};
 ghost use Rattle.sctp_chunk.specs.ChunkText.{chunk_text};
 
+use crate::check::check_value;
 use crate::cookie::{CookieAckChunk, CookieEchoChunk};
 use crate::error::{AbortChunk, ErrorChunk};
 use crate::heartbeat::{HeartbeatAckChunk, HeartbeatRequestChunk};
@@ -15,7 +17,7 @@ use crate::re_config::ReConfigChunk;
 use crate::shutdown::{ShutdownAckChunk, ShutdownChunk, ShutdownCompleteChunk};
 use crate::unknown::UnknownChunk;
 use sctp_chunk::{DataChunk, ForwardTsnChunk, IDataChunk, IForwardTsnChunk, RawChunk, SackChunk};
-use sctp_wire::{ChunkParseError, FromItem, RawItem, SerializableTlv};
+use sctp_wire::{CheckItem, ChunkParseError, FromItem, RawItem, SerializableTlv};
 use std::alloc::{AllocError, Global};
 use std::fmt;
 
@@ -70,6 +72,15 @@ impl Chunk {
             _ => Ok(Chunk::Unknown(UnknownChunk::try_from(alloc, raw)?)),
         }
     }
+
+    /// Whether a chunk says something. It has the faults of `try_from`, but for want of memory, since it builds nothing.
+    pub fn check(raw: RawChunk<'_>) -> Result<(), ChunkParseError>
+        ensures ok { OnOk result ((t : ChunkTree) × IsChunk (raw_chunk raw.entry) t) }
+        ensures refused { IfErr result (RefusesChunk (raw_chunk raw.entry)) }
+        ensures never_memory { IfErr result (λ fault. fault ≢ ChunkParseError.Memory) }
+    {
+        check_value(raw.typ, raw.flags, raw.value)
+    }
 }
 
 impl FromItem for Chunk {
@@ -79,6 +90,20 @@ impl FromItem for Chunk {
 
     fn from_item(alloc: Global, item: RawItem<'_>) -> Result<Chunk, ChunkParseError> {
         Chunk::try_from(alloc, RawChunk::from_item(item))
+    }
+}
+
+impl CheckItem for Chunk {
+    ghost use Rattle.sctp_chunk.specs.Chunk.{ChunkTree};
+
+    ghost Tree = { ChunkTree };
+
+    ghost stands_for = { IsChunk };
+
+    ghost refuses = { RefusesChunk };
+
+    fn check_item(item: RawItem<'_>) -> Result<(), ChunkParseError> {
+        Chunk::check(RawChunk::from_item(item))
     }
 }
 

@@ -2,6 +2,7 @@
 //! any kind.
 #![tactic(auto)]
 
+mod check;
 mod chunk;
 mod cookie;
 mod error;
