@@ -10,3 +10,4 @@ pub mod CoveredOnceLemmas
 pub mod ValidLemmas
 pub mod RangeLemmas
 pub mod BuiltLemmas
+pub mod ViewLemmas

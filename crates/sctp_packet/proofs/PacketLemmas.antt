@@ -22,16 +22,3 @@ field_at h word body fits = from_be_bytes-to_be_bytes_4 word fits
 pub length_joined : (h : HeaderTree) (word : ℕ) (body : List ℕ) → length (joined_bytes h word body) ≡ 12 + length body
 unfolding header_bytes be16 be32
 length_joined h word body = omega arith
-
--- why the chunks could not be read is why the packet could not
-pub chunks_refused : (policy : Policy) (word : ℕ) (bytes : List ℕ) (fault : ChunkParseError) (e : PacketParseError) → IsPacketFault fault e
-    → IsSized bytes → lets_through policy word (checksum_field bytes) ≡ true
-    → ((fault ≡ faults.Memory) ⊎ BreaksAs IsChunk RefusesChunk (drop 12 bytes) fault) → Refuses policy word bytes e
-chunks_refused policy word bytes fault e is sized sum (inl none) =
-    let same : IsPacketFault faults.Memory e = subst (λ (f : ChunkParseError). IsPacketFault f e) none is in
-    subst (λ (x : PacketParseError). Refuses policy word bytes x) (sym same) tt
-chunks_refused policy word bytes faults.Memory e is sized sum (inr b) = subst (λ (x : PacketParseError). Refuses policy word bytes x) (sym is) tt
-chunks_refused policy word bytes faults.InvalidLength e is sized sum (inr b) = subst (λ (x : PacketParseError). Refuses policy word bytes x) (sym is) (sized, sum, b, λ h. cc)
-chunks_refused policy word bytes faults.InvalidType e is sized sum (inr b) = subst (λ (x : PacketParseError). Refuses policy word bytes x) (sym is) (sized, sum, b, λ h. cc)
-chunks_refused policy word bytes faults.InvalidPadding e is sized sum (inr b) = subst (λ (x : PacketParseError). Refuses policy word bytes x) (sym is) (sized, sum, b, λ h. cc)
-chunks_refused policy word bytes faults.InvalidValue e is sized sum (inr b) = subst (λ (x : PacketParseError). Refuses policy word bytes x) (sym is) (sized, sum, b, λ h. cc)

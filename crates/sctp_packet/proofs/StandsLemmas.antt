@@ -18,7 +18,7 @@ use Rattle.sctp_error_cause.proofs.LawLemmas.{cause_stands}
 use Rattle.sctp_chunk.specs.declared.forward_tsn.SkippedStream.{SkippedStream}
 use Rattle.sctp_chunk.specs.Chunk.{ChunkTree, FragmentTree, InitTree, SackTree, data_chunk, init_chunk, init_ack_chunk, sack_chunk, heartbeat_request_chunk, heartbeat_ack_chunk, abort_chunk, shutdown_chunk, shutdown_ack_chunk, error_chunk, cookie_echo_chunk, cookie_ack_chunk, shutdown_complete_chunk, idata_chunk, re_config_chunk, forward_tsn_chunk, i_forward_tsn_chunk, unknown_chunk}
 use Rattle.sctp_chunk.specs.Written.{is_known_chunk, data_value, idata_value, init_fields, sack_value, block_bytes, length_block_bytes, tsn_bytes, skip_bytes, forward_value, is_ssn_skip}
-use Rattle.sctp_chunk.specs.Grammar.{IsChunk, RefusesChunk, ValueShape, any_value, exactly, at_least, in_steps, by_counts, parameters_behind, of_causes, value_shape, known_shape, IsFaulty, IsCounted, SaysInit, SaysSkips, FitsSack}
+use Rattle.sctp_chunk.specs.Grammar.{IsChunk, RefusesChunk, ValueShape, any_value, exactly, at_least, in_steps, by_counts, parameters_behind, of_causes, value_shape, known_shape, HasChunkShape, IsFaulty, IsCounted, SaysInit, SaysSkips, FitsSack}
 use Rattle.sctp_chunk.proofs.SkipLemmas.{length_ssn_skips}
 use Rattle.sctp_packet.proofs.OneChunkLemmas.{length_front, length_says}
 
@@ -54,16 +54,6 @@ chunk_fault i fault other (inr p) (inl q) m n = absurd (n q)
 chunk_fault i fault other (inr p) (inr q) m n = one_faulty (value_shape i.first) i.value fault other p q m n
 
 -- ---- what stands is not at fault
-
--- the values that a shape allows
-abbrev HasChunkShape : ValueShape → List ℕ → Type 0
-HasChunkShape any_value value = Unit {0}
-HasChunkShape (exactly n) value = length value ≡ n
-HasChunkShape (at_least n) value = n ≤ length value
-HasChunkShape (in_steps n width) value = (n ≤ length value) × ((length value - n) % width ≡ 0)
-HasChunkShape by_counts value = IsCounted value
-HasChunkShape (parameters_behind n) value = (n ≤ length value) × ((ps : List ParameterTree) × Tiles IsParameter (drop n value) ps [])
-HasChunkShape of_causes value = (cs : List CauseTree) × Tiles IsCause value cs []
 
 not_faulty : (shape : ValueShape) (value : List ℕ) (fault : ChunkParseError) → HasChunkShape shape value → IsFaulty shape value fault → fault ≢ Memory → ⊥
 not_faulty any_value value fault h p m = p

@@ -5,6 +5,8 @@ pub use Rattle.sctp_chunk.specs.Views
 pub use Rattle.sctp_control_chunk.specs.InitFront
 pub mod Packet
 pub mod PacketView
+pub mod View
+pub mod ViewInside
 pub mod Builder
 pub mod Faults
 pub mod BuilderView

@@ -6,18 +6,26 @@ ghost use Rattle.sctp_wire.specs.declared.checksum.Policy.{Policy};
 ghost use Rattle.sctp_packet.specs.declared.packet.PacketParseError.{PacketParseError};
 ghost use Rattle.sctp_packet.specs.declared.packet.SctpPacket.{SctpPacket};
 ghost use Rattle.sctp_chunk.specs.Chunk.{ChunkTree};
-ghost use Rattle.sctp_chunk.specs.Grammar.{IsChunk, carried};
+ghost use Rattle.sctp_wire.specs.declared.error.ChunkParseError.{ChunkParseError};
+ghost use Rattle.sctp_chunk.specs.Grammar.{IsChunk, RefusesChunk, carried};
 ghost use Rattle.sctp_packet.specs.ReadBack.{ChunkReadsBack};
 ghost use Rattle.sctp_packet.specs.Packet.{HeaderTree, PacketTree, IsPacket, FitsHeader, Accepts, Refuses, IsFault, lets_through, packet_bytes, canonical};
 ghost use Rattle.sctp_chunk.specs.Written.{chunks_bytes};
 ghost use Rattle.sctp_packet.specs.Builder.{BuilderTree, Holds, built};
 ghost use Rattle.sctp_packet.specs.PacketView.{packet_tree};
+ghost use Rattle.sctp_packet.specs.View.{ViewTree, Views, AreLeft, viewed_packet};
 
 use crate::packet::PacketParseError;
+use sctp_wire::ChunkParseError;
 
 /// An item stands for at most one chunk.
 pub fn one_chunk()
     ensures { (i : Item) (t u : ChunkTree) → IsChunk i t → IsChunk i u → t ≡ u }
+{}
+
+/// An item that stands for a chunk is refused for want of memory alone.
+pub fn chunk_is_not_refused()
+    ensures { (i : Item) (t : ChunkTree) (fault : ChunkParseError) → IsChunk i t → RefusesChunk i fault → fault ≡ ChunkParseError.Memory }
 {}
 
 /// Bytes are at most one packet.
@@ -44,6 +52,18 @@ pub fn one_answer()
         → IfOk answer (λ q. Accepts policy word bytes (packet_tree q)) → IfErr answer (Refuses policy word bytes)
         → IsFault reason → Refuses policy word bytes reason
         → MatchResult answer (λ q. ⊥) (λ fault. (fault ≡ reason) ⊎ (fault ≡ PacketParseError.Memory)) }
+{}
+
+/// A view has the answer of `from_bytes`: the same packet, all of whose chunks are left, or the same fault. Only `from_bytes` can want
+/// memory.
+pub fn same_answer()
+    ensures { (policy : Policy) (word : ℕ) (bytes : List ℕ) (viewed : Result ViewTree PacketParseError) (answer : Result SctpPacket PacketParseError)
+        → IfOk viewed (Views policy word bytes) → IfErr viewed (Refuses policy word bytes) → IfErr viewed IsFault
+        → IfOk answer (λ q. Accepts policy word bytes (packet_tree q)) → IfErr answer (Refuses policy word bytes)
+        → MatchResult viewed
+        (λ v. MatchResult answer (λ q. (chunks : List ChunkTree) × AreLeft v chunks × (packet_tree q ≡ viewed_packet v chunks))
+        (λ fault. fault ≡ PacketParseError.Memory))
+        (λ reason. MatchResult answer (λ q. ⊥) (λ fault. (fault ≡ reason) ⊎ (fault ≡ PacketParseError.Memory))) }
 {}
 
 /// What `build` gives for a list of chunks is read back as this list, with the fields that their kinds do not write at

@@ -6,21 +6,23 @@ mod chunk_validators;
 mod laws;
 mod packet;
 mod ranges;
+mod view;
 
 pub use builder::SctpPacketBuilder;
 pub use chunk_validators::{clean_sack, validate_sack};
 pub use laws::{
-    built_packet, built_reads_back, one_answer, one_chunk, one_packet, read_back,
-    refused_or_accepted, same_packets,
+    built_packet, built_reads_back, chunk_is_not_refused, one_answer, one_chunk, one_packet,
+    read_back, refused_or_accepted, same_answer, same_packets,
 };
 pub use packet::{COMMON_HEADER_SIZE, CommonHeader, PacketParseError, SctpPacket};
 pub use ranges::chunk_fits;
 pub use sctp_chunk::{
-    Data, DataChunk, ForwardTsnChunk, GapAckBlock, IDataChunk, IForwardTsnChunk, RawChunk,
-    SackChunk, SkippedStream, write_chunk_header,
+    Data, DataChunk, DataView, ForwardTsnChunk, GapAckBlock, IDataChunk, IForwardTsnChunk,
+    RawChunk, SackChunk, SkippedStream, write_chunk_header,
 };
 pub use sctp_control_chunk::{
     AbortChunk, Chunk, CookieAckChunk, CookieEchoChunk, ErrorChunk, HeartbeatAckChunk,
     HeartbeatRequestChunk, InitAckChunk, InitChunk, ReConfigChunk, ShutdownAckChunk, ShutdownChunk,
     ShutdownCompleteChunk, UnknownChunk,
 };
+pub use view::PacketView;

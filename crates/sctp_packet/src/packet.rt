@@ -11,15 +11,16 @@ ghost use Rattle.sctp_packet.specs.Packet.{Accepts, Refuses, FitsHeader, joined_
 ghost use Rattle.sctp_packet.specs.PacketView.{header_tree, packet_tree};
 ghost use Rattle.sctp_packet.specs.Faults.{IsPacketFault, fault_number};
 
+use crate::view::{PacketView, build_chunks};
 use sctp_control_chunk::Chunk;
-use sctp_wire::{ChunkParseError, Policy, first_u16, first_u32, items_from_bytes};
+use sctp_wire::{ChunkParseError, Policy, first_u16, first_u32};
 use std::alloc::Global;
 use thiserror::Error;
 
 /// The length of the common header in bytes.
 pub const COMMON_HEADER_SIZE: usize = 12;
 
-const MAX_PACKET_SIZE: usize = 65535;
+pub(crate) const MAX_PACKET_SIZE: usize = 65535;
 
 /// Why a packet was refused.
 #[derive(Clone, Copy, Debug, PartialEq, Eq, Error)]
@@ -79,7 +80,7 @@ pub struct CommonHeader {
 #[tactic(auto, unfolding(crate::specs::Packet::header_bytes))]
 impl CommonHeader {
     /// The header at the front of the bytes, and the bytes behind it; `InvalidLength` where there are under 12.
-    fn at(bytes: &[u8]) -> Result<(CommonHeader, &[u8]), ChunkParseError>
+    pub(crate) fn at(bytes: &[u8]) -> Result<(CommonHeader, &[u8]), ChunkParseError>
         ensures ok { IfOk result (λ read. bytes.now ≡ joined_bytes (header_tree read.0) read.0.checksum read.1.now) }
         ensures fits { IfOk result (λ read. FitsHeader (header_tree read.0)) }
         ensures checksum_fits { IfOk result (λ read. read.0.checksum < 2 ^ 32) }
@@ -126,27 +127,12 @@ impl SctpPacket {
         ensures packet { IfOk result (λ p. Accepts policy.now word bytes.now (packet_tree p)) }
         ensures refused { IfErr result (Refuses policy.now word bytes.now) }
     {
-        let Ok((common_header, body)) = CommonHeader::at(bytes) else {
-            return Err(PacketParseError::TooShort);
-        };
-        if bytes.len() > MAX_PACKET_SIZE {
-            return Err(PacketParseError::TooLong);
-        }
-        if !policy.accepts(word, common_header.checksum) {
-            return Err(PacketParseError::InvalidChecksum);
-        }
-        let chunks = chunks_from_bytes(alloc, body)?;
+        let view = PacketView::new(bytes, word, policy)?;
+        let common_header = view.header();
+        let chunks = build_chunks(alloc, view)?;
         Ok(SctpPacket {
             common_header,
             chunks,
         })
     }
-}
-
-/// The chunks that the bytes are.
-fn chunks_from_bytes(alloc: Global, bytes: &[u8]) -> Result<Vec<Chunk>, ChunkParseError>
-    ensures ok { IfOk result (λ chunks. Tiles IsChunk bytes.now (map chunk_tree chunks.items) []) }
-    ensures refused { IfErr result (λ fault. (fault ≡ ChunkParseError.Memory) ⊎ BreaksAs IsChunk RefusesChunk bytes.now fault) }
-{
-    items_from_bytes(alloc, bytes)
 }
