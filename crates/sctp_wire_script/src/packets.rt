@@ -1,13 +1,16 @@
 //! Packets, read and built again.
 
 use crate::show::refuse;
-use sctp_packet::{Chunk, SctpPacket, SctpPacketBuilder, chunk_fits};
+use sctp_packet::{Chunk, PacketView, SctpPacket, SctpPacketBuilder, chunk_fits};
 use sctp_wire::Policy;
 use std::alloc::AllocError;
 use std::io;
 
 /// The greatest packet.
 const LIMIT: usize = 65535;
+
+/// No packet has more chunks: each has at least four bytes.
+const MOST_CHUNKS: usize = LIMIT / 4;
 
 /// Lets every checksum through: CRC32c is the caller's.
 pub fn unchecked() -> Policy {
@@ -27,6 +30,27 @@ pub fn read(rt: &HostRuntime, bytes: &[u8], word: u32, policy: &Policy) -> io::R
         }
         Err(fault) => refuse(rt, fault),
     }
+}
+
+/// The chunks of a packet where they lie.
+pub fn look(rt: &HostRuntime, bytes: &[u8], word: u32, policy: &Policy) -> io::Result<()> {
+    match PacketView::new(bytes, word, policy) {
+        Ok(view) => walk(rt, view),
+        Err(fault) => refuse(rt, fault),
+    }
+}
+
+fn walk(rt: &HostRuntime, mut view: PacketView<'_>) -> io::Result<()> {
+    for _ in 0..MOST_CHUNKS {
+        let Some(chunk) = view.next_chunk() else {
+            return Ok(());
+        };
+        match chunk.data_view() {
+            Some(fragment) => println!(rt; "{fragment:?}")?,
+            None => println!(rt; "{chunk:?}")?,
+        }
+    }
+    Ok(())
 }
 
 fn tell(rt: &HostRuntime, packet: &SctpPacket, bytes: &[u8]) -> io::Result<()> {
