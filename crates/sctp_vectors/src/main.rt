@@ -1,10 +1,10 @@
-//! Packets that other stacks emitted: shows what each of their chunks says, and writes the packets again.
+//! Packets that other stacks emitted: shows what each of their chunks says, writes the packets again, and reads them in place.
 //!
 //! Standard input has a packet a line, in hex behind the name of the stack that emitted it; a line that begins with `#`
 //! is none.
 #![tactic(auto)]
 
-use sctp_packet::{SctpPacket, SctpPacketBuilder};
+use sctp_packet::{Chunk, PacketView, RawChunk, SctpPacket, SctpPacketBuilder};
 use sctp_wire::Policy;
 use std::alloc::{AllocError, Global};
 
@@ -30,6 +30,32 @@ fn written(alloc: Global, packet: &SctpPacket) -> Result<Option<Vec<u8>>, AllocE
     Ok(Some(builder.build(header.checksum)))
 }
 
+/// Whether the payload in place is the one that was copied, where the chunk has one.
+fn has_payload(chunk: &Chunk, raw: RawChunk<'_>) -> bool {
+    match (chunk, raw.data_view()) {
+        (Chunk::Data(c), Some(fragment)) => fragment.payload == c.data.payload.as_slice(),
+        (Chunk::IData(c), Some(fragment)) => fragment.payload == c.data.payload.as_slice(),
+        (_, Some(_)) => false,
+        (_, None) => true,
+    }
+}
+
+/// Whether the chunks in place are these, as they are shown, with these payloads.
+fn is_alike(alloc: Global, chunks: &[Chunk], mut view: PacketView<'_>) -> anyhow::Result<bool> {
+    for chunk in chunks {
+        let Some(raw) = view.next_chunk() else {
+            return Ok(false);
+        };
+        let again = Chunk::try_from(alloc, raw)?;
+        let text = format!(in alloc; "{again}")?;
+        drop(again);
+        if text != format!(in alloc; "{chunk}")? || !has_payload(chunk, raw) {
+            return Ok(false);
+        }
+    }
+    Ok(view.next_chunk().is_none())
+}
+
 fn show(rt: &HostRuntime, bytes: &[u8]) -> anyhow::Result<()> {
     // The checksums are CRC32c, which this repository leaves to its caller: they are not looked at.
     let policy = Policy {
@@ -46,6 +72,9 @@ fn show(rt: &HostRuntime, bytes: &[u8]) -> anyhow::Result<()> {
         None => false,
     };
     println!(rt; "written {}", if alike { "alike" } else { "otherwise" })?;
+    let view = PacketView::new(bytes, 0, &policy)?;
+    let alike = is_alike(rt.alloc(), &packet.chunks, view)?;
+    println!(rt; "in place {}", if alike { "alike" } else { "otherwise" })?;
     Ok(())
 }
 
