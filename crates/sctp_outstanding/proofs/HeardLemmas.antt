@@ -47,7 +47,7 @@ rests-covered i a b = λ j. record i { state = a j; reports = b j }
 rests-uncovered : (i : Item) → uncovered i.state ≡ i.state → Rests false i
 rests-uncovered i a = λ j. record i { state = a j }
 
-still : (s : ItemState) → acked s ≡ s → flies s ≡ false
+pub still : (s : ItemState) → acked s ≡ s → flies s ≡ false
 still InFlight h = absurd (cc)
 still Missing h = absurd (cc)
 still Queued h = refl
@@ -116,7 +116,7 @@ slowed-open QueuedFast h = refl
 slowed-open Acked h = absurd (cc)
 slowed-open GivenUp h = refl
 
-state-of : (x y : Item) → x ≡ y → x.state ≡ y.state
+pub state-of : (x y : Item) → x ≡ y → x.state ≡ y.state
 state-of x y h = ap (λ (z : Item). z.state) h
 
 reports-of : (x y : Item) → x ≡ y → x.reports ≡ y.reports
@@ -363,7 +363,7 @@ agree-edge off n a b xs ys olds bs la lb hx hy ex ey s ea eb =
 
 -- ---- a cursor that begins later
 
-cursor-later : (bs : List GapAckBlock) (o p from : ℕ) → o ≤ p → IsCursor bs o from → IsCursor bs p from
+pub cursor-later : (bs : List GapAckBlock) (o p from : ℕ) → o ≤ p → IsCursor bs o from → IsCursor bs p from
 cursor-later bs o p from le h = record { within = h.within; same = λ q lq. h.same q (omega (arith, le, lq)); lowest = h.lowest; runs = h.runs }
 
 pub walk-later : (b : Bool) (bs : List GapAckBlock) (k from : ℕ) → IsWalk b bs 1 from → IsWalk b bs (k + 1) from

@@ -13,3 +13,4 @@ pub mod SackLemmas
 pub mod SkipLemmas
 pub mod TellingLemmas
 pub mod TotalsLemmas
+pub mod UncoveredLemmas

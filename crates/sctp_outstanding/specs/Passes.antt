@@ -1,5 +1,5 @@
 -- How far a walk through items and blocks has come. Each says that what is done and what is left give the whole.
-use Rattle.std.specs.Prelude.{◌≡◌, ℕ, zero, suc, ◌≤◌, Bool, true, false, List, [], ◌∷◌, drop, length}
+use Rattle.std.specs.Prelude.{◌≡◌, ℕ, zero, suc, ◌+◌, ◌<◌, ◌≤◌, Bool, true, false, List, [], ◌∷◌, drop, length}
 use Rattle.sctp_chunk.specs.declared.sack.GapAckBlock.{GapAckBlock}
 use Rattle.sctp_chunk.specs.Covered.{is_covered, AreRuns}
 use Rattle.sctp_outstanding.specs.Item.{Item}
@@ -16,6 +16,10 @@ pub record IsCursor (blocks : List GapAckBlock) (offset from : ℕ) : Type 0 whe
 abbrev pub IsWalk : (is_in_runs : Bool) → List GapAckBlock → (offset from : ℕ) → Type 0
 IsWalk true blocks offset from = IsCursor blocks offset from
 IsWalk false blocks offset from = Unit {0}
+
+-- blocks cover the items from one place up to another
+abbrev pub AreCovered : List GapAckBlock → (place next : ℕ) → Type 0
+AreCovered blocks place next = (p : ℕ) → place ≤ p → p < next → is_covered blocks (p + 1) ≡ true
 
 -- the first k items are settled, and the rest is to be
 abbrev pub settle_from : List GapAckBlock → (k offset : ℕ) → List Item → List Item

@@ -10,6 +10,7 @@ ghost use Rattle.sctp_state.specs.Events.{give_up, tell_all};
 ghost use Rattle.sctp_outstanding.specs.Views.{discard_of, point_of};
 ghost use Rattle.sctp_outstanding.specs.Losses.{loss_of};
 ghost use Rattle.sctp_outstanding.specs.Items.{first_sent, inserted, begin_reset, begun_at};
+ghost use Rattle.sctp_outstanding.specs.Heard.{Rest};
 ghost use Rattle.sctp_outstanding.specs.Interrupted.{Same, SomeNacked, SomeExpired, SomeHeard};
 ghost use Rattle.sctp_outstanding.specs.Forward.{is_forward_due, entry_at, stops, passes_of, forward_point};
 ghost use Rattle.std.specs.List.{list_any};
@@ -21,9 +22,9 @@ mod resending;
 
 use crate::item::Item;
 use crate::kept::{Change, Kept, placeholder};
-use crate::sack::{AckInfo, highest_end, settle_all, take_out};
+use crate::sack::{AckInfo, highest_end, pass_covered, settle_all, take_out};
 use crate::skips::{SkipEntry, chunk_size_with, mid_skips, put_if, ssn_skips};
-use sctp_chunk::{Data, ForwardTsnChunk, GapAckBlock, IForwardTsnChunk};
+use sctp_chunk::{Data, ForwardTsnChunk, GapAckBlock, IForwardTsnChunk, are_runs};
 use sctp_serial::{LifecycleId, OutgoingMessageId, SerialNumber, SocketTime, StreamId, Tsn};
 use sctp_state::{Events, GivenUp, GivenUpCause};
 use std::alloc::{AllocError, Global};
@@ -365,6 +366,37 @@ impl OutstandingData {
         Ok(is_lossy)
     }
 
+    // The same of a SACK, by whose blocks the items stand: those that a block covers are passed over.
+    fn nack_uncovered(
+        &mut self,
+        count: usize,
+        blocks: &[GapAckBlock],
+        fast: bool,
+        events: &mut Events,
+    ) -> Result<bool, AllocError>
+        requires { Rest blocks.now 1 self.old.items.kept }
+        ensures items { OnOk result (self.new ≡ record self.old { items = (nack_below false fast count (first_step self.old.items events.old)).items }) }
+        ensures told { OnOk result (events.new ≡ (nack_below false fast count (first_step self.old.items events.old)).told) }
+        ensures lossy { IfOk result (λ is_lossy. is_lossy ≡ (nack_below false fast count (first_step self.old.items events.old)).is_lossy) }
+        ensures err { OnErr result (SomeNacked false fast self.old events.old self.new events.new) }
+    {
+        let is_in_runs = are_runs(0, blocks);
+        let mut is_lossy = false;
+        let mut from = 0;
+        let mut place = 0;
+        while place < count {
+            let (block, next) = pass_covered(blocks, is_in_runs, from, place);
+            if count <= next {
+                return Ok(is_lossy);
+            }
+            let is_lost = self.nack_item(next, false, fast, events)?;
+            is_lossy |= is_lost;
+            from = block;
+            place = next + 1;
+        }
+        Ok(is_lossy)
+    }
+
     /// A timeout: each item in flight or missing is lost, in ascending order. It is to be sent again, or, with partial
     /// reliability and where it was sent again as often as it may be, its message is given up, with a record. Without
     /// memory this is done for some of the first items alone.
@@ -523,7 +555,7 @@ impl OutstandingData {
         let left = self.leave(number, events)?;
         let covered = settle_all(&mut self.kept, blocks);
         let fast = !is_in_fast_recovery;
-        let is_lossy = self.nack_below(covered.below, false, fast, events)?;
+        let is_lossy = self.nack_uncovered(covered.below, blocks, fast, events)?;
         Ok(AckInfo {
             bytes_acked: left.saturating_add(covered.bytes),
             has_packet_loss: is_lossy,

@@ -6,7 +6,8 @@ ghost use Rattle.sctp_chunk.specs.Covered.{is_covered};
 ghost use Rattle.sctp_outstanding.specs.Item.{chunk_size};
 ghost use Rattle.sctp_outstanding.specs.Items.{change_at};
 ghost use Rattle.sctp_outstanding.specs.Sack.{open_size, left_part, settle, newly_acked, below_highest, settled, new_bytes_at, is_new_at, highest_end};
-ghost use Rattle.sctp_outstanding.specs.Passes.{IsCursor, IsWalk};
+ghost use Rattle.sctp_outstanding.specs.Heard.{Rest};
+ghost use Rattle.sctp_outstanding.specs.Passes.{IsCursor, IsWalk, AreCovered};
 
 use crate::item::Item;
 use crate::kept::{Change, Kept};
@@ -91,6 +92,44 @@ fn look(blocks: &[GapAckBlock], is_in_runs: bool, from: usize, offset: usize) ->
     (block, is_covered_at(blocks, block, offset))
 }
 
+// The place behind the items from this one on that the block covers, which doesn't end before it.
+fn end_at(blocks: &[GapAckBlock], at: usize, place: usize) -> usize
+    requires small { place + 1 < 2 ^ 64 }
+    requires cursor { IsCursor blocks.now (place + 1) at }
+    requires ends { (d : GapAckBlock) → at < length blocks.now → place + 1 ≤ (slice_index_or blocks.now at d).end }
+    ensures onward { place ≤ result }
+    ensures covered { AreCovered blocks.now place result }
+{
+    if at < blocks.len() && blocks[at].start as usize <= place + 1 {
+        return blocks[at].end as usize;
+    }
+    place
+}
+
+/// The first block that may cover items behind those that blocks cover from the place on, and the place behind these. In
+/// blocks that aren't runs it goes no further than one.
+pub fn pass_covered(
+    blocks: &[GapAckBlock],
+    is_in_runs: bool,
+    from: usize,
+    place: usize,
+) -> (usize, usize)
+    requires small { place + 1 < 2 ^ 64 }
+    requires cursor { IsWalk is_in_runs blocks.now (place + 1) from }
+    ensures cursor { IsWalk is_in_runs blocks.now (result.1 + 1) result.0 }
+    ensures onward { place ≤ result.1 }
+    ensures covered { AreCovered blocks.now place result.1 }
+{
+    if !is_in_runs {
+        if is_covered(blocks, place + 1) {
+            return (from, place + 1);
+        }
+        return (from, place);
+    }
+    let block = skip_blocks(blocks, from, place + 1);
+    (block, end_at(blocks, block, place))
+}
+
 /// What blocks newly acknowledged.
 #[derive(Clone, Copy)]
 pub struct Covered {
@@ -171,6 +210,7 @@ pub fn settle_all(kept: &mut Kept, blocks: &[GapAckBlock]) -> Covered
     ensures items { kept.new ≡ record kept.old { items = settle blocks.now 1 kept.old.items } }
     ensures bytes { result.bytes ≡ min (newly_acked blocks.now kept.old.is_interleaved 1 kept.old.items) (2 ^ 64 - 1) }
     ensures below { result.below ≡ below_highest blocks.now 1 0 0 kept.old.items }
+    ensures rests { Rest blocks.now 1 kept.new.items }
 {
     let begin = kept.front_as_in(blocks);
     let end = kept.back_as_in(blocks);

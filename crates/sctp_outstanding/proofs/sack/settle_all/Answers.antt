@@ -103,3 +103,13 @@ returns-clause-below c =
     let behind : c.back_as_in-end.result ≤ k = omega arith in
     let all : RestFrom bs k (k + 1) is = from-later bs k c.back_as_in-end.result is behind c.loop-place.invariant.rest in
     sym (below-from bs k (k + 1) k c.loop-place.walk.covered.below is all) ∙ c.loop-place.invariant.below
+
+pub returns-clause-rests : goal.returns-clause-rests
+returns-clause-rests c =
+    let bs = c.args.blocks.now in
+    let k = c.loop-place.place in
+    let is = c.loop-place.kept.items in
+    let behind : c.back_as_in-end.result ≤ k = omega arith in
+    let all : RestFrom bs k (k + 1) is = from-later bs k c.back_as_in-end.result is behind c.loop-place.invariant.rest in
+    let done : is ≡ settle bs 1 c.args.kept.now.items = sym (settle-from bs k (k + 1) is all) ∙ c.loop-place.invariant.items in
+    subst (λ (x : Kept). Rest bs 1 x.items) (sym c.remember.ensures) (subst (λ (xs : List Item). Rest bs 1 xs) (sym done) (rest-settle bs 1 c.args.kept.now.items))
