@@ -1,5 +1,5 @@
 -- Items that are sent again take as much of a packet's room as they add to the bytes in flight.
-use Rattle.std.proofs.Common.{◌≡◌, ℕ, zero, suc, ◌+◌, ◌≤◌, Bool, true, false, min, Option, Some, None, List, [], ◌∷◌, length, refl, ap, sym, subst, ◌∙◌, arith}
+use Rattle.std.proofs.Common.{◌≡◌, ℕ, zero, suc, ◌+◌, ◌-◌, ◌≤◌, Bool, true, false, min, Option, Some, None, List, [], ◌∷◌, length, refl, ap, sym, subst, ◌∙◌, arith}
 use Rattle.std.specs.Prelude.{◌&&◌, ◌==◌, nat_lt, nat_le, slice_get, if◌then◌else◌}
 use Rattle.std.specs.List.{sum_by}
 use Rattle.std.proofs.lemmas.Bool.Decides.{nat_tests}
@@ -10,8 +10,8 @@ use Rattle.sctp_outstanding.specs.declared.outstanding_data.Turn.{Turn}
 use Rattle.sctp_outstanding.specs.declared.outstanding_data.Turn.TheVariants.{Send, PassOver, Leave}
 use Rattle.sctp_chunk.specs.Chunk.{FragmentTree}
 use Rattle.sctp_outstanding.specs.Item.{Item, flies, waits, waits_fast, resent, slowed, miss_fast, should_be_retransmitted, is_fast, size_of, mark_as_retransmitted}
-use Rattle.sctp_outstanding.specs.Items.{Outstanding, when, written, packet_part, queued_part, flight_bytes, flight_items, waiting_items, change_at}
-use Rattle.sctp_outstanding.specs.Resending.{Resent, size_in, allowed, again_of, turn_of, turn_at, taken, step_at, resent_below, empty_packet, resend, chunk_bytes}
+use Rattle.sctp_outstanding.specs.Items.{Outstanding, when, written, packet_part, queued_part, fast_part, flight_bytes, flight_items, waiting_items, fast_items, change_at}
+use Rattle.sctp_outstanding.specs.Resending.{Resent, size_in, allowed, waiting_for, again_of, turn_of, turn_at, taken, step_at, resent_below, empty_packet, resend, chunk_bytes}
 
 module _ (p : Item → ℕ) (f : Item → Item) where
   sum-changed : (k : ℕ) (is : List Item) (i : Item) → slice_get is k ≡ Some i → sum_by p (change_at k f is) + p i ≡ sum_by p is + p (f i)
@@ -174,6 +174,39 @@ quiet-step k x h = at-item (slice_get x.outstanding.items.kept k) refl where
   at-item : (o : Option Item) → slice_get x.outstanding.items.kept k ≡ o → taken (turn_of false o x) k x ≡ x
   at-item None e = refl
   at-item (Some i) e = ap (λ b. taken (if b && nat_le (size_in x i) (allowed x) then Send else Leave) k x) (none-waits k x.outstanding.items.kept i h e)
+
+none-fast : (k : ℕ) (is : List Item) (i : Item) → sum_by fast_part is ≤ 0 → slice_get is k ≡ Some i → is_fast i ≡ false
+none-fast k [] i h e = absurd (cc)
+none-fast zero (j ∷ is) i h e =
+    let sum = sum_by-cons fast_part j is in
+    let same : j ≡ i = cc in
+    subst (λ x. is_fast x ≡ false) same (none-of (is_fast j) (omega (arith, sum, h)))
+none-fast (suc k) (j ∷ is) i h e =
+    let sum = sum_by-cons fast_part j is in
+    none-fast k is i (omega (arith, sum, h)) e
+
+quiet-fast : (k : ℕ) (x : Resent) → fast_items x.outstanding.items ≤ 0 → step_at true k x ≡ x
+quiet-fast k x h = at-item (slice_get x.outstanding.items.kept k) refl where
+  at-item : (o : Option Item) → slice_get x.outstanding.items.kept k ≡ o → taken (turn_of true o x) k x ≡ x
+  at-item None e = refl
+  at-item (Some i) e = ap (λ b. taken (if b then (if nat_le (size_in x i) x.room then Send else PassOver) else Leave) k x) (none-fast k x.outstanding.items.kept i h e)
+
+quiet-turn : (fast : Bool) (k : ℕ) (x : Resent) → waiting_for fast x.outstanding.items ≤ 0 → step_at fast k x ≡ x
+quiet-turn true k x h = quiet-fast k x h
+quiet-turn false k x h = quiet-step k x h
+
+quiet-more : (fast : Bool) (x : Resent) (more p n : ℕ) → n ≡ more + p → waiting_for fast (resent_below fast p x).outstanding.items ≤ 0 → resent_below fast n x ≡ resent_below fast p x
+quiet-more fast x zero p n e h =
+    let same : n ≡ p = omega (arith, e) in
+    ap (λ k. resent_below fast k x) same
+quiet-more fast x (suc more) p n e h =
+    let is_next : n ≡ suc (more + p) = omega (arith, e) in
+    let ih = quiet-more fast x more p (more + p) refl h in
+    ap (λ k. resent_below fast k x) is_next ∙ ap (λ (y : Resent). step_at fast (more + p) y) ih ∙ quiet-turn fast (more + p) (resent_below fast p x) h
+
+-- once nothing waits the others' turns change nothing
+pub quiet-on : (fast : Bool) (x : Resent) (p n : ℕ) → p ≤ n → waiting_for fast (resent_below fast p x).outstanding.items ≤ 0 → resent_below fast n x ≡ resent_below fast p x
+quiet-on fast x p n le h = quiet-more fast x (n - p) p n (omega (arith, le)) h
 
 quiet-below : (n : ℕ) (x : Resent) → waiting_items x.outstanding.items ≤ 0 → resent_below false n x ≡ x
 quiet-below zero x h = refl

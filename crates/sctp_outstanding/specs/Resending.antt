@@ -5,7 +5,7 @@ use Rattle.sctp_chunk.specs.Chunk.{FragmentTree}
 use Rattle.sctp_outstanding.specs.declared.outstanding_data.Turn.{Turn}
 use Rattle.sctp_outstanding.specs.declared.outstanding_data.Turn.TheVariants.{Send, PassOver, Leave}
 use Rattle.sctp_outstanding.specs.Item.{Item, is_fast, should_be_retransmitted, size_of, chunk_size, mark_as_retransmitted, miss_fast}
-use Rattle.sctp_outstanding.specs.Items.{Outstanding, written, flight_items}
+use Rattle.sctp_outstanding.specs.Items.{Items, Outstanding, written, flight_items, waiting_items, fast_items}
 use Rattle.sctp_outstanding.specs.Losses.{change_items}
 
 -- a packet that is being filled: fragments with their TSNs as they are written, the bytes that are left for chunks, and
@@ -42,6 +42,10 @@ passed_over k x = record x { outstanding = record x.outstanding { items = change
 -- while something is in flight the peer's window counts too
 abbrev pub allowed : Resent → ℕ
 allowed x = if flight_items x.outstanding.items == 0 then x.room else min x.room x.window
+
+-- how many wait for the fast packet, or for any
+abbrev pub waiting_for : (fast : Bool) → Items → ℕ
+waiting_for fast s = if fast then fast_items s else waiting_items s
 
 -- what becomes of the item: what doesn't fit is passed over, and a smaller one behind it goes
 abbrev pub fast_turn : Item → Resent → Turn

@@ -1,8 +1,8 @@
 //! Items that are sent again.
 
-ghost use Rattle.std.specs.Prelude.{◌≡◌, ◌≤◌, length, map, true, false, IfOk, OnOk, OnErr, if◌then◌else◌};
+ghost use Rattle.std.specs.Prelude.{◌≡◌, ◌≤◌, nat_lt, length, map, true, false, IfOk, OnOk, OnErr, if◌then◌else◌};
 ghost use Rattle.sctp_outstanding.specs.Views.{resent_of, chunk_of};
-ghost use Rattle.sctp_outstanding.specs.Resending.{again_at, allowed, turn_at, step_at, resent_below, resend, empty_packet, chunk_bytes, SomeResent};
+ghost use Rattle.sctp_outstanding.specs.Resending.{again_at, allowed, waiting_for, turn_at, step_at, resent_below, resend, empty_packet, chunk_bytes, SomeResent};
 ghost use Rattle.sctp_outstanding.specs.declared.outstanding_data.Turn.TheVariants.{Send, PassOver, Leave};
 
 use crate::item::copy_of;
@@ -77,11 +77,26 @@ impl OutstandingData {
         }
     }
 
+    // Whether an item waits to be sent again, by the fast packet or in all.
+    fn has_waiting(&self, fast: bool) -> bool
+        ensures { result ≡ nat_lt 0 (waiting_for fast self.now.items) }
+    {
+        if fast {
+            self.kept.has_fast()
+        } else {
+            self.kept.has_queued()
+        }
+    }
+
+    // Gives each item its turn, up to the last one that waits.
     fn resend(&mut self, fast: bool, filling: &mut Filling) -> Result<(), AllocError>
         ensures ok { OnOk result (resent_of self.new filling.new ≡ resent_below fast (length self.old.items.kept) (resent_of self.old filling.old)) }
         ensures err { OnErr result (SomeResent fast (resent_of self.old filling.old) self.new) }
     {
         for place in 0..self.kept.len() {
+            if !self.has_waiting(fast) {
+                return Ok(());
+            }
             self.take_turn(place, fast, filling)?;
         }
         Ok(())
