@@ -118,6 +118,11 @@ so_far_some h (b ∷ body) some = refl
 some_bytes : (c : ChunkTree) (cs : List ChunkTree) → 0 < length (chunks_bytes (c ∷ cs))
 some_bytes c cs = omega (arith, ap length (first_chunk c cs), length-append (chunk_bytes c) (chunks_bytes cs), chunk_is_some c)
 
+-- a packet with chunks is within its limit
+pub some_short : (chunks : List ChunkTree) (body limit : ℕ) → is_some_chunk chunks ≡ true → body ≡ length (chunks_bytes chunks) → 12 + body ≤ max 12 limit → 12 + body ≤ limit
+some_short [] body limit some counted short = absurd (false_not_true some)
+some_short (c ∷ cs) body limit some counted short = omega (arith, counted, short, some_bytes c cs)
+
 word_is : (word_of : List ℕ → ℕ) (h : HeaderTree) (c : ChunkTree) (cs : List ChunkTree) → word_at word_of (so_far h (chunks_bytes (c ∷ cs))) ≡ word_in word_of h (c ∷ cs)
 word_is word_of h c cs =
     ap (word_at word_of) (so_far_some h (chunks_bytes (c ∷ cs)) (some_bytes c cs)) ∙ ap (λ (x : List ℕ). word_of x % 2 ^ 32) (whole_again h (chunks_bytes (c ∷ cs)))

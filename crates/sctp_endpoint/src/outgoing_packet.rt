@@ -111,8 +111,8 @@ impl OutgoingPacket {
         Ok(has_fit)
     }
 
-    /// The packet's bytes, at most the limit; the packet is empty again, with the same tag and limit. Where there is no
-    /// memory it is as it was.
+    /// The packet's bytes, at most the limit, in a buffer of their size; the packet is empty again, with the same tag and limit.
+    /// Where there is no memory it is as it was.
     pub fn build<C: Checksum>(
         &mut self,
         source_port: u16,
@@ -129,12 +129,13 @@ impl OutgoingPacket {
         ensures ok { OnOk result (self.new ≡ emptied self.old) }
         ensures err { OnErr result (self.new ≡ self.old) }
     {
+        let size = COMMON_HEADER_SIZE + self.body_size;
         let mut builder = SctpPacketBuilder::new(
             self.alloc,
             self.verification_tag,
             source_port,
             destination_port,
-            self.limit,
+            size,
         );
         builder.write_checksum(self.write_checksum);
         add_all(&mut builder, &self.chunks)?;
