@@ -139,7 +139,7 @@ impl OutgoingPacket {
         );
         builder.write_checksum(self.write_checksum);
         add_all(&mut builder, &self.chunks)?;
-        self.chunks = Vec::new(self.alloc);
+        self.chunks.clear();
         self.body_size = 0;
         let word = word_of(checksum, builder.unsummed());
         Ok(builder.build(word))

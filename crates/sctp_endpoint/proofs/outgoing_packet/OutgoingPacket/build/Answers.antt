@@ -9,10 +9,10 @@ use Rattle.sctp_endpoint.proofs.outgoing_packet.OutgoingPacket.build.Goals as go
 
 pub invariant_of-self : goal.invariant_of-self
 invariant_of-self g c = record {
-  counted = rw (c.new.ensures.items) (ap length (sym no_chunks));
+  counted = rw (c.clear.ensures.items) (ap length (sym no_chunks));
   small = c.self.invariant.small;
   short = omega arith;
-  writable = rw (c.new.ensures.items) (All-nil IsWritable);
+  writable = rw (c.clear.ensures.items) (All-nil IsWritable);
 }
 
 pub returns-clause-packet : goal.returns-clause-packet
