@@ -1,7 +1,7 @@
 //! Fragments that have their TSN and wait for the peer's acknowledgement.
 #![tactic(auto)]
 
-pub mod heard;
+mod heard;
 pub mod item;
 pub mod kept;
 pub mod laws;

@@ -51,7 +51,7 @@ pub fn take_out(kept: &mut Kept, count: usize) -> usize
 }
 
 /// The first block from `from` on that doesn't end before the offset.
-pub fn skip_blocks(blocks: &[GapAckBlock], mut from: usize, offset: usize) -> usize
+pub(crate) fn skip_blocks(blocks: &[GapAckBlock], mut from: usize, offset: usize) -> usize
     requires { IsCursor blocks.now offset from }
     ensures cursor { IsCursor blocks.now offset result }
     ensures ends { (d : GapAckBlock) → result < length blocks.now → offset ≤ (slice_index_or blocks.now result d).end }

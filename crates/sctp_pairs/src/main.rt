@@ -16,7 +16,7 @@ mod shown;
 
 use pair::{Seeds, made, seeds_of};
 use play::play;
-use std::alloc::AllocError;
+use std::alloc::{AllocError, Global};
 
 /// Runs a script in two new worlds.
 fn answer(rt: &HostRuntime, seeds: Seeds, script: &str) -> anyhow::Result<()> {
@@ -30,9 +30,17 @@ fn answer(rt: &HostRuntime, seeds: Seeds, script: &str) -> anyhow::Result<()> {
 }
 
 /// A line behind a title: the seeds, or a part of the script.
-fn take_line(seeds: &mut Seeds, script: &mut String, line: &str) -> Result<(), AllocError> {
+fn take_line(
+    alloc: Global,
+    seeds: &mut Seeds,
+    script: &mut String,
+    line: &str,
+) -> Result<(), AllocError> {
     match line.strip_prefix("seeds ") {
-        Some(numbers) => *seeds = seeds_of(numbers),
+        Some(numbers) => {
+            let words: Vec<&str> = numbers.split(' ').collect(alloc)?;
+            *seeds = seeds_of(&words);
+        }
         None => {
             script.push_str(line)?;
             script.push('\n')?;
@@ -52,7 +60,7 @@ fn main(rt: HostRuntime) -> anyhow::Result<()> {
             seeds = Seeds::default();
             println!(rt; "{line}")?;
         } else {
-            take_line(&mut seeds, &mut script, &line)?;
+            take_line(rt.alloc(), &mut seeds, &mut script, &line)?;
         }
     }
     answer(&rt, seeds, &script)

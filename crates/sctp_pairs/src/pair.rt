@@ -1,5 +1,6 @@
 //! Two worlds, and what a script asks of them.
 
+use crate::events::number_at;
 use rand_pcg::Pcg32;
 use sctp_state::{CallError, Options};
 use sctp_world::{ByteSum, End, Entry, Event, World, WorldError, run_pair};
@@ -72,16 +73,8 @@ impl Default for Seeds {
     }
 }
 
-/// The number behind so many spaces; 0 where there is none.
-fn number_at(words: &str, place: usize) -> u64 {
-    match words.split(' ').nth(place) {
-        Some(word) => word.parse::<u64>().unwrap_or(0),
-        None => 0,
-    }
-}
-
 /// Of the numbers at this place and at the next one.
-fn seed_at(words: &str, place: usize) -> Seed {
+fn seed_at(words: &[&str], place: usize) -> Seed {
     seed_of(
         number_at(words, place),
         number_at(words, place.saturating_add(1)),
@@ -89,7 +82,7 @@ fn seed_at(words: &str, place: usize) -> Seed {
 }
 
 /// As eight numbers say them.
-pub fn seeds_of(words: &str) -> Seeds {
+pub fn seeds_of(words: &[&str]) -> Seeds {
     Seeds {
         a: seed_at(words, 0),
         b: seed_at(words, 2),
