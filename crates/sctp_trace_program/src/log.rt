@@ -2,7 +2,7 @@
 
 ghost use Rattle.std.specs.Prelude.{◌≡◌, ℕ, List, map, slice_get, IfOk};
 ghost use Rattle.sctp_network_table.specs.Judge.{End as LoggedEnd, Entry as LoggedEntry};
-ghost use Rattle.sctp_network.specs.WorldView.{end_tree, entry_tree};
+ghost use Rattle.sctp_network_side.specs.SideView.{end_tree, entry_tree};
 ghost use Rattle.sctp_trace_program.specs.Shown.{Packet, Giving, Other, lifeline, bytes_in, row_shows, entry_shows};
 
 use crate::note::note_of;
