@@ -134,6 +134,11 @@ impl<R: Rng + Drop, C: Checksum + Drop> World<R, C> {
             has_failed: false,
         })
     }
+
+    /// Lets the world go. Another crate that owns one and says so is spared the proof of how each part of it is let go.
+    pub fn let_go(self) {
+        drop(self);
+    }
 }
 
 impl<R: Rng, C: Checksum> World<R, C> {

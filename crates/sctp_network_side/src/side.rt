@@ -140,8 +140,14 @@ impl<R: Rng, C: Checksum> Side<R, C> {
     {
         let before = self.before();
         let clock = self.socket.clock();
-        let answer = make_call(alloc, call, &mut self.socket)?;
         let copy = copy_of_call(alloc, call)?;
+        let answer = match make_call(alloc, call, &mut self.socket) {
+            Ok(answer) => answer,
+            Err(fault) => {
+                drop(copy);
+                return Err(fault);
+            }
+        };
         let first = Entry::Call(end, clock, copy, answer);
         Ok(self.settle(alloc, end, first, before, log)?)
     }
