@@ -3,14 +3,16 @@
 
 use crate::tests::Seven;
 use crate::tests::opening::{Fault, Watched, lacks, opens, right, tells_closed, tells_connected};
+use rand_core::Rng;
 use rand_pcg::Pcg32;
 use sctp_association::{Association, DcSctpSocket, Socket};
 use sctp_state::{
     CallError, HandoverError, Options, RestoreError, SocketHandoverState, SocketState,
 };
+use sctp_wire::Checksum;
 use std::alloc::Global;
 
-impl Watched for Socket<Pcg32, Seven> {
+impl<R: Rng + Drop, C: Checksum + Drop> Watched for Socket<R, C> {
     fn joined(&self) -> Option<Association> {
         self.association()
     }
