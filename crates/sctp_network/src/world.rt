@@ -122,7 +122,7 @@ impl<R: Rng + Drop, C: Checksum + Drop> World<R, C> {
         let b = match Side::new(alloc, "b", options_b, rng_b, checksum_b) {
             Ok(b) => b,
             Err(fault) => {
-                drop(a);
+                a.let_go();
                 return Err(fault);
             }
         };
@@ -137,7 +137,8 @@ impl<R: Rng + Drop, C: Checksum + Drop> World<R, C> {
 
     /// Lets the world go. Another crate that owns one and says so is spared the proof of how each part of it is let go.
     pub fn let_go(self) {
-        drop(self);
+        self.a.let_go();
+        self.b.let_go();
     }
 }
 

@@ -66,6 +66,10 @@ impl<R: Rng + Drop, C: Checksum + Drop> Side<R, C> {
             packets: Vec::new(alloc),
         })
     }
+
+    pub fn let_go(self) {
+        self.socket.let_go();
+    }
 }
 
 impl<R: Rng, C: Checksum> Side<R, C> {
