@@ -9,9 +9,11 @@ use sctp_state::{CallError, GivenUp, Options};
 use std::alloc::Global;
 
 /// What is asked of a socket beside the calls of its trait.
-pub trait Driven: DcSctpSocket + Drop {
+pub trait Driven: DcSctpSocket {
     /// A new one with the same options.
     fn renewed(&self, alloc: Global) -> Result<Self, CallError>;
+
+    fn let_go(self);
 
     fn next_gone(&mut self) -> Option<GivenUp>;
 
@@ -31,6 +33,10 @@ pub trait Driven: DcSctpSocket + Drop {
 impl Driven for Socket<Words, ByteSum> {
     fn renewed(&self, alloc: Global) -> Result<Socket<Words, ByteSum>, CallError> {
         made_with(alloc, "new", &self.options(), Words::new(3, 3))
+    }
+
+    fn let_go(self) {
+        self.let_go();
     }
 
     fn next_gone(&mut self) -> Option<GivenUp> {
