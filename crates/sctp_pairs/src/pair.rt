@@ -1,8 +1,10 @@
 //! Two worlds, and what a script asks of them.
 
 use crate::events::number_at;
+use rand_core::Rng;
 use rand_pcg::Pcg32;
 use sctp_state::{CallError, Options};
+use sctp_wire::Checksum;
 use sctp_world::{ByteSum, End, Entry, Event, World, WorldError, run_pair};
 use std::alloc::Global;
 
@@ -18,13 +20,14 @@ pub trait Pair: Drop {
     fn has_sent(&self, end: End, number: usize) -> bool;
 }
 
+/// Two worlds with any generators and one checksum function.
 #[derive(Drop)]
-pub struct Two {
-    first: World<Pcg32, ByteSum>,
-    second: World<Pcg32, ByteSum>,
+pub struct Two<R: Rng, S: Rng, C: Checksum> {
+    first: World<R, C>,
+    second: World<S, C>,
 }
 
-impl Pair for Two {
+impl<R: Rng + Drop, S: Rng + Drop, C: Checksum + Drop> Pair for Two<R, S, C> {
     fn lead(&mut self, events: &[Event]) -> Result<(), WorldError> {
         run_pair(&mut self.first, &mut self.second, events)
     }
@@ -105,7 +108,7 @@ fn new_world(alloc: Global, a: Seed, b: Seed) -> Result<World<Pcg32, ByteSum>, C
 }
 
 /// Two new worlds with default options, and generators of these seeds.
-pub fn made(alloc: Global, seeds: Seeds) -> Result<Two, CallError> {
+pub fn made(alloc: Global, seeds: Seeds) -> Result<Two<Pcg32, Pcg32, ByteSum>, CallError> {
     let first = new_world(alloc, seeds.a, seeds.b)?;
     match new_world(alloc, seeds.other_a, seeds.other_b) {
         Ok(second) => Ok(Two { first, second }),
