@@ -9,7 +9,7 @@ use sctp_world::{ByteSum, End, Entry, Event, World, WorldError, run_pair};
 use std::alloc::Global;
 
 /// What a script asks of two worlds. Its helpers know no more of them than this.
-pub trait Pair: Drop {
+pub trait Pair {
     fn lead(&mut self, events: &[Event]) -> Result<(), WorldError>;
 
     fn first(&self) -> &[Entry];
@@ -18,6 +18,8 @@ pub trait Pair: Drop {
 
     /// Whether the end sent the packet of this number in the first world.
     fn has_sent(&self, end: End, number: usize) -> bool;
+
+    fn let_go(self);
 }
 
 /// Two worlds with any generators and one checksum function.
@@ -42,6 +44,11 @@ impl<R: Rng + Drop, S: Rng + Drop, C: Checksum + Drop> Pair for Two<R, S, C> {
 
     fn has_sent(&self, end: End, number: usize) -> bool {
         self.first.packet(end, number).is_some()
+    }
+
+    fn let_go(self) {
+        self.first.let_go();
+        self.second.let_go();
     }
 }
 
@@ -113,7 +120,7 @@ pub fn made(alloc: Global, seeds: Seeds) -> Result<Two<Pcg32, Pcg32, ByteSum>, C
     match new_world(alloc, seeds.other_a, seeds.other_b) {
         Ok(second) => Ok(Two { first, second }),
         Err(fault) => {
-            drop(first);
+            first.let_go();
             Err(fault)
         }
     }
