@@ -160,9 +160,14 @@ fn stop(rt: &HostRuntime, rows: &[Row], format: Format, number: u64) -> Result<(
 /// Runs the commands of standard input on the world, and writes what was asked for.
 pub fn trace<W: Watched>(rt: &HostRuntime, world: W, format: Format) -> Result<(), Fault> {
     let mut world = world;
-    let stopped = run_input(rt, &mut world)?;
-    let rows = rows_of(rt.alloc(), &world)?;
-    drop(world);
+    let outcome = trace_on(rt, &mut world, format);
+    world.let_go();
+    outcome
+}
+
+fn trace_on<W: Watched>(rt: &HostRuntime, world: &mut W, format: Format) -> Result<(), Fault> {
+    let stopped = run_input(rt, world)?;
+    let rows = rows_of(rt.alloc(), world)?;
     match stopped {
         None => write_drawing(rt, &rows, format),
         Some(number) => stop(rt, &rows, format, number),

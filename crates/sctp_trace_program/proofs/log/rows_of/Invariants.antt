@@ -1,5 +1,5 @@
 use Rattle.std.proofs.Common.{◌≡◌, map, take}
-use Rattle.sctp_network.specs.WorldView.{entry_tree}
+use Rattle.sctp_network_side.specs.SideView.{entry_tree}
 use Rattle.sctp_trace_program.specs.Shown.{row_shows, entry_shows}
 use Rattle.sctp_trace_program.proofs.log.rows_of.Given as goal
 
