@@ -20,3 +20,4 @@ pub mod WrittenLemmas
 pub mod HeldLemmas
 pub mod ReadyLemmas
 pub mod ForgetLemmas
+pub mod JoinLemmas

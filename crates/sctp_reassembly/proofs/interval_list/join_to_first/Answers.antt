@@ -3,7 +3,7 @@ use Rattle.std.proofs.lemmas.List.{map-append}
 use Rattle.sctp_fragments.proofs.PlaceLemmas.{lists_set_same, lists_joined}
 use Rattle.std.proofs.lemmas.Result.{err_from_is_err_and}
 use Rattle.sctp_fragments.specs.Intervals.{held_of}
-use Rattle.sctp_reassembly.proofs.interval_list.join.Goals as goal
+use Rattle.sctp_reassembly.proofs.interval_list.join_to_first.Goals as goal
 
 pub returns-in_err-reserve-clause-err : goal.returns-in_err-reserve-clause-err
 returns-in_err-reserve-clause-err g c =
