@@ -61,3 +61,7 @@ not_judged_ok (Err x) word_of policy word bytes fault o s a c refuses is e = tt
 pub where_ok : {T E : Type 0} (r : Result T E) {P : Type 0} → is_err r ≡ false → OnOk r P → P
 where_ok (Ok x) e p = p
 where_ok (Err x) e p = absurd (cc)
+
+pub on_ok_of : {T E : Type 0} (r : Result T E) {P : Type 0} → P → OnOk r P
+on_ok_of (Ok x) p = p
+on_ok_of (Err x) p = tt

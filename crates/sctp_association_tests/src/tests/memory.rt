@@ -14,6 +14,10 @@ impl Watched for Socket<Pcg32, Seven> {
     fn joined(&self) -> Option<Association> {
         self.association()
     }
+
+    fn would_refuse(&self, bytes: &[u8]) -> Result<bool, CallError> {
+        self.refuses(bytes)
+    }
 }
 
 /// A new one with default options, which draws the words that begin so.
