@@ -92,12 +92,13 @@ fn take_data(
     if tcb.reassembly_queue.is_full() || tcb.reassembly_queue.is_above_watermark() {
         return Ok(());
     }
-    if !tcb.data_tracker.is_tsn_valid(fragment.tsn) {
+    let tsn = fragment.tsn;
+    if !tcb.data_tracker.is_tsn_valid(tsn) {
         return Ok(());
     }
-    if tcb.data_tracker.observe(now, fragment.tsn, fragment.immediate_ack)? {
+    if tcb.data_tracker.observe(now, tsn, fragment.immediate_ack)? {
         let data = fragment.to_data(alloc)?;
-        tcb.reassembly_queue.add(fragment.tsn, data)?;
+        tcb.reassembly_queue.add(tsn, data)?;
     }
     Ok(())
 }

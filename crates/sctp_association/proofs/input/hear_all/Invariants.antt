@@ -9,7 +9,7 @@ use Rattle.sctp_association.proofs.input.hear_all.Given as goal
 abbrev pub invariant-loop-raw : goal.invariant-loop-raw
 invariant-loop-raw g l = (chunks : List ChunkTree) → AreLeft l.fn.view chunks → (left : List ChunkTree) × AreLeft l.view left
     × (hear_all l.tag left (endpoint_of g.R.Rng.stream g.C.Checksum.word_of l.state l.context l.rng)
-        ≡ hear_all l.tag chunks (endpoint_of g.R.Rng.stream g.C.Checksum.word_of l.fn.state l.fn.context l.fn.rng))
+    ≡ hear_all l.tag chunks (endpoint_of g.R.Rng.stream g.C.Checksum.word_of l.fn.state l.fn.context l.fn.rng))
 
 abbrev pub decreases-loop-raw : goal.decreases-loop-raw
 decreases-loop-raw g l = length l.view.rest
