@@ -221,7 +221,7 @@ impl<K: ReassemblyKey> OrderedStreams<K> {
 ghost use Rattle.sctp_reassembly.specs.Streams.{ordered_bytes};
 ghost use Rattle.std.specs.Prelude.{◌==◌};
 ghost use Rattle.std.specs.List.{list_any};
-ghost use Rattle.sctp_reassembly.specs.Streams.{is_named};
+ghost use Rattle.sctp_reassembly.specs.Streams.{is_named, is_part};
 
 fn names(ids: &[StreamId], id: u16) -> bool
     ensures { result ≡ list_any (λ i. i.0 == id) ids.now }
@@ -234,6 +234,17 @@ pub(crate) fn is_named(ids: &[StreamId], id: u16) -> bool
     ensures { result ≡ is_named ids.now id }
 {
     ids.is_empty() || names(ids, id)
+}
+
+// Whether a stream is one of those that are named, or of the others.
+pub(crate) fn is_part(named: bool, ids: &[StreamId], id: u16) -> bool
+    ensures { result ≡ is_part named ids.now id }
+{
+    if named {
+        is_named(ids, id)
+    } else {
+        !is_named(ids, id)
+    }
 }
 
 fn bytes_in<K: ReassemblyKey>(streams: &BTreeMap<u16, OrderedStream<K>>) -> usize

@@ -1,6 +1,6 @@
 //! A reset that is deferred.
 
-ghost use Rattle.std.specs.Prelude.{◌≡◌, ◌+◌, ◌<◌, ◌^◌, ◌++◌, ◌∷◌, ◌&&◌, [], nat_lt, option_map, IfOk, IfSome, IfNone, OnOk, OnErr};
+ghost use Rattle.std.specs.Prelude.{◌≡◌, ◌==◌, ◌+◌, ◌<◌, ◌^◌, ◌++◌, ◌∷◌, ◌&&◌, [], nat_lt, length, option_map, IfOk, IfSome, IfNone, OnOk, OnErr};
 ghost use Rattle.std.specs.List.{sum_by};
 ghost use Rattle.std.specs.Option.{option_to_list};
 ghost use Rattle.sctp_reassembly.specs.Streams.{is_named};
@@ -63,6 +63,20 @@ impl Deferred {
         is_named(&self.streams, id.0)
     }
 
+    /// The streams that are to be reset; all are where none is named.
+    pub fn streams(&self) -> &[StreamId]
+        ensures { result.now ≡ self.now.streams }
+    {
+        &self.streams
+    }
+
+    /// Whether nothing waits.
+    pub fn is_empty(&self) -> bool
+        ensures { result ≡ (length self.now.waiting == 0) }
+    {
+        self.waiting.is_empty()
+    }
+
     /// How many bytes of payload wait.
     pub fn total_bytes(&self) -> usize
         ensures { result ≡ sum_by waiting_bytes self.now.waiting }
@@ -96,7 +110,27 @@ impl Deferred {
     }
 }
 
-ghost use Rattle.sctp_reassembly.specs.ReassemblyQueue.{waiting_bytes};
+ghost use Rattle.sctp_reassembly.specs.ReassemblyQueue.{resetting, waiting_in, waiting_bytes};
+
+/// The streams that are to be reset, if a reset is deferred.
+pub(crate) fn resetting(deferred: &Option<Deferred>) -> &[StreamId]
+    ensures { result.now ≡ resetting deferred.now }
+{
+    match deferred {
+        Some(deferred) => deferred.streams(),
+        None => &[],
+    }
+}
+
+/// Whether nothing waits for a reset.
+pub(crate) fn none_waits(deferred: &Option<Deferred>) -> bool
+    ensures { result ≡ (length (waiting_in deferred.now) == 0) }
+{
+    match deferred {
+        Some(deferred) => deferred.is_empty(),
+        None => true,
+    }
+}
 
 fn bytes_of(waiting: &Waiting) -> usize
     ensures { result ≡ waiting_bytes (waiting_of waiting.now) }
