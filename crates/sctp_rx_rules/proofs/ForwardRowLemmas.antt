@@ -10,8 +10,8 @@ use Rattle.sctp_chunk.specs.declared.forward_tsn.SkippedStream.TheVariants.{Forw
 use Rattle.sctp_rx.specs.Held.{Held}
 use Rattle.sctp_rx.specs.Settled.{AreSettled}
 use Rattle.sctp_rx.specs.Streams as streams
-use Rattle.sctp_rx.specs.Streams.{Streams, Outcome, is_far, by_stream, dropped_to}
-use Rattle.sctp_rx.specs.ReassemblyQueue.{Reassembly, number_of, came, made, forward, forward_now, forward_or_wait, point_waits, waits, Forwarded}
+use Rattle.sctp_rx.specs.Streams.{Streams, Outcome, is_far, by_stream, dropped_to, entries_in}
+use Rattle.sctp_rx.specs.ReassemblyQueue.{Reassembly, number_of, came, made, forward, forward_now, forward_or_wait, point_waits, forward_in, wait_with, resetting}
 use Rattle.sctp_rx.specs.Tracker as tracker
 use Rattle.sctp_rx.specs.Tracker.{Tracker}
 use Rattle.sctp_tracker.proofs.SeenOneFormLemmas.{contains-up_to}
@@ -130,7 +130,8 @@ module _ (message : ℕ → Message) (mixed : Bool) (before : ℕ) (x : Transfer
   pub call_is : forward tsn xs r ≡ made outcome (came tsn r)
   call_is =
       cond-false (is_far n) r (forward_or_wait n xs (came tsn r)) near
-      ∙ cond-false (point_waits n r.deferred) (waits (Forwarded n xs) (came tsn r)) (forward_now n xs (came tsn r)) (ap (point_waits n) none)
+      ∙ cond-false (point_waits n r.deferred) (wait_with n (entries_in true (resetting r.deferred) xs) (forward_in false (resetting r.deferred) n xs (came tsn r)))
+      (forward_now n xs (came tsn r)) (ap (point_waits n) none)
 
   pub first_is : (forward tsn xs r).first ≡ Some (unwrap_or r.first tsn)
   first_is = ap (λ z. z.first) call_is
