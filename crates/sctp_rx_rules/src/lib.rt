@@ -29,6 +29,7 @@ ghost use Rattle.sctp_rx_rules.specs.Receives.{Goes, Receives};
 ghost use Rattle.sctp_rx_rules.specs.View.{was_seen};
 
 pub mod near;
+pub mod resets;
 pub mod runs;
 
 /// A new tracker and a new queue are the receiver at the start, with nothing handed out.

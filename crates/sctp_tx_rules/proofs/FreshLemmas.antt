@@ -11,7 +11,7 @@ use Rattle.sctp_send_queue.specs.Produced.{is_stale, is_due, fresh, dropped}
 use Rattle.sctp_send_queue.specs.InOrder.{are_rising}
 use Rattle.sctp_outstanding.specs.Items.{Items}
 use Rattle.sctp_rules.specs.State.{Message, Sender, Transfer, place_of, put, stream_of}
-use Rattle.sctp_rules.specs.Rules.{Waits, give_up, after, gives_up}
+use Rattle.sctp_rules.specs.Rules.{Waits, give_up, IsAllowed, after, gives_up}
 use Rattle.sctp_rules.specs.Kept.{Kept}
 use Rattle.sctp_rules.proofs.ToolsLemmas.{put_at, put_off, put_keeps, not_both}
 use Rattle.sctp_rules.proofs.SenderRowLemmas.{unsent_dropped}
@@ -111,6 +111,7 @@ module _ (message : ℕ → Message) (lifecycle : ℕ → Option ℕ) where
     waits = a.queued.waits p (waiting_of m) queued_here unsent
 
     pub record Drops : Type 0 where
+      pub may : IsAllowed message mixed x (give_up p)
       pub leads : Leads message mixed x (after message mixed x (give_up p)) (p ∷ [])
       pub kept_is : Kept message mixed (after message mixed x (give_up p))
       pub queued : AreQueued message lifecycle (gives_up x.sender p) (put ms id (front ++ rest))
@@ -132,6 +133,7 @@ module _ (message : ℕ → Message) (lifecycle : ℕ → Option ℕ) where
     drops =
         let r = unsent_dropped message mixed x k (queue_of message x.sender ms) a.queued p (waiting_of m) queued_here unsent in
         record {
+          may = r.may.0;
           leads = record { events = give_up p ∷ []; may = r.may; leads = refl; sends = refl; given_up = refl; rest_stays = refl };
           kept_is = r.kept;
           queued =

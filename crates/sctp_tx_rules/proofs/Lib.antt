@@ -7,6 +7,7 @@ pub mod LedLemmas
 pub mod LossLemmas
 pub mod NumberLemmas
 pub mod PrepareLemmas
+pub mod PausedLemmas
 pub mod ResetLemmas
 pub mod PointLemmas
 pub mod ProduceLemmas

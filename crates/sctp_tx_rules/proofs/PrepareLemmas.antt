@@ -13,15 +13,13 @@ use Rattle.sctp_send_queue.proofs.NumberLemmas.{calls_number}
 use Rattle.sctp_send_queue.proofs.RestLemmas.{calls_leave_rests}
 use Rattle.sctp_outstanding.specs.Items.{Items}
 use Rattle.sctp_rules.specs.State.{Message, Transfer, put}
-use Rattle.sctp_rules.specs.Rules.{give_up, after}
+use Rattle.sctp_rules.specs.Rules.{give_up, Happens, after, run}
 use Rattle.sctp_rules.specs.Kept.{Kept}
 use Rattle.sctp_rules.proofs.ToolsLemmas.{put_at, put_off, not_both}
 use Rattle.sctp_tx_rules.specs.Shown.{found, messages_of, AreKept, AreQueued, AreDiscards, IsNext, Shows}
-use Rattle.sctp_tx_rules.specs.Led.{Leads}
-use Rattle.sctp_tx_rules.specs.Rows.{Prepares, unsent_of}
+use Rattle.sctp_tx_rules.specs.Paused.{unsent_of, give_ups, Prepares}
 use Rattle.sctp_tx_rules.proofs.FoundLemmas.{funext, found_off, rises, once}
 use Rattle.sctp_tx_rules.proofs.FreshLemmas.{put_here, put_over, drops}
-use Rattle.sctp_tx_rules.proofs.LedLemmas.{leads_none, leads_on}
 use Rattle.sctp_tx_rules.proofs.AcceptLemmas.{written, unwritten}
 
 -- ---- one message among others
@@ -66,18 +64,18 @@ among_others least most (c ∷ cs) m rest h =
 
 -- ---- what is partly sent stands before the rest
 
-abbrev is_new : Queued → Bool
+abbrev pub is_new : Queued → Bool
 is_new m = not (is_some m.numbers)
 
-abbrev is_whole : Queued → Bool
+abbrev pub is_whole : Queued → Bool
 is_whole m = not (is_partly m)
 
-record Waits (ms : List Queued) : Type 0 where
-  none : filter is_partly ms ≡ []
-  all : filter is_whole ms ≡ ms
-  new : list_all is_new ms ≡ true
+pub record Waits (ms : List Queued) : Type 0 where
+  pub none : filter is_partly ms ≡ []
+  pub all : filter is_whole ms ≡ ms
+  pub new : list_all is_new ms ≡ true
 
-waits : (ms : List Queued) → list_all is_waiting ms ≡ true → Waits ms
+pub waits : (ms : List Queued) → list_all is_waiting ms ≡ true → Waits ms
 waits [] h = record { none = refl; all = refl; new = refl }
 waits (m ∷ rest) h =
     let a = and_parts (is_waiting m) (list_all is_waiting rest) h in
@@ -125,15 +123,18 @@ splits (m ∷ rest) h = go (is_partly m) refl
 -- ---- one after the other is given up
 
 module _ (message : ℕ → Message) (lifecycle : ℕ → Option ℕ) (mixed : Bool) (s : Items) (id : ℕ) (front : List Queued) where
+  abbrev all_given : Transfer → List Queued → Transfer
+  all_given x ws = run message mixed x (give_ups (map (λ (m : Queued). m.number) ws))
+
   record Emptied (x : Transfer) (ms : ℕ → List Queued) (ws : List Queued) : Type 0 where
-    after : Transfer
-    leads : Leads message mixed x after (map (λ (m : Queued). m.number) ws)
-    kept_is : Kept message mixed after
-    queued : AreQueued message lifecycle after.sender (put ms id front)
-    items : AreKept message lifecycle after.sender after.acknowledged s.kept
-    discards_are : AreDiscards after.sender (put ms id front) s.discards
-    counts_stay : after.sender.following ≡ x.sender.following
-    accepted_stays : after.sender.accepted ≡ x.sender.accepted
+    may : Happens message mixed x (give_ups (map (λ (m : Queued). m.number) ws))
+    kept_is : Kept message mixed (all_given x ws)
+    queued : AreQueued message lifecycle (all_given x ws).sender (put ms id front)
+    items : AreKept message lifecycle (all_given x ws).sender (all_given x ws).acknowledged s.kept
+    discards_are : AreDiscards (all_given x ws).sender (put ms id front) s.discards
+    counts_stay : (all_given x ws).sender.following ≡ x.sender.following
+    accepted_stays : (all_given x ws).sender.accepted ≡ x.sender.accepted
+    acknowledged_stays : (all_given x ws).acknowledged ≡ x.acknowledged
 
   empties : (least most : ℕ) (ws : List Queued) (x : Transfer) (k : Kept message mixed x) (ms : ℕ → List Queued) → ms id ≡ front ++ ws
       → are_rising least most (front ++ ws) ≡ true → list_all is_new ws ≡ true → AreQueued message lifecycle x.sender ms
@@ -141,14 +142,14 @@ module _ (message : ℕ → Message) (lifecycle : ℕ → Option ℕ) (mixed : B
   empties least most [] x k ms h r n a kept d =
       let same : put ms id front ≡ ms = put_here ms id front (h ∙ append-nil front) in
       record {
-        after = x;
-        leads = leads_none message mixed x;
+        may = tt;
         kept_is = k;
         queued = subst (λ (z : ℕ → List Queued). AreQueued message lifecycle x.sender z) (sym same) a;
         items = kept;
         discards_are = subst (λ (z : ℕ → List Queued). AreDiscards x.sender z s.discards) (sym same) d;
         counts_stay = refl;
         accepted_stays = refl;
+        acknowledged_stays = refl;
       }
   empties least most (m ∷ rest) x k ms h r n a kept d =
       let z = among_others least most front m rest r in
@@ -158,14 +159,14 @@ module _ (message : ℕ → Message) (lifecycle : ℕ → Option ℕ) (mixed : B
       let f = empties least most rest x1 one.kept_is (put ms id (front ++ rest)) (put_at ms id (front ++ rest) id refl) z.without u.1 one.queued one.items one.discards_are in
       let over = put_over ms id (front ++ rest) front in
       record {
-        after = f.after;
-        leads = leads_on message mixed x x1 f.after (m.number ∷ []) (map (λ (w : Queued). w.number) rest) one.leads f.leads;
+        may = (one.may, f.may);
         kept_is = f.kept_is;
-        queued = subst (λ (z : ℕ → List Queued). AreQueued message lifecycle f.after.sender z) over f.queued;
+        queued = subst (λ (z : ℕ → List Queued). AreQueued message lifecycle (all_given x1 rest).sender z) over f.queued;
         items = f.items;
-        discards_are = subst (λ (z : ℕ → List Queued). AreDiscards f.after.sender z s.discards) over f.discards_are;
+        discards_are = subst (λ (z : ℕ → List Queued). AreDiscards (all_given x1 rest).sender z s.discards) over f.discards_are;
         counts_stay = f.counts_stay;
         accepted_stays = f.accepted_stays;
+        acknowledged_stays = f.acknowledged_stays;
       }
 
 -- ---- the row
@@ -205,7 +206,7 @@ module _ {P : Type 0} (message : ℕ → Message) (lifecycle : ℕ → Option �
   pub prepares_row : Prepares message lifecycle mixed x q s id told
   prepares_row =
       let e = emptied in
-      let o' = e.after.sender in
+      let o' = (run message mixed x (give_ups (unsent_of q id))).sender in
       let same : (kind : Bool) (j : ℕ) → o'.following kind j ≡ x.sender.following kind j = (λ kind j. ap (λ z. z kind j) e.counts_stay) in
       let next : (j : ℕ) (st : Stream) → IsNext x.sender j st → IsNext o' j st =
       (λ j st n. record {
@@ -214,8 +215,7 @@ module _ {P : Type 0} (message : ℕ → Message) (lifecycle : ℕ → Option �
         unordered_mid = n.unordered_mid ∙ ap (λ z. origin + z) (sym (same false j));
       }) in
       record {
-        after = e.after;
-        leads = e.leads;
+        may = e.may;
         kept = e.kept_is;
         shows = record {
           queue = record {
@@ -236,7 +236,7 @@ module _ {P : Type 0} (message : ℕ → Message) (lifecycle : ℕ → Option �
           };
           items = record {
             mode = sh.items.mode;
-            point = sh.items.point ∙ ap (λ (z : Transfer). origin + z.acknowledged) (sym e.leads.rest_stays);
+            point = sh.items.point ∙ ap (λ n. origin + n) (sym e.acknowledged_stays);
             kept = e.items;
           };
           discards = subst (λ (z : ℕ → List Queued). AreDiscards o' z s.discards) (sym all) e.discards_are;

@@ -1,7 +1,7 @@
 -- Each operation of a sender's values is a run of the rules. `message` and `lifecycle` are any functions that tell what was
 -- accepted so far.
 use Rattle.std.specs.Duration.{as_nanos}
-use Rattle.std.specs.Prelude.{option_map, unwrap_or, ◌≡◌, ℕ, ◌+◌, ◌^◌, ◌<◌, ◌≤◌, ◌||◌, not, Bool, true, false, Option, Some, None, List, [], ◌∷◌, ◌++◌, length, replicate, slice_get, map, filter}
+use Rattle.std.specs.Prelude.{option_map, unwrap_or, ◌≡◌, ℕ, ◌+◌, ◌^◌, ◌<◌, ◌≤◌, ◌||◌, not, Bool, true, false, Option, Some, None, List, [], ◌∷◌, ◌++◌, length, replicate, slice_get}
 use Rattle.sctp_serial.specs.Unwrapped.{origin, words, wire}
 use Rattle.sctp_serial.specs.declared.api.Message as given
 use Rattle.sctp_packet.specs.Chunk.{FragmentTree}
@@ -14,7 +14,7 @@ use Rattle.sctp_send_queue.specs.Queue.{Queued, Queue, queue, added, expiry_of, 
 use Rattle.sctp_send_queue.specs.Views.{queued_of}
 use Rattle.sctp_send_queue.specs.Produced.{Produced, produce}
 use Rattle.sctp_send_queue.specs.Settings.{set_mode, set_priority, set_low_threshold}
-use Rattle.sctp_send_queue.specs.Resets.{is_partly, prepare_reset, request_resets, commit_resets}
+use Rattle.sctp_send_queue.specs.Resets.{request_resets, commit_resets}
 use Rattle.sctp_send_queue.specs.Restarted.{reset}
 use Rattle.sctp_outstanding.specs.Item.{Item, is_abandoned}
 use Rattle.sctp_outstanding.specs.Items.{Items, no_items, inserted}
@@ -32,7 +32,7 @@ use Rattle.sctp_rules.specs.Resets.{restarts}
 use Rattle.sctp_rules.specs.Claims.{AtRest}
 use Rattle.sctp_rules.specs.Kept.{Kept}
 use Rattle.sctp_rules.specs.Joints.{reports_of}
-use Rattle.sctp_tx_rules.specs.Shown.{messages_of, Shows, tree_of}
+use Rattle.sctp_tx_rules.specs.Shown.{Shows, tree_of}
 use Rattle.sctp_tx_rules.specs.Led.{recorded, Leads, LeadsTo, delivered, ids_at}
 use Rattle.sctp_tx_rules.specs.Points.{IsSendable}
 
@@ -103,20 +103,6 @@ SettingsShow = InEachState (λ message lifecycle mixed x q s.
     → Shows message lifecycle mixed x (set_priority id n q) s.outstanding.items × Shows message lifecycle mixed x (set_low_threshold id n q told).queue s.outstanding.items)
 
 -- ---- resets of streams
-
--- the messages of a stream of which nothing was sent
-abbrev pub unsent_of : Queue → ℕ → List ℕ
-unsent_of q id = map (λ (m : Queued). m.number) (filter (λ m. not (is_partly m)) (messages_of q id))
-
--- a stream is to be reset: each of these is given up, and nothing else
-pub record Prepares {P : Type 0} (message : ℕ → Message) (lifecycle : ℕ → Option ℕ) (mixed : Bool) (x : Transfer) (q : Queue) (s : Items) (id : ℕ) (told : Told P) : Type 0 where
-  pub after : Transfer
-  pub leads : Leads message mixed x after (unsent_of q id)
-  pub kept : Kept message mixed after
-  pub shows : Shows message lifecycle mixed after (prepare_reset id q told).queue s
-
-abbrev pub PreparesShow : Type 0
-PreparesShow = InEachState (λ message lifecycle mixed x q s. (id : ℕ) (told : Told (List ℕ)) → Prepares message lifecycle mixed x q s.outstanding.items id told)
 
 -- a stream that goes into a request sends nothing meanwhile
 abbrev pub RequestsShow : Type 0

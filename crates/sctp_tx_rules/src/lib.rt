@@ -3,7 +3,8 @@
 #![tactic(auto)]
 
 ghost use Rattle.sctp_tx_rules.specs.Records.{AcceptingKeepsOne, LeavingKeepsOne, NewHaveNone, SendingKeepsOne, TakingKeepsOne, ValuesHaveOneRecord};
-ghost use Rattle.sctp_tx_rules.specs.Rows.{Accepts, BeginningsShow, CarryingStays, CommitsShow, DiscardsShow, Expires, FastPacketsAreSent, GivesUp, LifetimesEnd, Loses, NewShow, OffersAreQueued, OthersAreNotShown, PacketsAreSent, PointsAreDue, PreparesShow, Produces, RecordsAreExact, RequestsShow, ResetsShow, RestIsRest, SacksAreHeard, SettingsShow, TimesOut};
+ghost use Rattle.sctp_tx_rules.specs.Paused.{AcceptingPauses, CommittingPauses, PreparesShow, PreparingPauses, RequestingPauses};
+ghost use Rattle.sctp_tx_rules.specs.Rows.{Accepts, BeginningsShow, CarryingStays, CommitsShow, DiscardsShow, Expires, FastPacketsAreSent, GivesUp, LifetimesEnd, Loses, NewShow, OffersAreQueued, OthersAreNotShown, PacketsAreSent, PointsAreDue, Produces, RecordsAreExact, RequestsShow, ResetsShow, RestIsRest, SacksAreHeard, SettingsShow, TimesOut};
 
 /// A new queue, and no item, show the start. Where messages were accepted and nothing was sent, an association may begin, in
 /// either mode, and the queue may begin anew: all that was accepted waits.
@@ -32,6 +33,16 @@ pub fn streams_are_reset()
     ensures prepared { PreparesShow }
     ensures requested { RequestsShow }
     ensures committed { CommitsShow }
+{}
+
+/// By the rules with epochs, a stream's pause says whether it is open: so it is still when a message is accepted, when a stream is
+/// prepared for a reset, when one that is ready goes into a request, and when the answer comes to a reset that was performed. Each of these
+/// may happen by the rules then.
+pub fn pauses_follow_epochs()
+    ensures accepting { AcceptingPauses }
+    ensures preparing { PreparingPauses }
+    ensures requesting { RequestingPauses }
+    ensures committing { CommittingPauses }
 {}
 
 /// Where nothing waits to be discarded, `produce` gives up the messages that expired before their first fragment, each with
