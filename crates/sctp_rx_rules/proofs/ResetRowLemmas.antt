@@ -1,5 +1,5 @@
 -- A reset of streams is performed: what is held of them is forgotten, and their numbers begin at 0 again.
-use Rattle.std.proofs.Common.{◌≡◌, ◌≢◌, ℕ, suc, ◌+◌, ◌-◌, ◌^◌, ◌<◌, ◌≤◌, Bool, true, false, not, cond, ◌×◌, inl, inr, Option, Some, None, List, [], ◌∷◌, ◌++◌, map, refl, ap, sym, ◌∙◌, subst, arith, eqb}
+use Rattle.std.proofs.Common.{◌≡◌, ◌≢◌, ℕ, suc, ◌+◌, ◌-◌, ◌<◌, ◌≤◌, Bool, true, false, not, cond, inl, inr, Option, Some, None, List, [], ◌∷◌, ◌++◌, refl, ap, sym, ◌∙◌, subst, arith, eqb}
 use Rattle.std.specs.Prelude.{◌&&◌, ◌||◌, ◌==◌, unwrap_or}
 use Rattle.std.specs.List.{list_any}
 use Rattle.std.specs.Map.{lookup}
@@ -18,21 +18,21 @@ use Rattle.sctp_rx.specs.Streams.{Entries, Streams, stream_at, is_named, forgott
 use Rattle.sctp_rx.specs.ReassemblyQueue.{Reassembly, waiting_in, reset, apply_each}
 use Rattle.sctp_rx.specs.Tracker.{Tracker}
 use Rattle.sctp_reassembly.proofs.SettledQueueLemmas.{settled_begins_anew}
-use Rattle.sctp_rules.specs.State.{Message, Transfer, IsAmong, put, place_of, count, ordered_of, stream_of}
-use Rattle.sctp_rules.specs.Reassembly.{Chunk, Queue, KeyOf, next_of, nth, ReadyRun, Forgotten, NoneReady, unforgotten}
+use Rattle.sctp_rules.specs.State.{Message, IsAmong, put, place_of, count, stream_of}
+use Rattle.sctp_rules.specs.Reassembly.{Chunk, Queue, KeyOf, next_of, nth, Forgotten, NoneReady, unforgotten}
 use Rattle.sctp_rules.specs.Kept.{Kept}
 use Rattle.sctp_rules.specs.Joints.{Shows}
 use Rattle.sctp_rules.specs.Lifted.{lifted, IsRebased}
 use Rattle.sctp_rules.specs.Resets.{Request, Epochs, perform, MayReset, goes, MayAll, go_all}
 use Rattle.sctp_rules.specs.Based.{InEpochs}
-use Rattle.sctp_rules.proofs.ToolsLemmas.{put_at, put_off, not_both}
+use Rattle.sctp_rules.proofs.ToolsLemmas.{put_at, put_off}
 use Rattle.sctp_rules.proofs.EpochLemmas.{resettable}
 use Rattle.sctp_rules.proofs.BasedLemmas.{keeps_epochs}
 use Rattle.sctp_rules.proofs.WireResetLemmas.{wire_reset_row, wire_sack_row}
-use Rattle.sctp_rx_rules.specs.View.{View, IsSeenAs, ordered_at, unordered_at, held_on, view_with, view_of}
+use Rattle.sctp_rx_rules.specs.View.{View, IsSeenAs, chunk_of_held, ordered_at, unordered_at, held_on, view_with, view_of}
 use Rattle.sctp_rx_rules.specs.Receives.{Receives}
-use Rattle.sctp_rx_rules.specs.Near.{IsOn, IsNearLast, IsNearStream, IsNamed, AreNearStreams, ReadsNear}
-use Rattle.sctp_rx_rules.specs.Resets.{base_now, IsNext, AreNext, performs, named_by, Performs}
+use Rattle.sctp_rx_rules.specs.Near.{IsOn, IsNearStream, IsNamed, ReadsNear}
+use Rattle.sctp_rx_rules.specs.Resets.{base_now, AreNext, performs, named_by, Performs}
 use Rattle.sctp_rx_rules.proofs.TakesLemmas.{AreAlike, seen_alike}
 use Rattle.sctp_rx_rules.proofs.ReceivesLemmas.{none_ready}
 
@@ -132,7 +132,7 @@ module _ (mixed : Bool) where
           let z = p.holds kind a h c.0 in
           let off : eqb h.fragment.stream_id s ≡ false = ap (λ n. eqb n s) (p.filed kind a h c.0).stream_is ∙ c.1 in (
             z.0,
-            ap (unforgotten (KeyOf mixed) (next_of mixed) s) z.1 ∙ cond-false (eqb h.fragment.stream_id s) None _ off,
+            ap (unforgotten (KeyOf mixed) (next_of mixed) s) z.1 ∙ cond-false (eqb h.fragment.stream_id s) None (Some (chunk_of_held z.0 h)) off,
             z.2,
           );
       found = λ κ w e.

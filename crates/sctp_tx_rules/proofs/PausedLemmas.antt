@@ -1,28 +1,29 @@
 -- A stream's pause agrees with its epochs: as messages are accepted, streams are prepared, requested and opened again.
-use Rattle.std.proofs.Common.{◌≡◌, ◌≢◌, ℕ, suc, ◌<◌, ◌≤◌, Bool, true, false, not, cond, ◌×◌, inl, inr, Option, Some, None, List, [], ◌∷◌, ◌++◌, length, map, filter, refl, sym, ap, ◌∙◌, subst, arith}
-use Rattle.std.specs.Prelude.{◌&&◌, ◌==◌, nat_lt, is_some}
+use Rattle.std.proofs.Common.{◌≡◌, ◌≢◌, ℕ, suc, ◌<◌, ◌≤◌, Bool, true, false, not, inl, inr, Option, Some, None, List, [], ◌∷◌, ◌++◌, length, map, filter, refl, sym, ap, ◌∙◌, subst, arith}
+use Rattle.std.specs.Prelude.{◌==◌, nat_lt, is_some}
 use Rattle.std.specs.List.{list_all}
-use Rattle.std.proofs.lemmas.Bool.{cases_eq, cases_lt, and_parts, cond-true, cond-false, eqb-true, not-true, false_from_ne_true}
+use Rattle.std.proofs.lemmas.Bool.{cases_eq, and_parts, cond-true, cond-false, eqb-true, not-true}
 use Rattle.sctp_state.specs.Events.{Told}
 use Rattle.sctp_send_queue.specs.declared.send_queue.message.MessageNumbers.{MessageNumbers}
 use Rattle.sctp_send_queue.specs.declared.send_queue.stream.PauseState.{PauseState}
 use Rattle.sctp_send_queue.specs.declared.send_queue.stream.PauseState.TheVariants.{NotPaused, Pending, Paused, Resetting}
 use Rattle.sctp_send_queue.specs.declared.send_queue.stream.ResetStep.TheVariants.{Requested, Performed}
-use Rattle.sctp_send_queue.specs.Queue.{Queued, Queue, Stream, stream, blank, added, pushed, is_stopped}
+use Rattle.sctp_send_queue.specs.Queue.{Queued, Queue, Stream, stream, added, pushed, is_stopped}
 use Rattle.sctp_send_queue.specs.InOrder.{is_waiting, is_begun_or_waiting, are_in_order, is_first_begun}
 use Rattle.sctp_send_queue.specs.Resets.{is_partly, waiting, prepared, prepare_reset, after_step, stepped}
 use Rattle.sctp_outstanding.specs.Items.{Items}
 use Rattle.sctp_rules.specs.State.{Message, Transfer, put, stream_of}
-use Rattle.sctp_rules.specs.Rules.{accept, IsSettled, Happens, run}
-use Rattle.sctp_rules.specs.Resets.{Epochs, ResetEvent, transfers, reset_stream, send_request, commit, MayReset, goes, MayAll, go_all}
+use Rattle.sctp_rules.specs.Rules.{accept, give_up, IsSettled, Happens, run}
+use Rattle.sctp_rules.specs.Sending.{Waiting}
+use Rattle.sctp_rules.specs.Resets.{Epochs, ResetEvent, transfers, send_request, commit, MayReset, goes, MayAll, go_all}
 use Rattle.sctp_rules.proofs.ToolsLemmas.{put_at, put_off, not_both}
 use Rattle.sctp_tx_rules.specs.Shown.{found, messages_of, queue_of, Shows}
 use Rattle.sctp_tx_rules.specs.Rows.{offered}
-use Rattle.sctp_tx_rules.specs.Paused.{unsent_of, give_ups, prepare_events, opens_next, IsPausedAs, ArePausedAs, PreparesPause}
-use Rattle.sctp_tx_rules.proofs.FoundLemmas.{none_some, one_value, found_off, found_at, found_push, found_push_off}
+use Rattle.sctp_tx_rules.specs.Pauses.{unsent_of, give_ups, opens_next, IsPausedAs, ArePausedAs, PreparesPause}
+use Rattle.sctp_tx_rules.proofs.FoundLemmas.{none_some, one_value, found_off, found_at, found_push_off}
 use Rattle.sctp_tx_rules.proofs.QueuedLemmas.{queued_is}
 use Rattle.sctp_tx_rules.proofs.AcceptLemmas.{written, unwritten}
-use Rattle.sctp_tx_rules.proofs.PrepareLemmas.{Waits, waits, prepares_row}
+use Rattle.sctp_tx_rules.proofs.PrepareLemmas.{Waits, waits}
 use Rattle.sctp_tx_rules.proofs.ResetLemmas.{put_cases, off}
 
 -- ---- the queue of a stream
@@ -150,11 +151,11 @@ module _ (message : ℕ → Message) (mixed : Bool) where
   -- that messages are given up changes the transfer alone
   go_given : (ps : List ℕ) (x : Epochs) → go_all message mixed x (map transfers (give_ups ps)) ≡ record x { transfer = run message mixed x.transfer (give_ups ps) }
   go_given [] x = refl
-  go_given (p ∷ ps) x = go_given ps _
+  go_given (p ∷ ps) x = go_given ps (goes message mixed x (transfers (give_up p)))
 
   may_given : (ps : List ℕ) (x : Epochs) → Happens message mixed x.transfer (give_ups ps) → MayAll message mixed x (map transfers (give_ups ps))
   may_given [] x h = tt
-  may_given (p ∷ ps) x h = ((h.0, tt), may_given ps _ h.1)
+  may_given (p ∷ ps) x h = ((h.0, tt), may_given ps (goes message mixed x (transfers (give_up p))) h.1)
 
   go_more : (es fs : List ResetEvent) (x : Epochs) → go_all message mixed x (es ++ fs) ≡ go_all message mixed (go_all message mixed x es) fs
   go_more [] fs x = refl
@@ -288,7 +289,7 @@ module _ (message : ℕ → Message) (lifecycle : ℕ → Option ℕ) (mixed : B
     settled : (p : ℕ) → p < x.transfer.sender.accepted → stream_of message p ≡ id → x.epoch p < x.raised id → IsSettled x.transfer.sender p
     settled p below on earlier = go (queue_of message x.transfer.sender (messages_of q) p) refl
       where
-        go : (o : _) → queue_of message x.transfer.sender (messages_of q) p ≡ o → IsSettled x.transfer.sender p
+        go : (o : Option Waiting) → queue_of message x.transfer.sender (messages_of q) p ≡ o → IsSettled x.transfer.sender p
         go None e = sh.queue.messages.queued.gone p below e
         go (Some w) e =
             let z = queued_is message x.transfer.sender (messages_of q) p w e in

@@ -1,5 +1,5 @@
 -- A stream is to be reset: its messages of which nothing was sent are given up.
-use Rattle.std.proofs.Common.{◌≡◌, ◌≢◌, ℕ, ◌+◌, ◌^◌, ◌<◌, ◌≤◌, Bool, true, false, cond, inl, inr, List, [], ◌∷◌, ◌++◌, map, filter, refl, sym, ap, ◌∙◌, subst, arith, append-nil}
+use Rattle.std.proofs.Common.{◌≡◌, ◌≢◌, ℕ, ◌+◌, ◌^◌, ◌<◌, ◌≤◌, Bool, true, false, inl, inr, List, [], ◌∷◌, ◌++◌, map, filter, refl, sym, ap, ◌∙◌, subst, arith, append-nil}
 use Rattle.std.specs.Prelude.{not, ◌&&◌, ◌==◌, nat_le, nat_lt, is_some}
 use Rattle.std.specs.List.{list_all}
 use Rattle.std.proofs.lemmas.Bool.{cases_eq, and_parts, and_from, cond-true, cond-false, eqb-true, le-leb, lt-ltb, not-true, false_from_ne_true}
@@ -17,7 +17,7 @@ use Rattle.sctp_rules.specs.Rules.{give_up, Happens, after, run}
 use Rattle.sctp_rules.specs.Kept.{Kept}
 use Rattle.sctp_rules.proofs.ToolsLemmas.{put_at, put_off, not_both}
 use Rattle.sctp_tx_rules.specs.Shown.{found, messages_of, AreKept, AreQueued, AreDiscards, IsNext, Shows}
-use Rattle.sctp_tx_rules.specs.Paused.{unsent_of, give_ups, Prepares}
+use Rattle.sctp_tx_rules.specs.Pauses.{unsent_of, give_ups, Prepares}
 use Rattle.sctp_tx_rules.proofs.FoundLemmas.{funext, found_off, rises, once}
 use Rattle.sctp_tx_rules.proofs.FreshLemmas.{put_here, put_over, drops}
 use Rattle.sctp_tx_rules.proofs.AcceptLemmas.{written, unwritten}

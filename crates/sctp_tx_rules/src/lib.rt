@@ -3,7 +3,7 @@
 #![tactic(auto)]
 
 ghost use Rattle.sctp_tx_rules.specs.Records.{AcceptingKeepsOne, LeavingKeepsOne, NewHaveNone, SendingKeepsOne, TakingKeepsOne, ValuesHaveOneRecord};
-ghost use Rattle.sctp_tx_rules.specs.Paused.{AcceptingPauses, CommittingPauses, PreparesShow, PreparingPauses, RequestingPauses};
+ghost use Rattle.sctp_tx_rules.specs.Pauses.{AcceptingPauses, CommittingPauses, PreparesShow, PreparingPauses, RequestingPauses};
 ghost use Rattle.sctp_tx_rules.specs.Rows.{Accepts, BeginningsShow, CarryingStays, CommitsShow, DiscardsShow, Expires, FastPacketsAreSent, GivesUp, LifetimesEnd, Loses, NewShow, OffersAreQueued, OthersAreNotShown, PacketsAreSent, PointsAreDue, Produces, RecordsAreExact, RequestsShow, ResetsShow, RestIsRest, SacksAreHeard, SettingsShow, TimesOut};
 
 /// A new queue, and no item, show the start. Where messages were accepted and nothing was sent, an association may begin, in

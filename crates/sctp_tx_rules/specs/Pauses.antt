@@ -1,5 +1,5 @@
 -- Resets of streams at the sender, by the epochs of the rules (RFC 6525 section 5.1.2).
-use Rattle.std.specs.Prelude.{◌≡◌, ℕ, suc, ◌≤◌, ◌×◌, not, Bool, true, false, Option, None, List, [], ◌∷◌, ◌++◌, map, filter}
+use Rattle.std.specs.Prelude.{◌≡◌, ℕ, suc, ◌≤◌, not, Bool, true, false, Option, None, List, [], ◌∷◌, ◌++◌, map, filter}
 use Rattle.sctp_state.specs.Events.{Told}
 use Rattle.sctp_send_queue.specs.declared.send_queue.stream.PauseState.{PauseState}
 use Rattle.sctp_send_queue.specs.declared.send_queue.stream.PauseState.TheVariants.{NotPaused, Pending, Paused, Resetting}
