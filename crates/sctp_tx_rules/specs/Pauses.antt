@@ -1,5 +1,6 @@
 -- Resets of streams at the sender, by the epochs of the rules (RFC 6525 section 5.1.2).
-use Rattle.std.specs.Prelude.{◌≡◌, ℕ, suc, ◌≤◌, not, Bool, true, false, Option, None, List, [], ◌∷◌, ◌++◌, map, filter}
+use Rattle.std.specs.Prelude.{◌≡◌, ℕ, suc, ◌+◌, ◌≤◌, ◌⊎◌, not, Bool, true, false, Option, None, List, [], ◌∷◌, ◌++◌, map, filter}
+use Rattle.sctp_serial.specs.Unwrapped.{origin}
 use Rattle.sctp_state.specs.Events.{Told}
 use Rattle.sctp_send_queue.specs.declared.send_queue.stream.PauseState.{PauseState}
 use Rattle.sctp_send_queue.specs.declared.send_queue.stream.PauseState.TheVariants.{NotPaused, Pending, Paused, Resetting}
@@ -7,12 +8,15 @@ use Rattle.sctp_send_queue.specs.declared.send_queue.stream.ResetStep.TheVariant
 use Rattle.sctp_send_queue.specs.Queue.{Queued, Stream, Queue, stream, added, is_stopped}
 use Rattle.sctp_send_queue.specs.InOrder.{is_first_begun}
 use Rattle.sctp_send_queue.specs.Resets.{is_partly, prepare_reset, stepped}
-use Rattle.sctp_outstanding.specs.Items.{Items}
-use Rattle.sctp_rules.specs.State.{Message, Transfer, stream_of}
-use Rattle.sctp_rules.specs.Rules.{Event, accept, give_up, Happens, run}
+use Rattle.sctp_outstanding.specs.Items.{Items, begin_reset}
+use Rattle.sctp_outstanding.specs.Sack.{staying}
+use Rattle.sctp_tx.specs.Retransmission.{Sender}
+use Rattle.sctp_rules.specs.State.{Message, Transfer, IsAmong, stream_of}
+use Rattle.sctp_rules.specs.Rules.{Event, accept, give_up, send_forward, Happens, run}
 use Rattle.sctp_rules.specs.Kept.{Kept}
-use Rattle.sctp_rules.specs.Resets.{Epochs, ResetEvent, transfers, reset_stream, send_request, commit, MayReset, goes, MayAll, go_all}
+use Rattle.sctp_rules.specs.Resets.{Request, Epochs, ResetEvent, transfers, reset_stream, send_request, commit, InEpoch, MayReset, goes, MayAll, go_all}
 use Rattle.sctp_tx_rules.specs.Shown.{found, messages_of, Shows}
+use Rattle.sctp_tx_rules.specs.Points.{IsSendable}
 use Rattle.sctp_tx_rules.specs.Rows.{offered, InEachState}
 
 -- ---- a stream is to be reset
@@ -46,6 +50,27 @@ pub record IsPausedAs (x : Epochs) (k : ℕ) (s : Stream) : Type 0 where
 
 abbrev pub ArePausedAs : Epochs → Queue → Type 0
 ArePausedAs x q = (k : ℕ) → IsPausedAs x k (stream k q.streams)
+
+-- ---- breakpoints
+
+-- that of each request that was sent is there still, or all below it is acknowledged
+abbrev pub HasBreaks : Epochs → Items → Type 0
+HasBreaks x s = (r : Request) → IsAmong r x.requests → IsAmong (origin + r.upto) s.breaks ⊎ (r.upto ≤ x.transfer.acknowledged)
+
+-- a request of these streams is sent
+abbrev pub RequestsBreak : Type 0
+RequestsBreak = (message : ℕ → Message) (lifecycle : ℕ → Option ℕ) (mixed : Bool) (x : Epochs) (q : Queue) (s : Items) (ids : List ℕ)
+    → Shows message lifecycle mixed x.transfer q s → HasBreaks x s → HasBreaks (go_all message mixed x (map send_request ids)) (begin_reset s)
+
+-- a SACK of c has come
+abbrev pub SacksPassBreaks : Type 0
+SacksPassBreaks = (x y : Epochs) (s : Items) (cumulative c : ℕ) → y.requests ≡ x.requests → x.transfer.acknowledged ≤ y.transfer.acknowledged
+    → cumulative + 1 ≡ origin + c → c ≤ y.transfer.acknowledged → HasBreaks x s → HasBreaks y (staying cumulative s)
+
+-- a forward point that is due goes on over no request
+abbrev pub PointsEndAtBreaks : Type 0
+PointsEndAtBreaks = (message : ℕ → Message) (mixed : Bool) (x : Epochs) (s : Sender) → HasBreaks x s.outstanding.items
+    → (p : IsSendable message mixed x.transfer s) → InEpoch message mixed x (send_forward p.point)
 
 -- ---- where streams that are prepared lead
 
