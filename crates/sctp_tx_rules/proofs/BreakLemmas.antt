@@ -50,8 +50,8 @@ module _ {P : Type 0} where
   nacked at_once fast n x = go (slice_get x.items.kept n)
     where
       item : (i : Item) (b : Bool) → gives_up x.items.is_partial at_once i ≡ b → (nack_item at_once fast n i x).items.breaks ≡ x.items.breaks
-      item i true e = ap (λ (z : Step P). z.items.breaks) (cond-true (gives_up x.items.is_partial at_once i) _ _ e)
-      item i false e = ap (λ (z : Step P). z.items.breaks) (cond-false (gives_up x.items.is_partial at_once i) _ _ e)
+      item i true e = rw e refl
+      item i false e = rw e refl
 
       go : (o : Option Item) → (unwrap_or (option_map (λ i. nack_item at_once fast n i x) o) x).items.breaks ≡ x.items.breaks
       go None = refl
