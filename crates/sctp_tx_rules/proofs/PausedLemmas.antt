@@ -126,13 +126,13 @@ module _ (message : ℕ → Message) (lifecycle : ℕ → Option ℕ) (mixed : B
         | inr d ↦
             let i = h k in
             subst (λ (z : Stream). IsPausedAs y k z) (sym (unwritten k own (pushed m (stream own q.streams)) q.streams d))
-            (record { open = i.open; shut = i.shut; stopped = i.stopped; pending = i.pending; newest = λ p n f e. old k p n f ∙ i.newest p n f e })
+            (record { flows = i.flows; shut = i.shut; stopped = i.stopped; pending = i.pending; newest = λ p n f e. old k p n f ∙ i.newest p n f e })
         | inl e ↦
             let i = h own in
             subst (λ z. IsPausedAs y z (stream z (added own m q).streams)) (sym e)
             (subst (λ (z : Stream). IsPausedAs y own z) (sym (written own (pushed m (stream own q.streams)) q.streams))
             (record {
-              open = i.open;
+              flows = i.flows;
               shut = i.shut;
               stopped = λ b. pushed_first (messages_of q own) ∙ i.stopped b;
               pending = λ b. pushed_first (messages_of q own) ∙ i.pending b;
@@ -186,7 +186,7 @@ module _ {P : Type 0} (message : ℕ → Message) (lifecycle : ℕ → Option �
       let i = h k in
       subst (λ (z : Stream). IsPausedAs (raised_to r) k z) (sym (unwritten k id (prepared t) q.streams d))
       (record {
-        open = λ e. same ∙ i.open e;
+        flows = λ e. same ∙ i.flows e;
         shut = λ e. same ∙ i.shut e;
         stopped = i.stopped;
         pending = i.pending;
@@ -196,7 +196,7 @@ module _ {P : Type 0} (message : ℕ → Message) (lifecycle : ℕ → Option �
   -- the stream itself, which waits from now on
   itself : (r : ℕ → ℕ) → r id ≡ suc (x.opened id) → IsPausedAs (raised_to r) id (prepared t)
   itself r waits = record {
-    open = λ e. absurd (is_shut t.pause (length (filter is_partly t.messages) == 0) e);
+    flows = λ e. absurd (is_shut t.pause (length (filter is_partly t.messages) == 0) e);
     shut = λ e. waits;
     stopped = λ e. f.first ∙ stops t.pause refl e;
     pending = λ e. f.first ∙ pends t.pause refl e;
@@ -246,7 +246,7 @@ module _ {P : Type 0} (message : ℕ → Message) (lifecycle : ℕ → Option �
     -- a stream that was open; one that waits already
     opens : (p : PauseState) → t.pause ≡ p → MayAll message mixed (raised_to x.raised) (opens_next p id) × ArePausedAs (go_all message mixed (raised_to x.raised) (opens_next p id)) (prepare_reset id q told).queue
     opens NotPaused e =
-        let was : x.raised id ≡ x.opened id = (h id).open e in (
+        let was : x.raised id ≡ x.opened id = (h id).flows e in (
           (was, tt),
           all (put x.raised id (suc (x.raised id))) (put_at x.raised id (suc (x.raised id)) id refl ∙ ap suc was) (λ k d. put_off x.raised id (suc (x.raised id)) k d),
         )
@@ -307,7 +307,7 @@ module _ (message : ℕ → Message) (lifecycle : ℕ → Option ℕ) (mixed : B
         | inr d ↦
             let i = h k in
             subst (λ (z : Stream). IsPausedAs (goes message mixed x (send_request id)) k z) (sym (off Requested id q k d))
-            (record { open = i.open; shut = i.shut; stopped = i.stopped; pending = i.pending; newest = i.newest })
+            (record { flows = i.flows; shut = i.shut; stopped = i.stopped; pending = i.pending; newest = i.newest })
         | inl e ↦
             subst (λ z. IsPausedAs (goes message mixed x (send_request id)) z (stream z (stepped Requested id q).streams)) (sym e)
             (elim (put_cases id (after_step Requested (stream id q.streams)) q.streams) [
@@ -316,7 +316,7 @@ module _ (message : ℕ → Message) (lifecycle : ℕ → Option ℕ) (mixed : B
                   let i = h id in
                   subst (λ (z : Stream). IsPausedAs (goes message mixed x (send_request id)) id z) (sym t)
                   (record {
-                    open = λ c. cc;
+                    flows = λ c. cc;
                     shut = λ c. waits_now ready;
                     stopped = λ c. i.stopped (ap is_stopped ready);
                     pending = λ c. cc;
@@ -346,7 +346,7 @@ module _ (message : ℕ → Message) (lifecycle : ℕ → Option ℕ) (mixed : B
                 let i = h k in
                 let same = put_off x.opened id (x.raised id) k d in
                 subst (λ (z : Stream). IsPausedAs (goes message mixed x (commit id)) k z) (sym (off Performed id q k d))
-                (record { open = λ e. i.open e ∙ sym same; shut = λ e. i.shut e ∙ ap suc (sym same); stopped = i.stopped; pending = i.pending; newest = i.newest })
+                (record { flows = λ e. i.flows e ∙ sym same; shut = λ e. i.shut e ∙ ap suc (sym same); stopped = i.stopped; pending = i.pending; newest = i.newest })
             | inl e ↦
                 subst (λ z. IsPausedAs (goes message mixed x (commit id)) z (stream z (stepped Performed id q).streams)) (sym e)
                 (elim (put_cases id (after_step Performed (stream id q.streams)) q.streams) [
@@ -355,7 +355,7 @@ module _ (message : ℕ → Message) (lifecycle : ℕ → Option ℕ) (mixed : B
                       let i = h id in
                       subst (λ (z : Stream). IsPausedAs (goes message mixed x (commit id)) id z) (sym t)
                       (record {
-                        open = λ c. sym (put_at x.opened id (x.raised id) id refl);
+                        flows = λ c. sym (put_at x.opened id (x.raised id) id refl);
                         shut = λ c. absurd (c refl);
                         stopped = λ c. cc;
                         pending = λ c. cc;

@@ -1,5 +1,5 @@
 -- Resets of streams at the sender, by the epochs of the rules (RFC 6525 section 5.1.2).
-use Rattle.std.specs.Prelude.{◌≡◌, ℕ, suc, ◌+◌, ◌≤◌, ◌⊎◌, not, Bool, true, false, Option, None, List, [], ◌∷◌, ◌++◌, map, filter}
+use Rattle.std.specs.Prelude.{◌≡◌, ℕ, suc, ◌+◌, ◌≤◌, ◌⊎◌, not, Bool, true, false, Option, None, Some, List, [], ◌∷◌, ◌++◌, map, filter}
 use Rattle.sctp_serial.specs.Unwrapped.{origin}
 use Rattle.sctp_state.specs.Events.{Told}
 use Rattle.sctp_send_queue.specs.declared.send_queue.stream.PauseState.{PauseState}
@@ -42,7 +42,7 @@ PreparesShow = InEachState (λ message lifecycle mixed x q s. (id : ℕ) (told :
 -- A stream that flows is open; any other waits for the answer to its reset, and what is accepted meanwhile is of the next epoch. One that
 -- is stopped has nothing that is partly sent, and of one that is not yet a message is. What waits is of the newest epoch.
 pub record IsPausedAs (x : Epochs) (k : ℕ) (s : Stream) : Type 0 where
-  pub open : s.pause ≡ NotPaused → x.raised k ≡ x.opened k
+  pub flows : s.pause ≡ NotPaused → x.raised k ≡ x.opened k
   pub shut : (s.pause ≡ NotPaused → ⊥) → x.raised k ≡ suc (x.opened k)
   pub stopped : is_stopped s.pause ≡ true → is_first_begun s.messages ≡ false
   pub pending : s.pause ≡ Pending → is_first_begun s.messages ≡ true
