@@ -1,5 +1,5 @@
 -- A forward point that comes is a few of the rules.
-use Rattle.std.proofs.Common.{◌≡◌, ℕ, suc, ◌+◌, ◌-◌, ◌^◌, ◌<◌, Bool, true, false, inl, inr, Some, None, List, [], ◌∷◌, ◌++◌, map, refl, ap, sym, ◌∙◌, subst, arith, append_assoc, leb}
+use Rattle.std.proofs.Common.{◌≡◌, ℕ, suc, ◌+◌, ◌-◌, ◌^◌, ◌<◌, Bool, true, false, not, inl, inr, Some, None, List, [], ◌∷◌, ◌++◌, map, refl, ap, sym, ◌∙◌, subst, arith, append_assoc, leb}
 use Rattle.std.specs.Prelude.{◌||◌, nat_lt, unwrap_or}
 use Rattle.std.proofs.lemmas.Bool.{cond-false, true≢false}
 use Rattle.std.proofs.lemmas.Bool.Decides.{nat_tests}
@@ -60,9 +60,9 @@ pub written_apart : (es : List Entry) → AreApart es → AreApart (map as_writt
 written_apart [] h = tt
 written_apart (e ∷ es) h = (each es h.0, written_apart es h.1)
   where
-    each : (ds : List Entry) → ((d : Entry) → IsAmong d ds → IsApart d e) → (d : Entry) → IsAmong d (map as_written ds) → IsApart d (as_written e)
+    each : (ds : List Entry) → ((d : Entry) → IsAmong d ds → IsApart e d) → (d : Entry) → IsAmong d (map as_written ds) → IsApart (as_written e) d
     each [] h d a = absurd a
-    each (c ∷ ds) h d (inl same) = subst (λ (z : Entry). IsApart z (as_written e)) (sym same) (h c (inl refl))
+    each (c ∷ ds) h d (inl same) = subst (λ (z : Entry). IsApart (as_written e) z) (sym same) (h c (inl refl))
     each (c ∷ ds) h d (inr a) = each ds (λ b m. h b (inr m)) d a
 
 module _ (message : ℕ → Message) (mixed : Bool) (base : Bool → ℕ → ℕ) (before : ℕ) (x : Transfer) (kept : Kept message mixed x) (handed : List messages.Message) (t : Tracker) (r : Reassembly)

@@ -168,10 +168,17 @@ module _ (message : ℕ → Message) (mixed : Bool) (shift : ℕ) (x : Transfer)
       go true o =
           let t : nat_lt number (x.receiver.next (stream_of message place)) ≡ true = sym (ap (λ b. (b || mixed) && nat_lt number (floor x.receiver b (stream_of message place))) o) ∙ h in
           let own_is : own ≡ written = cond-true (ordered_of message place || mixed) written 0 (ap (λ z. z || mixed) o) in
-          inl (o, less own written (q.next (stream_of message place)) number (x.receiver.next (stream_of message place)) (base true (stream_of message place)) own_is (now_as true o)
-          (shows.next_is (stream_of message place)) t)
+          inl (
+            o,
+            less own written (q.next (stream_of message place)) number (x.receiver.next (stream_of message place)) (base true (stream_of message place)) own_is (now_as true o)
+                (shows.next_is (stream_of message place)) t,
+          )
       go false o =
           let t = and_parts mixed (nat_lt number (x.receiver.passed_below (stream_of message place))) (sym (ap (λ b. (b || mixed) && nat_lt number (floor x.receiver b (stream_of message place))) o) ∙ h) in
           let own_is : own ≡ written = cond-true (ordered_of message place || mixed) written 0 (ap (λ z. z || mixed) o ∙ t.0) in
-          inr (t.0, o, less own written (q.passed_below (stream_of message place)) number (x.receiver.passed_below (stream_of message place)) (base false (stream_of message place)) own_is (now_as false o)
-          (shows.passed_is t.0 (stream_of message place)) t.1)
+          inr (
+            t.0,
+            o,
+            less own written (q.passed_below (stream_of message place)) number (x.receiver.passed_below (stream_of message place)) (base false (stream_of message place)) own_is (now_as false o)
+                (shows.passed_is t.0 (stream_of message place)) t.1,
+          )

@@ -1,5 +1,5 @@
 -- A reset of streams is performed: what is held of them is forgotten, and their numbers begin at 0 again.
-use Rattle.std.proofs.Common.{◌≡◌, ◌≢◌, ℕ, suc, ◌+◌, ◌-◌, ◌<◌, ◌≤◌, Bool, true, false, not, cond, inl, inr, Option, Some, None, List, [], ◌∷◌, ◌++◌, refl, ap, sym, ◌∙◌, subst, arith, eqb}
+use Rattle.std.proofs.Common.{◌≡◌, ◌≢◌, ℕ, suc, ◌+◌, ◌-◌, ◌<◌, ◌≤◌, Bool, true, false, not, cond, inl, inr, Option, Some, None, List, [], ◌∷◌, ◌++◌, length, refl, ap, sym, ◌∙◌, subst, arith, eqb}
 use Rattle.std.specs.Prelude.{◌&&◌, ◌||◌, ◌==◌, unwrap_or}
 use Rattle.std.specs.List.{list_any}
 use Rattle.std.specs.Map.{lookup}
@@ -215,6 +215,10 @@ module _ (r : Request) (rs : List Request) (ss : Streams) where
   push f true u v = refl
   push f false u v = refl
 
+  -- they name only those among them
+  pub named_is : (a : ℕ) → is_named ids a ≡ list_any (λ (i : StreamId). i.0 == a) ids
+  named_is a = ap (λ b. b || list_any (λ (i : StreamId). i.0 == a) ids) (ne_eqb (length ids) 0 (λ e. omega (arith, e)))
+
   pub reset_held : (kind : Bool) (a : ℕ) → held_on (streams.reset ids ss) kind a ≡ cond (is_named ids a) [] (held_on ss kind a)
   reset_held true a = ap (λ z. z.held) (left_at fresh_ordered ids a ss.ordered) ∙ push (λ z. z.held) (is_named ids a) fresh_ordered (ordered_at ss a)
   reset_held false a = ap (λ z. z.held) (left_at fresh_unordered ids a ss.unordered) ∙ push (λ z. z.held) (is_named ids a) fresh_unordered (unordered_at ss a)
@@ -224,13 +228,13 @@ module _ (r : Request) (rs : List Request) (ss : Streams) where
 
   pub reset_view : (mixed : Bool) (ready : List messages.Message) → AreAlike (without_all mixed (r ∷ rs) (view_with ss ready)) (view_with (streams.reset ids ss) ready)
   reset_view mixed ready = record {
-    held = λ kind a. reset_held kind a ∙ sym (all_held mixed (r ∷ rs) (view_with ss ready) kind a);
+    held = λ kind a. reset_held kind a ∙ (ap (λ b. cond b [] (held_on ss kind a)) (named_is a) ∙ sym (all_held mixed (r ∷ rs) (view_with ss ready) kind a));
     next = λ a.
         (ap (λ z. z.next) (left_at fresh_ordered ids a ss.ordered) ∙ push (λ z. z.next) (is_named ids a) fresh_ordered (ordered_at ss a))
-        ∙ sym (all_next mixed (r ∷ rs) (view_with ss ready) a);
+        ∙ (ap (λ b. cond b fresh_ordered.next (ordered_at ss a).next) (named_is a) ∙ sym (all_next mixed (r ∷ rs) (view_with ss ready) a));
     passed = λ a.
         (ap (λ z. z.passed) (left_at fresh_unordered ids a ss.unordered) ∙ push (λ z. z.passed) (is_named ids a) fresh_unordered (unordered_at ss a))
-        ∙ sym (all_passed mixed (r ∷ rs) (view_with ss ready) a);
+        ∙ (ap (λ b. cond b fresh_unordered.passed (unordered_at ss a).passed) (named_is a) ∙ sym (all_passed mixed (r ∷ rs) (view_with ss ready) a));
     ready = sym (all_ready mixed (r ∷ rs) (view_with ss ready));
   }
 
@@ -338,10 +342,13 @@ module _ (message : ℕ → Message) (mixed : Bool) (first shift : ℕ) (x : Epo
       on_before : (u : ℕ) → IsOn message y.transfer.sender s u → IsOn message x.transfer.sender s u
       on_before u on = subst (λ o. IsOn message o s u) done.sender on
 
+      base_is : base_now y false s ≡ cond (is_named (named_by (q ∷ rs)) s) (x.transfer.sender.counts false s) (base_now x false s)
+      base_is = done.base false s ∙ ap (λ b. cond b (x.transfer.sender.counts false s) (base_now x false s)) (sym (named_is q rs r.streams s))
+
       go : (b : Bool) → is_named (named_by (q ∷ rs)) s ≡ b → IsNearStream message (base_now y) s y.transfer (unordered_at plain.streams s).near
       go true e =
           let base : base_now y false s ≡ x.transfer.sender.counts false s =
-          done.base false s ∙ cond-true (is_named (named_by (q ∷ rs)) s) (x.transfer.sender.counts false s) (base_now x false s) e in
+          base_is ∙ cond-true (is_named (named_by (q ∷ rs)) s) (x.transfer.sender.counts false s) (base_now x false s) e in
           record {
             number = 0;
             near_is = reset_near q rs r.streams s ∙ (cond-true (is_named (named_by (q ∷ rs)) s) origin (unordered_at r.streams s).near e ∙ let z : origin ≡ origin + 0 = omega arith in z);
@@ -356,16 +363,19 @@ module _ (message : ℕ → Message) (mixed : Bool) (first shift : ℕ) (x : Epo
           }
       go false e =
           let base : base_now y false s ≡ base_now x false s =
-          done.base false s ∙ cond-false (is_named (named_by (q ∷ rs)) s) (x.transfer.sender.counts false s) (base_now x false s) e in
+          base_is ∙ cond-false (is_named (named_by (q ∷ rs)) s) (x.transfer.sender.counts false s) (base_now x false s) e in
           record {
             number = n.number;
             near_is = reset_near q rs r.streams s ∙ (cond-false (is_named (named_by (q ∷ rs)) s) origin (unordered_at r.streams s).near e ∙ n.near_is);
             met = elim n.met [
               | inl z ↦ inl z
-              | inr m ↦ inr (m.0, record {
-                on = subst (λ o. IsOn message o s m.0) (sym done.sender) m.1.on;
-                number = ap (λ o. o.number (place_of o m.0)) done.sender ∙ (m.1.number ∙ ap (λ b. b + n.number) (sym base));
-              })
+              | inr m ↦ inr (
+                m.0,
+                record {
+                  on = subst (λ o. IsOn message o s m.0) (sym done.sender) m.1.on;
+                  number = ap (λ o. o.number (place_of o m.0)) done.sender ∙ (m.1.number ∙ ap (λ b. b + n.number) (sym base));
+                },
+              )
             ];
             seen = λ u h on.
                 let l = n.seen u (sym (done.seen u) ∙ h) (on_before u on) in
