@@ -9,7 +9,7 @@ use Rattle.sctp_serial.specs.Unwrapped.{origin}
 use Rattle.sctp_packet.specs.Chunk.{FragmentTree}
 use Rattle.sctp_rx.specs.Held.{Held}
 use Rattle.sctp_rx.specs.Streams as streams
-use Rattle.sctp_rx.specs.Streams.{Streams, Outcome, is_far, held_as, place_of, add_in_order}
+use Rattle.sctp_rx.specs.Streams.{is_far, held_as, place_of}
 use Rattle.sctp_rx.specs.ReassemblyQueue.{Reassembly, number_of, came, made, add, add_now, add_or_wait, fragment_waits, waits, Added}
 use Rattle.sctp_rules.specs.State as rules
 use Rattle.sctp_rules.specs.State.{Message, Transfer, Sender, Receiver, IsAmong, fragment, count, ordered_of, stream_of, put}
