@@ -6,6 +6,9 @@ pub mod ItemsLemmas
 pub mod LedLemmas
 pub mod LossLemmas
 pub mod NumberLemmas
+pub mod PrepareLemmas
+pub mod PausedLemmas
+pub mod BreakLemmas
 pub mod ResetLemmas
 pub mod PointLemmas
 pub mod ProduceLemmas

@@ -3,3 +3,4 @@ pub mod Points
 pub mod Records
 pub mod Rows
 pub mod Shown
+pub mod Pauses
