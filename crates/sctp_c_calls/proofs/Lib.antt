@@ -1,1 +1,3 @@
+pub mod FirstLemmas
+pub mod OutcomeLemmas
 pub mod ReadyLemmas
