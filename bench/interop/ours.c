@@ -112,15 +112,19 @@ static void take_event(const sctp_event *event, const uint8_t *bytes) {
     case SCTP_ON_CONNECTED: told->connected++; break;
     case SCTP_ON_CLOSED: told->closed++; break;
     case SCTP_ON_CONNECTION_RESTARTED: told->restarted++; break;
-    case SCTP_ON_ABORTED: told->aborted++; break;
+    case SCTP_ON_ABORTED:
+        if (!world->bears_aborts)
+            wrong("ours is told an abort, error %u: %.*s", (unsigned)event->error, (int)event->length, (const char *)bytes);
+        told->aborted++;
+        break;
     case SCTP_ON_ERROR:
-        if (event->error != SCTP_ERROR_RESOURCE_EXHAUSTION && !world->bears_errors)
+        if (event->error != SCTP_ERROR_RESOURCE_EXHAUSTION && !world->bears_aborts && told->closed == 0)
             wrong("ours is told an error %u: %.*s", (unsigned)event->error, (int)event->length, (const char *)bytes);
         told->errors++;
         break;
-    case SCTP_STREAMS_RESET_FAILED: told->denied++; break;
-    case SCTP_STREAMS_RESET_PERFORMED: told->reset++; break;
-    case SCTP_INCOMING_STREAM_RESET: told->was_reset++; break;
+    case SCTP_STREAMS_RESET_FAILED: told->denied += (unsigned)event->length / 2; break;
+    case SCTP_STREAMS_RESET_PERFORMED: told->reset += (unsigned)event->length / 2; break;
+    case SCTP_INCOMING_STREAM_RESET: told->was_reset += (unsigned)event->length / 2; break;
     case SCTP_LIFECYCLE_MAYBE_EXPIRED:
     case SCTP_LIFECYCLE_EXPIRED:
     case SCTP_LIFECYCLE_DELIVERED:

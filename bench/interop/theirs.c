@@ -57,18 +57,24 @@ static void notify(const union sctp_notification *note) {
         told->connected += note->sn_assoc_change.sac_state == SCTP_COMM_UP;
         told->restarted += note->sn_assoc_change.sac_state == SCTP_RESTART;
         told->closed += note->sn_assoc_change.sac_state == SCTP_SHUTDOWN_COMP;
-        told->aborted += note->sn_assoc_change.sac_state == SCTP_COMM_LOST || note->sn_assoc_change.sac_state == SCTP_CANT_STR_ASSOC;
+        if (note->sn_assoc_change.sac_state == SCTP_COMM_LOST || note->sn_assoc_change.sac_state == SCTP_CANT_STR_ASSOC)
+            told->aborted++;
         break;
-    case SCTP_STREAM_RESET_EVENT:
-        if (note->sn_strreset_event.strreset_flags & (SCTP_STREAM_RESET_DENIED | SCTP_STREAM_RESET_FAILED))
-            told->denied++;
-        else if (note->sn_strreset_event.strreset_flags & SCTP_STREAM_RESET_OUTGOING_SSN)
-            told->reset++;
+    case SCTP_STREAM_RESET_EVENT: {
+        const struct sctp_stream_reset_event *event = &note->sn_strreset_event;
+        unsigned streams = (unsigned)((event->strreset_length - sizeof *event) / 2);
+        if (event->strreset_flags & (SCTP_STREAM_RESET_DENIED | SCTP_STREAM_RESET_FAILED))
+            told->denied += streams;
+        else if (event->strreset_flags & SCTP_STREAM_RESET_OUTGOING_SSN)
+            told->reset += streams;
         else
-            told->was_reset++;
+            told->was_reset += streams;
         break;
+    }
     case SCTP_SEND_FAILED_EVENT: {
         size_t place = ntohl(note->sn_send_failed_event.ssfe_info.snd_ppid);
+        if (world->is_loud)
+            printf("%11.3f usrsctp gives up a fragment of message %zu\n", (double)world->now / 1e6, place);
         if (place < world->count)
             world->messages[place].given_up = true;
         break;

@@ -12,7 +12,7 @@ enum side { OURS, THEIRS, BOTH };
 #define SECOND 1000000000ull
 #define STREAMS 64
 
-/* What an end was told. */
+/* What an end was told; of resets the streams are counted. */
 struct told {
     unsigned connected, closed, aborted, restarted, asked, reset, was_reset, denied, errors;
 };
@@ -49,7 +49,8 @@ struct setup {
 struct world {
     struct setup setup;
     uint64_t now, next_tick, told_packets, random, chunks[256][2], sent[2];
-    bool is_cut, has_dropped, is_loud, bears_errors;
+    bool is_cut, has_dropped, is_loud;
+    bool bears_aborts; /* an abort is what is tried */
     struct packet *packets;
     size_t under_way, room;
     struct told told[2];

@@ -1,3 +1,2 @@
-pub mod FirstLemmas
 pub mod OutcomeLemmas
 pub mod ReadyLemmas

@@ -70,7 +70,11 @@ pub fn reset_stream<R: Rng, C: Checksum>(socket: &mut Socket<R, C>, id: u16) -> 
 fn ids_of(alloc: Global, numbers: &[u16]) -> Result<Vec<StreamId>, AllocError>
     ensures { IfOk result (λ ids. numbers_of ids.items ≡ numbers.now) }
 {
-    numbers.iter().map(|number| StreamId(*number)).collect(alloc)
+    let mut ids = Vec::with_capacity(alloc, numbers.len())?;
+    for number in numbers {
+        ids.push(StreamId(*number))?;
+    }
+    Ok(ids)
 }
 
 /// Resets streams, with one request where they fit (RFC 6525). None only sends what may be sent.
