@@ -26,13 +26,11 @@ static void meet(enum side who) {
 static void settle(void) {
     if (go(is_settled, 1200 * SECOND))
         return;
-    for (size_t i = 0; i < world->count; i++) {
-        struct message *m = &world->messages[i];
-        if (m->taken == 0)
-            wrong("message %zu of %s isn't there: %u bytes, stream %u%s%s%s", i, sides[m->from], m->length, m->stream,
-                  m->unordered ? ", unordered" : "", m->accepted ? "" : ", not accepted", m->given_up ? ", given up" : "");
-    }
-    wrong("not settled");
+    size_t place = first_unsettled();
+    struct message *m = &world->messages[place];
+    wrong("message %zu of %s isn't settled: %u bytes, stream %u%s%s%s%s%s", place, sides[m->from], m->length, m->stream,
+          m->unordered ? ", unordered" : "", m->accepted ? "" : ", not accepted", m->taken ? ", taken" : "",
+          m->given_up ? ", given up" : "", m->ended ? ", ended" : "");
 }
 
 /* Nothing is told twice, and nothing that wasn't asked for. */

@@ -170,17 +170,19 @@ static void offer_messages(void) {
 }
 
 bool is_settled(void) {
-    for (size_t i = 0; i < world->count; i++) {
-        struct message *m = &world->messages[i];
+    return first_unsettled() == world->count;
+}
+
+size_t first_unsettled(void) {
+    size_t place;
+    for (place = 0; place < world->count; place++) {
+        struct message *m = &world->messages[place];
         bool is_reliable = m->retransmissions == UINT32_MAX && m->lifetime == 0;
-        if (!m->accepted || (m->taken == 0 && is_reliable))
-            return false;
-        if (m->from == OURS && m->ended == 0)
-            return false;
-        if (m->taken == 0 && m->from == THEIRS && !m->given_up)
-            return false;
+        bool may_be_missing = !is_reliable && (m->from == OURS || m->given_up);
+        if (!m->accepted || (m->taken == 0 && !may_be_missing) || (m->from == OURS && m->ended == 0))
+            break;
     }
-    return true;
+    return place;
 }
 
 /* ---- Time */

@@ -80,6 +80,8 @@ void wait_for(uint64_t span);
 size_t add_message(enum side from, uint16_t stream, uint32_t length, bool unordered);
 /* Each message is there, or given up. */
 bool is_settled(void);
+/* The place of the first one that isn't; the number of messages where all are. */
+size_t first_unsettled(void);
 /* A message comes out at an end. */
 void take_message(enum side at, uint32_t stream, uint32_t ppid, const uint8_t *bytes, size_t length);
 uint8_t *payload_of(size_t place);

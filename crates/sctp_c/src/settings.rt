@@ -45,11 +45,7 @@ pub extern "C" fn sctp_set_buffered_amount_low_threshold(
     };
     match socket.as_mut() {
         None => NO_SOCKET,
-        Some(end) => calls::set_buffered_amount_low_threshold(
-            &mut end.socket,
-            stream,
-            bytes,
-        ),
+        Some(end) => calls::set_buffered_amount_low_threshold(&mut end.socket, stream, bytes),
     }
 }
 

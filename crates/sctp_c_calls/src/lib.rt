@@ -14,4 +14,6 @@ pub use batch::{have_streams, send_many};
 pub use calls::{advance_time, close, connect, handle_input, shutdown};
 pub use events::poll_event;
 pub use messages::{next_message, send};
-pub use settings::{reset_stream, reset_streams, set_buffered_amount_low_threshold, set_stream_priority};
+pub use settings::{
+    reset_stream, reset_streams, set_buffered_amount_low_threshold, set_stream_priority,
+};

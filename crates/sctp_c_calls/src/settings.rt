@@ -12,7 +12,7 @@ ghost use Rattle.sctp_table.specs.Resets as resets;
 use crate::outcome::call_number;
 use rand_core::Rng;
 use sctp_association::{Checksum, DcSctpSocket, ResetStreamsError, Socket, StreamId};
-use sctp_c_records::answers::{FAILED, MEMORY, NOT_CONNECTED, NOT_SUPPORTED, NO_ROOM, OK};
+use sctp_c_records::answers::{FAILED, MEMORY, NO_ROOM, NOT_CONNECTED, NOT_SUPPORTED, OK};
 use std::alloc::{AllocError, Global};
 
 /// Sets the priority of a stream.
