@@ -8,6 +8,7 @@ pub mod LossLemmas
 pub mod NumberLemmas
 pub mod PrepareLemmas
 pub mod PausedLemmas
+pub mod PauseRowLemmas
 pub mod BreakLemmas
 pub mod ResetLemmas
 pub mod PointLemmas
