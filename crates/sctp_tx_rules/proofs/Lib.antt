@@ -9,6 +9,7 @@ pub mod NumberLemmas
 pub mod PrepareLemmas
 pub mod PausedLemmas
 pub mod PauseRowLemmas
+pub mod BegunLemmas
 pub mod BreakLemmas
 pub mod ResetLemmas
 pub mod PointLemmas

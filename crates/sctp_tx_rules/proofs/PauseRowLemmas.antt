@@ -148,11 +148,11 @@ discards_pause message lifecycle mixed o x (d ∷ ds) q told h a paused =
 
 -- ---- a turn
 
-record IsFresh (now least most : ℕ) (ms : List Queued) : Type 0 where
-  order : are_in_order (fresh now ms) ≡ true
-  rising : are_rising least most (fresh now ms) ≡ true
-  old : (p : ℕ) (n : Queued) → found p (fresh now ms) ≡ Some n → found p ms ≡ Some n
-  begun : is_first_begun ms ≡ true → fresh now ms ≡ ms
+pub record IsFresh (now least most : ℕ) (ms : List Queued) : Type 0 where
+  pub order : are_in_order (fresh now ms) ≡ true
+  pub rising : are_rising least most (fresh now ms) ≡ true
+  pub old : (p : ℕ) (n : Queued) → found p (fresh now ms) ≡ Some n → found p ms ≡ Some n
+  pub begun : is_first_begun ms ≡ true → fresh now ms ≡ ms
 
 waiting_ordered : (ms : List Queued) → list_all is_waiting ms ≡ true → are_in_order ms ≡ true
 waiting_ordered [] h = refl
@@ -199,24 +199,24 @@ module _ {P : Type 0} (message : ℕ → Message) (lifecycle : ℕ → Option �
   abbrev with_these : List Queued → Stream
   with_these ms = record t0 { messages = ms }
 
-  z : IsFresh now 0 q.next_number t0.messages
-  z = is_fresh now 0 q.next_number t0.messages (sh.queue.rising.rising id) (sh.queue.order.order id)
+  pub freshened : IsFresh now 0 q.next_number t0.messages
+  freshened = is_fresh now 0 q.next_number t0.messages (sh.queue.rising.rising id) (sh.queue.order.order id)
 
   turned_follows : (ms : List Queued) → fresh now t0.messages ≡ ms → Follows t0 (advanced size (with_these ms))
   turned_follows [] e = record {
     flows = λ c. c;
     shut = λ c. c;
     stopped = λ c. absurd (not_both c goes_on);
-    pending = λ c. absurd (let b = (h id).pending c in not_both b (ap is_first_begun (sym (z.begun b) ∙ e)));
+    pending = λ c. absurd (let b = (h id).pending c in not_both b (ap is_first_begun (sym (freshened.begun b) ∙ e)));
     new = λ p m f g. absurd (cc);
   }
   turned_follows (m ∷ rest) e = by (ends size m)
     where
       waits : list_all is_waiting rest ≡ true
-      waits = (and_parts (is_begun_or_waiting m) (list_all is_waiting rest) (sym (ap are_in_order e) ∙ z.order)).1
+      waits = (and_parts (is_begun_or_waiting m) (list_all is_waiting rest) (sym (ap are_in_order e) ∙ freshened.order)).1
 
       rising : are_rising 0 q.next_number (m ∷ rest) ≡ true
-      rising = sym (ap (are_rising 0 q.next_number) e) ∙ z.rising
+      rising = sym (ap (are_rising 0 q.next_number) e) ∙ freshened.rising
 
       part : Queued
       part = moved size (numbers_of (with_these (m ∷ rest)) m) m
@@ -234,20 +234,20 @@ module _ {P : Type 0} (message : ℕ → Message) (lifecycle : ℕ → Option �
         shut = λ f g. f (ap settled g);
         stopped = λ g. first_waits rest waits;
         pending = λ g. absurd (settled_pends t0.pause g);
-        new = λ p n f g. z.old p n (ap (found p) e ∙ found_later p m n rest 0 q.next_number rising f);
+        new = λ p n f g. freshened.old p n (ap (found p) e ∙ found_later p m n rest 0 q.next_number rising f);
       }
       by false = record {
         flows = λ c. c;
         shut = λ c. c;
         stopped = λ c. absurd (not_both c goes_on);
         pending = λ c. refl;
-        new = λ p n f g. z.old p n (ap (found p) e ∙ part_found p n f g);
+        new = λ p n f g. freshened.old p n (ap (found p) e ∙ part_found p n f g);
       }
 
-  there : stream id (turn now id size q told).queue.streams ≡ advanced size (without_stale now t0)
+  pub there : stream id (turn now id size q told).queue.streams ≡ advanced size (without_stale now t0)
   there = stream_changed id (advanced size) ss1 refl ∙ ap (advanced size) (stream_changed id (without_stale now) q.streams refl)
 
-  elsewhere : (j : ℕ) → j ≢ id → stream j (turn now id size q told).queue.streams ≡ stream j q.streams
+  pub elsewhere : (j : ℕ) → j ≢ id → stream j (turn now id size q told).queue.streams ≡ stream j q.streams
   elsewhere j d = put_elsewhere j id (advanced size (stream id ss1)) ss1 (is_other j id d) ∙ put_elsewhere j id (without_stale now t0) q.streams (is_other j id d)
 
   pub turn_pauses : ArePausedAs x (turn now id size q told).queue
@@ -283,7 +283,7 @@ module _ (message : ℕ → Message) (lifecycle : ℕ → Option ℕ) (mixed : B
 -- ---- the rules of a sender
 
 module _ (message : ℕ → Message) (mixed : Bool) where
-  same_epochs : (x : Epochs) (e : Event) → is_sending e ≡ true → epochs_after message mixed x e ≡ x.epoch
+  pub same_epochs : (x : Epochs) (e : Event) → is_sending e ≡ true → epochs_after message mixed x e ≡ x.epoch
   same_epochs x accept h = cc
   same_epochs x (begin p) h = refl
   same_epochs x (number p bytes more) h = refl

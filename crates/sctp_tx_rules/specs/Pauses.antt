@@ -156,3 +156,11 @@ TurningPauses = InEachEpochs (λ message lifecycle mixed x q.
 abbrev pub SendingPauses : Type 0
 SendingPauses = (message : ℕ → Message) (mixed : Bool) (x : Epochs) (q : Queue) (es : List Event)
     → list_all is_sending es ≡ true → ArePausedAs x q → ArePausedAs (go_all message mixed x (map transfers es)) q
+
+-- what leads to it may happen by the rules with epochs: what it begins is of the epoch in which its stream is open
+abbrev pub TurnsBegin : Type 0
+TurnsBegin = InEachEpochs (λ message lifecycle mixed x q.
+    (now id size : ℕ) (told : Told (List ℕ)) (es : List Event) (t : Items) → is_stopped (stream id q.streams).pause ≡ false
+    → Happens message mixed x.transfer es → list_all is_sending es ≡ true → (run message mixed x.transfer es).forward_points ≡ x.transfer.forward_points
+    → Shows message lifecycle mixed (run message mixed x.transfer es) (turn now id size q told).queue t
+    → MayAll message mixed x (map transfers es))
