@@ -192,8 +192,8 @@ module _ {P : Type 0} (message : ℕ → Message) (lifecycle : ℕ → Option �
   still_there : (p : ℕ) (m : Queued) → m.numbers ≡ None → found p t0.messages ≡ Some m → t0.pause ≡ Pending → found p (messages_of q' id) ≡ Some m
   still_there p m e f pends =
       let b = (h id).pending pends in
-      ap (λ (z : Stream). found p z.messages) (there message lifecycle mixed x q s sh h now id size told goes_on)
-      ∙ (ap (λ (ms : List Queued). found p (let z : Stream = advanced size (record t0 { messages = ms }) in z).messages) ((freshened message lifecycle mixed x q s sh h now id size told goes_on).begun b)
+      ap (λ (z : Stream). found p z.messages) (there x q sh.queue.order sh.queue.rising h now id size told goes_on)
+      ∙ (ap (λ (ms : List Queued). found p (let z : Stream = advanced size (record t0 { messages = ms }) in z).messages) ((freshened x q sh.queue.order sh.queue.rising h now id size told goes_on).begun b)
       ∙ still_behind p m e t0.messages b f)
 
   -- a message that waited is of the open epoch, if it is begun
@@ -215,7 +215,7 @@ module _ {P : Type 0} (message : ℕ → Message) (lifecycle : ℕ → Option �
           | inl c ↦ here t0.pause refl c
           | inr d ↦
               absurd (not_both b (after_unbegun p m
-              (ap (λ (z : Stream). found p z.messages) (elsewhere message lifecycle mixed x q s sh h now id size told goes_on (stream_of message p) d) ∙ f) none))
+              (ap (λ (z : Stream). found p z.messages) (elsewhere x q sh.queue.order sh.queue.rising h now id size told goes_on (stream_of message p) d) ∙ f) none))
         ]
 
   newly : (p : ℕ) → o.begun p ≡ false → o'.begun p ≡ true → x.epoch p ≤ x.opened (stream_of message p)

@@ -10,6 +10,7 @@ pub mod PrepareLemmas
 pub mod PausedLemmas
 pub mod PauseRowLemmas
 pub mod BegunLemmas
+pub mod LineLemmas
 pub mod BreakLemmas
 pub mod ResetLemmas
 pub mod PointLemmas

@@ -11,7 +11,7 @@ use Rattle.sctp_send_queue.specs.declared.send_queue.stream.ResetStep.TheVariant
 use Rattle.sctp_send_queue.specs.Queue.{Queued, Queue, Stream, Streams, stream, is_stopped}
 use Rattle.sctp_send_queue.specs.Produced.{is_stale, is_due, fresh, without_stale, streams_without_stale, numbers_of, took, moved, ends, settled, advanced, turn}
 use Rattle.sctp_send_queue.specs.Settings.{with_threshold, with_priority, set_priority, set_low_threshold, without_front, discard}
-use Rattle.sctp_send_queue.specs.InOrder.{is_waiting, is_begun_or_waiting, are_in_order, is_first_begun, are_rising}
+use Rattle.sctp_send_queue.specs.InOrder.{is_waiting, is_begun_or_waiting, are_in_order, is_first_begun, are_rising, IsInOrder, IsNumbered}
 use Rattle.sctp_send_queue.specs.Resets.{stepped, each_stepped, commit_resets}
 use Rattle.sctp_send_queue.proofs.InOrderLemmas.{put_elsewhere}
 use Rattle.sctp_outstanding.specs.Items.{Items, Discard}
@@ -187,8 +187,8 @@ is_fresh now least most (m ∷ rest) r h =
           begun = λ e. l;
         }
 
-module _ {P : Type 0} (message : ℕ → Message) (lifecycle : ℕ → Option ℕ) (mixed : Bool) (x : Epochs) (q : Queue) (s : Items) (sh : Shows message lifecycle mixed x.transfer q s) (h : ArePausedAs x q)
-    (now id size : ℕ) (told : Told P) (goes_on : is_stopped (stream id q.streams).pause ≡ false) where
+module _ {P : Type 0} (x : Epochs) (q : Queue) (ordered : IsInOrder q) (numbered : IsNumbered q) (h : ArePausedAs x q) (now id size : ℕ) (told : Told P)
+    (goes_on : is_stopped (stream id q.streams).pause ≡ false) where
   abbrev t0 : Stream
   t0 = stream id q.streams
 
@@ -200,7 +200,7 @@ module _ {P : Type 0} (message : ℕ → Message) (lifecycle : ℕ → Option �
   with_these ms = record t0 { messages = ms }
 
   pub freshened : IsFresh now 0 q.next_number t0.messages
-  freshened = is_fresh now 0 q.next_number t0.messages (sh.queue.rising.rising id) (sh.queue.order.order id)
+  freshened = is_fresh now 0 q.next_number t0.messages (numbered.rising id) (ordered.order id)
 
   turned_follows : (ms : List Queued) → fresh now t0.messages ≡ ms → Follows t0 (advanced size (with_these ms))
   turned_follows [] e = record {

@@ -16,7 +16,7 @@ returns c = record {
   answers = λ message lifecycle mixed x q s k sh h ids each done. answers_pause message lifecycle mixed s ids x q sh h each done;
   settings = λ message lifecycle mixed x q s k sh h id n told. settings_pause x q h id n told;
   discarding = λ message lifecycle mixed x q s told sh h. discards_pause message lifecycle mixed x.transfer.sender x s.discards q told sh.queue sh.discards h;
-  turning = λ message lifecycle mixed x q s k sh h now id size told flows. turn_pauses message lifecycle mixed x q s sh h now id size told flows;
+  turning = λ message lifecycle mixed x q s k sh h now id size told flows. turn_pauses x q sh.queue.order sh.queue.rising h now id size told flows;
   beginning = λ message lifecycle mixed x q s k sh h now id size told es t flows may all points shown. turn_begins message lifecycle mixed x q s k sh h now id size told flows es may all t shown points;
   sending = λ message mixed x q es all h. sending_pauses message mixed es x q all h;
 }
