@@ -11,6 +11,7 @@ pub mod PausedLemmas
 pub mod PauseRowLemmas
 pub mod BegunLemmas
 pub mod LineLemmas
+pub mod LineRowLemmas
 pub mod BreakLemmas
 pub mod ResetLemmas
 pub mod PointLemmas

@@ -35,7 +35,7 @@ pub record CallsKeepLine : Type 0 where
   pub discarding : (id number : ℕ) (told : Told (List ℕ)) → KeepsLine (λ q. (discard id number q told).queue)
   pub prioritised : (id n : ℕ) → KeepsLine (set_priority id n)
   pub watched : (id n : ℕ) (told : Told (List ℕ)) → KeepsLine (λ q. (set_low_threshold id n q told).queue)
-  pub turning : (now id size : ℕ) (told : Told (List ℕ)) → (q : Queue) → is_stopped (stream id q.streams).pause ≡ false → IsInLine q → IsInLine (turn now id size q told).queue
+  pub turning : (now id size : ℕ) (told : Told (List ℕ)) → KeepsLine (λ q. (turn now id size q told).queue)
   pub mode : (is_interleaved : Bool) (q : Queue) → q.begun ≡ None → IsInLine q → IsInLine (set_mode is_interleaved q)
 
 -- ---- so no stream that is stopped sends
