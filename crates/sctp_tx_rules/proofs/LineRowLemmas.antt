@@ -3,15 +3,14 @@ use Rattle.std.proofs.Common.{◌≡◌, ◌≢◌, ℕ, zero, suc, ◌+◌, ◌
 use Rattle.std.specs.Prelude.{◌==◌, is_some}
 use Rattle.std.proofs.lemmas.Bool.{cases_eq, cond-false, eq-eqb, false_from_ne_true}
 use Rattle.sctp_state.specs.Events.{Told}
-use Rattle.sctp_state.specs.Options.{Options}
-use Rattle.sctp_stream_scheduler.specs.Scheduler.{Scheduler, is_active, set_bytes_remaining, accept, peek}
+use Rattle.sctp_stream_scheduler.specs.Scheduler.{Scheduler, is_active, accept, peek}
 use Rattle.sctp_send_queue.specs.declared.send_queue.stream.ResetStep.{ResetStep}
 use Rattle.sctp_send_queue.specs.Queue as queue
 use Rattle.sctp_send_queue.specs.Queue.{Queued, Queue, Stream, Streams, stream, added, pushed, opened, is_stopped, front_left, sendable, hears}
 use Rattle.sctp_send_queue.specs.Produced.{Produced, Turn, settled, without_stale, streams_without_stale, streams_after, advanced, next_fragment, in_line, begun_by, turn, next_stream, produce_within, produce}
-use Rattle.sctp_send_queue.specs.Settings.{with_threshold, with_priority, set_priority, set_low_threshold, set_mode, front_discarded, without_front, streams_discarded, begun_without, discard_from, discard}
-use Rattle.sctp_send_queue.specs.Resets.{after_step, prepared, prepare_reset, stepped, each_stepped}
-use Rattle.sctp_send_queue.specs.InOrder.{is_first_begun, is_this, IsInOrder, IsNumbered}
+use Rattle.sctp_send_queue.specs.Settings.{with_threshold, with_priority, set_priority, set_low_threshold, front_discarded, without_front, streams_discarded, begun_without, discard_from, discard}
+use Rattle.sctp_send_queue.specs.Resets.{prepared, prepare_reset, stepped, each_stepped}
+use Rattle.sctp_send_queue.specs.InOrder.{is_this, IsInOrder, IsNumbered}
 use Rattle.sctp_send_queue.proofs.InOrderLemmas.{hears_mode, put_elsewhere, turn_in_order}
 use Rattle.sctp_send_queue.proofs.NumberLemmas.{turn_numbered}
 use Rattle.sctp_send_queue.proofs.ProduceLemmas.{idles, gives, turned}

@@ -1,5 +1,5 @@
 -- The line of streams that have something to send: none of them is stopped for a reset.
-use Rattle.std.specs.Prelude.{◌≡◌, ℕ, ◌+◌, ◌<◌, ◌&&◌, nat_le, Bool, true, false, Option, None, Some, List, [], ◌∷◌}
+use Rattle.std.specs.Prelude.{◌≡◌, ℕ, ◌+◌, ◌<◌, ◌&&◌, nat_le, Bool, true, false, None, Some, List, [], ◌∷◌}
 use Rattle.sctp_state.specs.Events.{Told}
 use Rattle.sctp_state.specs.Options.{Options}
 use Rattle.sctp_stream_scheduler.specs.Scheduler.{Times, is_active}
