@@ -6,7 +6,7 @@ use Rattle.sctp_serial.specs.Unwrapped.{origin, words, wire}
 use Rattle.sctp_packet.specs.Chunk.{FragmentTree}
 use Rattle.sctp_chunk.specs.declared.forward_tsn.SkippedStream.{SkippedStream}
 use Rattle.sctp_rx.specs.Tracker as tracker
-use Rattle.sctp_rx.specs.Tracker.{Tracker, IsTracker, DataTracker, is_valid, has_seen, moves_on, observe}
+use Rattle.sctp_rx.specs.Tracker.{Tracker, IsTracker, is_valid, has_seen, moves_on, observe}
 use Rattle.sctp_rx.specs.ReassemblyQueue.{Reassembly}
 use Rattle.sctp_rules.specs.State.{Message, Transfer, ForwardPoint, IsAmong, place_of}
 use Rattle.sctp_rules.specs.Rules.{Event, data_comes, late_comes, forward_comes, deliver, no_stream, covers, run}

@@ -90,7 +90,7 @@ none_begun (c ∷ rest) h n p m f =
       | inr d ↦ all_new rest a.1 p m (sym (found_off p c rest d) ∙ f)
     ]
 
-unnumbered : (o : Option MessageNumbers) → is_some o ≡ false → o ≡ None
+pub unnumbered : (o : Option MessageNumbers) → is_some o ≡ false → o ≡ None
 unnumbered None h = refl
 unnumbered (Some n) h = cc
 

@@ -32,7 +32,7 @@ at_least least most (c ∷ cs) m rest h =
     let l = at_least (c.number + 1) most cs m rest r.behind in
     omega (arith, low, l)
 
-from_less : (least later most : ℕ) (ms : List Queued) → least ≤ later → are_rising later most ms ≡ true → are_rising least most ms ≡ true
+pub from_less : (least later most : ℕ) (ms : List Queued) → least ≤ later → are_rising later most ms ≡ true → are_rising least most ms ≡ true
 from_less least later most [] l h = refl
 from_less least later most (m ∷ rest) l h =
     let r = rises later most m rest h in

@@ -4,3 +4,4 @@ pub mod Records
 pub mod Rows
 pub mod Shown
 pub mod Pauses
+pub mod Line

@@ -1,21 +1,26 @@
 -- Resets of streams at the sender, by the epochs of the rules (RFC 6525 section 5.1.2).
-use Rattle.std.specs.Prelude.{◌≡◌, ℕ, suc, ◌+◌, ◌≤◌, ◌⊎◌, not, Bool, true, false, Option, None, Some, List, [], ◌∷◌, ◌++◌, map, filter}
+use Rattle.std.specs.List.{list_all}
+use Rattle.std.specs.Prelude.{◌≡◌, ℕ, suc, ◌+◌, ◌≤◌, ◌⊎◌, not, Bool, true, false, Option, None, Some, List, [], ◌∷◌, ◌++◌, map, filter, ◌≢◌}
 use Rattle.sctp_serial.specs.Unwrapped.{origin}
 use Rattle.sctp_state.specs.Events.{Told}
 use Rattle.sctp_send_queue.specs.declared.send_queue.stream.PauseState.{PauseState}
 use Rattle.sctp_send_queue.specs.declared.send_queue.stream.PauseState.TheVariants.{NotPaused, Pending, Paused, Resetting}
 use Rattle.sctp_send_queue.specs.declared.send_queue.stream.ResetStep.TheVariants.{Requested, Performed}
 use Rattle.sctp_send_queue.specs.Queue.{Queued, Stream, Queue, stream, added, is_stopped}
+use Rattle.sctp_send_queue.specs.Produced.{turn}
+use Rattle.sctp_send_queue.specs.Settings.{set_priority, set_low_threshold}
 use Rattle.sctp_send_queue.specs.InOrder.{is_first_begun}
-use Rattle.sctp_send_queue.specs.Resets.{is_partly, prepare_reset, stepped}
+use Rattle.sctp_send_queue.specs.Resets.{is_partly, prepare_reset, stepped, each_stepped, commit_resets}
 use Rattle.sctp_outstanding.specs.Items.{Items, begin_reset}
 use Rattle.sctp_outstanding.specs.Sack.{staying}
 use Rattle.sctp_tx.specs.Retransmission.{Sender}
+use Rattle.sctp_tx.specs.Sending.{discard_all}
 use Rattle.sctp_rules.specs.State.{Message, Transfer, IsAmong, stream_of}
 use Rattle.sctp_rules.specs.Rules.{Event, accept, give_up, send_forward, Happens, run}
 use Rattle.sctp_rules.specs.Kept.{Kept}
 use Rattle.sctp_rules.specs.Resets.{Request, Epochs, ResetEvent, transfers, reset_stream, send_request, commit, InEpoch, MayReset, goes, MayAll, go_all}
 use Rattle.sctp_tx_rules.specs.Shown.{found, messages_of, Shows}
+use Rattle.sctp_tx_rules.specs.Led.{is_sending}
 use Rattle.sctp_tx_rules.specs.Points.{IsSendable}
 use Rattle.sctp_tx_rules.specs.Rows.{offered, InEachState}
 
@@ -114,3 +119,48 @@ abbrev pub CommittingPauses : Type 0
 CommittingPauses = InEachEpochs (λ message lifecycle mixed x q.
     (id : ℕ) → (stream id q.streams).pause ≡ Resetting → x.raised id ≤ x.performed id
     → MayReset message mixed x (commit id) × ArePausedAs (goes message mixed x (commit id)) (stepped Performed id q))
+
+-- so many streams, each of them once, have this pause
+abbrev pub AreEach : PauseState → Queue → List ℕ → Type 0
+AreEach p q [] = Unit {0}
+AreEach p q (id ∷ ids) = ((stream id q.streams).pause ≡ p) × ((j : ℕ) → IsAmong j ids → id ≢ j) × AreEach p q ids
+
+-- those that are ready go into one request
+abbrev pub RequestPauses : Type 0
+RequestPauses = InEachEpochs (λ message lifecycle mixed x q.
+    (ids : List ℕ) → AreEach Paused q ids
+    → MayAll message mixed x (map send_request ids) × ArePausedAs (go_all message mixed x (map send_request ids)) (each_stepped Requested ids q))
+
+-- and have its answer
+abbrev pub AnswerPauses : Type 0
+AnswerPauses = InEachEpochs (λ message lifecycle mixed x q.
+    (ids : List ℕ) → AreEach Resetting q ids → ((id : ℕ) → IsAmong id ids → x.raised id ≤ x.performed id)
+    → MayAll message mixed x (map commit ids) × ArePausedAs (go_all message mixed x (map commit ids)) (commit_resets ids q))
+
+-- settings of a stream
+abbrev pub SettingPauses : Type 0
+SettingPauses = InEachEpochs (λ message lifecycle mixed x q.
+    (id n : ℕ) (told : Told (List ℕ)) → ArePausedAs x (set_priority id n q) × ArePausedAs x (set_low_threshold id n q told).queue)
+
+-- what is left of messages that were given up leaves
+abbrev pub DiscardingPauses : Type 0
+DiscardingPauses = (message : ℕ → Message) (lifecycle : ℕ → Option ℕ) (mixed : Bool) (x : Epochs) (q : Queue) (s : Items) (told : Told (List ℕ))
+    → Shows message lifecycle mixed x.transfer q s → ArePausedAs x q → ArePausedAs x (discard_all s.discards q told).queue
+
+-- a turn of a stream that isn't stopped
+abbrev pub TurningPauses : Type 0
+TurningPauses = InEachEpochs (λ message lifecycle mixed x q.
+    (now id size : ℕ) (told : Told (List ℕ)) → is_stopped (stream id q.streams).pause ≡ false → ArePausedAs x (turn now id size q told).queue)
+
+-- the rules of a sender, but for acceptance, leave the epochs
+abbrev pub SendingPauses : Type 0
+SendingPauses = (message : ℕ → Message) (mixed : Bool) (x : Epochs) (q : Queue) (es : List Event)
+    → list_all is_sending es ≡ true → ArePausedAs x q → ArePausedAs (go_all message mixed x (map transfers es)) q
+
+-- what leads to it may happen by the rules with epochs: what it begins is of the epoch in which its stream is open
+abbrev pub TurnsBegin : Type 0
+TurnsBegin = InEachEpochs (λ message lifecycle mixed x q.
+    (now id size : ℕ) (told : Told (List ℕ)) (es : List Event) (t : Items) → is_stopped (stream id q.streams).pause ≡ false
+    → Happens message mixed x.transfer es → list_all is_sending es ≡ true → (run message mixed x.transfer es).forward_points ≡ x.transfer.forward_points
+    → Shows message lifecycle mixed (run message mixed x.transfer es) (turn now id size q told).queue t
+    → MayAll message mixed x (map transfers es))

@@ -3,7 +3,8 @@
 #![tactic(auto)]
 
 ghost use Rattle.sctp_tx_rules.specs.Records.{AcceptingKeepsOne, LeavingKeepsOne, NewHaveNone, SendingKeepsOne, TakingKeepsOne, ValuesHaveOneRecord};
-ghost use Rattle.sctp_tx_rules.specs.Pauses.{AcceptingPauses, CommittingPauses, PointsEndAtBreaks, PreparesShow, PreparingPauses, RequestingPauses, RequestsBreak, SacksPassBreaks};
+ghost use Rattle.sctp_tx_rules.specs.Line.{CallsKeepLine, NextFlows, ProducingPauses};
+ghost use Rattle.sctp_tx_rules.specs.Pauses.{AcceptingPauses, AnswerPauses, CommittingPauses, DiscardingPauses, PointsEndAtBreaks, PreparesShow, PreparingPauses, RequestPauses, RequestingPauses, RequestsBreak, SacksPassBreaks, SendingPauses, SettingPauses, TurningPauses, TurnsBegin};
 ghost use Rattle.sctp_tx_rules.specs.Rows.{Accepts, BeginningsShow, CarryingStays, CommitsShow, DiscardsShow, Expires, FastPacketsAreSent, GivesUp, LifetimesEnd, Loses, NewShow, OffersAreQueued, OthersAreNotShown, PacketsAreSent, PointsAreDue, Produces, RecordsAreExact, RequestsShow, ResetsShow, RestIsRest, SacksAreHeard, SettingsShow, TimesOut};
 
 /// A new queue, and no item, show the start. Where messages were accepted and nothing was sent, an association may begin, in
@@ -43,6 +44,21 @@ pub fn pauses_follow_epochs()
     ensures preparing { PreparingPauses }
     ensures requesting { RequestingPauses }
     ensures committing { CommittingPauses }
+    ensures requests { RequestPauses }
+    ensures answers { AnswerPauses }
+    ensures settings { SettingPauses }
+    ensures discarding { DiscardingPauses }
+    ensures turning { TurningPauses }
+    ensures beginning { TurnsBegin }
+    ensures sending { SendingPauses }
+{}
+
+/// The scheduler has no stream in line that is stopped, from the first call on. So none that is stopped gives a fragment, and pauses agree
+/// with the epochs after the next fragment.
+pub fn stopped_streams_wait()
+    ensures line { CallsKeepLine }
+    ensures next { NextFlows }
+    ensures produces { ProducingPauses }
 {}
 
 /// A forward point goes on over no request of a reset before all below that is acknowledged: a request makes a breakpoint of what is
