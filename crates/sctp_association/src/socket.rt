@@ -88,6 +88,12 @@ impl<R: Rng + Drop, C: Checksum + Drop> Socket<R, C> {
             rng,
         })
     }
+
+    /// The socket is let go. Another crate that owns one and says so is spared the proof of how each part of it goes.
+    pub fn let_go(self) {
+        self.state.let_go();
+        self.context.let_go();
+    }
 }
 
 impl<R: Rng, C: Checksum> Socket<R, C> {

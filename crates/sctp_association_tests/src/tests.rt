@@ -134,7 +134,7 @@ fn begins(alloc: Global) -> bool {
     let begins = addresses(alloc, &tcb) == Ok(true)
         && tcb.retransmission_queue.next_tsn() == Tsn(10)
         && tcb.data_tracker.last_cumulative_acked_tsn() == Tsn(19);
-    drop(tcb);
+    tcb.let_go();
     begins
 }
 
@@ -161,7 +161,7 @@ fn is_interleaved(alloc: Global, message_interleaving: bool) -> bool {
         },
     );
     let is_i_data = is_i_data(alloc, &tcb);
-    drop(tcb);
+    tcb.let_go();
     is_i_data
 }
 

@@ -124,7 +124,7 @@ fn tcb_from<C: Checksum>(
     match tcb.restore_from_state(context.clock, state) {
         Ok(()) => Ok(tcb),
         Err(fault) => {
-            drop(tcb);
+            tcb.let_go();
             Err(fault)
         }
     }
@@ -174,7 +174,7 @@ fn take_up<C: Checksum>(
     context.tell(SocketEvent::OnConnected())?;
     let mut tcb = tcb_from(context, handed_over)?;
     if let Err(fault) = context.send_buffered_packets(&mut tcb, false) {
-        drop(tcb);
+        tcb.let_go();
         return Err(fault);
     }
     state.enter(State::Open(Phase::Established, tcb));

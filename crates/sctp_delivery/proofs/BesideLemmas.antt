@@ -63,7 +63,7 @@ module _ (message : ℕ → Message) (lifecycle : ℕ → Option ℕ) (mixed : B
   same_receiver x (late_comes t) s = cc
   same_receiver x (deliver p) s = cc
   same_receiver x (send_sack c) s = cc
-  same_receiver x (forward_comes f) s = cc
+  same_receiver x (forward_comes f spared) s = cc
   same_receiver x (forget t c) s = cc
 
   near_once : (first shift : ℕ) (x : Transfer) (e : Event) (r : Reassembly) → Kept message mixed x → IsAllowed message mixed x e

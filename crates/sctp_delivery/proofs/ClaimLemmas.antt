@@ -20,6 +20,7 @@ use Rattle.sctp_rules.specs.State.{Message, ForwardPoint, Sender, Transfer, IsAm
 use Rattle.sctp_rules.specs.Rules.{Event, accept, begin, number, close, give_up, data_comes, late_comes, deliver, send_sack, leave, send_forward, forward_comes, forget, Happens, run}
 use Rattle.sctp_rules.specs.Kept.{Kept}
 use Rattle.sctp_rules.specs.Windows.{Windows}
+use Rattle.sctp_rules.specs.Written.{AreTheirOwn}
 use Rattle.sctp_tx_rules.specs.Shown.{Shows}
 use Rattle.sctp_tx_rules.specs.Led.{given_ups, recorded, is_sending, delivered, ids_at}
 use Rattle.sctp_tx_rules.specs.Points.{chunk_of}
@@ -49,7 +50,7 @@ is_receiving (deliver p) = true
 is_receiving (send_sack c) = true
 is_receiving (leave c) = false
 is_receiving (send_forward f) = false
-is_receiving (forward_comes f) = true
+is_receiving (forward_comes f spared) = true
 is_receiving (forget s c) = false
 
 -- rules of this kind lead from x to y
@@ -238,6 +239,7 @@ module _ (message : ℕ → Message) (lifecycle : ℕ → Option ℕ) (mixed : B
     pub queue : Queue
     pub beside : SendsIn message lifecycle mixed g.beside queue from
     pub windows : Windows message from
+    pub written : AreTheirOwn from.sender from.forward_points
     pub few : AreFew from.sender
     pub short : AreShort from.sender
     pub hears : HearsData message mixed call (first_out g.beside) from

@@ -10,6 +10,7 @@ use Rattle.sctp_state.specs.Events.{silent}
 use Rattle.sctp_rules.specs.State.{Message, Transfer, IsAmong, count}
 use Rattle.sctp_rules.specs.Rules.{Event}
 use Rattle.sctp_rules.specs.Kept.{Kept}
+use Rattle.sctp_rules.specs.Written.{AreTheirOwn}
 use Rattle.sctp_table.specs.Association.{State, Closed, CookieWait, Open}
 use Rattle.sctp_table.specs.Shown.{Association, association_in}
 use Rattle.sctp_table_laws.specs.Mapped.{Carried}
@@ -203,6 +204,7 @@ module _ (message : ℕ → Message) (lifecycle : ℕ → Option ℕ) (mixed : B
   -- an FSN tells.
   pub record Flows (s r : Side) (accepted : ℕ) (handed : List messages.Message) (stamps_s stamps_r : List Stamp) (x : Transfer) : Type 0 where
     pub kept : Kept message mixed x
+    pub written : AreTheirOwn x.sender x.forward_points
     pub filled : IsFilled message x.sender
     pub short : (p : ℕ) → length (message p).payload < 2 ^ 32
     pub sends : SendsIn message lifecycle mixed (state_of s) (queue_of s) x

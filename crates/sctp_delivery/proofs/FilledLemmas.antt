@@ -120,7 +120,7 @@ module _ (message : ℕ → Message) where
     filled_once (send_sack c) a b = f
     filled_once (leave c) a b = f
     filled_once (send_forward p) a b = f
-    filled_once (forward_comes p) a b = f
+    filled_once (forward_comes p spared) a b = f
     filled_once (forget s c) a b = f
 
   -- ---- runs

@@ -8,6 +8,7 @@ use Rattle.sctp_state.specs.Options.{Options}
 use Rattle.sctp_capabilities.specs.Capabilities.{agreed}
 use Rattle.sctp_rules.specs.State.{Message, start}
 use Rattle.sctp_rules.proofs.KeepsLemmas.{at_start}
+use Rattle.sctp_rules.proofs.WrittenLemmas.{own_at_start}
 use Rattle.sctp_rx_rules.proofs.RowLemmas.{first_receives}
 use Rattle.sctp_rx_rules.proofs.NearRowLemmas.{new_is_near}
 use Rattle.sctp_rx_rules.proofs.NearKeptLemmas.{new_mids}
@@ -43,6 +44,7 @@ first_flows : (message : ℕ → Message) (lifecycle : ℕ → Option ℕ) (mixe
     → Flows message lifecycle mixed of (new_side o words) (new_side q others) 0 [] [] [] start
 first_flows message lifecycle mixed of short o q words others = record {
   kept = at_start message mixed;
+  written = own_at_start;
   filled = filled_new message 0;
   short = short;
   sends = record {

@@ -185,6 +185,7 @@ module _ (message : ℕ → Message) (lifecycle : ℕ → Option ℕ) (mixed : B
       queue = p.queue;
       beside = p.beside;
       windows = p.windows;
+      written = p.written;
       few = p.few;
       short = p.short;
       hears = data_of_none message mixed call (first_out g.beside) x p.hears;

@@ -104,7 +104,7 @@ module _ (message : ℕ → Message) (mixed : Bool) (first : ℕ) (x : Transfer)
 module _ (message : ℕ → Message) (lifecycle : ℕ → Option ℕ) (mixed : Bool) (of : Stamp → ℕ) (own other : Options) (s r : Side)
     (accepted : ℕ) (handed : List messages.Message) (stamps_s stamps_r : List Stamp) (x : Transfer) (f : Flows message lifecycle mixed of s r accepted handed stamps_s stamps_r x) where
   pub holds_of : IsWithin (state_of s) (queue_of s) → Holds message lifecycle mixed x (queue_of s) f.kept
-  holds_of w = within message lifecycle mixed x (queue_of s) f.kept (state_of s) f.sends w
+  holds_of w = within message lifecycle mixed x (queue_of s) f.kept f.written (state_of s) f.sends w
 
   pub sender_premises : (asked : Bool) (call : Call) → AreGiven own → mixed ≡ (agreed own other).message_interleaving → HearsSacks call (first_in (state_of r)) x
       → SenderPremises message lifecycle mixed (setting own other s r asked) call x
@@ -127,6 +127,7 @@ module _ (message : ℕ → Message) (lifecycle : ℕ → Option ℕ) (mixed : B
     queue = queue_of s;
     beside = f.sends;
     windows = holds.windows;
+    written = f.written;
     few = holds.few;
     short = short_index message (2 ^ 32) x.sender f.filled (λ t below. f.short (place_of x.sender t));
     hears = hears;

@@ -20,6 +20,7 @@ use Rattle.sctp_rules.specs.Rules.{covers}
 use Rattle.sctp_rules.specs.Kept.{Kept}
 use Rattle.sctp_rules.specs.Points.{AreApart}
 use Rattle.sctp_rules.specs.Windows.{Windows}
+use Rattle.sctp_rules.specs.Written.{AreTheirOwn}
 use Rattle.sctp_rules.proofs.ToolsLemmas.{not_both}
 use Rattle.sctp_tx_rules.specs.Shown.{tree_of}
 use Rattle.sctp_tx_rules.specs.Points.{skip_of, chunk_of}
@@ -49,9 +50,11 @@ plain_part f = record f { mid = 0; fsn = 0 }
 abbrev mixed_part : FragmentTree → FragmentTree
 mixed_part f = record f { ssn = 0; ppid = cond f.is_beginning f.ppid 0; fsn = cond f.is_beginning 0 f.fsn }
 
-module _ (message : ℕ → Message) (mixed : Bool) (x : Transfer) (first least : ℕ) where
+module _ (message : ℕ → Message) (mixed : Bool) (x : Transfer) (own : AreTheirOwn x.sender x.forward_points) (first least : ℕ) where
   ssn_of : (k : ℕ) → ordered_of message (place_of x.sender k) ≡ true → (tree_of message x.sender (fragment x.sender k)).ssn ≡ wire halves 0 (origin + x.sender.number (place_of x.sender k))
-  ssn_of k o = ap (λ (b : Bool). wire halves 0 (cond b (origin + x.sender.number (place_of x.sender k)) origin)) o
+  ssn_of k o =
+      ap (λ (b : Bool). wire halves 0 (cond b (origin + x.sender.written (place_of x.sender k)) origin)) o
+      ∙ ap (λ (n : ℕ). wire halves 0 (origin + n)) (own.messages (place_of x.sender k))
 
   plain_said : (tsn : ℕ) (f g : FragmentTree) → SaysData message first least x.sender tsn g → f ≡ plain_part g → mixed ≡ false
       → DataSaid message mixed first least x tsn f
@@ -110,7 +113,7 @@ module _ (message : ℕ → Message) (mixed : Bool) (x : Transfer) (first least 
           };
           written = record {
             ssn = λ p. absurd (not_both both p);
-            mid = λ m. ap (λ (z : FragmentTree). z.mid) is;
+            mid = λ m. ap (λ (z : FragmentTree). z.mid) is ∙ ap (λ (n : ℕ). wire words 0 (origin + n)) (own.messages (place_of x.sender k));
           };
         }
 
@@ -175,23 +178,27 @@ pub record PointSaid (mixed : Bool) (first least : ℕ) (x : Transfer) (tsn : �
   pub entries : AreEntries mixed skipped point.entries
 
 -- an entry is written with its number
-plain_entry : (e : Entry) → e.ordered ≡ true → IsEntry false (ssn_skip (skip_of false e)) e
-plain_entry e o = (o, refl, omega arith)
+plain_entry : (e : Entry) → e.written ≡ e.number → e.ordered ≡ true → IsEntry false (ssn_skip (skip_of false e)) e
+plain_entry e is o = (o, refl, omega (arith, is))
 
-mixed_entry : (e : Entry) → IsEntry true (mid_skip (skip_of true e)) e
-mixed_entry e = go e.ordered refl
+mixed_entry : (e : Entry) → e.written ≡ e.number → IsEntry true (mid_skip (skip_of true e)) e
+mixed_entry e is = go e.ordered refl
   where
-    go : (b : Bool) → e.ordered ≡ b → IsEntry true (IForwardTsn (cond (not b) (Unordered (record { 0 = e.stream })) (Ordered (record { 0 = e.stream }))) (record { 0 = wire words 0 (origin + e.number) })) e
-    go true o = (o, refl, refl)
-    go false o = (o, refl, refl)
+    same : wire words 0 (origin + e.written) ≡ wire words 0 (origin + e.number)
+    same = ap (λ (n : ℕ). wire words 0 (origin + n)) is
 
-plain_entries : (es : List Entry) → ((e : Entry) → IsAmong e es → e.ordered ≡ true) → AreEntries false (map ssn_skip (map (skip_of false) es)) es
-plain_entries [] all = tt
-plain_entries (e ∷ es) all = (plain_entry e (all e (inl refl)), plain_entries es (λ d a. all d (inr a)))
+    go : (b : Bool) → e.ordered ≡ b → IsEntry true (IForwardTsn (cond (not b) (Unordered (record { 0 = e.stream })) (Ordered (record { 0 = e.stream }))) (record { 0 = wire words 0 (origin + e.written) })) e
+    go true o = (o, refl, same)
+    go false o = (o, refl, same)
 
-mixed_entries : (es : List Entry) → AreEntries true (map mid_skip (map (skip_of true) es)) es
-mixed_entries [] = tt
-mixed_entries (e ∷ es) = (mixed_entry e, mixed_entries es)
+plain_entries : (es : List Entry) → ((e : Entry) → IsAmong e es → e.written ≡ e.number) → ((e : Entry) → IsAmong e es → e.ordered ≡ true)
+    → AreEntries false (map ssn_skip (map (skip_of false) es)) es
+plain_entries [] own all = tt
+plain_entries (e ∷ es) own all = (plain_entry e (own e (inl refl)) (all e (inl refl)), plain_entries es (λ d a. own d (inr a)) (λ d a. all d (inr a)))
+
+mixed_entries : (es : List Entry) → ((e : Entry) → IsAmong e es → e.written ≡ e.number) → AreEntries true (map mid_skip (map (skip_of true) es)) es
+mixed_entries [] own = tt
+mixed_entries (e ∷ es) own = (mixed_entry e (own e (inl refl)), mixed_entries es (λ d a. own d (inr a)))
 
 -- how it is written
 module _ (first : ℕ) (tsn : ℕ) (skipped : List SkippedStream) (f : ForwardPoint) where
@@ -217,7 +224,7 @@ module _ (first : ℕ) (tsn : ℕ) (skipped : List SkippedStream) (f : ForwardPo
       skipped_same : i_forward_tsn_chunk tsn skipped ≡ chunk_of true first f → skipped ≡ map mid_skip (map (skip_of true) f.entries)
       skipped_same e = cc
 
-module _ (message : ℕ → Message) (mixed : Bool) (x : Transfer) (kept : Kept message mixed x) (first least : ℕ) where
+module _ (message : ℕ → Message) (mixed : Bool) (x : Transfer) (kept : Kept message mixed x) (own : AreTheirOwn x.sender x.forward_points) (first least : ℕ) where
   -- without interleaving each entry is of an ordered stream
   are_ordered : mixed ≡ false → (f : ForwardPoint) → IsAmong f x.forward_points → (e : Entry) → IsAmong e f.entries → e.ordered ≡ true
   are_ordered plain f sent e a = go e.ordered refl
@@ -251,7 +258,7 @@ module _ (message : ℕ → Message) (mixed : Bool) (x : Transfer) (kept : Kept 
   plain_point tsn skipped h =
       let c = plain_chunk first tsn skipped h.point mixed h.written in
       let es : List Entry = h.point.entries in
-      let are : AreEntries false (map ssn_skip (map (skip_of false) es)) es = plain_entries es (are_ordered c.0 h.point h.sent) in
+      let are : AreEntries false (map ssn_skip (map (skip_of false) es)) es = plain_entries es (own.entries h.point h.sent) (are_ordered c.0 h.point h.sent) in
       let written : AreEntries mixed skipped es = subst (λ (m : Bool). AreEntries m skipped es) (sym c.0) (subst (λ (z : List SkippedStream). AreEntries false z es) (sym c.2) are) in
       (c.0, point_said tsn skipped h.point h.sent h.apart h.ahead c.1 written)
 
@@ -260,7 +267,7 @@ module _ (message : ℕ → Message) (mixed : Bool) (x : Transfer) (kept : Kept 
   mixed_point tsn skipped h =
       let c = mixed_chunk first tsn skipped h.point mixed h.written in
       let es : List Entry = h.point.entries in
-      let written : AreEntries mixed skipped es = subst (λ (m : Bool). AreEntries m skipped es) (sym c.0) (subst (λ (z : List SkippedStream). AreEntries true z es) (sym c.2) (mixed_entries es)) in
+      let written : AreEntries mixed skipped es = subst (λ (m : Bool). AreEntries m skipped es) (sym c.0) (subst (λ (z : List SkippedStream). AreEntries true z es) (sym c.2) (mixed_entries es (own.entries h.point h.sent))) in
       (c.0, point_said tsn skipped h.point h.sent h.apart h.ahead c.1 written)
 
   -- a point is heard as it was sent

@@ -9,7 +9,7 @@ use Rattle.sctp_rx.specs.Tracker as tracker
 use Rattle.sctp_rx.specs.Tracker.{Tracker, IsTracker, DataTracker, is_valid, has_seen, moves_on, observe}
 use Rattle.sctp_rx.specs.ReassemblyQueue.{Reassembly}
 use Rattle.sctp_rules.specs.State.{Message, Transfer, ForwardPoint, IsAmong}
-use Rattle.sctp_rules.specs.Rules.{Event, data_comes, late_comes, forward_comes, deliver, run}
+use Rattle.sctp_rules.specs.Rules.{Event, data_comes, late_comes, forward_comes, deliver, no_stream, run}
 use Rattle.sctp_rules.specs.Kept.{Kept}
 use Rattle.sctp_rules.specs.Points.{AreApart}
 use Rattle.sctp_rules.specs.Windows.{Windows}
@@ -99,7 +99,7 @@ module _ (message : ℕ → Message) (mixed : Bool) (first : ℕ) (handed : List
       point_by : (b : Bool) → moves_on (origin + k) t ≡ b → Arrives message mixed first handed x (tracker.forward (origin + k) t) (skipped_if b tsn skipped r)
       point_by true moves =
           let l = point_near message mixed first shift x kept windows handed t r shown near is k tsn f sent last moves tsn_is none few apart skipped are in
-          arrives_by (shift_after r.first shift k) (forward_comes f ∷ map deliver l.0) (tracker.forward (origin + k) t) (skipped_if true tsn skipped r) l.1
+          arrives_by (shift_after r.first shift k) (forward_comes f no_stream ∷ map deliver l.0) (tracker.forward (origin + k) t) (skipped_if true tsn skipped r) l.1
           (ready_is_receiving l.0) passed
       point_by false old = stays (tracker.forward (origin + k) t) (old_point message mixed shift x handed t r shown (origin + k) old) passed
 

@@ -37,7 +37,7 @@ module _ (message : ℕ → Message) (mixed : Bool) where
   same_once x (late_comes t) is = record { sender = refl; acknowledged = refl; reports = refl; forward_points = refl }
   same_once x (deliver p) is = record { sender = refl; acknowledged = refl; reports = refl; forward_points = refl }
   same_once x (send_sack c) is = record { sender = refl; acknowledged = refl; reports = refl; forward_points = refl }
-  same_once x (forward_comes f) is = record { sender = refl; acknowledged = refl; reports = refl; forward_points = refl }
+  same_once x (forward_comes f spared) is = record { sender = refl; acknowledged = refl; reports = refl; forward_points = refl }
   same_once x (forget s c) is = record { sender = refl; acknowledged = refl; reports = refl; forward_points = refl }
   same_once x accept is = cc
   same_once x (begin p) is = cc
@@ -77,7 +77,7 @@ module _ (message : ℕ → Message) (mixed : Bool) where
   sacks_once x (deliver p) n a = a
   sacks_once x (leave c) n a = a
   sacks_once x (send_forward f) n a = a
-  sacks_once x (forward_comes f) n a = a
+  sacks_once x (forward_comes f spared) n a = a
   sacks_once x (forget s c) n a = a
 
   sacks_along : (es : List Event) (x : Transfer) (n : ℕ) → IsAmong n x.sacks → IsAmong n (run message mixed x es).sacks

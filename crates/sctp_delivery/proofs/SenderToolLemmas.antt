@@ -77,7 +77,7 @@ module _ (message : ℕ → Message) (mixed : Bool) where
   left_once x (deliver p) = omega arith
   left_once x (send_sack c) = omega arith
   left_once x (send_forward f) = omega arith
-  left_once x (forward_comes f) = omega arith
+  left_once x (forward_comes f spared) = omega arith
   left_once x (forget s c) = omega arith
 
   points_once : (x : Transfer) (e : Event) (f : ForwardPoint) → IsAmong f x.forward_points → IsAmong f (after message mixed x e).forward_points
@@ -92,7 +92,7 @@ module _ (message : ℕ → Message) (mixed : Bool) where
   points_once x (deliver p) f a = a
   points_once x (send_sack c) f a = a
   points_once x (leave c) f a = a
-  points_once x (forward_comes g) f a = a
+  points_once x (forward_comes g spared) f a = a
   points_once x (forget s c) f a = a
 
   sacks_once : (x : Transfer) (e : Event) (n : ℕ) → IsAmong n x.sacks → IsAmong n (after message mixed x e).sacks
@@ -107,7 +107,7 @@ module _ (message : ℕ → Message) (mixed : Bool) where
   sacks_once x (deliver p) n a = a
   sacks_once x (leave c) n a = a
   sacks_once x (send_forward f) n a = a
-  sacks_once x (forward_comes f) n a = a
+  sacks_once x (forward_comes f spared) n a = a
   sacks_once x (forget s c) n a = a
 
   left_along : (es : List Event) (x : Transfer) → x.acknowledged ≤ (run message mixed x es).acknowledged
@@ -213,7 +213,7 @@ module _ (message : ℕ → Message) (mixed : Bool) where
   same_once x (late_comes t) s = cc
   same_once x (deliver p) s = cc
   same_once x (send_sack c) s = cc
-  same_once x (forward_comes f) s = cc
+  same_once x (forward_comes f spared) s = cc
   same_once x (forget s c) h = cc
 
   same_along : (es : List Event) (x : Transfer) → list_all is_sending es ≡ true → SameReceiver x (run message mixed x es)

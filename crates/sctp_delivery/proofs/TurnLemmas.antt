@@ -7,6 +7,8 @@ use Rattle.sctp_serial.specs.Messages as messages
 use Rattle.sctp_rules.specs.State.{Message, Transfer, count}
 use Rattle.sctp_rules.specs.Rules.{Event, accept, begin, number, close, give_up, data_comes, late_comes, deliver, send_sack, leave, send_forward, forward_comes, forget, after, run}
 use Rattle.sctp_rules.specs.Kept.{Kept}
+use Rattle.sctp_rules.specs.Written.{AreTheirOwn}
+use Rattle.sctp_rules.proofs.WrittenLemmas.{own_along}
 use Rattle.sctp_tx_rules.specs.Led.{is_sending}
 use Rattle.sctp_send_queue.specs.Queue.{Queue}
 use Rattle.sctp_table.specs.Association.{State, Endpoint}
@@ -34,7 +36,7 @@ accepted_once message mixed x (data_comes t) s = cc
 accepted_once message mixed x (late_comes t) s = cc
 accepted_once message mixed x (deliver p) s = cc
 accepted_once message mixed x (send_sack c) s = cc
-accepted_once message mixed x (forward_comes f) s = cc
+accepted_once message mixed x (forward_comes f spared) s = cc
 accepted_once message mixed x (forget s c) h = cc
 
 received_once : (message : ℕ → Message) (mixed : Bool) (x : Transfer) (e : Event) → is_receiving e ≡ true → (after message mixed x e).sender.accepted ≡ x.sender.accepted
@@ -49,7 +51,7 @@ received_once message mixed x (data_comes t) s = refl
 received_once message mixed x (late_comes t) s = refl
 received_once message mixed x (deliver p) s = refl
 received_once message mixed x (send_sack c) s = refl
-received_once message mixed x (forward_comes f) s = refl
+received_once message mixed x (forward_comes f spared) s = refl
 received_once message mixed x (forget s c) h = refl
 
 module _ (message : ℕ → Message) (mixed : Bool) (kind : Event → Bool)
@@ -62,6 +64,11 @@ module _ (message : ℕ → Message) (mixed : Bool) (kind : Event → Bool)
 
   accepted_stays : (x y : Transfer) → GoesOn message mixed kind x y → y.sender.accepted ≡ x.sender.accepted
   accepted_stays x y g = ap (λ (z : Transfer). z.sender.accepted) (sym g.leads) ∙ accepted_along g.events x g.all
+
+-- nor does any write other numbers than those of the rules
+own_goes : (message : ℕ → Message) (mixed : Bool) (kind : Event → Bool) (x y : Transfer) → GoesOn message mixed kind x y → AreTheirOwn x.sender x.forward_points
+    → AreTheirOwn y.sender y.forward_points
+own_goes message mixed kind x y g h = subst (λ (z : Transfer). AreTheirOwn z.sender z.forward_points) g.leads (own_along message mixed g.events x g.may h)
 
 -- ---- acceptance, and a sender's rules
 
@@ -112,7 +119,7 @@ outgoing_all (e ∷ es) h = let parts = and_parts (is_sending e) (list_all is_se
     one (late_comes t) h = h
     one (deliver p) h = h
     one (send_sack c) h = h
-    one (forward_comes f) h = h
+    one (forward_comes f spared) h = h
     one (forget s c) h = h
 
 outgoing_has : (e : Event) → is_outgoing e ≡ true → has_bytes e ≡ true
@@ -174,6 +181,7 @@ module _ (message : ℕ → Message) (lifecycle : ℕ → Option ℕ) (mixed : B
       let acked = offers.acknowledged in
       record {
         kept = c.kept;
+        written = own_goes message mixed is_outgoing mid y went (own_goes message mixed is_outgoing x mid offers.goes f.written);
         filled = filled_goes message mixed is_outgoing outgoing_has mid y offers.kept went
             (filled_goes message mixed is_outgoing outgoing_has x mid f.kept offers.goes f.filled);
         short = f.short;
@@ -197,6 +205,7 @@ module _ (message : ℕ → Message) (lifecycle : ℕ → Option ℕ) (mixed : B
       let grows : Grows message mixed x y = goes_grows message mixed is_receiving x y f.kept c.goes in
       record {
         kept = c.kept;
+        written = own_goes message mixed is_receiving x y c.goes f.written;
         filled = receives_filled message mixed x y f.kept c.goes f.filled;
         short = f.short;
         sends = stay.sends (state_of s) (queue_of s) x y f.kept c.goes f.sends;

@@ -11,6 +11,7 @@ use Rattle.sctp_table.specs.Association.{Tcb, State, Closed, CookieWait, Open}
 use Rattle.sctp_rules.specs.State.{Message, Transfer, fragment, place_of, count, ordered_of, stream_of}
 use Rattle.sctp_rules.specs.Kept.{Kept}
 use Rattle.sctp_rules.specs.Windows.{Windows}
+use Rattle.sctp_rules.specs.Written.{AreTheirOwn}
 use Rattle.sctp_rx_rules.specs.Near.{AreFew}
 use Rattle.sctp_rx_rules.proofs.NearNumberLemmas.{number_le_place}
 use Rattle.sctp_tx_rules.specs.Shown.{StandsFor, AreKept, Shows}
@@ -53,22 +54,23 @@ module _ (message : ℕ → Message) (lifecycle : ℕ → Option ℕ) (mixed : B
       omega (arith, few, l, a)
 
   -- of the items from t on
-  item_near : (s : Items) → Shows message lifecycle mixed x q s → (t : ℕ) (is : List Item) → AreKept message lifecycle x.sender t is → All (IsNearNext q) is
+  item_near : (s : Items) → AreTheirOwn x.sender x.forward_points → Shows message lifecycle mixed x q s → (t : ℕ) (is : List Item) → AreKept message lifecycle x.sender t is → All (IsNearNext q) is
       → (u : ℕ) → t ≤ u → u < count x.sender → ordered_of message (place_of x.sender u) ≡ true
       → x.sender.counts true (stream_of message (place_of x.sender u)) < x.sender.number (place_of x.sender u) + 32000
-  item_near s h t [] a n u l below o = absurd (omega (arith, a, l, below))
-  item_near s h t (i ∷ is) a n u l below o =
+  item_near s own h t [] a n u l below o = absurd (omega (arith, a, l, below))
+  item_near s own h t (i ∷ is) a n u l below o =
       elim (cases_lt t u) [
-        | inl later ↦ item_near s h (suc t) is a.1 (All-tail (IsNearNext q) i is n) u later below o
+        | inl later ↦ item_near s own h (suc t) is a.1 (All-tail (IsNearNext q) i is n) u later below o
         | inr here ↦
             let e : t ≡ u = omega (arith, l, here) in
             let f : StandsFor message lifecycle x.sender (fragment x.sender u) i = subst (λ z. StandsFor message lifecycle x.sender (fragment x.sender z) i) e a.0 in
             let p : ℕ = place_of x.sender u in
             let on : i.fragment.stream_id ≡ stream_of message p = ap (λ (z : FragmentTree). z.stream_id) f.carried in
             let kind : i.fragment.is_unordered ≡ false = ap (λ (z : FragmentTree). z.is_unordered) f.carried ∙ ap not o in
-            let mid : i.fragment.mid ≡ wire words 0 (origin + x.sender.number p) = ap (λ (z : FragmentTree). z.mid) f.carried in
+            let mid : i.fragment.mid ≡ wire words 0 (origin + x.sender.number p) =
+            ap (λ (z : FragmentTree). z.mid) f.carried ∙ ap (λ n. wire words 0 (origin + n)) (own.messages p) in
             let next : (stream i.fragment.stream_id q.streams).next_ordered_mid ≡ origin + x.sender.counts true (stream_of message p) =
-            ap (λ z. (stream z q.streams).next_ordered_mid) on ∙ (h.queue.next (stream_of message p)).ordered_mid in
+            ap (λ z. (stream z q.streams).next_ordered_mid) on ∙ ((h.queue.next (stream_of message p)).ordered_mid ∙ ap (λ n. origin + n) (own.next true (stream_of message p))) in
             near_by (stream i.fragment.stream_id q.streams).next_ordered_mid (x.sender.number p) i.fragment.mid (x.sender.counts true (stream_of message p)) next mid
             (number_small h.queue.few p (kept.outgoing.place_begun u below)) (All-head (IsNearNext q) i is n kind)
       ]
@@ -77,8 +79,8 @@ module _ (message : ℕ → Message) (lifecycle : ℕ → Option ℕ) (mixed : B
     pub windows : Windows message x
     pub few : AreFew x.sender
 
-  open_holds : (t : Tcb) → IsSending message lifecycle mixed t q x → KeepsWithin q t → Holds
-  open_holds t h w =
+  open_holds : (t : Tcb) → AreTheirOwn x.sender x.forward_points → IsSending message lifecycle mixed t q x → KeepsWithin q t → Holds
+  open_holds t own h w =
       let s : Items = t.sender.outstanding.items in
       let c = kept_count message lifecycle x.sender x.acknowledged s.kept h.shows.items.kept in
       let n = shown_count message lifecycle mixed x q s h.shows in
@@ -88,7 +90,7 @@ module _ (message : ℕ → Message) (lifecycle : ℕ → Option ℕ) (mixed : B
       record {
         windows = record {
           items = λ l. omega (arith, c, i);
-          messages = item_near s h.shows x.acknowledged s.kept h.shows.items.kept w.messages;
+          messages = item_near s own h.shows x.acknowledged s.kept h.shows.items.kept w.messages;
         };
         few = record { fragments = omega (arith, n, f); messages = omega (arith, m) };
       }
@@ -105,7 +107,7 @@ module _ (message : ℕ → Message) (lifecycle : ℕ → Option ℕ) (mixed : B
         few = record { fragments = omega (arith, c); messages = omega (arith, m) };
       }
 
-  pub within : (s : State) → SendsIn message lifecycle mixed s q x → IsWithin s q → Holds
-  within Closed h w = waiting_holds h
-  within (CookieWait tag first t1) h w = waiting_holds h
-  within (Open phase t) h w = open_holds t h w
+  pub within : AreTheirOwn x.sender x.forward_points → (s : State) → SendsIn message lifecycle mixed s q x → IsWithin s q → Holds
+  within own Closed h w = waiting_holds h
+  within own (CookieWait tag first t1) h w = waiting_holds h
+  within own (Open phase t) h w = open_holds t own h w

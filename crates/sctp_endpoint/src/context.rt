@@ -70,6 +70,13 @@ impl<C: Checksum> Model for Context<C> {
     ghost invariant = { λ c. IsValid (options_of c.options) };
 }
 
+impl<C: Checksum + Drop> Context<C> {
+    /// The context is let go, as a control block is.
+    pub fn let_go(self) {
+        drop(self);
+    }
+}
+
 impl<C: Checksum> Context<C> {
     /// A new end, at moment zero.
     pub fn new(alloc: Global, options: Options, checksum: C) -> Context<C>

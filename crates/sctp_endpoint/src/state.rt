@@ -67,6 +67,11 @@ impl State {
         drop(std::mem::replace(self, next));
     }
 
+    /// The state is let go, as a control block is.
+    pub fn let_go(self) {
+        drop(self);
+    }
+
     /// The control block, in the states that have one.
     pub fn tcb(&self) -> Option<&TransmissionControlBlock>
         ensures { option_map (λ t. tcb_of t.now) result ≡ block_in (state_of self.now) }

@@ -74,6 +74,11 @@ pub struct TransmissionControlBlock {
 }
 
 impl TransmissionControlBlock {
+    /// The block is let go. Another crate that owns one and says so is spared the proof of how each part of it goes.
+    pub fn let_go(self) {
+        drop(self);
+    }
+
     /// A new association with a peer whose window is `a_rwnd` bytes. It takes no memory.
     pub fn new(
         alloc: Global,

@@ -236,7 +236,7 @@ fn echo<C: Checksum>(
         capabilities,
     );
     if let Err(fault) = context.send_cookie_echo(&mut tcb, cookie) {
-        drop(tcb);
+        tcb.let_go();
         return Err(fault);
     }
     state.enter(State::Open(Phase::CookieEchoed(echoed), tcb));

@@ -5,6 +5,7 @@
 #![tactic(auto)]
 
 use anyhow::Result;
+use rand_core::Rng;
 use rand_pcg::Pcg32;
 use sctp_association::{
     CallError, Checksum, DcSctpSocket, Message, Options, PpId, SendOptions, Socket, SocketEvent,
@@ -133,23 +134,34 @@ fn talk<S: DcSctpSocket>(rt: &HostRuntime, a: &mut End<S>, b: &mut End<S>) -> Re
     Ok(())
 }
 
-/// Two sockets talk, where both could be made.
-fn meet<S: DcSctpSocket + Drop>(
+/// Two sockets talk.
+fn meet<R: Rng + Drop, C: Checksum + Drop>(
     rt: &HostRuntime,
-    a: Result<S, CallError>,
-    b: Result<S, CallError>,
+    a: Socket<R, C>,
+    b: Socket<R, C>,
 ) -> Result<()> {
-    let (a, b) = (a?, b?);
     let (mut a, mut b) = (new_end(rt, a), new_end(rt, b));
     let outcome = talk(rt, &mut a, &mut b);
-    drop(a);
-    drop(b);
+    a.socket.let_go();
+    b.socket.let_go();
     outcome
 }
 
-fn main(rt: HostRuntime) -> Result<()> {
+type Linked = Socket<Pcg32, OneWord>;
+
+fn sockets(rt: &HostRuntime) -> Result<(Linked, Linked), CallError> {
     let options = Options::default();
-    let a = Socket::new(rt.alloc(), "a", &options, Pcg32::new(1, 1), OneWord);
-    let b = Socket::new(rt.alloc(), "b", &options, Pcg32::new(2, 2), OneWord);
+    let a = Socket::new(rt.alloc(), "a", &options, Pcg32::new(1, 1), OneWord)?;
+    match Socket::new(rt.alloc(), "b", &options, Pcg32::new(2, 2), OneWord) {
+        Ok(b) => Ok((a, b)),
+        Err(fault) => {
+            a.let_go();
+            Err(fault)
+        }
+    }
+}
+
+fn main(rt: HostRuntime) -> Result<()> {
+    let (a, b) = sockets(&rt)?;
     meet(&rt, a, b)
 }

@@ -1,20 +1,19 @@
 -- Unless it has failed, a world that a new one was led to is led on: its new packets are bytes, and what was handed in fits.
-use Rattle.std.proofs.Common.{◌≡◌, ◌<◌, ℕ, ◌+◌, ◌-◌, Bool, true, false, List, [], ◌∷◌, ◌++◌, length, get_or, take, drop, map, refl, sym, ap, subst, ◌∙◌, arith}
+use Rattle.std.proofs.Common.{◌≡◌, ◌<◌, ℕ, ◌+◌, Bool, true, false, List, [], ◌∷◌, ◌++◌, length, get_or, take, drop, map, refl, sym, ap, subst, ◌∙◌}
 use Rattle.std.specs.Prelude.{All, Result, Ok, Err, OnOk, IfErr}
-use Rattle.std.specs.List.{slice_range}
-use Rattle.std.proofs.lemmas.List.{take_all, drop_more, drop-map, length-drop}
+use Rattle.std.proofs.lemmas.List.{drop_more}
 use Rattle.std.proofs.lemmas.List.Elements.{All-nil, All-cons, All-append, All-take}
 use Rattle.rand_core.specs.Stream.{Stream}
 use Rattle.sctp_packet.specs.Grammar.{Each}
 use Rattle.sctp_state.specs.Options.{Options, IsValid}
 use Rattle.sctp_table_laws.specs.Sound.{OptionsFit}
 use Rattle.sctp_table_laws.specs.ReadBack.{AreBytes}
-use Rattle.sctp_network.specs.declared.world.log.Event.{Event}
+use Rattle.sctp_network_side.specs.declared.log.Event.{Event}
 use Rattle.sctp_network.specs.declared.world.WorldError.{WorldError}
 use Rattle.sctp_network.specs.declared.world.WorldError.TheVariants as errors
 use Rattle.sctp_network_table.specs.World.{World, Action, CallOf, Give, GiveForeign, TellTime, Runs, Lacks, RunsUpToLack, fresh_world}
 use Rattle.sctp_network_table.proofs.RunLemmas.{lacks_one}
-use Rattle.sctp_network.specs.WorldView.{action_of}
+use Rattle.sctp_network_side.specs.SideView.{action_of}
 use Rattle.sctp_network_laws.specs.Courses.{ActionFits, IsInBytes, IsLed}
 use Rattle.sctp_network_laws.specs.Readable as readable
 use Rattle.sctp_network_laws.proofs.WorldLemmas.{Extends}
@@ -51,14 +50,6 @@ pub in_bytes_after : (actions : List Action) (w v : World) (a b : ℕ) → Runs 
 in_bytes_after actions w v a b runs sent_a sent_b bytes_a bytes_b h =
     let e : Extends w v = runs_extends actions w v runs in
     record { a = more_bytes w.a.packets v.a.packets e.sent_a a e.a sent_a bytes_a h.a; b = more_bytes w.b.packets v.b.packets e.sent_b b e.b sent_b bytes_b h.b }
-
--- those of a list from a place on
-pub from_place : {X : Type 0} (f : X → List ℕ) (held xs part : List X) (first : ℕ) (packets : List (List ℕ)) → xs ≡ held → map f held ≡ packets
-    → part ≡ slice_range xs first (length xs) → Each AreBytes (map f part) → Each AreBytes (drop first packets)
-from_place f held xs part first packets is shown range h =
-    let whole : part ≡ drop first xs = range ∙ take_all (length xs - first) (drop first xs) (omega (arith, length-drop first xs)) in
-    subst (Each AreBytes)
-    (ap (map f) whole ∙ (sym (drop-map f first xs) ∙ ap (drop first) (ap (map f) is ∙ shown))) h
 
 -- ---- worlds
 

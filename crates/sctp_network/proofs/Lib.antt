@@ -1,6 +1,4 @@
-pub mod ToldLemmas
-pub mod SideLemmas
-pub mod HandingLemmas
+pub mod ComingLemmas
 pub mod GoesLemmas
 pub mod LedLemmas
 pub mod PairedLemmas

@@ -3,9 +3,9 @@
 ghost use Rattle.std.specs.Prelude.{map, All};
 ghost use Rattle.sctp_packet.specs.Grammar.{Each};
 ghost use Rattle.sctp_table_laws.specs.Sound.{ArgumentFits};
-ghost use Rattle.sctp_table_laws.specs.ReadBack.{AreBytes};
 ghost use Rattle.sctp_network_table.specs.World.{step_of};
-ghost use Rattle.sctp_network.specs.WorldView.{action_of, call_tree, world_of};
+ghost use Rattle.sctp_network_side.specs.SideView.{action_of, call_tree};
+ghost use Rattle.sctp_network.specs.WorldView.{world_of};
 ghost use Rattle.sctp_network_laws.specs.Courses.{ActionFits};
 ghost use Rattle.sctp_network_laws.specs.Readable as readable;
 ghost use Rattle.sctp_network_laws.specs.Readable.{GivesBytes};
@@ -55,15 +55,6 @@ pub fn events_fit(events: &[Event])
 {
     for event in events {
         an_event_fits(event);
-    }
-}
-
-/// Packets are bytes.
-pub fn packets_fit(packets: &[Vec<u8>])
-    ensures fit { Each AreBytes (map (λ bytes. bytes.items) packets.now) }
-{
-    for bytes in packets {
-        bytes_fit(bytes);
     }
 }
 

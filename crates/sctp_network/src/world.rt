@@ -11,21 +11,19 @@ ghost use Rattle.sctp_network_table.specs.Judge.{Given};
 ghost use Rattle.sctp_network_laws.specs.Agreed.{Agrees, DrawsNoTagTwice};
 ghost use Rattle.sctp_network_laws.specs.Composed.{Composes};
 ghost use Rattle.sctp_network_laws.specs.Courses.{IsLed};
-ghost use Rattle.sctp_network.specs.WorldView.{action_of, end_tree, entry_tree, side_in, world_of};
+ghost use Rattle.sctp_network_side.specs.SideView.{action_of, end_tree, entry_tree, side_in};
+ghost use Rattle.sctp_network.specs.WorldView.{world_of};
 
-mod calling;
-mod log;
 mod pair;
-mod side;
 
 use crate::arguments::{an_event_fits, events_fit};
-pub use log::{Answer, Call, End, Entry, Event};
 pub use pair::run_pair;
 use rand_core::Rng;
+use sctp_network_side::side::Side;
+pub use sctp_network_side::{Answer, Call, End, Entry, Event};
 use sctp_state::{CallError, Options};
 use sctp_table_laws::arguments::options_fit;
 use sctp_wire::Checksum;
-use side::Side;
 use std::alloc::{AllocError, Global};
 use std::marker::Model;
 use thiserror::Error;
@@ -69,7 +67,8 @@ pub struct World<R: Rng, C: Checksum> {
 
 impl<R: Rng, C: Checksum> Model for World<R, C> {
     ghost use Rattle.std.specs.Prelude.{map};
-    ghost use Rattle.sctp_network.specs.WorldView.{WorldValue, entry_tree};
+    ghost use Rattle.sctp_network_side.specs.SideView.{entry_tree};
+    ghost use Rattle.sctp_network.specs.WorldView.{WorldValue};
 
     ghost Value = { WorldValue R C };
 
@@ -123,7 +122,7 @@ impl<R: Rng + Drop, C: Checksum + Drop> World<R, C> {
         let b = match Side::new(alloc, "b", options_b, rng_b, checksum_b) {
             Ok(b) => b,
             Err(fault) => {
-                drop(a);
+                a.let_go();
                 return Err(fault);
             }
         };
@@ -134,6 +133,12 @@ impl<R: Rng + Drop, C: Checksum + Drop> World<R, C> {
             log: Vec::new(alloc),
             has_failed: false,
         })
+    }
+
+    /// Lets the world go. Another crate that owns one and says so is spared the proof of how each part of it is let go.
+    pub fn let_go(self) {
+        self.a.let_go();
+        self.b.let_go();
     }
 }
 

@@ -14,7 +14,7 @@ mod pair;
 mod play;
 mod shown;
 
-use pair::{Seeds, made, seeds_of};
+use pair::{Pair, Seeds, made, seeds_of};
 use play::play;
 use std::alloc::{AllocError, Global};
 
@@ -23,9 +23,13 @@ fn answer(rt: &HostRuntime, seeds: Seeds, script: &str) -> anyhow::Result<()> {
     if script.is_empty() {
         return Ok(());
     }
-    let mut pair = made(rt.alloc(), seeds)?;
+    play_in(rt, made(rt.alloc(), seeds)?, script)
+}
+
+fn play_in<P: Pair>(rt: &HostRuntime, pair: P, script: &str) -> anyhow::Result<()> {
+    let mut pair = pair;
     let outcome = play(rt, &mut pair, script);
-    drop(pair);
+    pair.let_go();
     outcome
 }
 

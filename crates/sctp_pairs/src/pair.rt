@@ -1,13 +1,15 @@
 //! Two worlds, and what a script asks of them.
 
 use crate::events::number_at;
+use rand_core::Rng;
 use rand_pcg::Pcg32;
 use sctp_state::{CallError, Options};
+use sctp_wire::Checksum;
 use sctp_world::{ByteSum, End, Entry, Event, World, WorldError, run_pair};
 use std::alloc::Global;
 
 /// What a script asks of two worlds. Its helpers know no more of them than this.
-pub trait Pair: Drop {
+pub trait Pair {
     fn lead(&mut self, events: &[Event]) -> Result<(), WorldError>;
 
     fn first(&self) -> &[Entry];
@@ -16,15 +18,18 @@ pub trait Pair: Drop {
 
     /// Whether the end sent the packet of this number in the first world.
     fn has_sent(&self, end: End, number: usize) -> bool;
+
+    fn let_go(self);
 }
 
+/// Two worlds with any generators and one checksum function.
 #[derive(Drop)]
-pub struct Two {
-    first: World<Pcg32, ByteSum>,
-    second: World<Pcg32, ByteSum>,
+pub struct Two<R: Rng, S: Rng, C: Checksum> {
+    first: World<R, C>,
+    second: World<S, C>,
 }
 
-impl Pair for Two {
+impl<R: Rng + Drop, S: Rng + Drop, C: Checksum + Drop> Pair for Two<R, S, C> {
     fn lead(&mut self, events: &[Event]) -> Result<(), WorldError> {
         run_pair(&mut self.first, &mut self.second, events)
     }
@@ -39,6 +44,11 @@ impl Pair for Two {
 
     fn has_sent(&self, end: End, number: usize) -> bool {
         self.first.packet(end, number).is_some()
+    }
+
+    fn let_go(self) {
+        self.first.let_go();
+        self.second.let_go();
     }
 }
 
@@ -105,12 +115,12 @@ fn new_world(alloc: Global, a: Seed, b: Seed) -> Result<World<Pcg32, ByteSum>, C
 }
 
 /// Two new worlds with default options, and generators of these seeds.
-pub fn made(alloc: Global, seeds: Seeds) -> Result<Two, CallError> {
+pub fn made(alloc: Global, seeds: Seeds) -> Result<Two<Pcg32, Pcg32, ByteSum>, CallError> {
     let first = new_world(alloc, seeds.a, seeds.b)?;
     match new_world(alloc, seeds.other_a, seeds.other_b) {
         Ok(second) => Ok(Two { first, second }),
         Err(fault) => {
-            drop(first);
+            first.let_go();
             Err(fault)
         }
     }

@@ -19,3 +19,5 @@ pub mod FrontLemmas
 pub mod WrittenLemmas
 pub mod HeldLemmas
 pub mod ReadyLemmas
+pub mod ForgetLemmas
+pub mod JoinLemmas

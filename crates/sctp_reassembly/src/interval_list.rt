@@ -317,8 +317,23 @@ fn append_to<K: ReassemblyKey>(
     }
 }
 
-// Makes one interval of two with the entry between them.
-fn join<K: ReassemblyKey>(
+// Puts the others and then the entry in front, where there is room.
+fn prepend_to<K: ReassemblyKey>(
+    entries: &mut VecDeque<Entry<K>>,
+    entry: Entry<K>,
+    mut others: VecDeque<Entry<K>>,
+)
+    requires { deque_len entries.old + (deque_len others + 1) ≤ deque_capacity entries.old }
+    ensures { entries.new.items ≡ others.items ++ entry ∷ entries.old.items }
+{
+    entries.push_front_reserved(entry);
+    while let Some(last) = others.pop_back() {
+        entries.push_front_reserved(last);
+    }
+}
+
+// Makes one interval of two with the entry between them, where the second one's entries move to the first.
+fn join_to_first<K: ReassemblyKey>(
     intervals: &mut Vec<Interval<K>>,
     place: usize,
     entry: Entry<K>,
@@ -332,6 +347,40 @@ fn join<K: ReassemblyKey>(
     let next = intervals.remove(place + 1);
     append_to(&mut intervals[place].entries, entry, next.entries);
     Ok(())
+}
+
+// The same, where the first one's entries move to the second.
+fn join_to_second<K: ReassemblyKey>(
+    intervals: &mut Vec<Interval<K>>,
+    place: usize,
+    entry: Entry<K>,
+) -> Result<(), AllocError>
+    requires { place + 1 < length intervals.old.items }
+    ensures ok { OnOk result ((ps qs : List (Interval K)) (i j : Interval K) → intervals.old.items ≡ ps ++ i ∷ (j ∷ qs) → length ps ≡ place → lists_of (held_of K.number K.index) intervals.new.items ≡ lists_of (held_of K.number K.index) ps ++ (run_of (held_of K.number K.index) i ++ held_of K.number K.index entry ∷ run_of (held_of K.number K.index) j) ∷ lists_of (held_of K.number K.index) qs) }
+    ensures err { OnErr result (lists_of (held_of K.number K.index) intervals.new.items ≡ lists_of (held_of K.number K.index) intervals.old.items) }
+{
+    let more = intervals[place].entries.len();
+    intervals[place + 1].entries.reserve(more + 1)?;
+    let first = intervals.remove(place);
+    prepend_to(&mut intervals[place].entries, entry, first.entries);
+    Ok(())
+}
+
+// Makes one interval of two with the entry between them. The shorter one's entries move, so that an entry moves no more
+// often than the logarithm of how many there are.
+fn join<K: ReassemblyKey>(
+    intervals: &mut Vec<Interval<K>>,
+    place: usize,
+    entry: Entry<K>,
+) -> Result<(), AllocError>
+    requires { place + 1 < length intervals.old.items }
+    ensures ok { OnOk result ((ps qs : List (Interval K)) (i j : Interval K) → intervals.old.items ≡ ps ++ i ∷ (j ∷ qs) → length ps ≡ place → lists_of (held_of K.number K.index) intervals.new.items ≡ lists_of (held_of K.number K.index) ps ++ (run_of (held_of K.number K.index) i ++ held_of K.number K.index entry ∷ run_of (held_of K.number K.index) j) ∷ lists_of (held_of K.number K.index) qs) }
+    ensures err { OnErr result (lists_of (held_of K.number K.index) intervals.new.items ≡ lists_of (held_of K.number K.index) intervals.old.items) }
+{
+    if intervals[place].entries.len() < intervals[place + 1].entries.len() {
+        return join_to_second(intervals, place, entry);
+    }
+    join_to_first(intervals, place, entry)
 }
 
 // Puts the entry in front of the interval at the place, and says which interval took it.

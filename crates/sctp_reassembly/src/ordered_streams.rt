@@ -213,34 +213,35 @@ impl<K: ReassemblyKey> OrderedStreams<K> {
         ensures value { self.new ≡ forgotten ids.now self.old }
         ensures bytes { ordered_bytes self.new ≤ ordered_bytes self.old }
     {
-        self.streams.retain(|id, _| !is_named(ids, *id));
-        self.bytes = bytes_in(&self.streams);
+        if ids.is_empty() {
+            self.streams.clear();
+            self.bytes = 0;
+            return;
+        }
+        remove_each(&mut self.streams, &mut self.bytes, ids);
     }
 }
 
-ghost use Rattle.sctp_reassembly.specs.Streams.{ordered_bytes};
-ghost use Rattle.std.specs.Prelude.{◌==◌};
+ghost use Rattle.std.specs.Prelude.{◌==◌, not, filter};
 ghost use Rattle.std.specs.List.{list_any};
-ghost use Rattle.sctp_reassembly.specs.Streams.{is_named};
+ghost use Rattle.sctp_reassembly.specs.Streams.{ordered_bytes};
 
-fn names(ids: &[StreamId], id: u16) -> bool
-    ensures { result ≡ list_any (λ i. i.0 == id) ids.now }
+// Takes out the streams that are named, each by a look-up, and what they held off the bytes.
+fn remove_each<K: ReassemblyKey>(
+    streams: &mut BTreeMap<u16, OrderedStream<K>>,
+    bytes: &mut usize,
+    ids: &[StreamId],
+)
+    requires { bytes.old ≡ ordered_bytes streams.old.entries }
+    ensures streams { streams.new.entries ≡ filter (λ e. not (list_any (λ i. i.0 == e.0) ids.now)) streams.old.entries }
+    ensures bytes { bytes.new ≡ ordered_bytes streams.new.entries }
 {
-    ids.iter().any(|named| named.0 == id)
-}
-
-// Whether a stream is named; where none is, each is.
-pub(crate) fn is_named(ids: &[StreamId], id: u16) -> bool
-    ensures { result ≡ is_named ids.now id }
-{
-    ids.is_empty() || names(ids, id)
-}
-
-fn bytes_in<K: ReassemblyKey>(streams: &BTreeMap<u16, OrderedStream<K>>) -> usize
-    requires { ordered_bytes streams.now.entries < 2 ^ 64 }
-    ensures { result ≡ ordered_bytes streams.now.entries }
-{
-    streams.values().map(|stream| stream.queued_bytes()).sum()
+    let _count = streams.len();
+    for id in ids {
+        if let Some(stream) = streams.remove(&id.0) {
+            *bytes -= stream.queued_bytes();
+        }
+    }
 }
 
 // How the number is written: as an SSN, or with interleaving as a MID.

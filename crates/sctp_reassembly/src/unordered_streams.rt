@@ -9,7 +9,6 @@ ghost use Rattle.sctp_state.specs.Validity.{rises_from, unordered_ids};
 ghost use Rattle.sctp_reassembly.specs.ReassemblyHandover.{unordered_is_held, unordered_records, unordered_entries};
 
 use crate::ordered_stream::FIRST;
-use crate::ordered_streams::is_named;
 use crate::ready_messages::ReadyMessages;
 use crate::unordered_stream::UnorderedStream;
 use sctp_chunk::Data;
@@ -201,8 +200,12 @@ impl<K: ReassemblyKey> UnorderedStreams<K> {
         ensures value { self.new ≡ forgotten ids.now self.old }
         ensures bytes { unordered_bytes self.new ≤ unordered_bytes self.old }
     {
-        self.streams.retain(|id, _| !is_named(ids, *id));
-        self.bytes = bytes_in(&self.streams);
+        if ids.is_empty() {
+            self.streams.clear();
+            self.bytes = 0;
+            return;
+        }
+        remove_each(&mut self.streams, &mut self.bytes, ids);
     }
 
     /// Drops the fragments of all streams before the key.
@@ -218,7 +221,27 @@ impl<K: ReassemblyKey> UnorderedStreams<K> {
     }
 }
 
+ghost use Rattle.std.specs.Prelude.{◌==◌, not, filter};
+ghost use Rattle.std.specs.List.{list_any};
 ghost use Rattle.sctp_reassembly.specs.Streams.{unordered_bytes};
+
+// Takes out the streams that are named, each by a look-up, and what they held off the bytes.
+fn remove_each<K: ReassemblyKey>(
+    streams: &mut BTreeMap<u16, UnorderedStream<K>>,
+    bytes: &mut usize,
+    ids: &[StreamId],
+)
+    requires { bytes.old ≡ unordered_bytes streams.old.entries }
+    ensures streams { streams.new.entries ≡ filter (λ e. not (list_any (λ i. i.0 == e.0) ids.now)) streams.old.entries }
+    ensures bytes { bytes.new ≡ unordered_bytes streams.new.entries }
+{
+    let _count = streams.len();
+    for id in ids {
+        if let Some(stream) = streams.remove(&id.0) {
+            *bytes -= stream.queued_bytes();
+        }
+    }
+}
 
 fn bytes_in<K: ReassemblyKey>(streams: &BTreeMap<u16, UnorderedStream<K>>) -> usize
     requires { unordered_bytes streams.now.entries < 2 ^ 64 }

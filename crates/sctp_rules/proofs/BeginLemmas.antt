@@ -111,6 +111,13 @@ module _ (message : ℕ → Message) (mixed : Bool) (o : Sender) (i : Outgoing m
         | inr f ↦ dense_old kind s k (subst (λ z. k < z) (cond-false (same (ordered_of message p) kind && eqb s (stream_of message p)) (suc (o.counts kind s)) (o.counts kind s) f) l)
       ]
 
+  following_counts : (kind : Bool) (s : ℕ) → new.following kind s ≤ new.counts kind s
+  following_counts kind s = go (same (ordered_of message p) kind && eqb s (stream_of message p))
+    where
+      go : (b : Bool) → cond b (suc (o.following kind s)) (o.following kind s) ≤ cond b (suc (o.counts kind s)) (o.counts kind s)
+      go true = let f = i.following_counts kind s in omega (arith, f)
+      go false = i.following_counts kind s
+
   ended : (a : ℕ) → new.begun a ≡ true → new.partly a ≡ false → (t : ℕ) × (t < count o) × (place_of o t ≡ a) × ((fragment o t).is_end ≡ true)
   ended a b np =
       elim (put_true o.begun p a b) [
@@ -136,6 +143,7 @@ module _ (message : ℕ → Message) (mixed : Bool) (o : Sender) (i : Outgoing m
     settled = settled;
     rises = rises;
     counted = counted;
+    following_counts = following_counts;
     dense = dense;
     ended = ended;
     last_ends = i.last_ends;
@@ -150,6 +158,7 @@ module _ (message : ℕ → Message) (mixed : Bool) (o : Sender) (i : Outgoing m
     given_stays = λ q h. h;
     begun_stays = λ q h. put_keeps o.begun p q h;
     number_stays = number_off;
+    written_stays = λ q b. put_off o.written p (o.following (ordered_of message p) (stream_of message p)) q (begun_off q b);
     newly = λ q b. elim (put_true o.begun p q b) [
       | inl e ↦
           let at : o.counts (ordered_of message p) (stream_of message p) ≤ new.number p = (let n = number_at p refl in omega (arith, n)) in

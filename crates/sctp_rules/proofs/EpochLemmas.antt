@@ -3,12 +3,13 @@ use Rattle.std.proofs.Common.{◌≡◌, ℕ, suc, ◌<◌, ◌≤◌, Bool, tru
 use Rattle.std.proofs.lemmas.Bool.{cases_lt, cases_eq}
 use Rattle.sctp_rules.specs.State.{Message, IsAmong, put, count, place_of, stream_of}
 use Rattle.sctp_rules.specs.Rules.{Event, accept, begin, number, close, give_up, data_comes, late_comes, deliver, send_sack, leave, send_forward, forward_comes, forget, IsSettled, IsResettable, IsAllowed, after}
-use Rattle.sctp_rules.specs.Resets.{Request, Epochs, ResetEvent, transfers, reset_stream, send_request, perform, commit, first_epoch, InEpoch, MayReset, goes, MayAll, go_all, RequestTrue, InOrder, EachInItsEpoch}
+use Rattle.sctp_rules.specs.Resets.{Request, Epochs, ResetEvent, transfers, reset_stream, send_request, perform, commit, first_epoch, InEpoch, MayReset, restarts, goes, MayAll, go_all, RequestTrue, InOrder, EachInItsEpoch}
 use Rattle.sctp_rules.proofs.ToolsLemmas.{put_at, put_off, put_true, not_both}
 use Rattle.sctp_rules.proofs.KeepsLemmas.{keeps, at_start}
 use Rattle.sctp_rules.proofs.BeginLemmas.{unsettled}
 use Rattle.sctp_rules.proofs.StepLemmas.{later, settled_stays, dropped_stays}
 use Rattle.sctp_rules.proofs.ForgetLemmas.{none_held}
+use Rattle.sctp_rules.proofs.RestartLemmas.{restarts_kept}
 
 module _ (message : ℕ → Message) (mixed : Bool) (x : Epochs) (k : InOrder message mixed x) where
   abbrev st : ℕ → ℕ
@@ -120,11 +121,11 @@ module _ (message : ℕ → Message) (mixed : Bool) (x : Epochs) (k : InOrder me
   transfer_rule (send_sack c) a i = plain (send_sack c) a refl (λ q. refl)
   transfer_rule (leave c) a i = plain (leave c) a refl (λ q. refl)
   transfer_rule (send_forward f) a i = plain (send_forward f) a refl (λ q. refl)
-  transfer_rule (forward_comes f) a i = plain (forward_comes f) a refl (λ q. refl)
+  transfer_rule (forward_comes f spared) a i = plain (forward_comes f spared) a refl (λ q. refl)
   transfer_rule (forget s c) a i = absurd i
 
   -- all that the receiver's side of a reset asks
-  resettable : (r : Request) → MayReset message mixed x (perform r) → IsResettable message x.transfer.sender x.transfer.receiver r.stream r.upto
+  pub resettable : (r : Request) → MayReset message mixed x (perform r) → IsResettable message x.transfer.sender x.transfer.receiver r.stream r.upto
   resettable r a =
       let asked = k.asked r a.0 in
       let next = a.1 in
@@ -243,7 +244,7 @@ module _ (message : ℕ → Message) (mixed : Bool) (x : Epochs) (k : InOrder me
 
   commits : (s : ℕ) → MayReset message mixed x (commit s) → InOrder message mixed (goes message mixed x (commit s))
   commits s a = record {
-    kept = k.kept;
+    kept = restarts_kept message mixed x.transfer k.kept s;
     chain = λ b.
         let c = k.chain b in
         let c0 = c.0 in
@@ -254,7 +255,8 @@ module _ (message : ℕ → Message) (mixed : Bool) (x : Epochs) (k : InOrder me
               let at = put_at x.opened s (x.raised s) b e in
               let p = ap x.performed e in
               let q = ap x.raised e in
-              (omega (arith, at, a, p), c1, omega (arith, at, q))
+              let a1 = a.1 in
+              (omega (arith, at, a1, p), c1, omega (arith, at, q))
           | inr d ↦ let off = put_off x.opened s (x.raised s) b d in (omega (arith, off, c0), c1, omega (arith, off, c2))
         ];
     placed = k.placed;
@@ -267,10 +269,13 @@ module _ (message : ℕ → Message) (mixed : Bool) (x : Epochs) (k : InOrder me
               omega (arith, at, i, q)
           | inr d ↦ let off = put_off x.opened s (x.raised s) (st p) d in let i = k.begun p b in omega (arith, off, i)
         ];
-    asked = λ r m. let y = k.asked r m in record { begins = y.begins; settled = y.settled; below = y.below };
-    settled = k.settled;
+    asked = λ r m. let y = k.asked r m in record { begins = y.begins; settled = λ p h q b. again p (y.settled p h q b); below = y.below };
+    settled = λ p h b. again p (k.settled p h b);
     over = k.over;
   }
+    where
+      again : (p : ℕ) → IsSettled x.transfer.sender p → IsSettled (restarts x.transfer.sender s) p
+      again p y = record { not_partly = y.not_partly; gone = y.gone }
 
   pub keeps_order : (e : ResetEvent) → MayReset message mixed x e → InOrder message mixed (goes message mixed x e)
   keeps_order (transfers e) a = transfer_rule e a.0 a.1

@@ -26,6 +26,7 @@ module _ (message : ℕ → Message) (o : Sender) (i : Outgoing message o) where
     settled = λ a q b l s. settled_given p q (i.settled a q b l s);
     rises = i.rises;
     counted = i.counted;
+    following_counts = i.following_counts;
     dense = i.dense;
     ended = i.ended;
     last_ends = i.last_ends;
@@ -44,6 +45,7 @@ module _ (message : ℕ → Message) (o : Sender) (i : Outgoing message o) where
     settled = λ a q b l s. let x = i.settled a q b l s in record { not_partly = x.not_partly; gone = x.gone };
     rises = i.rises;
     counted = i.counted;
+    following_counts = i.following_counts;
     dense = i.dense;
     ended = i.ended;
     last_ends = i.last_ends;
@@ -58,6 +60,7 @@ module _ (message : ℕ → Message) (o : Sender) (i : Outgoing message o) where
     given_stays = λ q h. put_keeps o.given_up p q h;
     begun_stays = λ q h. h;
     number_stays = λ q h. refl;
+    written_stays = λ q h. refl;
     newly = λ q b. inl b;
     counts_grow = λ kind s. omega arith;
     ended_stays = λ q b e. e;
@@ -74,6 +77,7 @@ module _ (message : ℕ → Message) (o : Sender) (i : Outgoing message o) where
     given_stays = λ q h. h;
     begun_stays = λ q h. h;
     number_stays = λ q h. refl;
+    written_stays = λ q h. refl;
     newly = λ q b. inl b;
     counts_grow = λ kind s. omega arith;
     ended_stays = λ q b e. e;

@@ -24,7 +24,7 @@ none_left [] h = refl
 none_left (x ∷ xs) h = cc
 
 module _ (message : ℕ → Message) (mixed : Bool) (x : Transfer) (k : Kept message mixed x) where
-  sender_moves : (o' : Sender) → Outgoing message o' → Later message x.sender o' → (mixed ≡ false → InRuns message o') → IsIndexed o'.numbered → Kept message mixed (record x { sender = o' })
+  pub sender_moves : (o' : Sender) → Outgoing message o' → Later message x.sender o' → (mixed ≡ false → InRuns message o') → IsIndexed o'.numbered → Kept message mixed (record x { sender = o' })
   sender_moves o' out l r n = record {
     outgoing = out;
     indexed = n;
@@ -138,9 +138,9 @@ module _ (message : ℕ → Message) (mixed : Bool) (x : Transfer) (k : Kept mes
         ];
     reports_true = k.reports_true;
   }
-  keeps (forward_comes f) a =
+  keeps (forward_comes f spared) a =
       let ft = k.forwards_true f a in
-      receiver_moves _ (skips_incoming message mixed x.sender k.outgoing x.receiver k.incoming f ft) (skips_onward message mixed x.sender k.outgoing x.receiver k.incoming f ft)
+      receiver_moves _ (skips_incoming message mixed x.sender k.outgoing x.receiver k.incoming f spared ft) (skips_onward message mixed x.sender k.outgoing x.receiver k.incoming f spared ft)
   keeps (forget s c) a =
       receiver_moves _ (forgets_incoming message mixed x.sender k.outgoing x.receiver k.incoming s c a) (forgets_onward message mixed x.sender k.outgoing x.receiver k.incoming s c a)
 
@@ -157,6 +157,7 @@ module _ (message : ℕ → Message) (mixed : Bool) where
       settled = λ p q b l s. cc;
       rises = λ p q b c. cc;
       counted = λ p h. cc;
+      following_counts = λ kind s. omega arith;
       dense = λ kind s n l. absurd (omega arith);
       ended = λ p b e. cc;
       last_ends = λ t u h. absurd (omega arith);

@@ -10,6 +10,7 @@ module _ (message : ℕ → Message) where
     pub given_stays : (p : ℕ) → o.given_up p ≡ true → o'.given_up p ≡ true
     pub begun_stays : (p : ℕ) → o.begun p ≡ true → o'.begun p ≡ true
     pub number_stays : (p : ℕ) → o.begun p ≡ true → o'.number p ≡ o.number p
+    pub written_stays : (p : ℕ) → o.begun p ≡ true → o'.written p ≡ o.written p
     pub newly : (p : ℕ) → o'.begun p ≡ true → (o.begun p ≡ true) ⊎ (o.counts (ordered_of message p) (stream_of message p) ≤ o'.number p)
     pub counts_grow : (kind : Bool) (s : ℕ) → o.counts kind s ≤ o'.counts kind s
     pub ended_stays : (p : ℕ) → o.begun p ≡ true → o.partly p ≡ false → o'.partly p ≡ false

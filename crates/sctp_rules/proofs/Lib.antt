@@ -18,10 +18,16 @@ pub mod KeysLemmas
 pub mod ReadiedLemmas
 pub mod ShowsLemmas
 pub mod ReceiverRowLemmas
+pub mod LiftedLemmas
+pub mod WireResetLemmas
 pub mod WindowsLemmas
 pub mod SendingLemmas
 pub mod ForgetLemmas
 pub mod SenderRowLemmas
+pub mod RestartLemmas
+pub mod WrittenLemmas
 pub mod StepLemmas
 pub mod EpochLemmas
+pub mod BasedLemmas
+pub mod EpochLawsLemmas
 pub mod PlainRunLemmas

@@ -105,6 +105,7 @@ module _ (message : ℕ → Message) (o : Sender) (i : Outgoing message o) (f : 
     settled = settled;
     rises = i.rises;
     counted = i.counted;
+    following_counts = i.following_counts;
     dense = i.dense;
     ended = ended;
     last_ends = last_ends;
@@ -119,6 +120,7 @@ module _ (message : ℕ → Message) (o : Sender) (i : Outgoing message o) (f : 
     given_stays = λ q h. h;
     begun_stays = λ q h. h;
     number_stays = λ q h. refl;
+    written_stays = λ q h. refl;
     newly = λ q b. inl b;
     counts_grow = λ kind s. omega arith;
     ended_stays = λ q b e.

@@ -50,6 +50,7 @@ due_first =
       touched = λ t lo hi k. ap (λ z. covers over_two.entries (three (place_of (before 17).sender z)).ordered (three (place_of (before 17).sender z)).stream ((before 17).sender.number (place_of (before 17).sender z))) (one t lo hi);
       sound = sound;
       only_ordered = λ m a n. refl;
+      as_written = ((1, omega arith, omega arith, refl, refl, refl, refl), tt);
     }
   where
     sound : (kind : Bool) (s n : ℕ) → covers over_two.entries kind s n ≡ true

@@ -15,6 +15,7 @@ module _ (message : ℕ → Message) where
     given_stays = λ p h. h;
     begun_stays = λ p h. h;
     number_stays = λ p h. refl;
+    written_stays = λ p h. refl;
     newly = λ p h. inl h;
     counts_grow = λ kind s. omega arith;
     ended_stays = λ p b e. e;

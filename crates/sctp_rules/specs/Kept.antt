@@ -34,6 +34,7 @@ module _ (message : ℕ → Message) where
     pub rises : (p q : ℕ) → o.begun p ≡ true → o.begun q ≡ true → ordered_of message p ≡ ordered_of message q → stream_of message p ≡ stream_of message q
         → p < q → o.number p < o.number q
     pub counted : (p : ℕ) → o.begun p ≡ true → o.number p < o.counts (ordered_of message p) (stream_of message p)
+    pub following_counts : (kind : Bool) (s : ℕ) → o.following kind s ≤ o.counts kind s
     pub dense : (kind : Bool) (s k : ℕ) → k < o.counts kind s
         → (p : ℕ) × (o.begun p ≡ true) × (ordered_of message p ≡ kind) × (stream_of message p ≡ s) × (o.number p ≡ k)
     pub ended : (p : ℕ) → o.begun p ≡ true → o.partly p ≡ false → (t : ℕ) × (t < count o) × (place_of o t ≡ p) × ((fragment o t).is_end ≡ true)

@@ -1,7 +1,7 @@
 -- Stream resets over the transfer (RFC 6525). A message belongs to the epoch that its stream is in at its acceptance.
-use Rattle.std.specs.Prelude.{◌≡◌, ℕ, suc, ◌<◌, ◌≤◌, Bool, true, false, List, [], ◌∷◌}
-use Rattle.sctp_rules.specs.State.{Message, Transfer, IsAmong, put, count, place_of, stream_of, start}
-use Rattle.sctp_rules.specs.Rules.{Event, accept, begin, forget, IsSettled, IsRipe, IsAllowed, after}
+use Rattle.std.specs.Prelude.{◌≡◌, ℕ, suc, ◌<◌, ◌≤◌, ◌==◌, ◌&&◌, ◌⊎◌, Bool, true, false, cond, List, [], ◌∷◌}
+use Rattle.sctp_rules.specs.State.{Message, Sender, Transfer, IsAmong, put, count, place_of, stream_of, start}
+use Rattle.sctp_rules.specs.Rules.{Event, accept, begin, send_forward, forget, IsSettled, IsRipe, IsAllowed, after}
 use Rattle.sctp_rules.specs.Kept.{Kept}
 
 -- an outgoing reset request: with it the epoch begins, and all fragments of the earlier ones are below `upto`
@@ -17,6 +17,7 @@ pub record Epochs : Type 0 where
   pub opened : ℕ → ℕ  -- by stream: what is of this epoch or an earlier one may be sent
   pub performed : ℕ → ℕ  -- by stream: how often the receiver has reset it
   pub requests : List Request  -- all that were ever sent
+  pub base : ℕ → ℕ → Bool → ℕ  -- by stream, epoch and kind: how many messages were numbered before the epoch. It is 0 on the wire
 
 pub data ResetEvent : Type 0 where
   transfers : (e : Event) → ResetEvent
@@ -26,12 +27,29 @@ pub data ResetEvent : Type 0 where
   commit : (s : ℕ) → ResetEvent  -- the answer has come
 
 abbrev pub first_epoch : Epochs
-first_epoch = record { transfer = start; epoch = λ p. 0; raised = λ s. 0; opened = λ s. 0; performed = λ s. 0; requests = [] }
+first_epoch = record {
+  transfer = start;
+  epoch = λ p. 0;
+  raised = λ s. 0;
+  opened = λ s. 0;
+  performed = λ s. 0;
+  requests = [];
+  base = λ s e kind. 0;
+}
+
+-- the stream's numbers on the wire begin again
+abbrev pub restarts : Sender → ℕ → Sender
+restarts o s = record o { following = λ kind a. cond (a == s) 0 (o.following kind a) }
+
+-- an epoch begins with the counts of what was numbered before it
+abbrev pub rebased : Epochs → Request → ℕ → ℕ → Bool → ℕ
+rebased x r s e kind = cond ((s == r.stream) && (e == r.epoch)) (x.transfer.sender.counts kind s) (x.base s e kind)
 
 module _ (message : ℕ → Message) (mixed : Bool) where
-  -- a message waits until its stream is open again
+  -- a message waits until its stream is open again, and no forward point goes on where a request was sent
   abbrev pub InEpoch : Epochs → Event → Type 0
   InEpoch x (begin p) = x.epoch p ≤ x.opened (stream_of message p)
+  InEpoch x (send_forward f) = (r : Request) → IsAmong r x.requests → (f.upto ≤ r.upto) ⊎ (r.upto ≤ x.transfer.acknowledged)
   InEpoch x (forget s c) = ⊥
   InEpoch x e = Unit {0}
 
@@ -44,7 +62,7 @@ module _ (message : ℕ → Message) (mixed : Bool) where
   MayReset x (perform r) =
       IsAmong r x.requests × (r.epoch ≡ suc (x.performed r.stream))
       × ((t : ℕ) → t < r.upto → x.transfer.receiver.seen t ≡ true) × ((p : ℕ) → IsRipe message x.transfer.sender x.transfer.receiver p → ⊥)
-  MayReset x (commit s) = x.raised s ≤ x.performed s
+  MayReset x (commit s) = (x.raised s ≡ suc (x.opened s)) × (x.raised s ≤ x.performed s)
 
   abbrev pub epochs_after : Epochs → Event → ℕ → ℕ
   epochs_after x accept = put x.epoch x.transfer.sender.accepted (x.raised (stream_of message x.transfer.sender.accepted))
@@ -54,8 +72,12 @@ module _ (message : ℕ → Message) (mixed : Bool) where
   goes x (transfers e) = record x { transfer = after message mixed x.transfer e; epoch = epochs_after x e }
   goes x (reset_stream s) = record x { raised = put x.raised s (suc (x.raised s)) }
   goes x (send_request s) = record x { requests = record { stream = s; upto = count x.transfer.sender; epoch = x.raised s } ∷ x.requests }
-  goes x (perform r) = record x { transfer = after message mixed x.transfer (forget r.stream r.upto); performed = put x.performed r.stream r.epoch }
-  goes x (commit s) = record x { opened = put x.opened s (x.raised s) }
+  goes x (perform r) = record x {
+    transfer = after message mixed x.transfer (forget r.stream r.upto);
+    performed = put x.performed r.stream r.epoch;
+    base = rebased x r;
+  }
+  goes x (commit s) = record x { opened = put x.opened s (x.raised s); transfer = record x.transfer { sender = restarts x.transfer.sender s } }
 
   abbrev pub MayAll : Epochs → List ResetEvent → Type 0
   MayAll x [] = Unit {0}

@@ -15,7 +15,7 @@ pub data Event : Type 0 where
   send_sack : (c : ℕ) → Event  -- it acknowledges the fragments below c
   leave : (c : ℕ) → Event  -- such a SACK has come, and one fragment leaves the sender
   send_forward : (f : ForwardPoint) → Event
-  forward_comes : (f : ForwardPoint) → Event
+  forward_comes : (f : ForwardPoint) (spared : ℕ → Bool) → Event  -- of some streams, those that wait for a reset, what it doesn't name is left as it is
   forget : (s c : ℕ) → Event  -- an outgoing reset request of stream s is performed (RFC 6525 section 5.2.2)
 
 -- not numbered, and not given up
@@ -42,6 +42,10 @@ covers (e ∷ es) kind s n = (same e.ordered kind && ((e.stream == s) && nat_le 
 abbrev pub raised : List Entry → Bool → ℕ → ℕ → ℕ
 raised [] kind s n = n
 raised (e ∷ es) kind s n = raised es kind s (cond (same e.ordered kind && (e.stream == s)) (max n (suc e.number)) n)
+
+-- no stream is spared
+abbrev pub no_stream : ℕ → Bool
+no_stream s = false
 
 -- messages of this kind and stream with a lower number don't become ready any more
 abbrev pub floor : Receiver → Bool → ℕ → ℕ
@@ -80,6 +84,8 @@ module _ (message : ℕ → Message) where
     partly = put o.partly p true;
     number = put o.number p (o.counts (ordered_of message p) (stream_of message p));
     counts = λ kind s. cond (same (ordered_of message p) kind && (s == stream_of message p)) (suc (o.counts kind s)) (o.counts kind s);
+    written = put o.written p (o.following (ordered_of message p) (stream_of message p));
+    following = λ kind s. cond (same (ordered_of message p) kind && (s == stream_of message p)) (suc (o.following kind s)) (o.following kind s);
   }
 
   -- all of the message's fragments, its end among them, wait in the reassembly queue
@@ -115,19 +121,27 @@ module _ (message : ℕ → Message) where
     pub none_partly : (p : ℕ) → stream_of message p ≡ s → o.partly p ≡ false
 
 module _ (message : ℕ → Message) (mixed : Bool) where
-  -- what a forward point drops: what its entries name, and without interleaving unordered fragments by TSN
-  abbrev pub drops : Sender → ForwardPoint → ℕ → Bool
-  drops o f t =
+  -- what a forward point drops: what its entries name, and without interleaving unordered fragments by TSN, but for streams that are spared
+  abbrev pub drops : Sender → ForwardPoint → (ℕ → Bool) → ℕ → Bool
+  drops o f spared t =
       covers f.entries (ordered_of message (place_of o t)) (stream_of message (place_of o t)) (o.number (place_of o t))
-      || (not mixed && (not (ordered_of message (place_of o t)) && nat_lt t f.upto))
+      || (not mixed && (not (ordered_of message (place_of o t)) && (nat_lt t f.upto && not (spared (stream_of message (place_of o t))))))
 
-  abbrev pub skips : Sender → Receiver → ForwardPoint → Receiver
-  skips o i f = record i {
+  abbrev pub skips : Sender → Receiver → ForwardPoint → (ℕ → Bool) → Receiver
+  skips o i f spared = record i {
     seen = λ t. nat_lt t f.upto || i.seen t;
-    held = λ t. i.held t && not (drops o f t);
+    held = λ t. i.held t && not (drops o f spared t);
     next = λ s. raised f.entries true s (i.next s);
     passed_below = λ s. raised f.entries false s (i.passed_below s);
   }
+
+  -- each entry is written as the message of a fragment among these
+  abbrev pub AreWritten : Sender → (from upto : ℕ) → List Entry → Type 0
+  AreWritten o from upto [] = Unit {0}
+  AreWritten o from upto (e ∷ es) =
+      ((t : ℕ) × (from ≤ t) × (t < upto) × (ordered_of message (place_of o t) ≡ e.ordered) × (stream_of message (place_of o t) ≡ e.stream)
+      × (o.number (place_of o t) ≡ e.number) × (o.written (place_of o t) ≡ e.written))
+      × AreWritten o from upto es
 
   -- a forward point that may be sent (RFC 3758 section 3.5)
   pub record IsDue (o : Sender) (acknowledged : ℕ) (f : ForwardPoint) : Type 0 where
@@ -140,6 +154,7 @@ module _ (message : ℕ → Message) (mixed : Bool) where
     pub sound : (kind : Bool) (s n : ℕ) → covers f.entries kind s n ≡ true
         → (t : ℕ) × (acknowledged ≤ t) × (t < f.upto) × (ordered_of message (place_of o t) ≡ kind) × (stream_of message (place_of o t) ≡ s) × (n ≤ o.number (place_of o t))
     pub only_ordered : mixed ≡ false → (s n : ℕ) → covers f.entries false s n ≡ false
+    pub as_written : AreWritten o acknowledged f.upto f.entries
 
   -- may this happen now?
   abbrev pub IsAllowed : Transfer → Event → Type 0
@@ -158,7 +173,7 @@ module _ (message : ℕ → Message) (mixed : Bool) where
   IsAllowed x (send_sack c) = ((t : ℕ) → t < c → x.receiver.seen t ≡ true) × ((p : ℕ) → IsRipe message x.sender x.receiver p → ⊥)
   IsAllowed x (leave c) = IsAmong c x.sacks × (x.acknowledged < c)
   IsAllowed x (send_forward f) = IsDue x.sender x.acknowledged f
-  IsAllowed x (forward_comes f) = IsAmong f x.forward_points
+  IsAllowed x (forward_comes f spared) = IsAmong f x.forward_points
   IsAllowed x (forget s c) = IsResettable message x.sender x.receiver s c
 
   abbrev pub after : Transfer → Event → Transfer
@@ -173,7 +188,7 @@ module _ (message : ℕ → Message) (mixed : Bool) where
   after x (send_sack c) = record x { sacks = c ∷ x.sacks }
   after x (leave c) = record x { acknowledged = suc x.acknowledged; reports = x.reports ++ report x.sender x.acknowledged }
   after x (send_forward f) = record x { forward_points = f ∷ x.forward_points }
-  after x (forward_comes f) = record x { receiver = skips x.sender x.receiver f }
+  after x (forward_comes f spared) = record x { receiver = skips x.sender x.receiver f spared }
   after x (forget s c) = record x { receiver = forgets message x.sender x.receiver s }
 
   -- a whole schedule may happen from this state

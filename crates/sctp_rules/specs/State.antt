@@ -27,6 +27,7 @@ pub record Entry : Type 0 where
   pub ordered : Bool
   pub stream : ℕ
   pub number : ℕ
+  pub written : ℕ  -- as it is on the wire
 
 -- FORWARD-TSN or I-FORWARD-TSN (RFC 3758 section 3.2, RFC 8260 section 2.3.1): each fragment below `upto` counts as seen
 pub record ForwardPoint : Type 0 where
@@ -40,6 +41,8 @@ pub record Sender : Type 0 where
   pub given_up : ℕ → Bool  -- by place
   pub number : ℕ → ℕ  -- by place, once begun: the SSN or MID, counted on across stream resets
   pub counts : Bool → ℕ → ℕ  -- by kind (ordered or not) and stream: the number of the next message
+  pub written : ℕ → ℕ  -- by place, once begun: the SSN or MID on the wire, counted from the stream's last reset
+  pub following : Bool → ℕ → ℕ  -- by kind and stream: that of the next message
   pub numbered : List Fragment  -- all that have a TSN, in its order
 
 pub record Receiver : Type 0 where
@@ -103,7 +106,7 @@ is_empty [] = true
 is_empty (x ∷ xs) = false
 
 abbrev pub new_sender : Sender
-new_sender = record { accepted = 0; begun = λ p. false; partly = λ p. false; given_up = λ p. false; number = λ p. 0; counts = λ kind s. 0; numbered = [] }
+new_sender = record { accepted = 0; begun = λ p. false; partly = λ p. false; given_up = λ p. false; number = λ p. 0; counts = λ kind s. 0; written = λ p. 0; following = λ kind s. 0; numbered = [] }
 
 abbrev pub new_receiver : Receiver
 new_receiver = record { seen = λ t. false; held = λ t. false; next = λ s. 0; passed_below = λ s. 0; places = []; ready = [] }

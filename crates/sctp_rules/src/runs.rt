@@ -1,9 +1,9 @@
 //! One run of each machine, so that no law is empty. The expected values were worked out by hand.
 
-ghost use Rattle.std.specs.Prelude.{◌≡◌, List, [], ◌∷◌, false, true, ℕ};
+ghost use Rattle.std.specs.Prelude.{◌≡◌, ◌==◌, List, [], ◌∷◌, false, true, ℕ};
 ghost use Rattle.sctp_rules.specs.Resets.{MayAll, first_epoch, go_all};
-ghost use Rattle.sctp_rules.specs.Rules.{Happens, run};
-ghost use Rattle.sctp_rules.specs.Runs.{alike, plain_run, reset_run, three, woven, woven_run};
+ghost use Rattle.sctp_rules.specs.Rules.{Happens, after, forward_comes, no_stream, run};
+ghost use Rattle.sctp_rules.specs.Runs.{alike, loose, loose_run, plain_run, reset_run, three, upto_three, woven, woven_run};
 ghost use Rattle.sctp_rules.specs.State.{count, start};
 
 /// DATA: a fragment is lost, two messages overtake its message, which is given up, and a forward point passes it. All of
@@ -32,4 +32,14 @@ pub fn reset_stream()
     ensures places { (go_all alike false first_epoch reset_run).transfer.receiver.places ≡ 0 ∷ 2 ∷ [] }
     ensures epoch { (go_all alike false first_epoch reset_run).epoch 2 ≡ 1 }
     ensures performed { (go_all alike false first_epoch reset_run).performed 0 ≡ 1 }
+{}
+
+/// A forward point above the last TSN of a reset that waits may drop what is held of the reset's stream, though it names nothing of it:
+/// an unordered fragment, without interleaving, of a message that was given up.
+pub fn point_drops_while_a_reset_waits()
+    ensures may { MayAll loose false first_epoch loose_run }
+    ensures waits { (go_all loose false first_epoch loose_run).performed 1 ≡ 0 }
+    ensures held { (go_all loose false first_epoch loose_run).transfer.receiver.held 1 ≡ true }
+    ensures dropped { (after loose false (go_all loose false first_epoch loose_run).transfer (forward_comes upto_three no_stream)).receiver.held 1 ≡ false }
+    ensures spared { (after loose false (go_all loose false first_epoch loose_run).transfer (forward_comes upto_three (λ s. s == 1))).receiver.held 1 ≡ true }
 {}

@@ -5,6 +5,7 @@ ghost use Rattle.sctp_rules.specs.Claims.{Claims, Grows};
 ghost use Rattle.sctp_rules.specs.Kept.{Kept};
 ghost use Rattle.sctp_rules.specs.Rules.{IsAllowed, Event, Happens, after, run};
 ghost use Rattle.sctp_rules.specs.State.{Message, Transfer, start};
+ghost use Rattle.sctp_rules.specs.Written.{AreTheirOwn};
 
 /// Whatever is lost, repeated, delayed or reordered in one direction of an association, with DATA or with I-DATA: what
 /// became ready is accepted messages, each at most once and byte for byte, in order on each stream (`Fits`); an ordered
@@ -29,4 +30,11 @@ pub fn keeps()
         Kept message mixed x → IsAllowed message mixed x e → Kept message mixed (after message mixed x e) }
     ensures claims { (message : ℕ → Message) (mixed : Bool) (x : Transfer) → Kept message mixed x → Claims message x }
     ensures grows { (message : ℕ → Message) (mixed : Bool) (x : Transfer) (e : Event) → Grows x (after message mixed x e) }
+{}
+
+/// As long as no stream is reset, the numbers on the wire are those of the rules: of messages, the next ones, and those that forward
+/// points name.
+pub fn numbers_are_written()
+    ensures along { (message : ℕ → Message) (mixed : Bool) (events : List Event) → Happens message mixed start events →
+        AreTheirOwn (run message mixed start events).sender (run message mixed start events).forward_points }
 {}

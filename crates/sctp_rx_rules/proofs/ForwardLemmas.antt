@@ -10,7 +10,7 @@ use Rattle.sctp_rx.specs.Held.{Held, rank_of}
 use Rattle.sctp_rx.specs.Delivery.{fresh_unordered, unordered_forward_tsn}
 use Rattle.sctp_rx.specs.Streams.{Streams, stream_at, dropped_to}
 use Rattle.sctp_rules.specs.State.{Entry, ForwardPoint, IsAmong}
-use Rattle.sctp_rules.specs.Rules.{same, covers, raised}
+use Rattle.sctp_rules.specs.Rules.{same, covers, raised, no_stream}
 use Rattle.sctp_rules.specs.Reassembly as queues
 use Rattle.sctp_rules.specs.Reassembly.{Chunk, Queue, KeyOf, next_of, key_of, below_of, chunk_of, undropped, KeyLaws}
 use Rattle.sctp_rx_rules.specs.View.{View, IsFiled, IsSeenAs, chunk_of_held, key_of_held, ordered_at, unordered_at, held_on, view_with}
@@ -81,19 +81,19 @@ module _ (mixed : Bool) (shift : ℕ) (ss : Streams) (ready : List messages.Mess
     (unnumbered : mixed ≡ false → (s : ℕ) (h : Held) → IsAmong h (held_on ss false s) → h.number ≡ origin) where
   abbrev pub left : Queue (KeyOf mixed) (next_of mixed)
   left = record {
-    chunks = λ κ. undropped (KeyOf mixed) (next_of mixed) mixed (below_of mixed) f κ (q.chunks κ);
+    chunks = λ κ. undropped (KeyOf mixed) (next_of mixed) mixed (below_of mixed) f no_stream κ (q.chunks κ);
     next = λ s. raised f.entries true s (q.next s);
     passed_below = λ s. raised f.entries false s (q.passed_below s);
     ready = q.ready;
   }
 
-  pub point_left : queues.Forwarded (KeyOf mixed) (next_of mixed) mixed (below_of mixed) q left f
+  pub point_left : queues.Forwarded (KeyOf mixed) (next_of mixed) mixed (below_of mixed) q left f no_stream
   point_left = record { chunks = λ κ. refl; next = λ s. refl; passed = λ s. refl; ready = refl }
 
   abbrev drops : KeyOf mixed → Chunk → Bool
-  drops κ w = covers f.entries w.ordered w.stream w.number || (not mixed && (not w.ordered && below_of mixed κ f.upto))
+  drops κ w = covers f.entries w.ordered w.stream w.number || (not mixed && (not w.ordered && (below_of mixed κ f.upto && true)))
 
-  drop_some : (κ : KeyOf mixed) (o : Option Chunk) (w : Chunk) → undropped (KeyOf mixed) (next_of mixed) mixed (below_of mixed) f κ o ≡ Some w → (o ≡ Some w) × (drops κ w ≡ false)
+  drop_some : (κ : KeyOf mixed) (o : Option Chunk) (w : Chunk) → undropped (KeyOf mixed) (next_of mixed) mixed (below_of mixed) f no_stream κ o ≡ Some w → (o ≡ Some w) × (drops κ w ≡ false)
   drop_some κ None w e = absurd (none_some w e)
   drop_some κ (Some v) w e = go (drops κ v) refl e
     where
@@ -105,20 +105,24 @@ module _ (mixed : Bool) (shift : ℕ) (ss : Streams) (ready : List messages.Mess
   left_fewer κ w e = (drop_some κ (q.chunks κ) w e).0
 
   -- the test on a held fragment
-  below_is : (m : Bool) (kind : Bool) (h : Held) → (m ≡ false → origin ≤ h.index + shift) → (not m && (not kind && below_of m (key_of_held m shift h) f.upto)) ≡ behind m kind n h
+  below_is : (m : Bool) (kind : Bool) (h : Held) → (m ≡ false → origin ≤ h.index + shift) → (not m && (not kind && (below_of m (key_of_held m shift h) f.upto && true))) ≡ behind m kind n h
   below_is true kind h from = refl
   below_is false true h from = refl
-  below_is false false h from = let b = from refl in by h.index b
+  below_is false false h from = let b = from refl in and_true (nat_lt (h.index + shift - origin) f.upto) ∙ by h.index b
     where
+      and_true : (b : Bool) → (b && true) ≡ b
+      and_true true = refl
+      and_true false = refl
+
       by : (a : ℕ) → origin ≤ a + shift → nat_lt (a + shift - origin) f.upto ≡ nat_le a n
       by a b = grind (arith, nat_tests, upto)
 
   drops_is : (kind : Bool) (s id : ℕ) (h : Held) → IsFiled mixed shift kind s h → drops (key_of_held mixed shift h) (chunk_of_held id h) ≡ (covers es kind s (h.number - origin) || behind mixed kind n h)
   drops_is kind s id h file =
       let k : not h.fragment.is_unordered ≡ kind = twice_not h.fragment.is_unordered kind file.kind_is in
-      ap (λ z. covers f.entries z h.fragment.stream_id (h.number - origin) || (not mixed && (not z && below_of mixed (key_of_held mixed shift h) f.upto))) k
-      ∙ (ap (λ z. covers f.entries kind z (h.number - origin) || (not mixed && (not kind && below_of mixed (key_of_held mixed shift h) f.upto))) file.stream_is
-      ∙ (ap (λ z. z || (not mixed && (not kind && below_of mixed (key_of_held mixed shift h) f.upto))) (sym (covers_is kind s (h.number - origin)))
+      ap (λ z. covers f.entries z h.fragment.stream_id (h.number - origin) || (not mixed && (not z && (below_of mixed (key_of_held mixed shift h) f.upto && true)))) k
+      ∙ (ap (λ z. covers f.entries kind z (h.number - origin) || (not mixed && (not kind && (below_of mixed (key_of_held mixed shift h) f.upto && true)))) file.stream_is
+      ∙ (ap (λ z. z || (not mixed && (not kind && (below_of mixed (key_of_held mixed shift h) f.upto && true)))) (sym (covers_is kind s (h.number - origin)))
       ∙ ap (λ z. covers es kind s (h.number - origin) || z) (below_is mixed kind h file.index_from)))
 
   abbrev v : View
@@ -156,7 +160,7 @@ module _ (mixed : Bool) (shift : ℕ) (ss : Streams) (ready : List messages.Mess
     holds = λ kind s h a.
         let c = p.holds kind s h (was_there kind s h a) in (
           c.0,
-          ap (undropped (KeyOf mixed) (next_of mixed) mixed (below_of mixed) f (key_of_held mixed shift h)) c.1
+          ap (undropped (KeyOf mixed) (next_of mixed) mixed (below_of mixed) f no_stream (key_of_held mixed shift h)) c.1
               ∙ cond-false (drops (key_of_held mixed shift h) (chunk_of_held c.0 h)) None (Some (chunk_of_held c.0 h)) (not_dropped kind s c.0 h a),
           c.2,
         );

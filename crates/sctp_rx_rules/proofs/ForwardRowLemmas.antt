@@ -17,7 +17,7 @@ use Rattle.sctp_rx.specs.Tracker.{Tracker}
 use Rattle.sctp_tracker.proofs.SeenOneFormLemmas.{contains-up_to}
 use Rattle.sctp_reassembly.proofs.SettledQueueLemmas.{settled_passes}
 use Rattle.sctp_rules.specs.State.{Message, Entry, ForwardPoint, Transfer, IsAmong, place_of, ordered_of}
-use Rattle.sctp_rules.specs.Rules.{forward_comes, deliver}
+use Rattle.sctp_rules.specs.Rules.{forward_comes, deliver, no_stream}
 use Rattle.sctp_rules.specs.Kept.{Kept}
 use Rattle.sctp_rules.specs.Reassembly.{Queue, KeyOf, next_of, key_of, below_of, KeyLaws}
 use Rattle.sctp_rules.proofs.ReceiverRowLemmas.{key_laws, point_comes}
@@ -135,7 +135,7 @@ module _ (message : ℕ → Message) (mixed : Bool) (before : ℕ) (x : Transfer
   pub first_is : (forward tsn xs r).first ≡ Some (unwrap_or r.first tsn)
   first_is = ap (λ z. z.first) call_is
 
-  pub row_point : (ps : List ℕ) × Goes message mixed shift x (forward_comes f ∷ map deliver ps) handed (tracker.forward (origin + k) t) (forward tsn xs r)
+  pub row_point : (ps : List ℕ) × Goes message mixed shift x (forward_comes f no_stream ∷ map deliver ps) handed (tracker.forward (origin + k) t) (forward tsn xs r)
   row_point =
       let d = done in
       let settled = subst (λ z. AreSettled z.streams) call_is (settled_passes r shown.settled tsn xs) in
@@ -143,10 +143,10 @@ module _ (message : ℕ → Message) (mixed : Bool) (before : ℕ) (x : Transfer
       let fewer = left_fewer mixed shift r.streams ready q seen_as shown.mode n f es (λ kind s j. sorted_covers kind s j f.entries) (λ kind s j. sorted_raised kind s f.entries j) upto_is (λ b. all_ordered mixed r.streams (by_stream xs) es b sorted) unnumbered in
       let none_more = none_left message mixed shift x kept outcome.streams (ready ++ outcome.messages) d.leads.queue d.leads.seen_as settled
       (λ κ w e. sent_of message mixed shift x kept q shown.shows κ w (fewer κ w (takes_fewer mixed d.leads.takes κ w e))) in
-      let l = point_comes (KeyOf mixed) (next_of mixed) message mixed x kept (key_of mixed message x.sender) (below_of mixed) laws q shown.shows m d.leads.queue f sent point (takes_readied mixed d.leads.takes none_more) in
+      let l = point_comes (KeyOf mixed) (next_of mixed) message mixed x kept (key_of mixed message x.sender) (below_of mixed) laws q shown.shows m d.leads.queue f no_stream sent point (takes_readied mixed d.leads.takes none_more) in
       let p' : IsSeenAs mixed shift (view_of handed (made outcome (came tsn r))) d.leads.queue = subst (λ z. IsSeenAs mixed shift z d.leads.queue) (sym view_is) d.leads.seen_as in (
         l.0,
-        subst (λ z. Goes message mixed shift x (forward_comes f ∷ map deliver l.0) handed (tracker.forward (origin + k) t) z) (sym call_is)
-            (goes_to message mixed shift x kept (forward_comes f) (map deliver l.0) d.leads.queue l.1 handed (tracker.forward (origin + k) t) (made outcome (came tsn r)) p'
+        subst (λ z. Goes message mixed shift x (forward_comes f no_stream ∷ map deliver l.0) handed (tracker.forward (origin + k) t) z) (sym call_is)
+            (goes_to message mixed shift x kept (forward_comes f no_stream) (map deliver l.0) d.leads.queue l.1 handed (tracker.forward (origin + k) t) (made outcome (came tsn r)) p'
             (λ i. point_seen t x.receiver.seen shown.seen k f.upto i last) d.mode settled (λ e. cc) none),
       )

@@ -8,7 +8,7 @@ use Rattle.sctp_rx.specs.Tracker as tracker
 use Rattle.sctp_rx.specs.Tracker.{Tracker, IsTracker, moves_on, observe}
 use Rattle.sctp_rx.specs.ReassemblyQueue.{Reassembly, number_of, add, forward}
 use Rattle.sctp_rules.specs.State.{Message, ForwardPoint, Transfer, IsAmong}
-use Rattle.sctp_rules.specs.Rules.{Event, data_comes, late_comes, deliver, forward_comes, run}
+use Rattle.sctp_rules.specs.Rules.{Event, data_comes, late_comes, deliver, forward_comes, run, no_stream}
 use Rattle.sctp_rules.specs.Windows.{Windows}
 use Rattle.sctp_rules.specs.Kept.{Kept}
 use Rattle.sctp_rx_rules.specs.View.{was_seen}
@@ -77,8 +77,8 @@ module _ (message : ℕ → Message) (mixed : Bool) (first shift : ℕ) (x : Tra
       }
 
       pub point_near : (entries : List SkippedStream) → AreEntries mixed entries f.entries
-          → (ps : List ℕ) × GoesNear message mixed first (shift_after r.first shift k) x (forward_comes f ∷ map deliver ps) handed (tracker.forward (origin + k) t) (forward tsn entries r)
+          → (ps : List ℕ) × GoesNear message mixed first (shift_after r.first shift k) x (forward_comes f no_stream ∷ map deliver ps) handed (tracker.forward (origin + k) t) (forward tsn entries r)
       point_near entries are =
           let stand = entries_read few apart entries are in
           let l = row_point message mixed shift x kept handed t r shown none k tsn entries f sent last read (point_below message mixed x kept few k f sent last) stand apart in
-          (l.0, record { goes = l.1; near = point_near_then entries stand (forward_comes f ∷ map deliver l.0) l.1 })
+          (l.0, record { goes = l.1; near = point_near_then entries stand (forward_comes f no_stream ∷ map deliver l.0) l.1 })

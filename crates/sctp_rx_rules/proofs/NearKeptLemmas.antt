@@ -247,7 +247,7 @@ module _ (message : ℕ → Message) (mixed : Bool) (x : Transfer) (kept : Kept 
   point_within (leave c) may f a = inl a
   point_within (send_forward g) may f (inl s) = inr (subst (λ z. IsDue message mixed x.sender x.acknowledged z) (sym s) may)
   point_within (send_forward g) may f (inr a) = inl a
-  point_within (forward_comes g) may f a = inl a
+  point_within (forward_comes g spared) may f a = inl a
   point_within (forget s c) may f a = inl a
 
   module _ (e : Event) (may : IsAllowed message mixed x e) (same : (after message mixed x e).receiver ≡ x.receiver) where

@@ -19,7 +19,7 @@ ghost use Rattle.sctp_rx.specs.Sack.{reported};
 ghost use Rattle.sctp_rx.specs.ReassemblyQueue.{Reassembly, add, forward, number_of, reassembly};
 ghost use Rattle.sctp_rules.specs.Kept.{Kept};
 ghost use Rattle.sctp_rules.specs.Reassembly.{NoneReady};
-ghost use Rattle.sctp_rules.specs.Rules.{Event, IsAllowed, after, data_comes, deliver, forward_comes, late_comes, send_sack};
+ghost use Rattle.sctp_rules.specs.Rules.{Event, IsAllowed, after, data_comes, deliver, forward_comes, late_comes, send_sack, no_stream};
 ghost use Rattle.sctp_rules.specs.State.{ForwardPoint, IsAmong, Message, Transfer, start};
 ghost use Rattle.sctp_rx_rules.specs.Read.{Carries, IsRead, StandForAll, is_behind, shift_after};
 ghost use Rattle.sctp_rules.specs.Points.{AreApart};
@@ -62,7 +62,7 @@ pub fn forward_point_comes()
         Kept message mixed x → Receives message mixed shift x handed t r → r.deferred ≡ None →
         IsAmong f x.forward_points → f.upto ≡ suc k → number_of r tsn + shift_after r.first shift k ≡ origin + k → k < 2 ^ 62 →
         StandForAll mixed r.streams entries f.entries → AreApart f.entries →
-        (ps : List ℕ) × Goes message mixed (shift_after r.first shift k) x (forward_comes f ∷ map deliver ps) handed (tracker.forward (origin + k) t) (forward tsn entries r) }
+        (ps : List ℕ) × Goes message mixed (shift_after r.first shift k) x (forward_comes f no_stream ∷ map deliver ps) handed (tracker.forward (origin + k) t) (forward tsn entries r) }
     ensures first { (message : ℕ → Message) (mixed : Bool) (shift : ℕ) (x : Transfer) (handed : List messages.Message) (t : Tracker) (r : Reassembly) (k tsn : ℕ) (entries : List SkippedStream) (f : ForwardPoint) →
         Kept message mixed x → Receives message mixed shift x handed t r → r.deferred ≡ None →
         IsAmong f x.forward_points → f.upto ≡ suc k → number_of r tsn + shift_after r.first shift k ≡ origin + k → k < 2 ^ 62 →

@@ -11,7 +11,7 @@ ghost use Rattle.sctp_rx.specs.ReassemblyQueue.{Reassembly, add, forward, number
 ghost use Rattle.sctp_rx.specs.Tracker as tracker;
 ghost use Rattle.sctp_rx.specs.Tracker.{DataTracker, IsTracker, Tracker, moves_on, observe};
 ghost use Rattle.sctp_rules.specs.Kept.{Kept};
-ghost use Rattle.sctp_rules.specs.Rules.{Event, IsAllowed, after, data_comes, deliver, forward_comes, late_comes, run};
+ghost use Rattle.sctp_rules.specs.Rules.{Event, IsAllowed, after, data_comes, deliver, forward_comes, late_comes, run, no_stream};
 ghost use Rattle.sctp_rules.specs.State.{ForwardPoint, IsAmong, Message, Transfer, start};
 ghost use Rattle.sctp_rules.specs.Windows.{IsTimely, Windows};
 ghost use Rattle.sctp_rx_rules.specs.Near.{AreEntries, AreFew, GoesNear, IsWritten, ReadsNear};
@@ -93,5 +93,5 @@ pub fn written_point_comes()
         Kept message mixed x → Windows message x → AreFew x.sender → Receives message mixed shift x handed t r → ReadsNear message mixed first shift x r → IsTracker t → r.deferred ≡ None →
         IsAmong f x.forward_points → f.upto ≡ suc k → moves_on (origin + k) t ≡ true → tsn ≡ wire words first (origin + k) →
         AreApart f.entries → AreEntries mixed entries f.entries →
-        (ps : List ℕ) × GoesNear message mixed first (shift_after r.first shift k) x (forward_comes f ∷ map deliver ps) handed (tracker.forward (origin + k) t) (forward tsn entries r) }
+        (ps : List ℕ) × GoesNear message mixed first (shift_after r.first shift k) x (forward_comes f no_stream ∷ map deliver ps) handed (tracker.forward (origin + k) t) (forward tsn entries r) }
 {}

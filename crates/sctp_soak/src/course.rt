@@ -1,6 +1,6 @@
 //! The course of a conversation.
 
-use crate::end::{End, Soaked, new_end, send, turn};
+use crate::end::{End, Soaked, expect_all, new_end, send, turn};
 use crate::link::{Link, carry};
 use crate::messages::{Plan, STREAMS};
 use anyhow::Result;
@@ -127,6 +127,8 @@ fn converse_as<S: Soaked, R: Rng>(
     link: &mut Link<R>,
     plan: Plan,
 ) -> Result<()> {
+    expect_all(a)?;
+    expect_all(b)?;
     a.socket.connect()?;
     let mut now = SocketTime::zero();
     for count in [plan.first.min(plan.count), plan.count] {
@@ -147,10 +149,9 @@ pub fn converse<S: Soaked, R: Rng + Drop>(
     plan: Plan,
 ) -> Result<()> {
     let mut link = link;
-    let mut a = new_end(rt.alloc(), a)?;
-    let mut b = new_end(rt.alloc(), b)?;
+    let (mut a, mut b) = (new_end(rt.alloc(), a), new_end(rt.alloc(), b));
     let outcome = converse_as(rt, &mut a, &mut b, &mut link, plan);
-    drop(a);
-    drop(b);
+    a.socket.let_go();
+    b.socket.let_go();
     outcome
 }

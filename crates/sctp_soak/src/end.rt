@@ -18,10 +18,12 @@ const EACH_TURN: u32 = 8;
 const ENOUGH: usize = 10_000;
 
 /// What is asked of a socket beside the calls of its trait.
-pub trait Soaked: DcSctpSocket + Drop {
+pub trait Soaked: DcSctpSocket {
     fn next_gone(&mut self) -> Option<GivenUp>;
 
     fn rests(&self) -> bool;
+
+    fn let_go(self);
 }
 
 impl<R: Rng + Drop, C: Checksum + Drop> Soaked for Socket<R, C> {
@@ -31,6 +33,10 @@ impl<R: Rng + Drop, C: Checksum + Drop> Soaked for Socket<R, C> {
 
     fn rests(&self) -> bool {
         self.is_at_rest()
+    }
+
+    fn let_go(self) {
+        self.let_go();
     }
 }
 
@@ -59,14 +65,14 @@ pub struct End<S> {
 }
 
 /// A socket that has sent nothing.
-pub fn new_end<S: Drop>(alloc: Global, socket: S) -> Result<End<S>> {
-    Ok(End {
+pub fn new_end<S>(alloc: Global, socket: S) -> End<S> {
+    End {
         alloc,
         socket,
         came: Vec::new(alloc),
         late: Vec::new(alloc),
         sent: Vec::new(alloc),
-        next: vec![in alloc; 0u32; STREAMS as usize]?,
+        next: Vec::new(alloc),
         packets: 0,
         lost: 0,
         accepted: 0,
@@ -78,7 +84,13 @@ pub fn new_end<S: Drop>(alloc: Global, socket: S) -> Result<End<S>> {
         partial: 0,
         gone: 0,
         wrong: 0,
-    })
+    }
+}
+
+/// Any message may come next.
+pub fn expect_all<S>(end: &mut End<S>) -> Result<()> {
+    end.next.resize(usize::from(STREAMS), 0)?;
+    Ok(())
 }
 
 /// Whether a message with these bytes may come on this stream now: it is whole, and none behind it came before.

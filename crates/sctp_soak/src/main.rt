@@ -71,7 +71,7 @@ fn sockets(rt: &HostRuntime) -> Result<(Soaking, Soaking)> {
     match socket(rt, "b", 2) {
         Ok(b) => Ok((a, b)),
         Err(fault) => {
-            drop(a);
+            a.let_go();
             Err(fault)
         }
     }

@@ -1,17 +1,19 @@
 //! The sockets that are driven, and what is asked of one beside the calls of the trait.
 
 use crate::setup::EndSetup;
-use crate::words::Words;
+use crate::words::Known;
 use sctp_association::{Association, DcSctpSocket, Socket};
-use sctp_probe::ByteSum;
 use sctp_serial::{Message, SocketTime};
 use sctp_state::{CallError, GivenUp, Options};
+use sctp_wire::Checksum;
 use std::alloc::Global;
 
 /// What is asked of a socket beside the calls of its trait.
-pub trait Driven: DcSctpSocket + Drop {
+pub trait Driven: DcSctpSocket {
     /// A new one with the same options.
     fn renewed(&self, alloc: Global) -> Result<Self, CallError>;
+
+    fn let_go(self);
 
     fn next_gone(&mut self) -> Option<GivenUp>;
 
@@ -28,9 +30,13 @@ pub trait Driven: DcSctpSocket + Drop {
     fn first_ready(&self) -> Option<&Message>;
 }
 
-impl Driven for Socket<Words, ByteSum> {
-    fn renewed(&self, alloc: Global) -> Result<Socket<Words, ByteSum>, CallError> {
-        made_with(alloc, "new", &self.options(), Words::new(3, 3))
+impl<R: Known + Drop, C: Checksum + Default + Drop> Driven for Socket<R, C> {
+    fn renewed(&self, alloc: Global) -> Result<Socket<R, C>, CallError> {
+        made_with(alloc, "new", &self.options(), R::known(3, 3))
+    }
+
+    fn let_go(self) {
+        self.let_go();
     }
 
     fn next_gone(&mut self) -> Option<GivenUp> {
@@ -63,27 +69,27 @@ impl Driven for Socket<Words, ByteSum> {
 }
 
 /// A new socket, where the options are valid.
-pub fn made(
+pub fn made<R: Known + Drop, C: Checksum + Default + Drop>(
     alloc: Global,
     name: &str,
     setup: &EndSetup,
-) -> Result<Socket<Words, ByteSum>, CallError> {
+) -> Result<Socket<R, C>, CallError> {
     made_with(
         alloc,
         name,
         &setup.options,
-        Words::new(setup.first, setup.stride),
+        R::known(setup.first, setup.stride),
     )
 }
 
-fn made_with(
+fn made_with<R: Known + Drop, C: Checksum + Default + Drop>(
     alloc: Global,
     name: &str,
     options: &Options,
-    words: Words,
-) -> Result<Socket<Words, ByteSum>, CallError> {
+    words: R,
+) -> Result<Socket<R, C>, CallError> {
     if !options.is_valid() {
         return Err(CallError::Failed);
     }
-    Socket::new(alloc, name, options, words, ByteSum)
+    Socket::new(alloc, name, options, words, C::default())
 }

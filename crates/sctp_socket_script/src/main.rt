@@ -16,16 +16,18 @@ mod told;
 mod words;
 
 use driven::made;
+use sctp_probe::ByteSum;
 use setup::Setup;
 use side::converse;
 use std::alloc::{AllocError, Global};
+use words::Words;
 
 /// Runs a script on two new sockets.
 fn answer(rt: &HostRuntime, setup: &Setup, script: &str) -> anyhow::Result<()> {
     if script.is_empty() {
         return Ok(());
     }
-    let a = made(rt.alloc(), "a", &setup.a);
+    let a = made::<Words, ByteSum>(rt.alloc(), "a", &setup.a);
     converse(rt, a, made(rt.alloc(), "b", &setup.b), script)
 }
 

@@ -104,7 +104,8 @@ fn renew<S: Driven>(
     state: &SocketHandoverState,
 ) -> anyhow::Result<bool> {
     take_told(rt, side, false)?;
-    side.socket = side.socket.renewed(rt.alloc())?;
+    let new = side.socket.renewed(rt.alloc())?;
+    std::mem::replace(&mut side.socket, new).let_go();
     tell_refusal(rt, side.name, side.socket.restore_from_state(state))
 }
 

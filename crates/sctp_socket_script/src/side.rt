@@ -5,7 +5,6 @@ use crate::moves::run_line;
 use sctp_state::CallError;
 
 /// A socket, and all packets that it told.
-#[derive(Drop)]
 pub struct Side<S> {
     pub name: &'static str,
     pub socket: S,
@@ -18,6 +17,15 @@ fn new_side<S>(rt: &HostRuntime, name: &'static str, socket: S) -> Side<S> {
         socket,
         packets: Vec::new(rt.alloc()),
     }
+}
+
+fn close<S: Driven>(side: Side<S>) {
+    let Side {
+        name: _,
+        socket,
+        packets: _packets,
+    } = side;
+    socket.let_go();
 }
 
 fn run_lines<S: Driven>(
@@ -35,9 +43,16 @@ fn run_lines<S: Driven>(
 fn converse_as<S: Driven>(rt: &HostRuntime, a: S, b: S, script: &str) -> anyhow::Result<()> {
     let (mut a, mut b) = (new_side(rt, "a", a), new_side(rt, "b", b));
     let outcome = run_lines(rt, &mut a, &mut b, script);
-    drop(a);
-    drop(b);
+    close(a);
+    close(b);
     outcome
+}
+
+fn let_go<S: Driven>(socket: Result<S, CallError>) {
+    match socket {
+        Ok(socket) => socket.let_go(),
+        Err(_) => {}
+    }
 }
 
 /// Runs the lines on the sockets, where both could be made.
@@ -49,6 +64,10 @@ pub fn converse<S: Driven>(
 ) -> anyhow::Result<()> {
     match (a, b) {
         (Ok(a), Ok(b)) => converse_as(rt, a, b, script),
-        _ => Ok(println!(rt; "no sockets")?),
+        (a, b) => {
+            let_go(a);
+            let_go(b);
+            Ok(println!(rt; "no sockets")?)
+        }
     }
 }

@@ -22,9 +22,17 @@ impl Model for Words {
     ghost view = { λ w. (w.next, w.stride) };
 }
 
-impl Words {
-    pub fn new(next: u32, stride: u32) -> Words {
-        Words { next, stride }
+/// A generator that is made of its first word, and of how much each is above the one before.
+pub trait Known: Rng {
+    fn known(first: u32, stride: u32) -> Self;
+}
+
+impl Known for Words {
+    fn known(first: u32, stride: u32) -> Words {
+        Words {
+            next: first,
+            stride,
+        }
     }
 }
 

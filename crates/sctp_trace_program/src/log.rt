@@ -2,7 +2,7 @@
 
 ghost use Rattle.std.specs.Prelude.{◌≡◌, ℕ, List, map, slice_get, IfOk};
 ghost use Rattle.sctp_network_table.specs.Judge.{End as LoggedEnd, Entry as LoggedEntry};
-ghost use Rattle.sctp_network.specs.WorldView.{end_tree, entry_tree};
+ghost use Rattle.sctp_network_side.specs.SideView.{end_tree, entry_tree};
 ghost use Rattle.sctp_trace_program.specs.Shown.{Packet, Giving, Other, lifeline, bytes_in, row_shows, row_time, entry_shows, entry_end, stamp, clock_of, with_clock, clocks_after, times_of};
 
 use crate::note::note_of;
@@ -12,7 +12,7 @@ use sctp_world::{End, Entry, Event, WorldError};
 use std::alloc::{AllocError, Global};
 
 /// What is asked of a world.
-pub trait Watched: Drop {
+pub trait Watched {
     /// Its log.
     ghost log_of: { Self → List LoggedEntry };
 
@@ -27,6 +27,8 @@ pub trait Watched: Drop {
     /// The packet of this number that the end sent; no bytes where there is none.
     fn bytes_of(&self, end: End, number: usize) -> &[u8]
         ensures { result.now ≡ bytes_in (slice_get (packets_of self.now (end_tree end)) number) };
+
+    fn let_go(self);
 }
 
 /// The clocks of both ends, in nanoseconds.

@@ -41,6 +41,10 @@ impl<R: Rng + Drop, C: Checksum + Drop> Watched for World<R, C> {
             None => &[],
         }
     }
+
+    fn let_go(self) {
+        self.let_go();
+    }
 }
 
 fn run(rt: &HostRuntime) -> Result<(), Fault> {

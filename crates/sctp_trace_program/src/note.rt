@@ -82,23 +82,39 @@ fn call_text(alloc: Global, call: &Call, answer: &Answer) -> Result<String, Allo
     }
 }
 
-fn event_text(alloc: Global, event: &SocketEvent) -> Result<String, AllocError> {
+fn event_name(event: &SocketEvent) -> &'static str {
     match event {
-        SocketEvent::SendPacket(_) => format!(in alloc; "packet"),
-        SocketEvent::OnConnected() => format!(in alloc; "connected"),
-        SocketEvent::OnClosed() => format!(in alloc; "closed"),
-        SocketEvent::OnConnectionRestarted() => format!(in alloc; "restarted"),
-        SocketEvent::OnAborted(_, text) => format!(in alloc; "aborted: {text}"),
-        SocketEvent::OnError(_, text) => format!(in alloc; "error: {text}"),
-        SocketEvent::OnBufferedAmountLow(id) => format!(in alloc; "buffered amount low s{id}"),
-        SocketEvent::OnTotalBufferedAmountLow() => format!(in alloc; "total buffered amount low"),
-        SocketEvent::OnStreamsResetFailed(_) => format!(in alloc; "streams reset failed"),
-        SocketEvent::OnStreamsResetPerformed(_) => format!(in alloc; "streams reset performed"),
-        SocketEvent::OnIncomingStreamReset(_) => format!(in alloc; "incoming stream reset"),
-        SocketEvent::OnLifecycleMessageFullySent(id) => format!(in alloc; "fully sent {id}"),
-        SocketEvent::OnLifecycleMessageMaybeExpired(id) => format!(in alloc; "maybe expired {id}"),
-        SocketEvent::OnLifecycleMessageExpired(id) => format!(in alloc; "expired {id}"),
-        SocketEvent::OnLifecycleMessageDelivered(id) => format!(in alloc; "delivered {id}"),
-        SocketEvent::OnLifecycleEnd(id) => format!(in alloc; "end of {id}"),
+        SocketEvent::SendPacket(_) => "packet",
+        SocketEvent::OnConnected() => "connected",
+        SocketEvent::OnClosed() => "closed",
+        SocketEvent::OnConnectionRestarted() => "restarted",
+        SocketEvent::OnAborted(_, _) => "aborted",
+        SocketEvent::OnError(_, _) => "error",
+        SocketEvent::OnBufferedAmountLow(_) => "buffered amount low",
+        SocketEvent::OnTotalBufferedAmountLow() => "total buffered amount low",
+        SocketEvent::OnStreamsResetFailed(_) => "streams reset failed",
+        SocketEvent::OnStreamsResetPerformed(_) => "streams reset performed",
+        SocketEvent::OnIncomingStreamReset(_) => "incoming stream reset",
+        SocketEvent::OnLifecycleMessageFullySent(_) => "fully sent",
+        SocketEvent::OnLifecycleMessageMaybeExpired(_) => "maybe expired",
+        SocketEvent::OnLifecycleMessageExpired(_) => "expired",
+        SocketEvent::OnLifecycleMessageDelivered(_) => "delivered",
+        SocketEvent::OnLifecycleEnd(_) => "end of",
+    }
+}
+
+fn event_text(alloc: Global, event: &SocketEvent) -> Result<String, AllocError> {
+    let name = event_name(event);
+    match event {
+        SocketEvent::OnAborted(_, text) | SocketEvent::OnError(_, text) => {
+            format!(in alloc; "{name}: {text}")
+        }
+        SocketEvent::OnBufferedAmountLow(id) => format!(in alloc; "{name} s{id}"),
+        SocketEvent::OnLifecycleMessageFullySent(id)
+        | SocketEvent::OnLifecycleMessageMaybeExpired(id)
+        | SocketEvent::OnLifecycleMessageExpired(id)
+        | SocketEvent::OnLifecycleMessageDelivered(id)
+        | SocketEvent::OnLifecycleEnd(id) => format!(in alloc; "{name} {id}"),
+        _ => String::from_str(alloc, name),
     }
 }

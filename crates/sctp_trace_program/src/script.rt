@@ -172,9 +172,14 @@ fn stop(rt: &HostRuntime, bytes: &[u8], format: Format, number: u64) -> Result<(
 /// Runs the commands of standard input on the world, and writes what was asked for.
 pub fn trace<W: Watched>(rt: &HostRuntime, world: W, format: Format) -> Result<(), Fault> {
     let mut world = world;
-    let stopped = run_input(rt, &mut world)?;
-    let bytes = draw(rt.alloc(), &world, format)?;
-    drop(world);
+    let outcome = trace_on(rt, &mut world, format);
+    world.let_go();
+    outcome
+}
+
+fn trace_on<W: Watched>(rt: &HostRuntime, world: &mut W, format: Format) -> Result<(), Fault> {
+    let stopped = run_input(rt, world)?;
+    let bytes = draw(rt.alloc(), world, format)?;
     match stopped {
         None => write_all(rt, &bytes),
         Some(number) => stop(rt, &bytes, format, number),

@@ -124,7 +124,7 @@ module _ (message : ℕ → Message) (lifecycle : ℕ → Option ℕ) where
   pub record GivesUp (mixed : Bool) (x : Transfer) (ms : ℕ → List Queued) (s : Items) (p : ℕ) (es : List Event) : Type 0 where
     pub may : Happens message mixed x es
     pub rest_stays : run message mixed x es ≡ record x { sender = (run message mixed x es).sender }
-    pub counts_stay : (run message mixed x es).sender.counts ≡ x.sender.counts
+    pub counts_stay : (run message mixed x es).sender.following ≡ x.sender.following
     pub accepted_stays : (run message mixed x es).sender.accepted ≡ x.sender.accepted
     pub kept : AreKept message lifecycle (run message mixed x es).sender x.acknowledged (abandon_message p s).kept
     pub messages : AreQueued message lifecycle (run message mixed x es).sender ms

@@ -28,3 +28,6 @@ module _ (message : ℕ → Message) (o : Sender) (out : Outgoing message o) whe
           let a = number_within n y.0 y.1 y.4 in
           let b = out.begun_below y.0 y.1 in
           omega (arith, a, b)
+
+  pub following_within : (kind : Bool) (s : ℕ) → o.following kind s ≤ o.accepted
+  following_within kind s = let f = out.following_counts kind s in let c = counts_within kind s in omega (arith, f, c)

@@ -124,7 +124,7 @@ module _ (message : ℕ → Message) (lifecycle : ℕ → Option ℕ) where
     pub queued : AreQueued message lifecycle after.sender (put ms id (fresh now front))
     pub items : AreKept message lifecycle after.sender after.acknowledged s.kept
     pub discards_are : AreDiscards after.sender (put ms id (fresh now front)) s.discards
-    pub counts_stay : after.sender.counts ≡ x.sender.counts
+    pub counts_stay : after.sender.following ≡ x.sender.following
     pub accepted_stays : after.sender.accepted ≡ x.sender.accepted
     pub told_of : recorded (dropped now front told) ≡ recorded told ++ places
 
@@ -150,7 +150,7 @@ module _ (message : ℕ → Message) (lifecycle : ℕ → Option ℕ) where
       Goal b = (after : Transfer) × (places : List ℕ) × Leads message mixed x after places × Kept message mixed after
           × AreQueued message lifecycle after.sender (put ms id (cond b (fresh now rest) (m ∷ rest))) × AreKept message lifecycle after.sender after.acknowledged s.kept
           × AreDiscards after.sender (put ms id (cond b (fresh now rest) (m ∷ rest))) s.discards
-          × (after.sender.counts ≡ x.sender.counts) × (after.sender.accepted ≡ x.sender.accepted)
+          × (after.sender.following ≡ x.sender.following) × (after.sender.accepted ≡ x.sender.accepted)
           × (recorded (cond b (dropped now rest (tell_all (expiry m.lifecycle) (events.give_up m.number Lifetime told))) told) ≡ recorded told ++ places)
 
       done : (b : Bool) → is_stale now m ≡ b → Goal b → Freshened mixed x s ms now id (m ∷ rest) told

@@ -21,10 +21,10 @@ module _ (message : ℕ → Message) (lifecycle : ℕ → Option ℕ) where
 
   -- ---- the sender goes on
 
-  tree_moves : (o o' : Sender) (f : Fragment) → o'.number f.place ≡ o.number f.place → tree_of message o f ≡ tree_of message o' f
-  tree_moves o o' f e = ap (λ n. tree_of message (record o { number = λ q. n }) f) (sym e)
+  tree_moves : (o o' : Sender) (f : Fragment) → o'.written f.place ≡ o.written f.place → tree_of message o f ≡ tree_of message o' f
+  tree_moves o o' f e = ap (λ n. tree_of message (record o { written = λ q. n }) f) (sym e)
 
-  pub stands_moves : (o o' : Sender) (f : Fragment) (i : Item) → o'.number f.place ≡ o.number f.place → o'.given_up f.place ≡ o.given_up f.place
+  pub stands_moves : (o o' : Sender) (f : Fragment) (i : Item) → o'.written f.place ≡ o.written f.place → o'.given_up f.place ≡ o.given_up f.place
       → StandsFor message lifecycle o f i → StandsFor message lifecycle o' f i
   stands_moves o o' f i n g a = record {
     place = a.place;
@@ -37,7 +37,7 @@ module _ (message : ℕ → Message) (lifecycle : ℕ → Option ℕ) where
   -- what is numbered stays as it is
   pub record Stays (o o' : Sender) : Type 0 where
     pub same : (t : ℕ) → t < count o → fragment o' t ≡ fragment o t
-    pub number : (t : ℕ) → t < count o → o'.number (place_of o t) ≡ o.number (place_of o t)
+    pub number : (t : ℕ) → t < count o → o'.written (place_of o t) ≡ o.written (place_of o t)
     pub given_up : (t : ℕ) → t < count o → o'.given_up (place_of o t) ≡ o.given_up (place_of o t)
 
   stands_on : (o o' : Sender) (t : ℕ) (i : Item) → Stays o o' → t < count o → StandsFor message lifecycle o (fragment o t) i → StandsFor message lifecycle o' (fragment o' t) i

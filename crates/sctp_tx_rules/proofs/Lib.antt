@@ -6,6 +6,7 @@ pub mod ItemsLemmas
 pub mod LedLemmas
 pub mod LossLemmas
 pub mod NumberLemmas
+pub mod ResetLemmas
 pub mod PointLemmas
 pub mod ProduceLemmas
 pub mod QueuedLemmas

@@ -53,7 +53,7 @@ module _ (message : ℕ → Message) (lifecycle : ℕ → Option ℕ) where
       subst (λ n. StandsFor message lifecycle o (fragment o n) i) at (kept_at o (suc t) k is i e a.1)
 
   -- the queue stays, and so do the counts
-  pub queue_stays : (mixed : Bool) (o o' : Sender) (q : Queue) → o'.counts ≡ o.counts → o'.accepted ≡ o.accepted → AreQueued message lifecycle o' (messages_of q)
+  pub queue_stays : (mixed : Bool) (o o' : Sender) (q : Queue) → o'.following ≡ o.following → o'.accepted ≡ o.accepted → AreQueued message lifecycle o' (messages_of q)
       → QueueShows message lifecycle mixed o q → QueueShows message lifecycle mixed o' q
   queue_stays mixed o o' q counts accepted messages h = record {
     mode = h.mode;

@@ -50,8 +50,8 @@ some_bytes offset size payload some rest =
 
 module _ (message : ℕ → Message) (lifecycle : ℕ → Option ℕ) (o : Sender) (ms : ℕ → List Queued) (a : AreQueued message lifecycle o ms)
     (id : ℕ) (m : Queued) (rest : List Queued) (h : ms id ≡ m ∷ rest) (none : found m.number rest ≡ None) (live : o.given_up m.number ≡ false) (size : ℕ) (some : 0 < size)
-    (begun partly : ℕ → Bool) (number : ℕ → ℕ) (counts : Bool → ℕ → ℕ)
-    (number_off : (r : ℕ) → r ≢ m.number → number r ≡ o.number r) (number_begun : (t : ℕ) → t < count o → number (place_of o t) ≡ o.number (place_of o t))
+    (begun partly : ℕ → Bool) (number written : ℕ → ℕ) (counts following : Bool → ℕ → ℕ)
+    (number_off : (r : ℕ) → r ≢ m.number → written r ≡ o.written r) (number_begun : (t : ℕ) → t < count o → written (place_of o t) ≡ o.written (place_of o t))
     (n : MessageNumbers) where
   abbrev p : ℕ
   p = m.number
@@ -64,7 +64,7 @@ module _ (message : ℕ → Message) (lifecycle : ℕ → Option ℕ) (o : Sende
 
   -- the sender before its fragment is numbered, and after
   abbrev pub o1 : Sender
-  o1 = record o { begun = begun; partly = partly; number = number; counts = counts }
+  o1 = record o { begun = begun; partly = partly; number = number; counts = counts; written = written; following = following }
 
   abbrev pub o' : Sender
   o' = numbers o1 (part o1 p bytes more)

@@ -1,8 +1,8 @@
 -- A forward point of the items may be sent.
 use Rattle.std.proofs.Common.{◌≡◌, ℕ, suc, ◌+◌, ◌-◌, ◌<◌, ◌≤◌, Bool, true, false, not, cond, inl, inr, ◌⊎◌, Option, Some, None, List, [], ◌∷◌, map, refl, sym, ap, ◌∙◌, subst, arith, eqb, leb}
 use Rattle.std.specs.Prelude.{◌==◌, ◌&&◌, ◌||◌, nat_lt, nat_le}
-use Rattle.std.specs.List.{list_all}
-use Rattle.std.proofs.lemmas.Bool.{cases_eq, eq-eqb, eqb-true, or_cases, or_left, or_right, and_parts, and_from, leb-true, le-leb, false_from_ne_true}
+use Rattle.std.specs.List.{list_all, list_any}
+use Rattle.std.proofs.lemmas.Bool.{cases_eq, cases_lt, lt-ltb, eq-eqb, eqb-true, or_cases, or_left, or_right, and_parts, and_from, leb-true, le-leb, false_from_ne_true}
 use Rattle.std.proofs.lemmas.Bool.Decides.{nat_tests}
 use Rattle.sctp_serial.specs.Unwrapped.{origin, words, halves, wire}
 use Rattle.sctp_packet.specs.Chunk.{FragmentTree}
@@ -21,7 +21,7 @@ use Rattle.sctp_packet.specs.Chunk.{forward_tsn_chunk, i_forward_tsn_chunk}
 use Rattle.sctp_tx.specs.Retransmission as sending
 use Rattle.sctp_tx.specs.ForwardPoints.{most_of, chunk_if, forward_chunk}
 use Rattle.sctp_rules.specs.State.{Message, Entry, ForwardPoint, Sender, Transfer, IsAmong, fragment, place_of, count, stream_of, ordered_of}
-use Rattle.sctp_rules.specs.Rules.{same, covers}
+use Rattle.sctp_rules.specs.Rules.{same, covers, AreWritten}
 use Rattle.sctp_rules.specs.Kept.{Outgoing, Kept}
 use Rattle.sctp_rules.proofs.ToolsLemmas.{same_is, same_self, not_both}
 use Rattle.sctp_tx_rules.specs.Shown.{StandsFor, AreKept, Shows}
@@ -147,6 +147,9 @@ module _ (message : ℕ → Message) (lifecycle : ℕ → Option ℕ) (mixed : B
   abbrev nr : ℕ → ℕ
   nr t = o.number (place_of o t)
 
+  abbrev wr : ℕ → ℕ
+  wr t = o.written (place_of o t)
+
   -- on a stream, numbers of a kind do not fall
   mono : (u n : ℕ) → u < n → n < count o → st u ≡ st n → od u ≡ od n → nr u ≤ nr n
   mono u n l h s k =
@@ -163,9 +166,10 @@ module _ (message : ℕ → Message) (lifecycle : ℕ → Option ℕ) (mixed : B
     touched : (u : ℕ) → left ≤ u → u < n → (od u || mixed) ≡ true → covers es (od u) (st u) (nr u) ≡ true
     sound : (k : Bool) (s m : ℕ) → covers es k s m ≡ true → (u : ℕ) × (left ≤ u) × (u < n) × (od u ≡ k) × (st u ≡ s) × (m ≤ nr u)
     only : mixed ≡ false → (s m : ℕ) → covers es false s m ≡ false
+    as_written : AreWritten message mixed o left n es
 
   abbrev entry_at : ℕ → Entry
-  entry_at t = record { ordered = od t; stream = st t; number = nr t }
+  entry_at t = record { ordered = od t; stream = st t; number = nr t; written = wr t }
 
   -- what the item says
   entry_is : (t : ℕ) (i : Item) → StandsFor message lifecycle o (fragment o t) i → entry_of mixed i ≡ cond (mixed || od t) (Some (skip_of mixed (entry_at t))) None
@@ -176,13 +180,29 @@ module _ (message : ℕ → Message) (lifecycle : ℕ → Option ℕ) (mixed : B
           cond (mixed || not f.is_unordered) (Some (record { stream_id = record { 0 = f.stream_id }; is_unordered = f.is_unordered; number = cond mixed f.mid f.ssn })) None
 
       go : (m b : Bool) → od t ≡ b
-          → cond (m || not (not (od t))) (Some (record { stream_id = record { 0 = st t }; is_unordered = not (od t); number = cond m (wire words 0 (origin + nr t)) (wire halves 0 (cond (od t) (origin + nr t) origin)) })) None
+          → cond (m || not (not (od t))) (Some (record { stream_id = record { 0 = st t }; is_unordered = not (od t); number = cond m (wire words 0 (origin + wr t)) (wire halves 0 (cond (od t) (origin + wr t) origin)) })) None
           ≡ cond (m || od t) (Some (skip_of m (entry_at t))) None
       go true b e = refl
-      go false true e = ap (λ c. cond (not (not c)) (Some (record { stream_id = record { 0 = st t }; is_unordered = not c; number = wire halves 0 (cond c (origin + nr t) origin) })) None) e
-          ∙ sym (ap (λ c. cond c (Some (record { stream_id = record { 0 = st t }; is_unordered = not c; number = wire halves 0 (origin + nr t) })) None) e)
-      go false false e = ap (λ c. cond (not (not c)) (Some (record { stream_id = record { 0 = st t }; is_unordered = not c; number = wire halves 0 (cond c (origin + nr t) origin) })) None) e
-          ∙ sym (ap (λ c. cond c (Some (record { stream_id = record { 0 = st t }; is_unordered = not c; number = wire halves 0 (origin + nr t) })) None) e)
+      go false true e = ap (λ c. cond (not (not c)) (Some (record { stream_id = record { 0 = st t }; is_unordered = not c; number = wire halves 0 (cond c (origin + wr t) origin) })) None) e
+          ∙ sym (ap (λ c. cond c (Some (record { stream_id = record { 0 = st t }; is_unordered = not c; number = wire halves 0 (origin + wr t) })) None) e)
+      go false false e = ap (λ c. cond (not (not c)) (Some (record { stream_id = record { 0 = st t }; is_unordered = not c; number = wire halves 0 (cond c (origin + wr t) origin) })) None) e
+          ∙ sym (ap (λ c. cond c (Some (record { stream_id = record { 0 = st t }; is_unordered = not c; number = wire halves 0 (origin + wr t) })) None) e)
+
+  -- entries are written as the messages that they stand for
+  written_on : (n : ℕ) (es : List Entry) → AreWritten message mixed o left n es → AreWritten message mixed o left (suc n) es
+  written_on n [] h = tt
+  written_on n (e ∷ es) h = let z = h.0 in let l = z.2 in ((z.0, z.1, omega (arith, l), z.3, z.4, z.5, z.6), written_on n es h.1)
+
+  written_entered : (n : ℕ) → left ≤ n → (es : List Entry) → AreWritten message mixed o left n es → AreWritten message mixed o left (suc n) (entered mixed (entry_at n) es)
+  written_entered n from [] h = ((n, from, omega arith, refl, refl, refl, refl), tt)
+  written_entered n from (d ∷ es) h =
+      go (is_before (skip_of mixed d) (skip_of mixed (entry_at n))) (is_alike (skip_of mixed (entry_at n)) (skip_of mixed d)) (written_on n (d ∷ es) h) (written_entered n from es h.1)
+    where
+      go : (a b : Bool) → AreWritten message mixed o left (suc n) (d ∷ es) → AreWritten message mixed o left (suc n) (entered mixed (entry_at n) es)
+          → AreWritten message mixed o left (suc n) (cond a (d ∷ entered mixed (entry_at n) es) (cond b (entry_at n ∷ es) (entry_at n ∷ d ∷ es)))
+      go true b old ih = (old.0, ih)
+      go false true old ih = ((n, from, omega arith, refl, refl, refl, refl), old.1)
+      go false false old ih = ((n, from, omega arith, refl, refl, refl, refl), old)
 
   -- one more is passed
   step : (n : ℕ) (es : List Entry) → n < count o → o.given_up (place_of o n) ≡ true → Passing n es → Passing (suc n) (cond (mixed || od n) (entered mixed (entry_at n) es) es)
@@ -229,6 +249,7 @@ module _ (message : ℕ → Message) (lifecycle : ℕ → Option ℕ) (mixed : B
         touched = λ u lo hi k. elim (cases_eq u n) [ inl c ↦ absurd (not_both (or_true (od n) mixed (ap (λ z. od z || mixed) (sym c) ∙ k)) e) | inr d ↦ p.touched u lo (omega (arith, hi, d)) k ];
         sound = λ k s m c. let r = p.sound k s m c in let lt = r.2 in (r.0, r.1, omega (arith, lt), r.3, r.4, r.5);
         only = p.only;
+        as_written = written_on n es p.as_written;
       }
       go true e = record {
         from = let f = p.from in omega (arith, f);
@@ -249,6 +270,7 @@ module _ (message : ℕ → Message) (lifecycle : ℕ → Option ℕ) (mixed : B
               | inl x ↦ let ab = and_parts (same y.ordered false) (eqb y.stream s && leb m y.number) x in not_both (ordered_here plain e) (same_is y.ordered false ab.0)
               | inr x ↦ not_both x (p.only plain s m)
             ]);
+        as_written = written_entered n p.from es p.as_written;
       }
 
   -- the walk from here on
@@ -324,6 +346,7 @@ module _ (message : ℕ → Message) (lifecycle : ℕ → Option ℕ) (mixed : B
         touched = λ u lo hi e. absurd (omega (arith, lo, hi));
         sound = λ k s m c. absurd (cc);
         only = λ plain s m. refl;
+        as_written = tt;
       }) refl
 
   abbrev point : ForwardPoint
@@ -339,6 +362,36 @@ module _ (message : ℕ → Message) (lifecycle : ℕ → Option ℕ) (mixed : B
       by true e = λ i. i_forward_tsn_chunk (wire words s.outstanding.first (last i)) (map mid_skip (e i))
       by false e = λ i. forward_tsn_chunk (wire words s.outstanding.first (last i)) (map ssn_skip (e i))
 
+  -- a breakpoint that is passed would have stopped it
+  no_break : (b n : ℕ) → IsAmong b items.breaks → b ≡ items.acked + 1 + n → 0 < n → n < (forward_point most items).count → ⊥
+  no_break b n m e some l = not_both (stops_at items.breaks m) ((points-are-sound most items).unbroken n l)
+    where
+      any_of : (bs : List ℕ) → IsAmong b bs → list_any (λ c. c == items.acked + 1 + n) bs ≡ true
+      any_of [] a = absurd a
+      any_of (c ∷ bs) a =
+          elim a [
+            | inl f ↦ or_left (eqb c (items.acked + 1 + n)) (list_any (λ c. c == items.acked + 1 + n) bs) (eq-eqb c (items.acked + 1 + n) (sym f ∙ e))
+            | inr r ↦ or_right (eqb c (items.acked + 1 + n)) (list_any (λ c. c == items.acked + 1 + n) bs) (any_of bs r)
+          ]
+
+      stops_at : (bs : List ℕ) → IsAmong b bs → (nat_lt 0 n && list_any (λ c. c == items.acked + 1 + n) bs) ≡ true
+      stops_at bs a = and_from (nat_lt 0 n) (list_any (λ c. c == items.acked + 1 + n) bs) (lt-ltb 0 n some) (any_of bs a)
+
+  ends_at : (b : ℕ) → IsAmong b items.breaks → (origin + point.upto ≤ b) ⊎ (b ≤ origin + x.acknowledged)
+  ends_at b m =
+      let a = sh.items.point in
+      let c = way.count_is in
+      elim (cases_lt b (origin + point.upto)) [
+        | inr g ↦ inl g
+        | inl l ↦
+            elim (cases_lt (origin + x.acknowledged) b) [
+              | inr g ↦ inr g
+              | inl g ↦
+                  let n : ℕ = b - (origin + x.acknowledged) in
+                  absurd (no_break b n m (omega (arith, a, g)) (omega (arith, g)) (omega (arith, g, l, c)))
+            ]
+      ]
+
   pub point_row : is_forward_due items ≡ true → 16 ≤ most → IsSendable message mixed x s
   point_row due room =
       let c = way.count_is in
@@ -346,8 +399,9 @@ module _ (message : ℕ → Message) (lifecycle : ℕ → Option ℕ) (mixed : B
       let some = (points-are-sound most items).ahead due room in
       record {
         point = point;
-        allowed = record { ahead = omega (arith, c, some); within = way.within; all_given = p.given; touched = p.touched; sound = p.sound; only_ordered = p.only };
+        allowed = record { ahead = omega (arith, c, some); within = way.within; all_given = p.given; touched = p.touched; sound = p.sound; only_ordered = p.only; as_written = p.as_written };
         upto = omega (arith, c);
         chunk = written_point;
         apart = ascend_apart mixed way.entries (subst (λ z. Ascend z) (sym way.written) (point-ascends most items items.kept));
+        ends = ends_at;
       }

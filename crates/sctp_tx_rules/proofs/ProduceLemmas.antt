@@ -92,7 +92,7 @@ counted_is n c e l = mod-eq_of_lt (omega (arith, e, l)) ∙ (omega (arith, e))
 module _ (message : ℕ → Message) where
   -- the stream of a message that takes its numbers
   pub took_next : (o : Sender) (id : ℕ) (m : Queued) (t : Stream) → m.numbers ≡ None → m.is_unordered ≡ not (ordered_of message m.number) → stream_of message m.number ≡ id
-      → ((kind : Bool) → o.counts kind id < 2 ^ 32) → IsNext o id t → IsNext (begins message o m.number) id (took m t)
+      → ((kind : Bool) → o.following kind id < 2 ^ 32) → IsNext o id t → IsNext (begins message o m.number) id (took m t)
   took_next o id m t none kind on few h = go (ordered_of message m.number) refl
     where
       o1 : Sender
@@ -107,12 +107,12 @@ module _ (message : ℕ → Message) where
       took_is : took m t ≡ taken (not (ordered_of message m.number))
       took_is = ap (λ (o : Option MessageNumbers). cond (is_some o) t (taken m.is_unordered)) none ∙ ap taken kind
 
-      count_is : (kind b : Bool) → ordered_of message m.number ≡ b → o1.counts kind id ≡ cond (same b kind) (suc (o.counts kind id)) (o.counts kind id)
+      count_is : (kind b : Bool) → ordered_of message m.number ≡ b → o1.following kind id ≡ cond (same b kind) (suc (o.following kind id)) (o.following kind id)
       count_is kind b e =
-          ap (λ z. cond (same (ordered_of message m.number) kind && z) (suc (o.counts kind id)) (o.counts kind id)) same_id
-          ∙ (ap (λ z. cond (same z kind && true) (suc (o.counts kind id)) (o.counts kind id)) e ∙ by (same b kind))
+          ap (λ z. cond (same (ordered_of message m.number) kind && z) (suc (o.following kind id)) (o.following kind id)) same_id
+          ∙ (ap (λ z. cond (same z kind && true) (suc (o.following kind id)) (o.following kind id)) e ∙ by (same b kind))
         where
-          by : (c : Bool) → cond (c && true) (suc (o.counts kind id)) (o.counts kind id) ≡ cond c (suc (o.counts kind id)) (o.counts kind id)
+          by : (c : Bool) → cond (c && true) (suc (o.following kind id)) (o.following kind id) ≡ cond c (suc (o.following kind id)) (o.following kind id)
           by true = refl
           by false = refl
 
@@ -120,8 +120,8 @@ module _ (message : ℕ → Message) where
       go true e =
           let is : took m t ≡ taken false = took_is ∙ ap (λ z. taken (not z)) e in
           subst (λ (z : Stream). IsNext o1 id z) (sym is) (record {
-            ssn = counted_is t.next_ssn (o.counts true id) h.ssn (few true) ∙ ap (λ z. origin + z) (sym (count_is true true e));
-            ordered_mid = counted_is t.next_ordered_mid (o.counts true id) h.ordered_mid (few true) ∙ ap (λ z. origin + z) (sym (count_is true true e));
+            ssn = counted_is t.next_ssn (o.following true id) h.ssn (few true) ∙ ap (λ z. origin + z) (sym (count_is true true e));
+            ordered_mid = counted_is t.next_ordered_mid (o.following true id) h.ordered_mid (few true) ∙ ap (λ z. origin + z) (sym (count_is true true e));
             unordered_mid = h.unordered_mid ∙ ap (λ z. origin + z) (sym (count_is false true e));
           })
       go false e =
@@ -129,7 +129,7 @@ module _ (message : ℕ → Message) where
           subst (λ (z : Stream). IsNext o1 id z) (sym is) (record {
             ssn = h.ssn ∙ ap (λ z. origin + z) (sym (count_is true false e));
             ordered_mid = h.ordered_mid ∙ ap (λ z. origin + z) (sym (count_is true false e));
-            unordered_mid = counted_is t.next_unordered_mid (o.counts false id) h.unordered_mid (few false) ∙ ap (λ z. origin + z) (sym (count_is false false e));
+            unordered_mid = counted_is t.next_unordered_mid (o.following false id) h.unordered_mid (few false) ∙ ap (λ z. origin + z) (sym (count_is false false e));
           })
 
   -- the numbers that it takes
@@ -141,8 +141,8 @@ module _ (message : ℕ → Message) where
       fresh_numbers : Bool → MessageNumbers
       fresh_numbers u = record { ssn = cond u origin t.next_ssn; mid = cond u t.next_unordered_mid t.next_ordered_mid }
 
-      number_is : (b : Bool) → ordered_of message m.number ≡ b → (begins message o m.number).number m.number ≡ o.counts b id
-      number_is b e = put_at o.number m.number (o.counts (ordered_of message m.number) (stream_of message m.number)) m.number refl ∙ (ap (λ z. o.counts z (stream_of message m.number)) e ∙ ap (o.counts b) on)
+      number_is : (b : Bool) → ordered_of message m.number ≡ b → (begins message o m.number).written m.number ≡ o.following b id
+      number_is b e = put_at o.written m.number (o.following (ordered_of message m.number) (stream_of message m.number)) m.number refl ∙ (ap (λ z. o.following z (stream_of message m.number)) e ∙ ap (o.following b) on)
 
       at_number : Bool → ℕ → MessageNumbers
       at_number b n = record { ssn = cond b (origin + n) origin; mid = origin + n }
@@ -150,8 +150,8 @@ module _ (message : ℕ → Message) where
       go : (b : Bool) → ordered_of message m.number ≡ b → fresh_numbers (not (ordered_of message m.number)) ≡ numbers_at message (begins message o m.number) m.number
       go b e =
           ap (λ z. fresh_numbers (not z)) e
-          ∙ (by b ∙ (sym (ap (λ n. at_number b n) (number_is b e)) ∙ sym (ap (λ z. at_number z ((begins message o m.number).number m.number)) e)))
+          ∙ (by b ∙ (sym (ap (λ n. at_number b n) (number_is b e)) ∙ sym (ap (λ z. at_number z ((begins message o m.number).written m.number)) e)))
         where
-          by : (b : Bool) → fresh_numbers (not b) ≡ at_number b (o.counts b id)
+          by : (b : Bool) → fresh_numbers (not b) ≡ at_number b (o.following b id)
           by true = λ i. record { ssn = h.ssn i; mid = h.ordered_mid i }
           by false = λ i. record { ssn = origin; mid = h.unordered_mid i }

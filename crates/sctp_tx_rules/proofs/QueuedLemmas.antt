@@ -14,7 +14,7 @@ use Rattle.sctp_tx_rules.proofs.FoundLemmas.{funext, none_some, one_value}
 
 -- what the rules say of another place
 pub record Frame (o o' : Sender) (r : ℕ) : Type 0 where
-  pub number : o'.number r ≡ o.number r
+  pub number : o'.written r ≡ o.written r
   pub given_up : o'.given_up r ≡ o.given_up r
   pub parts_are : parts r o'.numbered ≡ parts r o.numbered
 
@@ -68,7 +68,7 @@ module _ (message : ℕ → Message) (lifecycle : ℕ → Option ℕ) where
       }
     where
       with_number : ℕ → MessageNumbers
-      with_number n = numbers_at message (record o { number = λ q. n }) r
+      with_number n = numbers_at message (record o { written = λ q. n }) r
 
   -- a message of place p changes, or leaves, and nothing else
   module _ (o o' : Sender) (ms ms' : ℕ → List Queued) (p : ℕ) (elsewhere : (k r : ℕ) → r ≢ p → found r (ms' k) ≡ found r (ms k))

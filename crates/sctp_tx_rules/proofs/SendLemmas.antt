@@ -52,7 +52,7 @@ module _ (message : ℕ → Message) (mixed : Bool) (first : ℕ) where
         tsn = a.tsn;
         tree =
             a.tree
-            ∙ (ap (λ (m : ℕ). tree_of message (record o { number = λ q. m }) (fragment o a.at)) (sym (n.number_stays (place_of o a.at) (k.outgoing.place_begun a.at a.below)))
+            ∙ (ap (λ (m : ℕ). tree_of message (record o { written = λ q. m }) (fragment o a.at)) (sym (n.written_stays (place_of o a.at) (k.outgoing.place_begun a.at a.below)))
             ∙ ap (λ (f : rules.Fragment). tree_of message o' f) (sym same));
       } in
       (b, refl)

@@ -25,7 +25,7 @@ use Rattle.sctp_rules.proofs.SenderRowLemmas as sends
 use Rattle.sctp_tx_rules.specs.Shown.{found, messages_of, waiting_of, queue_of, numbers_at, IsEntry, IsNext, AreQueued, AreDiscards, QueueShows, Shows}
 use Rattle.sctp_tx_rules.specs.Led.{is_sending, given_ups, recorded, LeadsTo}
 use Rattle.sctp_tx_rules.specs.Rows.{with_made}
-use Rattle.sctp_tx_rules.proofs.CountLemmas.{counts_within}
+use Rattle.sctp_tx_rules.proofs.CountLemmas.{following_within}
 use Rattle.sctp_tx_rules.proofs.FoundLemmas.{funext, once, first_least}
 use Rattle.sctp_tx_rules.proofs.QueuedLemmas.{IsQueued, queue_some, queue_lacks, queued_is}
 use Rattle.sctp_tx_rules.proofs.LedLemmas.{leads_on, led_on}
@@ -216,10 +216,10 @@ module _ {P : Type 0} (message : ℕ → Message) (lifecycle : ℕ → Option �
     split : drop m.offset m.payload ≡ bytes ++ more
     split = sym (take-append-drop size (drop m.offset m.payload))
 
-    module _ (begun partly : ℕ → Bool) (number : ℕ → ℕ) (counts : Bool → ℕ → ℕ) (z : Transfer) (events : List Event)
-        (number_off : (r : ℕ) → r ≢ p → number r ≡ y.sender.number r) (number_begun : (u : ℕ) → u < count y.sender → number (place_of y.sender u) ≡ y.sender.number (place_of y.sender u)) where
+    module _ (begun partly : ℕ → Bool) (number written : ℕ → ℕ) (counts following : Bool → ℕ → ℕ) (z : Transfer) (events : List Event)
+        (number_off : (r : ℕ) → r ≢ p → written r ≡ y.sender.written r) (number_begun : (u : ℕ) → u < count y.sender → written (place_of y.sender u) ≡ y.sender.written (place_of y.sender u)) where
       abbrev o1 : Sender
-      o1 = record y.sender { begun = begun; partly = partly; number = number; counts = counts }
+      o1 = record y.sender { begun = begun; partly = partly; number = number; counts = counts; written = written; following = following }
 
       abbrev o' : Sender
       o' = numbers o1 (part o1 p bytes more)
@@ -230,7 +230,7 @@ module _ {P : Type 0} (message : ℕ → Message) (lifecycle : ℕ → Option �
       finish r run_is quiet sending_all named next_here next_off =
           let z1 : Transfer = record y { sender = o' } in
           let new_queue = subst (λ (w : Transfer). sending.Queued message w.sender (put (queue_of message y.sender ms1) p (cond (is_empty more) None (Some (record { begun = true; rest = more }))))) run_is r.queued in
-          let b = rows.numbered message lifecycle y.sender ms1 a id m rest here (once 0 q.next_number m rest rising) live size some begun partly number counts number_off number_begun n named new_queue now y.acknowledged s f.items f.discards_are in
+          let b = rows.numbered message lifecycle y.sender ms1 a id m rest here (once 0 q.next_number m rest rising) live size some begun partly number written counts following number_off number_begun n named new_queue now y.acknowledged s f.items f.discards_are in
           record {
             after = z1;
             places = f.places ++ [];
@@ -249,7 +249,7 @@ module _ {P : Type 0} (message : ℕ → Message) (lifecycle : ℕ → Option �
     goes_on was has =
         let r = sends.next_fragment message mixed y f.kept_is (queue_of message y.sender ms1) a.queued p (waiting_of m) bytes more queued_here (ap is_some has) split in
         let same : n ≡ was = ap (λ (o : Option MessageNumbers). unwrap_or o fresh_numbers) has in
-        finish y.sender.begun y.sender.partly y.sender.number y.sender.counts y (number p bytes more ∷ []) (λ r d. refl) (λ u l. refl) r refl refl with_bytes (same ∙ entry.numbers live was has)
+        finish y.sender.begun y.sender.partly y.sender.number y.sender.written y.sender.counts y.sender.following y (number p bytes more ∷ []) (λ r d. refl) (λ u l. refl) r refl refl with_bytes (same ∙ entry.numbers live was has)
         (let nx = next_y id in record { ssn = ap (λ (o : Option MessageNumbers). (with_numbers o).next_ssn) has ∙ nx.ssn; ordered_mid = ap (λ (o : Option MessageNumbers). (with_numbers o).next_ordered_mid) has ∙ nx.ordered_mid; unordered_mid = ap (λ (o : Option MessageNumbers). (with_numbers o).next_unordered_mid) has ∙ nx.unordered_mid })
         (λ j d. let nx = next_y j in record { ssn = nx.ssn; ordered_mid = nx.ordered_mid; unordered_mid = nx.unordered_mid })
       where
@@ -293,9 +293,9 @@ module _ {P : Type 0} (message : ℕ → Message) (lifecycle : ℕ → Option �
         let b : Sender = begins message o p in
         let r = sends.first_fragment message mixed y f.kept_is (queue_of message o ms1) a.queued p (waiting_of m) bytes more queued_here (ap is_some none) split none_before (none_begun none) in
         let waits = a.queued.waits p (waiting_of m) queued_here (ap is_some none) in
-        let few : ((kind : Bool) → o.counts kind id < 2 ^ 32) = (λ kind. let c = counts_within message o f.kept_is.outgoing kind id in let l = sh.queue.few in let same = f.accepted_stays in omega (arith, c, l, same)) in
-        finish b.begun b.partly b.number b.counts y (begin p ∷ number p bytes more ∷ [])
-        (λ r d. put_off o.number p _ r d) (λ u l. put_off o.number p _ (place_of o u) (λ c. not_both (sym (ap o.begun c) ∙ f.kept_is.outgoing.place_begun u l) waits.not_begun)) r refl refl with_bytes
+        let few : ((kind : Bool) → o.following kind id < 2 ^ 32) = (λ kind. let c = following_within message o f.kept_is.outgoing kind id in let l = sh.queue.few in let same = f.accepted_stays in omega (arith, c, l, same)) in
+        finish b.begun b.partly b.number b.written b.counts b.following y (begin p ∷ number p bytes more ∷ [])
+        (λ r d. put_off o.written p _ r d) (λ u l. put_off o.written p _ (place_of o u) (λ c. not_both (sym (ap o.begun c) ∙ f.kept_is.outgoing.place_begun u l) waits.not_begun)) r refl refl with_bytes
         (took_numbers message o id m t none entry.kind entry.on_stream (let nx = next_y id in record { ssn = nx.ssn; ordered_mid = nx.ordered_mid; unordered_mid = nx.unordered_mid }))
         (let nx = took_next message o id m t none entry.kind entry.on_stream few (let nx = next_y id in record { ssn = nx.ssn; ordered_mid = nx.ordered_mid; unordered_mid = nx.unordered_mid }) in
         record { ssn = nx.ssn; ordered_mid = nx.ordered_mid; unordered_mid = nx.unordered_mid })
@@ -304,13 +304,13 @@ module _ {P : Type 0} (message : ℕ → Message) (lifecycle : ℕ → Option �
         let same = (λ (kind : Bool). other_count kind j d) in
         record { ssn = nx.ssn ∙ ap (λ c. origin + c) (sym (same true)); ordered_mid = nx.ordered_mid ∙ ap (λ c. origin + c) (sym (same true)); unordered_mid = nx.unordered_mid ∙ ap (λ c. origin + c) (sym (same false)) })
       where
-        other_count : (kind : Bool) (j : ℕ) → j ≢ id → (begins message y.sender p).counts kind j ≡ y.sender.counts kind j
+        other_count : (kind : Bool) (j : ℕ) → j ≢ id → (begins message y.sender p).following kind j ≡ y.sender.following kind j
         other_count kind j d =
             let off : (j == stream_of message p) ≡ false = is_other j (stream_of message p) (λ c. d (c ∙ entry.on_stream)) in
-            ap (λ w. cond (same (ordered_of message p) kind && w) (suc (y.sender.counts kind j)) (y.sender.counts kind j)) off
+            ap (λ w. cond (same (ordered_of message p) kind && w) (suc (y.sender.following kind j)) (y.sender.following kind j)) off
             ∙ by (same (ordered_of message p) kind)
           where
-            by : (c : Bool) → cond (c && false) (suc (y.sender.counts kind j)) (y.sender.counts kind j) ≡ y.sender.counts kind j
+            by : (c : Bool) → cond (c && false) (suc (y.sender.following kind j)) (y.sender.following kind j) ≡ y.sender.following kind j
             by true = refl
             by false = refl
 

@@ -1,12 +1,12 @@
 -- A forward point of the items, as the rules have it (RFC 3758 section 3.5, RFC 8260 section 2.3).
-use Rattle.std.specs.Prelude.{◌≡◌, ℕ, ◌+◌, ◌-◌, not, Bool, true, false, if◌then◌else◌, map}
+use Rattle.std.specs.Prelude.{◌≡◌, ℕ, ◌+◌, ◌-◌, ◌≤◌, ◌⊎◌, not, Bool, true, false, if◌then◌else◌, map}
 use Rattle.sctp_serial.specs.Unwrapped.{origin, words, halves, wire}
 use Rattle.sctp_packet.specs.Chunk.{ChunkTree, forward_tsn_chunk, i_forward_tsn_chunk}
 use Rattle.sctp_outstanding.specs.declared.skips.SkipEntry.{SkipEntry}
 use Rattle.sctp_outstanding.specs.Entries.{ssn_skip, mid_skip}
 use Rattle.sctp_tx.specs.Retransmission.{Sender}
 use Rattle.sctp_tx.specs.ForwardPoints.{point_of, forward_chunk}
-use Rattle.sctp_rules.specs.State.{Message, Entry, ForwardPoint, Transfer}
+use Rattle.sctp_rules.specs.State.{Message, Entry, ForwardPoint, Transfer, IsAmong}
 use Rattle.sctp_rules.specs.Rules.{IsAllowed, send_forward}
 use Rattle.sctp_rules.specs.Points.{AreApart}
 
@@ -15,7 +15,7 @@ abbrev pub skip_of : (mixed : Bool) → Entry → SkipEntry
 skip_of mixed e = record {
   stream_id = record { 0 = e.stream };
   is_unordered = not e.ordered;
-  number = if mixed then wire words 0 (origin + e.number) else wire halves 0 (origin + e.number);
+  number = if mixed then wire words 0 (origin + e.written) else wire halves 0 (origin + e.written);
 }
 
 -- a point in its chunk, where the first TSN is `first`: with the TSN of the last fragment that it passes
@@ -30,3 +30,5 @@ pub record IsSendable (message : ℕ → Message) (mixed : Bool) (x : Transfer) 
   pub upto : point.upto ≡ x.acknowledged + (point_of s).count
   pub chunk : forward_chunk s ≡ chunk_of mixed s.outstanding.first point
   pub apart : AreApart point.entries
+  -- it goes over no breakpoint of a reset
+  pub ends : (b : ℕ) → IsAmong b s.outstanding.items.breaks → (origin + point.upto ≤ b) ⊎ (b ≤ origin + x.acknowledged)

@@ -14,6 +14,7 @@ use Rattle.sctp_send_queue.specs.Queue.{Queued, Queue, queue, added, expiry_of, 
 use Rattle.sctp_send_queue.specs.Views.{queued_of}
 use Rattle.sctp_send_queue.specs.Produced.{Produced, produce}
 use Rattle.sctp_send_queue.specs.Settings.{set_mode, set_priority, set_low_threshold}
+use Rattle.sctp_send_queue.specs.Resets.{request_resets, commit_resets}
 use Rattle.sctp_send_queue.specs.Restarted.{reset}
 use Rattle.sctp_outstanding.specs.Item.{Item, is_abandoned}
 use Rattle.sctp_outstanding.specs.Items.{Items, no_items, inserted}
@@ -27,6 +28,7 @@ use Rattle.sctp_tx.specs.Sending.{item_of, discard_all, without_discards, send}
 use Rattle.sctp_rules.specs.State as rules
 use Rattle.sctp_rules.specs.State.{Message, Transfer, IsAmong, new_sender, start, has, fragment, count, stream_of, ordered_of}
 use Rattle.sctp_rules.specs.Rules.{Event, accept, leave, IsAllowed, Happens, after, run}
+use Rattle.sctp_rules.specs.Resets.{restarts}
 use Rattle.sctp_rules.specs.Claims.{AtRest}
 use Rattle.sctp_rules.specs.Kept.{Kept}
 use Rattle.sctp_rules.specs.Joints.{reports_of}
@@ -99,6 +101,21 @@ abbrev pub SettingsShow : Type 0
 SettingsShow = InEachState (λ message lifecycle mixed x q s.
     (id n : ℕ) (told : Told (List ℕ))
     → Shows message lifecycle mixed x (set_priority id n q) s.outstanding.items × Shows message lifecycle mixed x (set_low_threshold id n q told).queue s.outstanding.items)
+
+-- ---- resets of streams
+
+-- a stream that goes into a request sends nothing meanwhile
+abbrev pub RequestsShow : Type 0
+RequestsShow = InEachState (λ message lifecycle mixed x q s. (most : ℕ) → Shows message lifecycle mixed x (request_resets most q) s.outstanding.items)
+
+-- the numbers of these streams begin again
+abbrev pub restarted : List ℕ → Transfer → Transfer
+restarted [] x = x
+restarted (id ∷ ids) x = restarted ids (record x { sender = restarts x.sender id })
+
+-- the answer has come
+abbrev pub CommitsShow : Type 0
+CommitsShow = InEachState (λ message lifecycle mixed x q s. (ids : List ℕ) → Shows message lifecycle mixed (restarted ids x) (commit_resets ids q) s.outstanding.items)
 
 -- ---- new fragments
 

@@ -28,9 +28,9 @@ waiting_of m = record { begun = is_some m.numbers; rest = drop m.offset m.payloa
 
 -- the next numbers of a stream
 pub record IsNext (o : Sender) (k : ℕ) (s : Stream) : Type 0 where
-  pub ssn : s.next_ssn ≡ origin + o.counts true k
-  pub ordered_mid : s.next_ordered_mid ≡ origin + o.counts true k
-  pub unordered_mid : s.next_unordered_mid ≡ origin + o.counts false k
+  pub ssn : s.next_ssn ≡ origin + o.following true k
+  pub ordered_mid : s.next_ordered_mid ≡ origin + o.following true k
+  pub unordered_mid : s.next_unordered_mid ≡ origin + o.following false k
 
 -- what is still queued of messages given up is to be discarded, and nothing else is
 pub record AreDiscards (o : Sender) (ms : ℕ → List Queued) (discards : List Discard) : Type 0 where
@@ -44,7 +44,7 @@ module _ (message : ℕ → Message) where
 
   -- the SSN and MID of a message that has its number. Unordered ones have no SSN
   abbrev pub numbers_at : Sender → ℕ → MessageNumbers
-  numbers_at o p = record { ssn = if ordered_of message p then origin + o.number p else origin; mid = origin + o.number p }
+  numbers_at o p = record { ssn = if ordered_of message p then origin + o.written p else origin; mid = origin + o.written p }
 
   -- a fragment as a chunk carries it
   abbrev pub tree_of : Sender → Fragment → FragmentTree

@@ -3,7 +3,7 @@
 #![tactic(auto)]
 
 ghost use Rattle.sctp_tx_rules.specs.Records.{AcceptingKeepsOne, LeavingKeepsOne, NewHaveNone, SendingKeepsOne, TakingKeepsOne, ValuesHaveOneRecord};
-ghost use Rattle.sctp_tx_rules.specs.Rows.{Accepts, BeginningsShow, CarryingStays, DiscardsShow, Expires, FastPacketsAreSent, GivesUp, LifetimesEnd, Loses, NewShow, OffersAreQueued, OthersAreNotShown, PacketsAreSent, PointsAreDue, Produces, RecordsAreExact, ResetsShow, RestIsRest, SacksAreHeard, SettingsShow, TimesOut};
+ghost use Rattle.sctp_tx_rules.specs.Rows.{Accepts, BeginningsShow, CarryingStays, CommitsShow, DiscardsShow, Expires, FastPacketsAreSent, GivesUp, LifetimesEnd, Loses, NewShow, OffersAreQueued, OthersAreNotShown, PacketsAreSent, PointsAreDue, Produces, RecordsAreExact, RequestsShow, ResetsShow, RestIsRest, SacksAreHeard, SettingsShow, TimesOut};
 
 /// A new queue, and no item, show the start. Where messages were accepted and nothing was sent, an association may begin, in
 /// either mode, and the queue may begin anew: all that was accepted waits.
@@ -24,6 +24,13 @@ pub fn messages_are_accepted()
     ensures offered { OffersAreQueued }
     ensures accepted { Accepts }
     ensures settings { SettingsShow }
+{}
+
+/// Streams that go into a request of a reset change nothing of what the values show. Once its answer has come, their numbers on the
+/// wire begin again, and nothing else changes.
+pub fn streams_are_reset()
+    ensures requested { RequestsShow }
+    ensures committed { CommitsShow }
 {}
 
 /// Where nothing waits to be discarded, `produce` gives up the messages that expired before their first fragment, each with

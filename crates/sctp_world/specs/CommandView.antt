@@ -2,7 +2,7 @@
 use Rattle.sctp_world.specs.declared.command.Command.{Command}
 use Rattle.sctp_world.specs.declared.command.Command.TheVariants as commands
 use Rattle.sctp_world.specs.Commands.{Asked, probe_of, happens, passes, shown}
-use Rattle.sctp_network.specs.WorldView.{action_of, end_tree}
+use Rattle.sctp_network_side.specs.SideView.{action_of, end_tree}
 
 abbrev pub command_of : Command → Asked
 command_of (commands.Probe bytes) = probe_of bytes.items

@@ -6,7 +6,7 @@ ghost use Rattle.std.specs.List.{list_all};
 ghost use Rattle.sctp_state.specs.Options.{SendOptions as Sending, send_options_of};
 ghost use Rattle.sctp_world.specs.Commands.{Asked, Spells, SpellsNone, SpellsWords, IsNumber, IsHex, IsFlag, IsNamed, SpellsId, SpellsLimit, SpellsLife, SpellsOptions, words_of};
 ghost use Rattle.sctp_network_table.specs.Judge.{End as tree, end_name};
-ghost use Rattle.sctp_network.specs.WorldView.{end_tree};
+ghost use Rattle.sctp_network_side.specs.SideView.{end_tree};
 ghost use Rattle.sctp_world.specs.CommandView.{command_of};
 
 use hex::FromHexError;
@@ -55,9 +55,17 @@ fn parse_words(alloc: Global, words: &[&[u8]]) -> Result<Option<Command>, AllocE
     ensures command { IfOk result (λ found. IfSome found (λ command. SpellsWords (map (λ word. word.now) words.now) (command_of command))) }
     ensures none { IfOk result (λ found. IfNone found ((asked : Asked) → SpellsWords (map (λ word. word.now) words.now) asked → ⊥)) }
 {
-    let Some((name, rest)) = words.split_first() else {
-        return Ok(None);
-    };
+    match words.split_first() {
+        Some((name, rest)) => parse_named(alloc, name, rest),
+        None => Ok(None),
+    }
+}
+
+// The command that begins with this word.
+fn parse_named(alloc: Global, name: &[u8], rest: &[&[u8]]) -> Result<Option<Command>, AllocError>
+    ensures command { IfOk result (λ found. IfSome found (λ command. SpellsWords (name.now ∷ map (λ word. word.now) rest.now) (command_of command))) }
+    ensures none { IfOk result (λ found. IfNone found ((asked : Asked) → SpellsWords (name.now ∷ map (λ word. word.now) rest.now) asked → ⊥)) }
+{
     if is_word(name, b"probe") {
         parse_probe(alloc, rest)
     } else if is_word(name, b"connect") {

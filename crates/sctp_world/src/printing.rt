@@ -6,7 +6,8 @@ ghost use Rattle.sctp_state.specs.Events.{event_of, numbers_of};
 ghost use Rattle.sctp_network_table.specs.World.{side_of};
 ghost use Rattle.sctp_world.specs.Printed.{size_of, kind_name, event_name, event_words, refusal_name, reset_refusal_name, refusal_line, message_line, none_line, given_up_line, bytes_line, packet_line, event_line, number_word, cause_words, answer_text, entry_text, news_text, packet_text};
 ghost use Rattle.sctp_serial.specs.Messages.{message_of};
-ghost use Rattle.sctp_network.specs.WorldView.{answer_tree, end_tree, entry_tree, world_of};
+ghost use Rattle.sctp_network_side.specs.SideView.{answer_tree, end_tree, entry_tree};
+ghost use Rattle.sctp_network.specs.WorldView.{world_of};
 
 use rand_core::Rng;
 use sctp_network::{Answer, End, Entry, World};

@@ -22,20 +22,20 @@ fn is_changed(alloc: Global) -> bool {
         Some(tcb) => tcb.identity.tie_tag == 6 && tcb.identity.my_verification_tag == 123,
         None => false,
     };
-    drop(state);
+    state.let_go();
     is_changed
 }
 
 fn lends_nothing(mut state: State) -> bool {
     let lends_nothing = state.tcb().is_none() && state.tcb_mut().is_none();
-    drop(state);
+    state.let_go();
     lends_nothing
 }
 
 fn lends(alloc: Global) -> bool {
     let state = opened(alloc);
     let lends = state.tcb().is_some();
-    drop(state);
+    state.let_go();
     lends
 }
 
@@ -62,8 +62,8 @@ fn ends(alloc: Global) -> bool {
     let mut context = Context::new(alloc, Options::default(), Seven);
     let mut tcb = block(alloc, Capabilities::default());
     let ends = tells_its_end(alloc, &mut context, &mut tcb).is_ok();
-    drop(tcb);
-    drop(context);
+    tcb.let_go();
+    context.let_go();
     ends
 }
 
@@ -111,7 +111,7 @@ fn is_asked_again(alloc: Global) -> bool {
     let mut packet = tcb.new_packet(alloc, &Options::default());
     let begins = is_the_request(asked(alloc, &mut tcb, &mut packet));
     let goes_again = is_the_request(asked_again(&tcb, &mut packet));
-    drop(tcb);
+    tcb.let_go();
     goes_again && begins
 }
 
@@ -149,7 +149,7 @@ fn takes_up(alloc: Global, state: &SocketHandoverState) -> bool {
     let goes_on = new.restore_from_state(SocketTime::zero(), state).is_ok()
         && new.retransmission_queue.next_tsn() == Tsn(10)
         && new.data_tracker.last_cumulative_acked_tsn() == Tsn(19);
-    drop(new);
+    new.let_go();
     goes_on
 }
 
@@ -157,7 +157,7 @@ fn is_taken_up(alloc: Global) -> bool {
     let tcb = block(alloc, Capabilities::default());
     let record = record_of(alloc, &tcb);
     let is_ready = tcb.get_handover_readiness(true).is_ready();
-    drop(tcb);
+    tcb.let_go();
     match record {
         Ok(state) => is_ready && takes_up(alloc, &state),
         Err(_) => false,

@@ -3,16 +3,22 @@
 
 use crate::tests::Seven;
 use crate::tests::opening::{Fault, Watched, lacks, opens, right, tells_closed, tells_connected};
+use rand_core::Rng;
 use rand_pcg::Pcg32;
 use sctp_association::{Association, DcSctpSocket, Socket};
 use sctp_state::{
     CallError, HandoverError, Options, RestoreError, SocketHandoverState, SocketState,
 };
+use sctp_wire::Checksum;
 use std::alloc::Global;
 
-impl Watched for Socket<Pcg32, Seven> {
+impl<R: Rng + Drop, C: Checksum + Drop> Watched for Socket<R, C> {
     fn joined(&self) -> Option<Association> {
         self.association()
+    }
+
+    fn let_go(self) {
+        self.let_go();
     }
 }
 
@@ -111,15 +117,26 @@ fn goes_on<S: Watched>(a: &mut S, b: &mut S, new: &mut S) -> Result<(), Fault> {
     right(new.poll_event().is_none() && new.joined() == association)
 }
 
-fn three_go_on<S: Watched>(
-    a: Result<S, CallError>,
-    b: Result<S, CallError>,
-    new: Result<S, CallError>,
-) -> Result<(), Fault> {
-    match (a, b, new) {
-        (Ok(mut a), Ok(mut b), Ok(mut new)) => goes_on(&mut a, &mut b, &mut new),
-        _ => Err(Fault::Memory),
+fn let_go<S: Watched>(socket: Result<S, CallError>) {
+    match socket {
+        Ok(socket) => socket.let_go(),
+        Err(_) => {}
     }
+}
+
+fn three_go_on<S: Watched>(
+    mut a: Result<S, CallError>,
+    mut b: Result<S, CallError>,
+    mut new: Result<S, CallError>,
+) -> Result<(), Fault> {
+    let outcome = match (&mut a, &mut b, &mut new) {
+        (Ok(a), Ok(b), Ok(new)) => goes_on(a, b, new),
+        _ => Err(Fault::Memory),
+    };
+    let_go(a);
+    let_go(b);
+    let_go(new);
+    outcome
 }
 
 fn is_handed_over(alloc: Global) -> Result<(), Fault> {

@@ -4,7 +4,8 @@ ghost use Rattle.std.specs.Prelude.{◌≡◌, ◌⊎◌, true, false, [], ◌�
 ghost use Rattle.sctp_network_table.specs.World.{Happens, Lacks};
 ghost use Rattle.sctp_network_draws.specs.Alike.{ArePaired, AreComparable, ShowAlong, first_new, second_new};
 ghost use Rattle.sctp_network_draws.specs.Pairs.{Both, BothUpToLack, RanOut};
-ghost use Rattle.sctp_network.specs.WorldView.{action_of, world_of};
+ghost use Rattle.sctp_network_side.specs.SideView.{action_of};
+ghost use Rattle.sctp_network.specs.WorldView.{world_of};
 
 use crate::arguments::events_fit;
 use crate::world::{End, Event, World, WorldError};

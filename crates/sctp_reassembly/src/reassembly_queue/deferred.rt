@@ -6,7 +6,6 @@ ghost use Rattle.std.specs.Option.{option_to_list};
 ghost use Rattle.sctp_reassembly.specs.Streams.{is_named};
 ghost use Rattle.sctp_reassembly.specs.WaitingViews.{waiting_of};
 
-use crate::ordered_streams::is_named;
 use crate::reassembly_queue::waiting::Waiting;
 use sctp_serial::StreamId;
 use std::alloc::{AllocError, Global};
@@ -96,7 +95,22 @@ impl Deferred {
     }
 }
 
+ghost use Rattle.std.specs.Prelude.{◌==◌};
+ghost use Rattle.std.specs.List.{list_any};
 ghost use Rattle.sctp_reassembly.specs.ReassemblyQueue.{waiting_bytes};
+
+fn names(ids: &[StreamId], id: u16) -> bool
+    ensures { result ≡ list_any (λ i. i.0 == id) ids.now }
+{
+    ids.iter().any(|named| named.0 == id)
+}
+
+// Whether a stream is named; where none is, each is.
+fn is_named(ids: &[StreamId], id: u16) -> bool
+    ensures { result ≡ is_named ids.now id }
+{
+    ids.is_empty() || names(ids, id)
+}
 
 fn bytes_of(waiting: &Waiting) -> usize
     ensures { result ≡ waiting_bytes (waiting_of waiting.now) }

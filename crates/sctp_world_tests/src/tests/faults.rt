@@ -1,5 +1,6 @@
 //! Readers that never end, and reads and writes that fail.
 
+use crate::tests::run_read;
 use sctp_world::*;
 use std::io;
 use std::io::{Read, Write};
@@ -70,7 +71,7 @@ impl Write for Filling {
 fn reading_ends(rt: HostRuntime) {
     let mut out = Vec::new(rt.alloc());
     assert_eq!(rt;
-        run_script(rt.alloc(), &mut Newlines, &mut out),
+        run_read(rt.alloc(), &mut Newlines, &mut out),
         Err(ScriptFault::Read)
     );
     assert!(rt; out.is_empty());
@@ -82,7 +83,7 @@ fn a_read_fails_at_each_place(rt: HostRuntime) {
     for reads in 0..7 {
         let mut out = Vec::new(rt.alloc());
         let mut torn = Torn { bytes: LINE, reads };
-        let end = run_script(rt.alloc(), &mut torn, &mut out);
+        let end = run_read(rt.alloc(), &mut torn, &mut out);
         let is_right = if reads == 6 {
             end == Ok(())
         } else {
@@ -103,7 +104,7 @@ fn a_write_fails_at_each_place(rt: HostRuntime) {
             taken: Vec::new(rt.alloc()),
             writes,
         };
-        let end = run_script(rt.alloc(), &mut reader, &mut filling);
+        let end = run_read(rt.alloc(), &mut reader, &mut filling);
         ended = end == Ok(());
         assert!(rt;
             ended || end == Err(ScriptFault::Write),

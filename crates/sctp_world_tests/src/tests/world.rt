@@ -1,13 +1,15 @@
 //! A world, by its own calls: an end is set, refuses messages and sends others, and two ends connect.
 
+use rand_core::Rng;
 use rand_pcg::Pcg32;
 use sctp_serial::{LifecycleId, Message, PpId, StreamId};
 use sctp_state::{CallError, ErrorKind, Options, SendError, SendOptions, SocketEvent};
+use sctp_wire::Checksum;
 use sctp_world::*;
 use std::alloc::{AllocError, Global};
 
 /// What a test asks of a world. Its helpers know no more of one than its answers.
-trait Watched: Drop {
+trait Watched {
     fn does(&mut self, event: Event) -> Result<(), WorldError>;
 
     fn does_all(&mut self, events: &[Event]) -> Result<(), WorldError>;
@@ -18,9 +20,11 @@ trait Watched: Drop {
     fn entries(&self) -> &[Entry];
 
     fn rests(&self, end: End) -> bool;
+
+    fn let_go(self);
 }
 
-impl Watched for World<Pcg32, ByteSum> {
+impl<R: Rng + Drop, C: Checksum + Drop> Watched for World<R, C> {
     fn does(&mut self, event: Event) -> Result<(), WorldError> {
         let answer = step(self, &event);
         drop(event);
@@ -44,6 +48,10 @@ impl Watched for World<Pcg32, ByteSum> {
 
     fn rests(&self, end: End) -> bool {
         self.is_at_rest(end)
+    }
+
+    fn let_go(self) {
+        self.let_go();
     }
 }
 
@@ -165,7 +173,11 @@ fn goes_on<W: Watched>(alloc: Global, world: &mut W) -> Result<bool, WorldError>
 
 fn goes_on_anew<W: Watched>(alloc: Global, world: Result<W, CallError>) -> bool {
     match world {
-        Ok(mut world) => goes_on(alloc, &mut world) == Ok(true),
+        Ok(mut world) => {
+            let is_right = goes_on(alloc, &mut world) == Ok(true);
+            world.let_go();
+            is_right
+        }
         Err(_) => false,
     }
 }

@@ -1,5 +1,6 @@
 use Rattle.sctp_table_laws.proofs.ArgumentLemmas.{seen_more, seen_all}
-use Rattle.sctp_network.specs.WorldView.{action_of, world_of}
+use Rattle.sctp_network_side.specs.SideView.{action_of}
+use Rattle.sctp_network.specs.WorldView.{world_of}
 use Rattle.sctp_network_laws.specs.Readable.{GivesBytes}
 use Rattle.sctp_network.proofs.arguments.events_give_bytes.Goals as goal
 

@@ -1,6 +1,7 @@
 use Rattle.std.proofs.Common.{map, take}
 use Rattle.sctp_packet.specs.Grammar.{Each}
-use Rattle.sctp_network.specs.WorldView.{action_of, world_of}
+use Rattle.sctp_network_side.specs.SideView.{action_of}
+use Rattle.sctp_network.specs.WorldView.{world_of}
 use Rattle.sctp_network_laws.specs.Readable.{GivesBytes}
 use Rattle.sctp_network.proofs.arguments.events_give_bytes.Given as goal
 

@@ -5,7 +5,8 @@ use Rattle.sctp_network_table.specs.World.{World}
 use Rattle.sctp_network_table.proofs.MtuLemmas.{runs_short}
 use Rattle.sctp_network_laws.proofs.AgreedLemmas.{worlds_agree}
 use Rattle.sctp_network_laws.proofs.ComposedLemmas.{compose}
-use Rattle.sctp_network.specs.WorldView.{action_of, world_of}
+use Rattle.sctp_network_side.specs.SideView.{action_of}
+use Rattle.sctp_network.specs.WorldView.{world_of}
 use Rattle.sctp_network.proofs.GoesLemmas.{leads_on, only_memory}
 use Rattle.sctp_network.proofs.LedLemmas.{led_by}
 use Rattle.sctp_network.proofs.world.run.Goals as goal

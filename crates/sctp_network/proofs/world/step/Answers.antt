@@ -8,7 +8,8 @@ use Rattle.sctp_network_table.proofs.RunLemmas.{runs_one}
 use Rattle.sctp_network_laws.specs.Courses.{ActionFits}
 use Rattle.sctp_network_laws.proofs.AgreedLemmas.{worlds_agree}
 use Rattle.sctp_network_laws.proofs.ComposedLemmas.{compose}
-use Rattle.sctp_network.specs.WorldView.{action_of, world_of}
+use Rattle.sctp_network_side.specs.SideView.{action_of}
+use Rattle.sctp_network.specs.WorldView.{world_of}
 use Rattle.sctp_network.proofs.GoesLemmas.{leads_on, only_memory}
 use Rattle.sctp_network.proofs.LedLemmas.{led_by, lacks_then}
 use Rattle.sctp_network.proofs.world.step.Goals as goal

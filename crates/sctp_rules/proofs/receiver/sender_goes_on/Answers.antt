@@ -1,4 +1,5 @@
 use Rattle.sctp_rules.proofs.ReceiverRowLemmas.{still_sees, chunk_stays, key_stays}
+use Rattle.sctp_rules.proofs.WireResetLemmas.{still_shown}
 use Rattle.sctp_rules.proofs.receiver.sender_goes_on.Goals as goal
 
 pub returns-clause-shows : goal.returns-clause-shows
@@ -9,3 +10,6 @@ returns-clause-chunk c message mixed x e t k a within = chunk_stays message mixe
 
 pub returns-clause-key : goal.returns-clause-key
 returns-clause-key c message mixed x e t k a within = key_stays message mixed x e k a t within
+
+pub returns-clause-restarted : goal.returns-clause-restarted
+returns-clause-restarted c message mixed x q s shows = still_shown message mixed x q s shows

@@ -1,5 +1,5 @@
 use Rattle.std.proofs.Common.{◌≡◌, ◌++◌, map, take, drop}
-use Rattle.sctp_network.specs.WorldView.{entry_tree}
+use Rattle.sctp_network_side.specs.SideView.{entry_tree}
 use Rattle.sctp_trace_program.specs.Shown.{row_shows, row_time, entry_shows, times_from, times_of}
 use Rattle.sctp_trace_program.proofs.log.rows_of.Given as goal
 

@@ -4,7 +4,8 @@ use Rattle.std.proofs.lemmas.List.{drop-map, length-drop, take_all}
 use Rattle.std.proofs.lemmas.Result.{IfOk-weaker}
 use Rattle.sctp_network_table.specs.Judge.{Entry}
 use Rattle.sctp_world.specs.Printed.{entry_text}
-use Rattle.sctp_network.specs.WorldView.{entry_tree, world_of}
+use Rattle.sctp_network_side.specs.SideView.{entry_tree}
+use Rattle.sctp_network.specs.WorldView.{world_of}
 use Rattle.sctp_world.proofs.printing.news_text.Goals as goal
 
 pub returns-in-Some : goal.returns-in-Some

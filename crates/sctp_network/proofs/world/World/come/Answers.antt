@@ -1,7 +1,7 @@
 use Rattle.std.proofs.Common.{refl, ap, map}
 use Rattle.std.proofs.lemmas.Result.{on_ok_weaker}
-use Rattle.sctp_network.specs.WorldView.{end_tree, entry_tree}
-use Rattle.sctp_network.proofs.SideLemmas.{comes_to_a, comes_to_b}
+use Rattle.sctp_network_side.specs.SideView.{end_tree, entry_tree}
+use Rattle.sctp_network.proofs.ComingLemmas.{comes_to_a, comes_to_b}
 use Rattle.sctp_network.proofs.world.World.come.Goals as goal
 
 pub returns-in-A-clause-ok : goal.returns-in-A-clause-ok

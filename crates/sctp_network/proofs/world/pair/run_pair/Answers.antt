@@ -1,7 +1,8 @@
 use Rattle.std.proofs.Common.{map}
 use Rattle.sctp_network_table.specs.World.{World}
 use Rattle.sctp_network_draws.proofs.AlongLemmas.{worlds_show}
-use Rattle.sctp_network.specs.WorldView.{action_of, world_of}
+use Rattle.sctp_network_side.specs.SideView.{action_of}
+use Rattle.sctp_network.specs.WorldView.{world_of}
 use Rattle.sctp_network.proofs.PairedLemmas.{SentBytes, paired_by}
 use Rattle.sctp_network.proofs.world.pair.run_pair.Goals as goal
 

@@ -1,7 +1,0 @@
-use Rattle.std.proofs.Common.{map, take}
-use Rattle.sctp_packet.specs.Grammar.{Each}
-use Rattle.sctp_table_laws.specs.ReadBack.{AreBytes}
-use Rattle.sctp_network.proofs.arguments.packets_fit.Given as goal
-
-abbrev pub invariant-loop-bytes : goal.invariant-loop-bytes
-invariant-loop-bytes l = Each AreBytes (map (λ bytes. bytes.items) (take l.bytes-index l.packets))

@@ -1,0 +1,4 @@
+pub mod PacketLemmas
+pub mod ToldLemmas
+pub mod SideLemmas
+pub mod HandingLemmas

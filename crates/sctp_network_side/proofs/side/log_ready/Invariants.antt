@@ -1,0 +1,12 @@
+use Rattle.std.proofs.Common.{◌≡◌, ◌++◌, length, map}
+use Rattle.sctp_table.specs.Calls.{ready_in}
+use Rattle.sctp_network_table.specs.World.{ready_entries}
+use Rattle.sctp_network_side.specs.SideView.{end_tree, entry_tree}
+use Rattle.sctp_network_side.proofs.side.log_ready.Given as goal
+
+abbrev pub invariant-loop-place : goal.invariant-loop-place
+invariant-loop-place g l = record {
+  end : l.place-end ≡ length (ready_in l.socket.state);
+  log : map entry_tree l.log.items ++ ready_entries (end_tree l.end) l.place (ready_in l.socket.state)
+      ≡ map entry_tree l.initial.log.items ++ ready_entries (end_tree l.end) l.first (ready_in l.socket.state);
+}

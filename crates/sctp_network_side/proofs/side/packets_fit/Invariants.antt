@@ -1,0 +1,7 @@
+use Rattle.std.proofs.Common.{map, take}
+use Rattle.sctp_packet.specs.Grammar.{Each}
+use Rattle.sctp_table_laws.specs.ReadBack.{AreBytes}
+use Rattle.sctp_network_side.proofs.side.packets_fit.Given as goal
+
+abbrev pub invariant-loop-bytes : goal.invariant-loop-bytes
+invariant-loop-bytes l = Each AreBytes (map (λ bytes. bytes.items) (take l.bytes-index l.packets))

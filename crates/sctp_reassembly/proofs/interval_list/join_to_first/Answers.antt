@@ -1,0 +1,16 @@
+use Rattle.std.proofs.Common.{◌+◌, ap, map, ◌∙◌, refl, arith}
+use Rattle.std.proofs.lemmas.List.{map-append}
+use Rattle.sctp_fragments.proofs.PlaceLemmas.{lists_set_same, lists_joined}
+use Rattle.std.proofs.lemmas.Result.{err_from_is_err_and}
+use Rattle.sctp_fragments.specs.Intervals.{held_of}
+use Rattle.sctp_reassembly.proofs.interval_list.join_to_first.Goals as goal
+
+pub returns-in_err-reserve-clause-err : goal.returns-in_err-reserve-clause-err
+returns-in_err-reserve-clause-err g c =
+    let p = err_from_is_err_and c.from_residual.result c.from_residual.ensures.1 in
+    rw p.1 (lists_set_same (held_of g.K.ReassemblyKey.number g.K.ReassemblyKey.index) _ _ c.index_mut.result.now _ (omega arith) c.index_mut.ensures.value (ap (map (held_of g.K.ReassemblyKey.number g.K.ReassemblyKey.index)) c.reserve.ensures.items))
+
+pub returns-clause-ok : goal.returns-clause-ok
+returns-clause-ok g c ps qs i j is at =
+    lists_joined (held_of g.K.ReassemblyKey.number g.K.ReassemblyKey.index) c.args.intervals.now.items c.remove-next.new.self.items ps qs i j c.index_mut.result.now _ c.remove-next.result c.index_mut-2.result.now _ _ c.args.place (c.args.place + 1) is at refl
+    c.index_mut.ensures.value (ap (map (held_of g.K.ReassemblyKey.number g.K.ReassemblyKey.index)) c.reserve.ensures.items) c.remove-next.ensures.value c.remove-next.ensures.items c.index_mut-2.ensures.value (ap (map (held_of g.K.ReassemblyKey.number g.K.ReassemblyKey.index)) c.append_to.ensures ∙ map-append (held_of g.K.ReassemblyKey.number g.K.ReassemblyKey.index) _ _)

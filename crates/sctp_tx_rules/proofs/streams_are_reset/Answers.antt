@@ -1,0 +1,9 @@
+use Rattle.sctp_send_queue.specs.Resets.{requested}
+use Rattle.sctp_tx_rules.proofs.ResetLemmas.{commits_row, requests_row}
+use Rattle.sctp_tx_rules.proofs.streams_are_reset.Goals as goal
+
+pub returns : goal.returns
+returns c = record {
+  requested = λ message lifecycle mixed x q s k sh most. requests_row message lifecycle mixed s.outstanding.items (requested most q) x q sh;
+  committed = λ message lifecycle mixed x q s k sh ids. commits_row message lifecycle mixed s.outstanding.items ids x q sh;
+}
