@@ -2,7 +2,7 @@
 use Rattle.std.proofs.Common.{◌≡◌, ℕ, ◌+◌, ◌/◌, ◌%◌, ◌^◌, ◌≤◌, List, [], ◌∷◌, ◌++◌, length, refl, ap, ◌∙◌, arith, length-append, append_assoc}
 use Rattle.std.proofs.lemmas.Bool.Decides.{nat_tests}
 use Rattle.std.proofs.lemmas.List.{length-replicate, length-take, length-drop}
-use Rattle.std.specs.Prelude.{Bool, true, false, if◌then◌else◌, nat_lt, take, drop, codes, replicate}
+use Rattle.std.specs.Prelude.{Bool, true, false, if◌then◌else◌, nat_lt, take, drop, replicate}
 use Rattle.sctp_crc32c.specs.Crc32c.{crc32c_word}
 use Rattle.sctp_wire.specs.Checksum.{with_zero_field}
 use Rattle.sctp_wire.specs.Fields.{be32, length_be32}

@@ -111,6 +111,10 @@ impl<'a> Conversation<'a> {
         requires { IsFollowed self.now }
         ensures { result ≡ times_given self.now.rows.now from number }
     {
-        self.ways_from(from).given.get(&number).copied().unwrap_or(0)
+        self.ways_from(from)
+            .given
+            .get(&number)
+            .copied()
+            .unwrap_or(0)
     }
 }

@@ -18,11 +18,14 @@ const UPPER: u64 = 0x1_0000_0000;
 
 /// The whole block: byte order, version 1.0, and a length that isn't told.
 const SECTION_HEADER: [u8; 28] = [
-    0x0a, 0x0d, 0x0d, 0x0a, 28, 0, 0, 0, 0x4d, 0x3c, 0x2b, 0x1a, 1, 0, 0, 0, 0xff, 0xff, 0xff, 0xff, 0xff, 0xff, 0xff, 0xff, 28, 0, 0, 0,
+    0x0a, 0x0d, 0x0d, 0x0a, 28, 0, 0, 0, 0x4d, 0x3c, 0x2b, 0x1a, 1, 0, 0, 0, 0xff, 0xff, 0xff,
+    0xff, 0xff, 0xff, 0xff, 0xff, 28, 0, 0, 0,
 ];
 
 /// An interface up to its name of one byte: link type 248, and no limit of a packet's length.
-const INTERFACE_FRONT: [u8; 20] = [1, 0, 0, 0, 40, 0, 0, 0, 248, 0, 0, 0, 0, 0, 0, 0, 2, 0, 1, 0];
+const INTERFACE_FRONT: [u8; 20] = [
+    1, 0, 0, 0, 40, 0, 0, 0, 248, 0, 0, 0, 0, 0, 0, 0, 2, 0, 1, 0,
+];
 
 /// And behind it: times in nanoseconds, whose unit is a tenth to the power of 9.
 const INTERFACE_BACK: [u8; 19] = [0, 0, 0, 9, 0, 1, 0, 9, 0, 0, 0, 0, 0, 0, 0, 40, 0, 0, 0];

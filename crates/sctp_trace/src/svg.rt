@@ -85,22 +85,13 @@ fn class_of(alloc: Global, class: &str) -> Result<Vec<Attribute>, AllocError>
 {
     let mut attributes = Vec::new(alloc);
     if !class.is_empty() {
-        push_text(
-            &mut attributes,
-            Key::Class,
-            String::from_str(alloc, class)?,
-        )?;
+        push_text(&mut attributes, Key::Class, String::from_str(alloc, class)?)?;
     }
     Ok(attributes)
 }
 
 /// An element that has no text yet.
-fn element(
-    alloc: Global,
-    tag: Tag,
-    attributes: Vec<Attribute>,
-    children: Vec<Element>,
-) -> Element
+fn element(alloc: Global, tag: Tag, attributes: Vec<Attribute>, children: Vec<Element>) -> Element
     ensures tag { (out-Element result).tag ≡ tag }
     ensures attributes { (out-Element result).attributes.items ≡ attributes.items }
     ensures children { (out-Element result).children.items ≡ children.items }
@@ -225,10 +216,34 @@ fn words_of(
 ) -> Result<Element, AllocError> {
     let y = height_of(row);
     let (class, at) = match (end, is_between) {
-        (End::A, true) => ("", Point { x: LEFT + 8, y: y - 2 }),
-        (End::B, true) => ("end", Point { x: RIGHT - 8, y: y - 2 }),
-        (End::A, false) => ("end", Point { x: LEFT - 8, y: y + 4 }),
-        (End::B, false) => ("", Point { x: RIGHT + 8, y: y + 4 }),
+        (End::A, true) => (
+            "",
+            Point {
+                x: LEFT + 8,
+                y: y - 2,
+            },
+        ),
+        (End::B, true) => (
+            "end",
+            Point {
+                x: RIGHT - 8,
+                y: y - 2,
+            },
+        ),
+        (End::A, false) => (
+            "end",
+            Point {
+                x: LEFT - 8,
+                y: y + 4,
+            },
+        ),
+        (End::B, false) => (
+            "",
+            Point {
+                x: RIGHT + 8,
+                y: y + 4,
+            },
+        ),
     };
     words_at(alloc, class, at, words)
 }

@@ -99,12 +99,7 @@ fn arrow_head(end: End) -> &'static [u8]
 }
 
 /// The signs at the end's lifeline, and the caption beside them.
-fn push_cell(
-    text: &mut Vec<u8>,
-    end: End,
-    signs: &[u8],
-    caption: &[u8],
-) -> Result<(), AllocError>
+fn push_cell(text: &mut Vec<u8>, end: End, signs: &[u8], caption: &[u8]) -> Result<(), AllocError>
     ensures { OnOk result (text.new.items ≡ text.old.items ++ packet_cell end signs.now caption.now) }
 {
     match end {
@@ -119,12 +114,7 @@ fn push_cell(
     }
 }
 
-fn push_packet(
-    text: &mut Vec<u8>,
-    end: End,
-    signs: &[u8],
-    caption: &[u8],
-) -> Result<(), AllocError>
+fn push_packet(text: &mut Vec<u8>, end: End, signs: &[u8], caption: &[u8]) -> Result<(), AllocError>
     ensures { OnOk result (text.new.items ≡ text.old.items ++ packet_line (packet_cell end signs.now caption.now)) }
 {
     push_spaces(text, NOTE_WIDTH)?;

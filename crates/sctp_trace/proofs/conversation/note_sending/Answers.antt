@@ -10,9 +10,9 @@ returns-in_ok-insert c = one_sent
     c.args.rows.now c.args.from c.args.at c.index-rows-at.result c.requires.inside c.index-rows-at.is
     c.in-Sent.number (get nat_cmp c.args.sent.now) (get nat_cmp c.insert.new.self)
     (own (same_end c.index-rows-at.result.end c.args.from) c.in-Sent.number
-      (λ (q : ℕ). sends c.args.from q c.index-rows-at.result)
-      (λ q. ap (sends_number (same_end c.index-rows-at.result.end c.args.from) q) c.in-Sent.is)
-      (sym c.sends.ensures ∙ c.if-sends.true))
+    (λ (q : ℕ). sends c.args.from q c.index-rows-at.result)
+    (λ q. ap (sends_number (same_end c.index-rows-at.result.end c.args.from) q) c.in-Sent.is)
+    (sym c.sends.ensures ∙ c.if-sends.true))
     c.requires.before
     (λ q. grind (arith, common_steps, c.in_ok-insert.ensures.updates.0 q))
 
@@ -21,9 +21,9 @@ returns-else-sends c = none_sent
     c.args.rows.now c.args.from c.args.at c.index-rows-at.result c.requires.inside c.index-rows-at.is
     (get nat_cmp c.args.sent.now)
     (not_own (same_end c.index-rows-at.result.end c.args.from) c.in-Sent.number
-      (λ (q : ℕ). sends c.args.from q c.index-rows-at.result)
-      (λ q. ap (sends_number (same_end c.index-rows-at.result.end c.args.from) q) c.in-Sent.is)
-      (sym c.sends.ensures ∙ c.if-sends.false))
+    (λ (q : ℕ). sends c.args.from q c.index-rows-at.result)
+    (λ q. ap (sends_number (same_end c.index-rows-at.result.end c.args.from) q) c.in-Sent.is)
+    (sym c.sends.ensures ∙ c.if-sends.false))
     c.requires.before
 
 pub returns-in_default : goal.returns-in_default

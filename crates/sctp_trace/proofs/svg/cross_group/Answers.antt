@@ -13,7 +13,7 @@ returns c =
     IfOk-weaker c.group.result
     (λ (group : Element). (out-Element group).children.items ≡ c.in_ok-children.children.items)
     (IsCross c.args.cross.now)
-    (λ group made. begins c.place-from.result (cross c.height_of.result) _ _ c.in_ok-way.field-0 (c.in_ok-sign-2.field-0 ∷ []) group
-      c.place-from.ensures (ap cross c.height_of.ensures)
-      c.in_ok-way.ensures (made ∙ c.in_ok-children.ensures.items))
+    (λ group made. begins c.place-from.result (cross c.height_of.result) _ _ c.in_ok-way.way (c.in_ok-sign-2.sign ∷ []) group
+    c.place-from.ensures (ap cross c.height_of.ensures)
+    c.in_ok-way.ensures (made ∙ c.in_ok-children.ensures.items))
     c.group.ensures
