@@ -15,10 +15,13 @@ static void is(const char *what, uint64_t answer, uint64_t wanted) {
 static void without_a_socket(void) {
     sctp_socket none = SCTP_NO_HANDLE;
     sctp_send_options plainly = {0, 0, 0, 0};
+    sctp_outgoing outgoing = {1, 1, SCTP_EMPTY, 0};
+    sctp_metrics metrics;
     sctp_event event;
     sctp_message message;
+    uint16_t streams[1] = {1};
     uint64_t nanos;
-    uint32_t state;
+    uint32_t state, answers[1];
     size_t bytes;
     is("connect", sctp_connect(&none), SCTP_NO_SOCKET);
     is("shutdown", sctp_shutdown(&none), SCTP_NO_SOCKET);
@@ -31,7 +34,11 @@ static void without_a_socket(void) {
     is("set_stream_priority", sctp_set_stream_priority(&none, 1, 1), SCTP_NO_SOCKET);
     is("threshold", sctp_set_buffered_amount_low_threshold(&none, 1, 1), SCTP_NO_SOCKET);
     is("reset_stream", sctp_reset_stream(&none, 1), SCTP_NO_SOCKET);
+    is("reset_streams", sctp_reset_streams(&none, streams, 1), SCTP_NO_SOCKET);
+    is("get_metrics", sctp_get_metrics(&none, &metrics), SCTP_NO_SOCKET);
+    is("handover_readiness", sctp_handover_readiness(&none, &state), SCTP_NO_SOCKET);
     is("send", sctp_send(&none, 1, 1, SCTP_EMPTY, 0, &plainly), SCTP_NO_SOCKET);
+    is("send_many", sctp_send_many(&none, &outgoing, 1, &plainly, answers, 1), SCTP_NO_SOCKET);
     is("next_message", sctp_next_message(&none, &message, SCTP_EMPTY, 0), SCTP_NO_SOCKET);
     is("poll_event", sctp_poll_event(&none, &event, SCTP_EMPTY, 0), SCTP_NO_SOCKET);
     sctp_free(&none);
@@ -51,6 +58,83 @@ static void not_made(sctp_options options) {
     is("none was made", end.at == NULL, 1);
 }
 
+/* Hands the packets of one end to the other, four times. */
+static void pass_packets(sctp_socket *from, sctp_socket *to) {
+    uint8_t buffer[1500];
+    sctp_event event;
+    for (int turn = 0; turn < 4; turn++) {
+        while (sctp_poll_event(from, &event, buffer, sizeof buffer) == SCTP_OK)
+            if (event.kind == SCTP_SEND_PACKET)
+                is("input", sctp_handle_input(to, buffer, event.length), SCTP_OK);
+        sctp_socket *other = from;
+        from = to;
+        to = other;
+    }
+}
+
+/* Of a batch each message has its answer, and a refused one keeps no other back. */
+static void batches(sctp_socket *a, sctp_socket *b) {
+    static uint8_t much[262145];
+    sctp_send_options plainly = {0, 0, 0, 0}, odd = {0, 65536, 0, 0};
+    const uint8_t *text = (const uint8_t *)"onetwothree";
+    sctp_outgoing batch[5] = {
+        {3, 51, text, 3}, {3, 51, SCTP_EMPTY, 0}, {4, 52, text + 3, 3}, {4, 52, much, sizeof much}, {3, 53, text + 6, 5}};
+    uint32_t answers[6] = {99, 99, 99, 99, 99, 99}, wanted[6] = {SCTP_OK, SCTP_EMPTY_PAYLOAD, SCTP_OK, SCTP_MESSAGE_TOO_LARGE, SCTP_OK, 99};
+    sctp_message message;
+    uint8_t buffer[8];
+    is("odd options", sctp_send_many(a, batch, 5, &odd, answers, 6), SCTP_INVALID_ARGUMENT);
+    is("few answers", sctp_send_many(a, batch, 5, &plainly, answers, 4), SCTP_SHORT_BUFFER);
+    batch[4].stream = 65536;
+    is("odd stream", sctp_send_many(a, batch, 5, &plainly, answers, 6), SCTP_INVALID_STREAM);
+    is("no answer yet", answers[0], 99);
+    batch[4].stream = 3;
+    is("no message", sctp_send_many(a, batch, 0, &plainly, answers, 0), SCTP_OK);
+    is("batch", sctp_send_many(a, batch, 5, &plainly, answers, 6), SCTP_SOME_REFUSED);
+    is("answers", memcmp(answers, wanted, sizeof answers) == 0, 1);
+    pass_packets(a, b);
+    is("first", sctp_next_message(b, &message, buffer, sizeof buffer), SCTP_OK);
+    is("as it was sent", message.stream == 3 && message.ppid == 51 && message.length == 3 && memcmp(buffer, "one", 3) == 0, 1);
+    is("second", sctp_next_message(b, &message, buffer, sizeof buffer), SCTP_OK);
+    is("as it was sent", message.stream == 4 && message.ppid == 52 && message.length == 3 && memcmp(buffer, "two", 3) == 0, 1);
+    is("third", sctp_next_message(b, &message, buffer, sizeof buffer), SCTP_OK);
+    is("as it was sent", message.stream == 3 && message.ppid == 53 && message.length == 5 && memcmp(buffer, "three", 5) == 0, 1);
+    is("no other", sctp_next_message(b, &message, buffer, sizeof buffer), SCTP_NOTHING);
+    is("whole batch", sctp_send_many(a, batch, 1, &plainly, answers, 1), SCTP_OK);
+    is("its answer", answers[0], SCTP_OK);
+    pass_packets(a, b);
+    is("fourth", sctp_next_message(b, &message, buffer, sizeof buffer), SCTP_OK);
+}
+
+/* Several streams are reset by one request; the counts of the association go on. */
+static void resets_and_counts(sctp_socket *a, sctp_socket *b) {
+    uint16_t streams[3] = {3, 4, 65535};
+    uint8_t buffer[1500];
+    sctp_metrics metrics;
+    sctp_event event;
+    uint32_t readiness = 9, told = 0;
+    is("quiet", sctp_handover_readiness(a, &readiness), SCTP_OK);
+    is("ready", readiness & SCTP_WRONG_CONNECTION_STATE, 0);
+    is("reset", sctp_reset_streams(a, streams, 3), SCTP_OK);
+    is("readiness", sctp_handover_readiness(a, &readiness), SCTP_OK);
+    is("a request waits", readiness & SCTP_PENDING_STREAM_RESET_REQUEST, SCTP_PENDING_STREAM_RESET_REQUEST);
+    while (sctp_poll_event(a, &event, buffer, sizeof buffer) == SCTP_OK)
+        if (event.kind == SCTP_SEND_PACKET)
+            is("input", sctp_handle_input(b, buffer, event.length), SCTP_OK);
+    while (sctp_poll_event(b, &event, buffer, sizeof buffer) == SCTP_OK) {
+        if (event.kind == SCTP_SEND_PACKET)
+            is("input", sctp_handle_input(a, buffer, event.length), SCTP_OK);
+        if (event.kind == SCTP_INCOMING_STREAM_RESET)
+            told += event.length == 6 && memcmp(buffer, "\0\3\0\4\377\377", 6) == 0;
+    }
+    is("the streams are told", told, 1);
+    is("none", sctp_reset_streams(a, streams, 0), SCTP_OK);
+    is("metrics", sctp_get_metrics(a, &metrics), SCTP_OK);
+    is("messages", metrics.tx_messages_count, 5);
+    is("peer", metrics.peer_implementation, SCTP_PEER_DCSCTP_RS);
+    is("streams", metrics.negotiated_maximum_outgoing_streams, 65535);
+    is("interleaving", metrics.uses_message_interleaving, 0);
+}
+
 /* An event, and a message, that don't fit stay. */
 static void short_buffers(sctp_socket *a, sctp_socket *b) {
     sctp_send_options plainly = {0, 0, 0, 0};
@@ -65,12 +149,7 @@ static void short_buffers(sctp_socket *a, sctp_socket *b) {
     is("same length", event.length, first.length);
     is("INIT's chunk type", buffer[12], 1);
     is("input", sctp_handle_input(b, buffer, event.length), SCTP_OK);
-    for (int turn = 0; turn < 4; turn++) {
-        sctp_socket *from = turn % 2 == 0 ? b : a, *to = turn % 2 == 0 ? a : b;
-        while (sctp_poll_event(from, &event, buffer, sizeof buffer) == SCTP_OK)
-            if (event.kind == SCTP_SEND_PACKET)
-                is("input", sctp_handle_input(to, buffer, event.length), SCTP_OK);
-    }
+    pass_packets(b, a);
     is("empty payload", sctp_send(a, 1, 51, SCTP_EMPTY, 0, &plainly), SCTP_EMPTY_PAYLOAD);
     is("send", sctp_send(a, 7, 51, (const uint8_t *)"four", 4, &plainly), SCTP_OK);
     while (sctp_poll_event(a, &event, buffer, sizeof buffer) == SCTP_OK)
@@ -88,6 +167,8 @@ int main(void) {
     sctp_socket a = SCTP_NO_HANDLE, b = SCTP_NO_HANDLE;
     sctp_send_options odd = {8, 0, 0, 0};
     sctp_options options;
+    sctp_metrics metrics;
+    uint16_t streams[1] = {1};
     uint8_t text[64];
     uint32_t state = 9;
     memset(&options, 255, sizeof options);
@@ -103,9 +184,15 @@ int main(void) {
     is("new", sctp_new(&b, &options, 2, 2), SCTP_OK);
     is("state", sctp_state(&a, &state), SCTP_OK);
     is("closed", state, SCTP_CLOSED);
+    is("readiness", sctp_handover_readiness(&a, &state), SCTP_OK);
+    is("ready", state, SCTP_READY);
+    is("metrics", sctp_get_metrics(&a, &metrics), SCTP_NOTHING);
+    is("resets", sctp_reset_streams(&a, streams, 1), SCTP_NOT_CONNECTED);
     is("stream", sctp_reset_stream(&a, 65536), SCTP_INVALID_STREAM);
     is("send flags", sctp_send(&a, 1, 1, text, 1, &odd), SCTP_INVALID_ARGUMENT);
     short_buffers(&a, &b);
+    batches(&a, &b);
+    resets_and_counts(&a, &b);
     sctp_free(&a);
     sctp_free(&a);
     is("freed", sctp_connect(&a), SCTP_NO_SOCKET);

@@ -1,5 +1,5 @@
 -- What the reader answers of bytes, and what becomes of them.
-use Rattle.std.proofs.Common.{◌≡◌, ℕ, Bool, true, List, Option, Some, None, Result, Ok, Err, OnOk, IfOk, subst, sym, false}
+use Rattle.std.proofs.Common.{◌≡◌, ℕ, Bool, true, List, Option, Some, None, Result, Ok, Err, OnOk, subst, sym, false}
 use Rattle.std.specs.Prelude.{is_some, is_err, option_map}
 use Rattle.sctp_wire.specs.declared.checksum.Policy.{Policy}
 use Rattle.sctp_packet.specs.declared.packet.PacketParseError.{PacketParseError}
@@ -52,12 +52,10 @@ pub not_heard_ok : {T E : Type 0} (r : Result T E) (word_of : List ℕ → ℕ) 
 not_heard_ok (Ok x) word_of policy word bytes fault s t a b refuses is e = not_heard word_of policy word bytes fault s t a b refuses is e
 not_heard_ok (Err x) word_of policy word bytes fault s t a b refuses is e = tt
 
-pub not_judged_ok : {E : Type 0} (r : Result Bool E) (word_of : List ℕ → ℕ) (policy : Policy) (word : ℕ) (bytes : List ℕ) (fault : PacketParseError) (o : Options) (s : State)
-    → policy ≡ policy_of o → word ≡ word_at word_of bytes → Refuses policy word bytes fault → OnOk r (IsFault fault) → IfOk r (λ b. b ≡ true)
-    → IfOk r (λ refused. Judges word_of bytes o s refused)
-not_judged_ok (Ok b) word_of policy word bytes fault o s a c refuses is e = not_judged word_of policy word bytes fault o s b a c refuses is e
-not_judged_ok (Err x) word_of policy word bytes fault o s a c refuses is e = tt
-
 pub where_ok : {T E : Type 0} (r : Result T E) {P : Type 0} → is_err r ≡ false → OnOk r P → P
 where_ok (Ok x) e p = p
 where_ok (Err x) e p = absurd (cc)
+
+pub on_ok_of : {T E : Type 0} (r : Result T E) {P : Type 0} → P → OnOk r P
+on_ok_of (Ok x) p = p
+on_ok_of (Err x) p = tt

@@ -1,1 +1,4 @@
 pub mod HearLemmas
+pub mod KindLemmas
+pub mod OutlineLemmas
+pub mod PlaceLemmas

@@ -1,10 +1,16 @@
 //! How an end takes a packet: whether it is for this association, then chunk by chunk, then what is due.
 
-ghost use Rattle.std.specs.Prelude.{◌≡◌, codes, true, map, IfOk, OnOk};
+ghost use Rattle.std.specs.Prelude.{◌≡◌, ℕ, List, codes, false, map, option_map, IfOk, OnOk};
+ghost use Rattle.rand_core.specs.Stream.{Stream};
 ghost use Rattle.sctp_parameter.specs.ParameterViews.{parameter_tree};
 ghost use Rattle.sctp_packet.specs.ChunkView.{chunk_tree};
-ghost use Rattle.sctp_packet.specs.Packet.{IsFault};
-ghost use Rattle.sctp_packet.specs.PacketView.{packet_tree};
+ghost use Rattle.sctp_packet.specs.Chunk.{ChunkTree};
+ghost use Rattle.sctp_packet.specs.Grammar.{IsChunk};
+ghost use Rattle.sctp_packet.specs.Views.{raw_chunk};
+ghost use Rattle.sctp_packet.specs.View.{AreLeft, viewed_packet};
+ghost use Rattle.sctp_chunk.specs.declared.data.DataView.{DataView};
+ghost use Rattle.sctp_closing.specs.MisuseView.{misuse_text};
+ghost use Rattle.sctp_association.specs.Kinds.{carries_data, carrying, data_misused};
 ghost use Rattle.sctp_table.specs.Association.{where_open};
 ghost use Rattle.sctp_table.specs.Opening.{on_cookie_ack};
 ghost use Rattle.sctp_table.specs.Packets.{complain};
@@ -13,10 +19,10 @@ ghost use Rattle.sctp_endpoint.specs.Views.{context_of, endpoint_of, heard_of, o
 ghost use Rattle.sctp_table.specs.Wire.{word_at};
 ghost use Rattle.sctp_table.specs.Input as table;
 
-use crate::validation::validate_packet;
+use crate::validation::{Outline, validate_packet};
 use rand_core::Rng;
 use sctp_closing::aborts::{handle_abort, handle_error, handle_misuse};
-use sctp_closing::misuse::{handle_unknown, is_passed_over, violation};
+use sctp_closing::misuse::{Misuse, handle_unknown, is_passed_over, violation};
 use sctp_closing::shutdown::{
     handle_shutdown_ack, handle_shutdown_chunk, handle_shutdown_complete,
 };
@@ -24,7 +30,7 @@ use sctp_endpoint::outgoing_packet::word_of;
 use sctp_endpoint::{Context, Phase, State, TransmissionControlBlock};
 use sctp_handshake::cookie_echo::{handle_cookie_ack, handle_cookie_echo};
 use sctp_handshake::opening::{handle_init, handle_init_ack};
-use sctp_packet::{Chunk, HeartbeatAckChunk, PacketParseError, SctpPacket};
+use sctp_packet::{Chunk, DataView, HeartbeatAckChunk, IDataChunk, PacketView, RawChunk};
 use sctp_parameter::Parameter;
 use sctp_state::{ErrorKind, SocketEvent};
 use sctp_timers::heartbeats::handle_heartbeat_ack;
@@ -32,7 +38,7 @@ use sctp_transfer::data::{handle_data, handle_forward_tsn};
 use sctp_transfer::sack::handle_sack;
 use sctp_transfer::stream_reset::handle_reconfig;
 use sctp_wire::{Checksum, Policy};
-use std::alloc::AllocError;
+use std::alloc::{AllocError, Global};
 
 /// A packet came.
 pub(crate) fn count_packet<C: Checksum>(context: &mut Context<C>)
@@ -114,7 +120,7 @@ fn handle_acked_cookie<C: Checksum>(
     }
 }
 
-/// What a chunk does, of a packet under this tag.
+/// What a chunk does, of a packet under this tag. DATA and I-DATA are heard where they lie.
 fn dispatch<R: Rng, C: Checksum>(
     state: &mut State,
     context: &mut Context<C>,
@@ -122,12 +128,13 @@ fn dispatch<R: Rng, C: Checksum>(
     tag: u32,
     chunk: Chunk,
 ) -> Result<(), AllocError>
+    requires { carries_data (chunk_tree chunk) ≡ false }
     ensures { OnOk result (endpoint_of R.stream C.word_of state.new context.new rng.new
         ≡ table.on_chunk tag (chunk_tree chunk) (endpoint_of R.stream C.word_of state.old context.old rng.old)) }
 {
     match chunk {
-        Chunk::Data(c) => handle_data(state, context, c.tsn, c.immediate_ack, c.data),
-        Chunk::IData(c) => handle_data(state, context, c.tsn, c.immediate_ack, c.data),
+        Chunk::Data(_) => unreachable!(),
+        Chunk::IData(_) => unreachable!(),
         Chunk::Init(c) => handle_init(state, context, rng, &c),
         Chunk::InitAck(c) => handle_init_ack(state, context, rng, &c),
         Chunk::Sack(c) => handle_sack(state, context, c),
@@ -175,6 +182,7 @@ fn hear<R: Rng, C: Checksum>(
     tag: u32,
     chunk: Chunk,
 ) -> Result<bool, AllocError>
+    requires { carries_data (chunk_tree chunk) ≡ false }
     ensures { IfOk result (λ goes_on. heard_of R.stream C.word_of state.new context.new rng.new goes_on
         ≡ table.hear tag (chunk_tree chunk) (endpoint_of R.stream C.word_of state.old context.old rng.old)) }
 {
@@ -188,34 +196,96 @@ fn hear<R: Rng, C: Checksum>(
     Ok(goes_on)
 }
 
+/// How DATA, or I-DATA where messages are interleaved in it, breaks whether they are to be.
+fn data_misuse(is_negotiated: bool, is_interleaved: bool) -> Option<Misuse>
+    ensures { option_map misuse_text result ≡ data_misused is_negotiated is_interleaved }
+{
+    match (is_negotiated, is_interleaved) {
+        (true, false) => Some(Misuse::NotInterleaved),
+        (false, true) => Some(Misuse::Interleaved),
+        (true, true) => None,
+        (false, false) => None,
+    }
+}
+
+/// How a fragment breaks what was negotiated, if it does.
+fn data_violation(state: &State, is_interleaved: bool) -> Option<Misuse>
+    ensures { (v : DataView) → option_map misuse_text result ≡ table.violation (state_of state.now) (carrying is_interleaved v) }
+{
+    match state {
+        State::Closed => None,
+        State::CookieWait(_) => None,
+        State::Open(_, tcb) => {
+            data_misuse(tcb.capabilities.message_interleaving, is_interleaved)
+        }
+    }
+}
+
+/// A fragment where it lies, in DATA or in I-DATA. The answer is whether the next chunk is looked at.
+fn hear_data<C: Checksum>(
+    state: &mut State,
+    context: &mut Context<C>,
+    is_interleaved: bool,
+    fragment: DataView<'_>,
+) -> Result<bool, AllocError>
+    ensures { (tag : ℕ) (words : Stream) → IfOk result (λ goes_on. record { end = record { standing = standing_of C.word_of state.new context.new; words = words }; goes_on = goes_on }
+        ≡ table.hear tag (carrying is_interleaved fragment.entry) (record { standing = standing_of C.word_of state.old context.old; words = words })) }
+{
+    if let Some(misuse) = data_violation(state, is_interleaved) {
+        handle_misuse(state, context, misuse)?;
+        return Ok(false);
+    }
+    handle_data(state, context, fragment)?;
+    Ok(true)
+}
+
+/// The chunk, built: for want of memory alone a chunk of a view is not.
+fn built(alloc: Global, raw: RawChunk<'_>) -> Result<Chunk, AllocError>
+    ensures { IfOk result (λ c. IsChunk (raw_chunk raw.entry) (chunk_tree c)) }
+{
+    match Chunk::try_from(alloc, raw) {
+        Ok(chunk) => Ok(chunk),
+        Err(_) => Err(AllocError),
+    }
+}
+
+/// One chunk where it lies. DATA is heard there, and others are built. The answer is whether the next one is looked at.
+fn hear_in_place<R: Rng, C: Checksum>(
+    state: &mut State,
+    context: &mut Context<C>,
+    rng: &mut R,
+    tag: u32,
+    raw: RawChunk<'_>,
+) -> Result<bool, AllocError>
+    ensures { (t : ChunkTree) → IsChunk (raw_chunk raw.entry) t → IfOk result (λ goes_on. heard_of R.stream C.word_of state.new context.new rng.new goes_on
+        ≡ table.hear tag t (endpoint_of R.stream C.word_of state.old context.old rng.old)) }
+{
+    match raw.data_view() {
+        Some(fragment) => hear_data(state, context, raw.typ == IDataChunk::TYPE, fragment),
+        None => {
+            let chunk = built(context.alloc, raw)?;
+            hear(state, context, rng, tag, chunk)
+        }
+    }
+}
+
 /// One chunk after the other.
 fn hear_all<R: Rng, C: Checksum>(
     state: &mut State,
     context: &mut Context<C>,
     rng: &mut R,
     tag: u32,
-    chunks: Vec<Chunk>,
+    mut view: PacketView<'_>,
 ) -> Result<(), AllocError>
-    ensures { OnOk result (endpoint_of R.stream C.word_of state.new context.new rng.new
-        ≡ table.hear_all tag (map chunk_tree chunks.items) (endpoint_of R.stream C.word_of state.old context.old rng.old)) }
+    ensures { (chunks : List ChunkTree) → AreLeft view.entry chunks → OnOk result (endpoint_of R.stream C.word_of state.new context.new rng.new
+        ≡ table.hear_all tag chunks (endpoint_of R.stream C.word_of state.old context.old rng.old)) }
 {
-    for chunk in chunks {
-        if !hear(state, context, rng, tag, chunk)? {
+    while let Some(raw) = view.next_chunk() {
+        if !hear_in_place(state, context, rng, tag, raw)? {
             return Ok(());
         }
     }
     Ok(())
-}
-
-fn has_data(chunks: &[Chunk]) -> bool
-    ensures { result ≡ table.has_data (map chunk_tree chunks.now) }
-{
-    for chunk in chunks {
-        if let Chunk::Data(_) = chunk {
-            return true;
-        }
-    }
-    false
 }
 
 fn repeat_if<C: Checksum>(
@@ -251,30 +321,32 @@ fn handle_chunks<R: Rng, C: Checksum>(
     context: &mut Context<C>,
     rng: &mut R,
     tag: u32,
-    chunks: Vec<Chunk>,
+    has_data: bool,
+    view: PacketView<'_>,
 ) -> Result<(), AllocError>
-    ensures { OnOk result (endpoint_of R.stream C.word_of state.new context.new rng.new
-        ≡ table.handled tag (map chunk_tree chunks.items) (endpoint_of R.stream C.word_of state.old context.old rng.old)) }
+    ensures { (chunks : List ChunkTree) → AreLeft view.entry chunks → has_data ≡ table.has_data chunks
+        → OnOk result (endpoint_of R.stream C.word_of state.new context.new rng.new ≡ table.handled tag chunks (endpoint_of R.stream C.word_of state.old context.old rng.old)) }
 {
-    repeat_if(state, context, has_data(&chunks))?;
-    hear_all(state, context, rng, tag, chunks)?;
+    repeat_if(state, context, has_data)?;
+    hear_all(state, context, rng, tag, view)?;
     end_packet(state, context)
 }
 
-/// A packet that could be read.
+/// A packet that could be read, where it lies.
 pub(crate) fn handle_packet<R: Rng, C: Checksum>(
     state: &mut State,
     context: &mut Context<C>,
     rng: &mut R,
-    packet: SctpPacket,
+    view: PacketView<'_>,
 ) -> Result<(), AllocError>
-    ensures { OnOk result (endpoint_of R.stream C.word_of state.new context.new rng.new
-        ≡ table.on_packet (packet_tree packet) (endpoint_of R.stream C.word_of state.old context.old rng.old)) }
+    ensures { (chunks : List ChunkTree) → AreLeft view.entry chunks → OnOk result (endpoint_of R.stream C.word_of state.new context.new rng.new
+        ≡ table.on_packet (viewed_packet view.entry chunks) (endpoint_of R.stream C.word_of state.old context.old rng.old)) }
 {
     count_packet(context);
-    let tag = packet.common_header.verification_tag;
-    match validate_packet(state, tag, &packet.chunks) {
-        None => handle_chunks(state, context, rng, tag, packet.chunks),
+    let tag = view.header().verification_tag;
+    let outline = Outline::of(&view);
+    match validate_packet(state, tag, &outline) {
+        None => handle_chunks(state, context, rng, tag, outline.has_data, view),
         Some(refusal) => {
             let text = refusal.text(context.alloc)?;
             context.tell(SocketEvent::OnError(ErrorKind::ParseFailed, text))
@@ -301,17 +373,10 @@ fn packet_word<C: Checksum>(context: &Context<C>, bytes: &[u8]) -> u32
 }
 
 /// Bytes that are no packet.
-fn refuse_bytes<C: Checksum>(
-    context: &mut Context<C>,
-    fault: PacketParseError,
-) -> Result<(), AllocError>
-    ensures fault { OnOk result (IsFault fault) }
-    ensures told { OnOk result (context_of C.word_of context.new
+fn refuse_bytes<C: Checksum>(context: &mut Context<C>) -> Result<(), AllocError>
+    ensures { OnOk result (context_of C.word_of context.new
         ≡ complain ErrorKind.ParseFailed (codes "Failed to parse SCTP packet") (table.counted (context_of C.word_of context.old))) }
 {
-    if fault == PacketParseError::Memory {
-        return Err(AllocError);
-    }
     count_packet(context);
     context.complain(ErrorKind::ParseFailed, "Failed to parse SCTP packet")
 }
@@ -327,37 +392,22 @@ pub(crate) fn handle_input<R: Rng, C: Checksum>(
         (endpoint_of R.stream C.word_of state.new context.new rng.new)) }
 {
     let word = packet_word(context, bytes);
-    match SctpPacket::from_bytes(context.alloc, bytes, word, &policy(context)) {
-        Ok(packet) => handle_packet(state, context, rng, packet),
-        Err(fault) => refuse_bytes(context, fault),
+    match PacketView::new(bytes, word, &policy(context)) {
+        Ok(view) => handle_packet(state, context, rng, view),
+        Err(_) => refuse_bytes(context),
     }
 }
 
-/// Whether the bytes would be refused: they are no packet, or not one for this association.
-pub(crate) fn judge<C: Checksum>(
-    state: &State,
-    context: &Context<C>,
-    bytes: &[u8],
-) -> Result<bool, AllocError>
-    ensures { IfOk result (λ refused. Judges (C.word_of context.now.checksum) bytes.now context.now.options (state_of state.now) refused) }
+/// Whether the bytes would be refused: they are no packet, or not one for this association. It takes no memory.
+pub(crate) fn judge<C: Checksum>(state: &State, context: &Context<C>, bytes: &[u8]) -> bool
+    ensures { Judges (C.word_of context.now.checksum) bytes.now context.now.options (state_of state.now) result }
 {
     let word = packet_word(context, bytes);
-    match SctpPacket::from_bytes(context.alloc, bytes, word, &policy(context)) {
-        Ok(packet) => {
-            let tag = packet.common_header.verification_tag;
-            Ok(validate_packet(state, tag, &packet.chunks).is_some())
+    match PacketView::new(bytes, word, &policy(context)) {
+        Ok(view) => {
+            let tag = view.header().verification_tag;
+            validate_packet(state, tag, &Outline::of(&view)).is_some()
         }
-        Err(fault) => is_fault(fault),
+        Err(_) => true,
     }
-}
-
-/// That the bytes are no packet, which want of memory leaves open.
-fn is_fault(fault: PacketParseError) -> Result<bool, AllocError>
-    ensures refused { IfOk result (λ refused. refused ≡ true) }
-    ensures fault { OnOk result (IsFault fault) }
-{
-    if fault == PacketParseError::Memory {
-        return Err(AllocError);
-    }
-    Ok(true)
 }

@@ -144,15 +144,16 @@ impl<R: Rng, C: Checksum> Socket<R, C> {
         }
     }
 
-    /// Whether `handle_input` would refuse these bytes: they are no packet, or not one for this association.
+    /// Whether `handle_input` would refuse these bytes: they are no packet, or not one for this association. It takes no memory.
     pub fn refuses(&self, bytes: &[u8]) -> Result<bool, CallError>
         ensures judged { IfOk result (λ refused. Judges (C.word_of self.now.context.checksum) bytes.now self.now.context.options self.now.state refused) }
         ensures failed { result ≡ Err CallError.Failed ↔ self.now.has_failed ≡ true }
+        ensures without_memory { IfErr result (λ e. e ≡ CallError.Failed) }
     {
         if self.has_failed {
             return Err(CallError::Failed);
         }
-        Ok(judge(&self.state, &self.context, bytes)?)
+        Ok(judge(&self.state, &self.context, bytes))
     }
 }
 

@@ -1,16 +1,20 @@
 //! What a socket is asked.
 
-ghost use Rattle.std.specs.Prelude.{◌≡◌, ◌-◌, ◌^◌, ◌<◌, ◌≤◌};
-ghost use Rattle.sctp_c.specs.Calls.{Tells, end_of};
-ghost use Rattle.sctp_c_calls.specs.Answers.{state_number};
+ghost use Rattle.std.specs.Prelude.{◌≡◌, ◌-◌, ◌^◌, ◌<◌, ◌≤◌, [], ◌∷◌, None, Some, option_map};
+ghost use Rattle.sctp_c.specs.Calls.{Answers, OnSocket, Tells, end_of};
+ghost use Rattle.sctp_c_calls.specs.Answers.{IsAmong, OnAnswer, state_number};
+ghost use Rattle.sctp_c_calls.specs.Counted.{shown_metrics};
+ghost use Rattle.sctp_calls.specs.Metrics.{metrics_in};
 ghost use Rattle.sctp_send_queue.specs.Queue as queue;
 ghost use Rattle.sctp_table.specs.Calls as table;
+ghost use Rattle.sctp_table.specs.Handover as handover;
 ghost use Rattle.sctp_table.specs.Time as time;
 
 use crate::handle::Handle;
+use crate::stream::stream_of;
 use sctp_c_calls as calls;
-use sctp_c_records::answers::{INVALID_STREAM, NO_SOCKET, OK, text_of};
-use sctp_c_records::put_bytes;
+use sctp_c_records::answers::{INVALID_STREAM, NO_SOCKET, NOTHING, OK, text_of};
+use sctp_c_records::{MetricsRecord, put_bytes};
 
 /// Writes the text of an answer, where it fits, without a zero byte behind it. Answers the length of the text.
 #[unsafe(no_mangle)]
@@ -55,13 +59,47 @@ pub extern "C" fn sctp_buffered_amount(socket: &mut Handle, stream: u32, bytes: 
     ensures stream { 65535 < stream → (result ≡ 6) × (socket.new.held ≡ socket.old.held) }
     ensures call { stream ≤ 65535 → Tells (λ s. bytes.new ≡ queue.amount_of (queue.stream stream s.context.queue.streams)) socket.old.held result socket.new.held }
 {
-    if 65_535 < stream {
+    let Some(stream) = stream_of(stream) else {
         return INVALID_STREAM;
-    }
+    };
     match socket.as_mut() {
         None => NO_SOCKET,
         Some(end) => {
-            *bytes = calls::buffered_amount(&end.socket, stream as u16);
+            *bytes = calls::buffered_amount(&end.socket, stream);
+            OK
+        }
+    }
+}
+
+/// What is counted of the association and the socket, while there is an association.
+#[unsafe(no_mangle)]
+pub extern "C" fn sctp_get_metrics(socket: &mut Handle, metrics: &mut MetricsRecord) -> u32
+    ensures answers { Answers (λ e n f. IsAmong (0 ∷ 8 ∷ []) n) socket.old.held result socket.new.held }
+    ensures stays { Answers (λ e n f. f ≡ e) socket.old.held result socket.new.held }
+    ensures told { Answers (OnSocket (λ s n t. OnAnswer 0 n (option_map shown_metrics (metrics_in s.state s.context) ≡ Some metrics.new))) socket.old.held result socket.new.held }
+    ensures nothing { Answers (OnSocket (λ s n t. OnAnswer 8 n (option_map shown_metrics (metrics_in s.state s.context) ≡ None))) socket.old.held result socket.new.held }
+{
+    match socket.as_mut() {
+        None => NO_SOCKET,
+        Some(end) => match calls::metrics(&end.socket) {
+            None => NOTHING,
+            Some(told) => {
+                *metrics = told;
+                OK
+            }
+        },
+    }
+}
+
+/// What stands in the way of a handover, a bit each.
+#[unsafe(no_mangle)]
+pub extern "C" fn sctp_handover_readiness(socket: &mut Handle, readiness: &mut u32) -> u32
+    ensures { Tells (λ s. readiness.new ≡ handover.readiness (end_of s).standing) socket.old.held result socket.new.held }
+{
+    match socket.as_mut() {
+        None => NO_SOCKET,
+        Some(end) => {
+            *readiness = calls::handover_readiness(&end.socket);
             OK
         }
     }

@@ -2,6 +2,7 @@
 #![tactic(auto)]
 
 mod asking;
+mod batch;
 mod calls;
 mod endpoint;
 mod events;
@@ -9,3 +10,4 @@ mod handle;
 mod making;
 mod messages;
 mod settings;
+mod stream;

@@ -9,6 +9,7 @@ ghost use Rattle.sctp_table.specs.Calls as table;
 ghost use Rattle.sctp_table.specs.Input.{on_standing};
 
 use crate::handle::Handle;
+use crate::stream::stream_of;
 use sctp_c_calls as calls;
 use sctp_c_records::answers::{INVALID_ARGUMENT, INVALID_STREAM, NO_SOCKET};
 use sctp_c_records::{MessageRecord, SendRecord};
@@ -52,21 +53,14 @@ pub extern "C" fn sctp_send(
     ensures sent { stream ≤ 65535 → IsKnown options.now → Answers (OnSocket (λ s n t. OnSettled n (end_of t
         ≡ on_standing (table.send (record { stream = stream; ppid = ppid; payload = payload.now }) (given_send_options options.now)) (end_of s)))) socket.old.held result socket.new.held }
 {
-    if 65_535 < stream {
+    let Some(stream) = stream_of(stream) else {
         return INVALID_STREAM;
-    }
+    };
     if !options.is_known() {
         return INVALID_ARGUMENT;
     }
     match socket.as_mut() {
         None => NO_SOCKET,
-        Some(end) => calls::send(
-            alloc,
-            &mut end.socket,
-            stream as u16,
-            ppid,
-            payload,
-            options,
-        ),
+        Some(end) => calls::send(alloc, &mut end.socket, stream, ppid, payload, options),
     }
 }

@@ -3,15 +3,17 @@
 ghost use Rattle.std.specs.Prelude.{◌≡◌, ◌∷◌, [], ◌<◌, ◌≤◌};
 ghost use Rattle.sctp_association.specs.Socket.{Ends};
 ghost use Rattle.sctp_c.specs.Calls.{Answers, Makes, OnSocket, end_of};
-ghost use Rattle.sctp_c_calls.specs.Answers.{IsAmong, OnSettled, ending_at, reset_number};
+ghost use Rattle.sctp_c_calls.specs.Answers.{Ended, IsAmong, OnSettled, ending_at, reset_number};
 ghost use Rattle.sctp_table.specs.Association.{in_context};
 ghost use Rattle.sctp_table.specs.Calls as table;
 ghost use Rattle.sctp_table.specs.Input.{on_standing};
 ghost use Rattle.sctp_table.specs.Resets as resets;
 
 use crate::handle::Handle;
+use crate::stream::stream_of;
 use sctp_c_calls as calls;
 use sctp_c_records::answers::{INVALID_STREAM, NO_SOCKET};
+use std::alloc::Global;
 
 /// Sets the priority of a stream.
 #[unsafe(no_mangle)]
@@ -19,12 +21,12 @@ pub extern "C" fn sctp_set_stream_priority(socket: &mut Handle, stream: u32, pri
     ensures stream { 65535 < stream → (result ≡ 6) × (socket.new.held ≡ socket.old.held) }
     ensures call { stream ≤ 65535 → Makes (λ s f. f ≡ on_standing (in_context (table.set_priority stream priority)) (end_of s)) socket.old.held result socket.new.held }
 {
-    if 65_535 < stream {
+    let Some(stream) = stream_of(stream) else {
         return INVALID_STREAM;
-    }
+    };
     match socket.as_mut() {
         None => NO_SOCKET,
-        Some(end) => calls::set_stream_priority(&mut end.socket, stream as u16, priority),
+        Some(end) => calls::set_stream_priority(&mut end.socket, stream, priority),
     }
 }
 
@@ -38,16 +40,12 @@ pub extern "C" fn sctp_set_buffered_amount_low_threshold(
     ensures stream { 65535 < stream → (result ≡ 6) × (socket.new.held ≡ socket.old.held) }
     ensures call { stream ≤ 65535 → Makes (λ s f. f ≡ on_standing (in_context (table.set_low_threshold stream bytes)) (end_of s)) socket.old.held result socket.new.held }
 {
-    if 65_535 < stream {
+    let Some(stream) = stream_of(stream) else {
         return INVALID_STREAM;
-    }
+    };
     match socket.as_mut() {
         None => NO_SOCKET,
-        Some(end) => calls::set_buffered_amount_low_threshold(
-            &mut end.socket,
-            stream as u16,
-            bytes,
-        ),
+        Some(end) => calls::set_buffered_amount_low_threshold(&mut end.socket, stream, bytes),
     }
 }
 
@@ -59,11 +57,25 @@ pub extern "C" fn sctp_reset_stream(socket: &mut Handle, stream: u32) -> u32
         × (OnSettled n (n ≡ reset_number (resets.reset_refusal s.state))
         × OnSettled n (end_of t ≡ on_standing (resets.reset_streams (stream ∷ [])) (end_of s)))))) socket.old.held result socket.new.held }
 {
-    if 65_535 < stream {
+    let Some(stream) = stream_of(stream) else {
         return INVALID_STREAM;
-    }
+    };
     match socket.as_mut() {
         None => NO_SOCKET,
-        Some(end) => calls::reset_stream(&mut end.socket, stream as u16),
+        Some(end) => calls::reset_stream(&mut end.socket, stream),
+    }
+}
+
+/// Resets streams (RFC 6525).
+#[unsafe(no_mangle)]
+pub extern "C" fn sctp_reset_streams(alloc: Global, socket: &mut Handle, streams: &[u16]) -> u32
+    ensures answers { Answers (λ e n f. IsAmong (0 ∷ 1 ∷ 2 ∷ 14 ∷ 15 ∷ 17 ∷ []) n) socket.old.held result socket.new.held }
+    ensures ends { Answers (OnSocket (λ s n t. Ended n s t)) socket.old.held result socket.new.held }
+    ensures answer { Answers (OnSocket (λ s n t. OnSettled n (n ≡ reset_number (resets.reset_refusal s.state)))) socket.old.held result socket.new.held }
+    ensures reset { Answers (OnSocket (λ s n t. OnSettled n (end_of t ≡ on_standing (resets.reset_streams streams.now) (end_of s)))) socket.old.held result socket.new.held }
+{
+    match socket.as_mut() {
+        None => NO_SOCKET,
+        Some(end) => calls::reset_streams(alloc, &mut end.socket, streams),
     }
 }

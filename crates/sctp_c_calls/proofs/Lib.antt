@@ -1,1 +1,2 @@
+pub mod OutcomeLemmas
 pub mod ReadyLemmas

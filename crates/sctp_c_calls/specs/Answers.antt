@@ -1,5 +1,7 @@
 -- What a call did, by the number that it answers.
-use Rattle.std.specs.Prelude.{◌≡◌, ℕ, zero, suc, ◌==◌, ◌||◌, ◌&&◌, nat_le, Bool, true, false, Option, Some, None, List, [], ◌∷◌}
+use Rattle.std.specs.Prelude.{◌≡◌, ℕ, zero, suc, ◌==◌, ◌||◌, ◌&&◌, not, nat_le, Bool, true, false, Option, Some, None, Result, Ok, Err, List, [], ◌∷◌, set}
+use Rattle.sctp_state.specs.declared.api.errors.CallError.{CallError}
+use Rattle.sctp_state.specs.declared.api.errors.CallError.TheVariants as calls
 use Rattle.sctp_state.specs.declared.api.errors.SendError.{SendError}
 use Rattle.sctp_state.specs.declared.api.errors.SendError.TheVariants.{EmptyPayload, MessageTooLarge, ShuttingDown, ResourceExhaustion, Memory, Failed}
 use Rattle.sctp_state.specs.declared.api.errors.ResetStreamsError.{ResetStreamsError}
@@ -14,6 +16,12 @@ ending_at zero = Worked
 ending_at (suc zero) = RanOut
 ending_at (suc (suc zero)) = HadFailed
 ending_at (suc (suc (suc n))) = Worked
+
+-- what a call answers that tells nothing else
+abbrev pub call_number : Result (Unit {0}) CallError → ℕ
+call_number (Ok done) = 0
+call_number (Err calls.Memory) = 1
+call_number (Err calls.Failed) = 2
 
 abbrev pub by_test : Bool → Type 0 → Type 0 → Type 0
 by_test true P Q = P
@@ -57,7 +65,17 @@ reset_number (Some resets.Failed) = 2
 
 -- P, where the call was made, done or refused
 abbrev pub OnSettled : ℕ → Type 0 → Type 0
-OnSettled answer P = by_test (answer == 0 || (nat_le 10 answer && nat_le answer 15)) P (Unit {0})
+OnSettled answer P = by_test (answer == 0 || (nat_le 10 answer && not (answer == 17))) P (Unit {0})
+
+-- a batch is done, or some of its messages are refused
+abbrev pub batch_number : List (ℕ × SendError) → ℕ
+batch_number [] = 0
+batch_number (r ∷ rs) = 18
+
+-- the answer of each message, where these are refused
+abbrev pub noted : List (ℕ × SendError) → List ℕ → List ℕ
+noted [] answers = answers
+noted (r ∷ rs) answers = noted rs (set answers r.0 (refusal_number (Some r.1)))
 
 abbrev pub state_number : SocketState → ℕ
 state_number shown.Closed = 0

@@ -1,14 +1,18 @@
 //! What a socket is asked.
 
-ghost use Rattle.std.specs.Prelude.{◌≡◌, ◌-◌, ◌^◌, ◌<◌, ◌≤◌};
+ghost use Rattle.std.specs.Prelude.{◌≡◌, ◌-◌, ◌^◌, ◌<◌, ◌≤◌, option_map};
 ghost use Rattle.sctp_association.specs.Socket.{endpoint};
 ghost use Rattle.sctp_c_calls.specs.Answers.{state_number};
+ghost use Rattle.sctp_c_calls.specs.Counted.{shown_metrics};
+ghost use Rattle.sctp_calls.specs.Metrics.{metrics_in};
 ghost use Rattle.sctp_send_queue.specs.Queue.{amount_of, stream};
 ghost use Rattle.sctp_table.specs.Calls as calls;
+ghost use Rattle.sctp_table.specs.Handover as handover;
 ghost use Rattle.sctp_table.specs.Time as time;
 
 use rand_core::Rng;
 use sctp_association::{Checksum, DcSctpSocket, Socket, SocketState, StreamId};
+use sctp_c_records::MetricsRecord;
 
 /// The moment by which the time is to be told next, in nanoseconds; the greatest number where none so early is.
 pub fn nanos_until<R: Rng, C: Checksum>(socket: &Socket<R, C>) -> u64
@@ -46,4 +50,21 @@ pub fn buffered_amount<R: Rng, C: Checksum>(socket: &Socket<R, C>, id: u16) -> u
     ensures { result ≡ amount_of (stream id socket.now.context.queue.streams) }
 {
     socket.buffered_amount(StreamId(id))
+}
+
+/// What is counted, while there is a control block.
+pub fn metrics<R: Rng, C: Checksum>(socket: &Socket<R, C>) -> Option<MetricsRecord>
+    ensures { result ≡ option_map shown_metrics (metrics_in socket.now.state socket.now.context) }
+{
+    match socket.get_metrics() {
+        None => None,
+        Some(metrics) => Some(MetricsRecord::of(&metrics)),
+    }
+}
+
+/// What stands in the way of a handover, a bit each.
+pub fn handover_readiness<R: Rng, C: Checksum>(socket: &Socket<R, C>) -> u32
+    ensures { result ≡ handover.readiness (endpoint R.stream C.word_of socket.now).standing }
+{
+    socket.get_handover_readiness().0
 }

@@ -9,9 +9,9 @@ ghost use Rattle.sctp_table.specs.Input.{on_standing};
 ghost use Rattle.sctp_table.specs.Opening as opening;
 ghost use Rattle.sctp_table.specs.Time as time;
 
+use crate::outcome::call_number;
 use rand_core::Rng;
-use sctp_association::{CallError, Checksum, DcSctpSocket, Socket, SocketTime};
-use sctp_c_records::answers::{FAILED, MEMORY, OK};
+use sctp_association::{Checksum, DcSctpSocket, Socket, SocketTime};
 use std::time::Duration;
 
 /// Opens an association, where the socket is closed.
@@ -20,11 +20,7 @@ pub fn connect<R: Rng, C: Checksum>(socket: &mut Socket<R, C>) -> u32
     ensures ends { Ends (ending_at result) socket.old socket.new }
     ensures ok { OnAnswer 0 result (endpoint R.stream C.word_of socket.new ≡ opening.connect (endpoint R.stream C.word_of socket.old)) }
 {
-    match socket.connect() {
-        Ok(()) => OK,
-        Err(CallError::Memory) => MEMORY,
-        Err(CallError::Failed) => FAILED,
-    }
+    call_number(socket.connect())
 }
 
 /// Shuts the association down (RFC 9260 section 9.2).
@@ -33,11 +29,7 @@ pub fn shutdown<R: Rng, C: Checksum>(socket: &mut Socket<R, C>) -> u32
     ensures ends { Ends (ending_at result) socket.old socket.new }
     ensures ok { OnAnswer 0 result (endpoint R.stream C.word_of socket.new ≡ on_standing closing.shutdown (endpoint R.stream C.word_of socket.old)) }
 {
-    match socket.shutdown() {
-        Ok(()) => OK,
-        Err(CallError::Memory) => MEMORY,
-        Err(CallError::Failed) => FAILED,
-    }
+    call_number(socket.shutdown())
 }
 
 /// Ends the association at once, with an ABORT to the peer (RFC 9260 section 9.1).
@@ -46,11 +38,7 @@ pub fn close<R: Rng, C: Checksum>(socket: &mut Socket<R, C>) -> u32
     ensures ends { Ends (ending_at result) socket.old socket.new }
     ensures ok { OnAnswer 0 result (endpoint R.stream C.word_of socket.new ≡ on_standing closing.close (endpoint R.stream C.word_of socket.old)) }
 {
-    match socket.close() {
-        Ok(()) => OK,
-        Err(CallError::Memory) => MEMORY,
-        Err(CallError::Failed) => FAILED,
-    }
+    call_number(socket.close())
 }
 
 /// Takes the bytes of a packet that came.
@@ -59,11 +47,7 @@ pub fn handle_input<R: Rng, C: Checksum>(socket: &mut Socket<R, C>, bytes: &[u8]
     ensures ends { Ends (ending_at result) socket.old socket.new }
     ensures ok { OnAnswer 0 result (Hears (C.word_of socket.old.context.checksum) bytes.now (endpoint R.stream C.word_of socket.old) (endpoint R.stream C.word_of socket.new)) }
 {
-    match socket.handle_input(bytes) {
-        Ok(()) => OK,
-        Err(CallError::Memory) => MEMORY,
-        Err(CallError::Failed) => FAILED,
-    }
+    call_number(socket.handle_input(bytes))
 }
 
 /// Tells the time, in nanoseconds since the socket was made.
@@ -72,11 +56,7 @@ pub fn advance_time<R: Rng, C: Checksum>(socket: &mut Socket<R, C>, nanos: u64) 
     ensures ends { Ends (ending_at result) socket.old socket.new }
     ensures ok { OnAnswer 0 result (endpoint R.stream C.word_of socket.new ≡ on_standing (time.advance nanos) (endpoint R.stream C.word_of socket.old)) }
 {
-    match socket.advance_time(moment(nanos)) {
-        Ok(()) => OK,
-        Err(CallError::Memory) => MEMORY,
-        Err(CallError::Failed) => FAILED,
-    }
+    call_number(socket.advance_time(moment(nanos)))
 }
 
 /// The moment so many nanoseconds after the socket was made.

@@ -1,8 +1,9 @@
 //! What a socket told, handed out. What doesn't fit stays.
 
-ghost use Rattle.std.specs.Prelude.{◌≡◌, [], ◌∷◌, length, drop, IfNone};
+ghost use Rattle.std.specs.Prelude.{◌≡◌, None, [], ◌∷◌, length, drop, option_map};
 ghost use Rattle.sctp_c_calls.specs.Answers.{IsAmong, OnAnswer, OnOthers};
 ghost use Rattle.sctp_c_calls.specs.Waiting.{Needs, Shows, waiting, with_events};
+ghost use Rattle.sctp_state.specs.Events.{event_of, first_of};
 
 use rand_core::Rng;
 use sctp_association::{Checksum, DcSctpSocket, Socket, SocketEvent};
@@ -10,14 +11,19 @@ use sctp_c_records::answers::{NO_ROOM, NOTHING, OK, SHORT_BUFFER};
 use sctp_c_records::{EventRecord, hand_out};
 use std::alloc::Global;
 
-/// Where no event is kept, takes the first one out of the socket.
-fn keep_first<R: Rng, C: Checksum>(socket: &mut Socket<R, C>, kept: &mut Option<SocketEvent>)
-    ensures waits { waiting kept.new socket.new ≡ waiting kept.old socket.old }
-    ensures none { IfNone kept.new (waiting kept.old socket.old ≡ []) }
+/// Takes out the event that was told first: the one that is kept, or else the socket's.
+fn take_first<R: Rng, C: Checksum>(
+    socket: &mut Socket<R, C>,
+    kept: &mut Option<SocketEvent>,
+) -> Option<SocketEvent>
+    ensures first { option_map event_of result ≡ first_of (waiting kept.old socket.old) }
+    ensures waits { waiting kept.new socket.new ≡ drop 1 (waiting kept.old socket.old) }
+    ensures none { kept.new ≡ None }
     ensures rest { socket.new ≡ with_events socket.old socket.new.context.told.events }
 {
-    if kept.is_none() {
-        drop(std::mem::replace(kept, socket.poll_event()));
+    match kept.take() {
+        Some(told) => Some(told),
+        None => socket.poll_event(),
     }
 }
 
@@ -37,8 +43,7 @@ pub fn poll_event<R: Rng, C: Checksum>(
     ensures needed { OnAnswer 9 result (Needs head.new (length buffer.old) (waiting kept.old socket.old)) }
     ensures rest { socket.new ≡ with_events socket.old socket.new.context.told.events }
 {
-    keep_first(socket, kept);
-    match kept.take() {
+    match take_first(socket, kept) {
         None => NOTHING,
         Some(told) => match hand_out(alloc, &told, head, buffer) {
             Ok(true) => {

@@ -2,13 +2,18 @@
 #![tactic(auto)]
 
 mod asking;
+mod batch;
 mod calls;
 mod events;
 mod messages;
+mod outcome;
 mod settings;
 
-pub use asking::{buffered_amount, nanos_until, state_number};
+pub use asking::{buffered_amount, handover_readiness, metrics, nanos_until, state_number};
+pub use batch::{have_streams, send_many};
 pub use calls::{advance_time, close, connect, handle_input, shutdown};
 pub use events::poll_event;
 pub use messages::{next_message, send};
-pub use settings::{reset_stream, set_buffered_amount_low_threshold, set_stream_priority};
+pub use settings::{
+    reset_stream, reset_streams, set_buffered_amount_low_threshold, set_stream_priority,
+};

@@ -10,12 +10,10 @@ ghost use Rattle.sctp_c_records.specs.Records.{given_send_options};
 ghost use Rattle.sctp_table.specs.Calls as calls;
 ghost use Rattle.sctp_table.specs.Input.{on_standing};
 
+use crate::outcome::refusal_number;
 use rand_core::Rng;
-use sctp_association::{Checksum, DcSctpSocket, Message, PpId, SendError, Socket, StreamId};
-use sctp_c_records::answers::{
-    EMPTY_PAYLOAD, FAILED, MEMORY, MESSAGE_TOO_LARGE, NO_ROOM, NOTHING, OK, RESOURCE_EXHAUSTION,
-    SHORT_BUFFER, SHUTTING_DOWN,
-};
+use sctp_association::{Checksum, DcSctpSocket, Message, PpId, Socket, StreamId};
+use sctp_c_records::answers::{NO_ROOM, NOTHING, OK, SHORT_BUFFER};
 use sctp_c_records::{MessageRecord, SendRecord, put_bytes};
 use std::alloc::Global;
 
@@ -79,11 +77,6 @@ pub fn send<R: Rng, C: Checksum>(
     let message = Message::new(StreamId(stream), PpId(ppid), payload);
     match socket.send(message, &options.options()) {
         Ok(()) => OK,
-        Err(SendError::EmptyPayload) => EMPTY_PAYLOAD,
-        Err(SendError::MessageTooLarge { len: _, limit: _ }) => MESSAGE_TOO_LARGE,
-        Err(SendError::ShuttingDown) => SHUTTING_DOWN,
-        Err(SendError::ResourceExhaustion) => RESOURCE_EXHAUSTION,
-        Err(SendError::Memory) => MEMORY,
-        Err(SendError::Failed) => FAILED,
+        Err(refusal) => refusal_number(&refusal),
     }
 }

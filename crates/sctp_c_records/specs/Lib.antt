@@ -1,3 +1,4 @@
 pub mod Checksums
+pub mod Counts
 pub mod Records
 pub mod Shown

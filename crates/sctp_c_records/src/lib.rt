@@ -5,9 +5,11 @@ pub mod answers;
 mod checksum;
 mod event;
 mod message;
+mod metrics;
 mod options;
 
 pub use checksum::PacketChecksum;
 pub use event::{EventRecord, hand_out, put_bytes};
-pub use message::{MessageRecord, SendRecord};
+pub use message::{MessageRecord, OutgoingRecord, SendRecord};
+pub use metrics::MetricsRecord;
 pub use options::OptionsRecord;

@@ -18,6 +18,15 @@ pub struct MessageRecord {
     pub length: usize,
 }
 
+/// A message to be sent; in C `sctp_outgoing`, whose payload is a pointer and a length.
+#[repr(C)]
+#[derive(Clone, Copy)]
+pub struct OutgoingRecord<'a> {
+    pub stream: u32,
+    pub ppid: u32,
+    pub payload: &'a [u8],
+}
+
 /// How a message is sent; in C `sctp_send_options`. All zero is an ordered, reliable message.
 #[repr(C)]
 #[derive(Clone, Copy)]

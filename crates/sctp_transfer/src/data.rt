@@ -4,7 +4,7 @@ ghost use Rattle.std.specs.Prelude.{◌≡◌, [], ◌∷◌, OnOk};
 ghost use Rattle.sctp_wire.specs.Cause.{no_user_data};
 ghost use Rattle.sctp_packet.specs.Chunk.{error_chunk};
 ghost use Rattle.sctp_table.specs.Packets.{emit_chunk};
-ghost use Rattle.sctp_packet.specs.Views.{fragment_tree};
+ghost use Rattle.sctp_packet.specs.Views.{viewed_fragment};
 ghost use Rattle.sctp_rx.specs.Tracker.{is_valid, number_of};
 ghost use Rattle.sctp_table.specs.Data.{forwarded_if, on_data, taken_if, takes};
 ghost use Rattle.sctp_endpoint.specs.Views.{context_of, standing_of, state_of, tcb_of};
@@ -12,29 +12,28 @@ ghost use Rattle.sctp_table.specs.Data as table;
 
 use sctp_endpoint::{Context, State, TransmissionControlBlock};
 use sctp_error_cause::{ErrorCause, NoUserDataErrorCause};
-use sctp_packet::{Chunk, Data, ErrorChunk, SkippedStream};
+use sctp_packet::{Chunk, DataView, ErrorChunk, SkippedStream};
 use sctp_serial::{SocketTime, Tsn};
 use sctp_state::ErrorKind;
 use sctp_wire::Checksum;
-use std::alloc::AllocError;
+use std::alloc::{AllocError, Global};
 
-/// DATA or I-DATA.
+/// DATA or I-DATA, where it lies. Its payload is copied only where it is kept.
 pub fn handle_data<C: Checksum>(
     state: &mut State,
     context: &mut Context<C>,
-    tsn: Tsn,
-    immediate_ack: bool,
-    fragment: Data,
+    fragment: DataView<'_>,
 ) -> Result<(), AllocError>
-    ensures { OnOk result (standing_of C.word_of state.new context.new ≡ on_data tsn.0 immediate_ack (fragment_tree fragment) (standing_of C.word_of state.old context.old)) }
+    ensures { OnOk result (standing_of C.word_of state.new context.new
+        ≡ on_data fragment.entry.tsn.0 fragment.entry.immediate_ack (viewed_fragment fragment.entry) (standing_of C.word_of state.old context.old)) }
 {
     if fragment.payload.is_empty() {
-        return handle_no_data(state, context, tsn);
+        return handle_no_data(state, context, fragment.tsn);
     }
     match state {
         State::Closed => complain_of_data(context),
         State::CookieWait(_) => complain_of_data(context),
-        State::Open(_, tcb) => take_data(tcb, context.clock, tsn, immediate_ack, fragment),
+        State::Open(_, tcb) => take_data(tcb, context.alloc, context.clock, fragment),
     }
 }
 
@@ -80,24 +79,26 @@ fn send_no_user_data<C: Checksum>(
     context.emit_chunk(tcb, Chunk::Error(ErrorChunk { error_causes }))
 }
 
-/// A fragment is observed, and kept where its TSN is new; unless there is no room, or the TSN lies too far away.
+/// A fragment is observed, and copied and kept where its TSN is new; unless there is no room, or the TSN lies too far away.
 fn take_data(
     tcb: &mut TransmissionControlBlock,
+    alloc: Global,
     now: SocketTime,
-    tsn: Tsn,
-    immediate_ack: bool,
-    fragment: Data,
+    fragment: DataView<'_>,
 ) -> Result<(), AllocError>
-    ensures { OnOk result (tcb_of tcb.new ≡ taken_if (takes tsn.0 (tcb_of tcb.old)) tsn.0 immediate_ack (fragment_tree fragment) (tcb_of tcb.old)) }
+    ensures { OnOk result (tcb_of tcb.new
+        ≡ taken_if (takes fragment.entry.tsn.0 (tcb_of tcb.old)) fragment.entry.tsn.0 fragment.entry.immediate_ack (viewed_fragment fragment.entry) (tcb_of tcb.old)) }
 {
     if tcb.reassembly_queue.is_full() || tcb.reassembly_queue.is_above_watermark() {
         return Ok(());
     }
+    let tsn = fragment.tsn;
     if !tcb.data_tracker.is_tsn_valid(tsn) {
         return Ok(());
     }
-    if tcb.data_tracker.observe(now, tsn, immediate_ack)? {
-        tcb.reassembly_queue.add(tsn, fragment)?;
+    if tcb.data_tracker.observe(now, tsn, fragment.immediate_ack)? {
+        let data = fragment.to_data(alloc)?;
+        tcb.reassembly_queue.add(tsn, data)?;
     }
     Ok(())
 }

@@ -20,6 +20,10 @@ impl<R: Rng + Drop, C: Checksum + Drop> Watched for Socket<R, C> {
     fn let_go(self) {
         self.let_go();
     }
+
+    fn would_refuse(&self, bytes: &[u8]) -> Result<bool, CallError> {
+        self.refuses(bytes)
+    }
 }
 
 /// A new one with default options, which draws the words that begin so.

@@ -1,0 +1,51 @@
+//! Several messages at once.
+
+ghost use Rattle.std.specs.Prelude.{◌≡◌, ◌<◌, ◌≤◌, true, false, [], ◌∷◌, length, map, replicate, take};
+ghost use Rattle.sctp_c.specs.Batches.{refused};
+ghost use Rattle.sctp_c.specs.Calls.{Answers, OnSocket, end_of};
+ghost use Rattle.sctp_c_calls.specs.Answers.{Ended, IsAmong, OnSettled, batch_number, noted};
+ghost use Rattle.sctp_c_calls.specs.Outgoing.{given_message, have_streams};
+ghost use Rattle.sctp_c_records.specs.Records.{IsKnown, given_send_options};
+ghost use Rattle.sctp_table.specs.Calls as table;
+ghost use Rattle.sctp_table.specs.Input.{on_standing};
+
+use crate::handle::Handle;
+use sctp_c_calls as calls;
+use sctp_c_records::answers::{INVALID_ARGUMENT, INVALID_STREAM, NO_SOCKET, SHORT_BUFFER};
+use sctp_c_records::{OutgoingRecord, SendRecord};
+use std::alloc::Global;
+
+/// Queues copies of messages, and sends as much as may be sent. Each message's answer is told.
+#[unsafe(no_mangle)]
+pub extern "C" fn sctp_send_many(
+    alloc: Global,
+    socket: &mut Handle,
+    messages: &[OutgoingRecord<'_>],
+    options: &SendRecord,
+    answers: &mut [u32],
+) -> u32
+    ensures unknown { (IsKnown options.now → ⊥) → (result ≡ 7) × (socket.new.held ≡ socket.old.held) }
+    ensures room { IsKnown options.now → length answers.old < length messages.now → (result ≡ 9) × (socket.new.held ≡ socket.old.held) }
+    ensures streams { IsKnown options.now → length messages.now ≤ length answers.old → have_streams messages.now ≡ false → (result ≡ 6) × (socket.new.held ≡ socket.old.held) }
+    ensures answers { IsKnown options.now → length messages.now ≤ length answers.old → have_streams messages.now ≡ true → Answers (λ e n f. IsAmong (0 ∷ 1 ∷ 2 ∷ 17 ∷ 18 ∷ []) n) socket.old.held result socket.new.held }
+    ensures ends { IsKnown options.now → length messages.now ≤ length answers.old → have_streams messages.now ≡ true → Answers (OnSocket (λ s n t. Ended n s t)) socket.old.held result socket.new.held }
+    ensures answer { IsKnown options.now → length messages.now ≤ length answers.old → have_streams messages.now ≡ true → Answers (OnSocket (λ s n t. OnSettled n (n ≡ batch_number (refused messages.now options.now s)))) socket.old.held result socket.new.held }
+    ensures each { IsKnown options.now → length messages.now ≤ length answers.old → have_streams messages.now ≡ true → Answers (OnSocket (λ s n t. OnSettled n (take (length messages.now) answers.new
+        ≡ noted (refused messages.now options.now s) (replicate (length messages.now) 0)))) socket.old.held result socket.new.held }
+    ensures sent { IsKnown options.now → length messages.now ≤ length answers.old → have_streams messages.now ≡ true → Answers (OnSocket (λ s n t. OnSettled n (end_of t
+        ≡ on_standing (table.send_many (map given_message messages.now) (given_send_options options.now)) (end_of s)))) socket.old.held result socket.new.held }
+{
+    if !options.is_known() {
+        return INVALID_ARGUMENT;
+    }
+    if answers.len() < messages.len() {
+        return SHORT_BUFFER;
+    }
+    if !calls::have_streams(messages) {
+        return INVALID_STREAM;
+    }
+    match socket.as_mut() {
+        None => NO_SOCKET,
+        Some(end) => calls::send_many(alloc, &mut end.socket, messages, options, answers),
+    }
+}

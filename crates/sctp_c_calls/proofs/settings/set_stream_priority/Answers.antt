@@ -1,0 +1,16 @@
+use Rattle.std.proofs.Common.{◌≡◌}
+use Rattle.sctp_association.specs.Socket.{endpoint}
+use Rattle.sctp_table.specs.Association.{in_context}
+use Rattle.sctp_table.specs.Calls as calls
+use Rattle.sctp_table.specs.Input.{on_standing}
+use Rattle.sctp_c_calls.proofs.OutcomeLemmas.{among, ends, done}
+use Rattle.sctp_c_calls.proofs.settings.set_stream_priority.Goals as goal
+
+pub returns-clause-answers : goal.returns-clause-answers
+returns-clause-answers g c = rw c.call_number.ensures (among c.set_stream_priority.result)
+
+pub returns-clause-ends : goal.returns-clause-ends
+returns-clause-ends g c = rw c.call_number.ensures (ends c.set_stream_priority.result c.args.socket.now c.set_stream_priority.new.self c.set_stream_priority.ensures.ends)
+
+pub returns-clause-ok : goal.returns-clause-ok
+returns-clause-ok g c = rw c.call_number.ensures (done (endpoint g.R.Rng.stream g.C.Checksum.word_of c.set_stream_priority.new.self ≡ on_standing (in_context (calls.set_priority c.args.id c.args.priority)) (endpoint g.R.Rng.stream g.C.Checksum.word_of c.args.socket.now)) c.set_stream_priority.result c.set_stream_priority.ensures.ok)

@@ -1,0 +1,78 @@
+//! What a socket counts, as C has it.
+
+ghost use Rattle.std.specs.Prelude.{◌≡◌, ◌-◌, ◌^◌, min};
+ghost use Rattle.std.specs.Duration.{as_nanos};
+ghost use Rattle.sctp_c_records.specs.Counts.{implementation_number, metrics_record};
+
+use sctp_state::{Metrics, SctpImplementation};
+use std::time::Duration;
+
+/// What a socket counts; in C `sctp_metrics`. The round trip time is in nanoseconds.
+#[repr(C)]
+#[derive(Clone, Copy)]
+pub struct MetricsRecord {
+    pub tx_packets_count: usize,
+    pub tx_messages_count: usize,
+    pub rtx_packets_count: usize,
+    pub rtx_bytes_count: u64,
+    pub cwnd_bytes: usize,
+    pub srtt: u64,
+    pub unack_data_count: usize,
+    pub rx_packets_count: usize,
+    pub rx_messages_count: usize,
+    pub peer_rwnd_bytes: u32,
+    pub peer_implementation: u32,
+    pub negotiated_maximum_incoming_streams: u16,
+    pub negotiated_maximum_outgoing_streams: u16,
+    pub uses_message_interleaving: bool,
+    pub uses_zero_checksum: bool,
+}
+
+/// A span in nanoseconds; the greatest number where it is longer.
+fn nanos_of(span: Duration) -> u64
+    ensures { result ≡ min (as_nanos span) (2 ^ 64 - 1) }
+{
+    let nanos = span.as_nanos();
+    if nanos < 1 << 64 {
+        nanos as u64
+    } else {
+        u64::MAX
+    }
+}
+
+fn implementation_number(peer: SctpImplementation) -> u32
+    ensures { result ≡ implementation_number peer }
+{
+    match peer {
+        SctpImplementation::Unknown => 0,
+        SctpImplementation::DcsctpRs => 1,
+        SctpImplementation::DcsctpCc => 2,
+        SctpImplementation::UsrSctp => 3,
+        SctpImplementation::Other => 4,
+    }
+}
+
+impl MetricsRecord {
+    /// What is counted, for C.
+    pub fn of(metrics: &Metrics) -> MetricsRecord
+        ensures { result ≡ metrics_record metrics.now }
+    {
+        MetricsRecord {
+            tx_packets_count: metrics.tx_packets_count,
+            tx_messages_count: metrics.tx_messages_count,
+            rtx_packets_count: metrics.rtx_packets_count,
+            rtx_bytes_count: metrics.rtx_bytes_count,
+            cwnd_bytes: metrics.cwnd_bytes,
+            srtt: nanos_of(metrics.srtt),
+            unack_data_count: metrics.unack_data_count,
+            rx_packets_count: metrics.rx_packets_count,
+            rx_messages_count: metrics.rx_messages_count,
+            peer_rwnd_bytes: metrics.peer_rwnd_bytes,
+            peer_implementation: implementation_number(metrics.peer_implementation),
+            negotiated_maximum_incoming_streams: metrics.negotiated_maximum_incoming_streams,
+            negotiated_maximum_outgoing_streams: metrics.negotiated_maximum_outgoing_streams,
+            uses_message_interleaving: metrics.uses_message_interleaving,
+            uses_zero_checksum: metrics.uses_zero_checksum,
+        }
+    }
+}
