@@ -1,7 +1,7 @@
 -- Each line of the ladder is printable ASCII of at most 98 columns.
-use Rattle.std.proofs.Common.{◌≡◌, ℕ, ◌-◌, ◌≤◌, List, [], ◌∷◌, ◌++◌, length, map, take, get_or, refl, ap, sym, ◌∙◌, arith, append_assoc, length-append}
+use Rattle.std.proofs.Common.{◌≡◌, ℕ, ◌+◌, ◌-◌, ◌≤◌, List, [], ◌∷◌, ◌++◌, length, map, take, get_or, refl, ap, sym, ◌∙◌, arith, append_assoc, length-append}
 use Rattle.std.proofs.lemmas.List.{length-map, length-replicate, length-take}
-use Rattle.std.proofs.lemmas.List.Elements.{All-append, All-take, All-map, All-replicate, All-cons, All-nil}
+use Rattle.std.proofs.lemmas.List.Elements.{All-append, All-map, All-replicate, All-cons, All-nil}
 use Rattle.std.specs.Prelude.{Bool, true, false, if◌then◌else◌, codes, replicate, string_bytes}
 use Rattle.std.specs.List.{AllPass}
 use Rattle.sctp_trace.specs.declared.rows.End.{End}
@@ -11,7 +11,7 @@ use Rattle.sctp_trace.specs.declared.rows.What.TheVariants as kinds
 use Rattle.sctp_trace.specs.declared.rows.Row.{Row}
 use Rattle.sctp_trace.specs.Arrows.{times_given}
 use Rattle.sctp_trace.specs.Ascii.{is_printable, plain}
-use Rattle.sctp_trace.specs.Ladder.{left_cell, right_cell, note_cell, sent_caption, given_caption, sent_cell, given_cell, row_of_cells, told_line, packet_line, what_line, line_of, heading, IsLine}
+use Rattle.sctp_trace.specs.Ladder.{front_of, left_cell, right_cell, note_cell, sent_caption, given_caption, arrow_start, arrow_head, packet_cell, row_of_cells, told_line, packet_line, what_line, line_of, heading, IsLine}
 
 abbrev Printable : ℕ → Type 0
 Printable n = is_printable n ≡ true
@@ -34,56 +34,68 @@ plains text = All-map Printable plain text (λ k d inside. plain_printable (get_
 spaces : (width : ℕ) → IsCell width (replicate width 32)
 spaces width = record { fits = omega (arith, length-replicate {A = ℕ} width 32); printable = All-replicate Printable width 32 refl }
 
+front_is : (width : ℕ) (text : List ℕ) → IsCell width (front_of width text)
+front_is width text = record {
+  fits = omega (arith, length-map (take width text) plain, length-take width text);
+  printable = plains (take width text);
+}
+
+length_front : (width : ℕ) (text : List ℕ) → length (front_of width text) + (width - length text) ≤ width
+length_front width text = omega (arith, length-map (take width text) plain, length-take width text)
+
 left_is : (width : ℕ) (text : List ℕ) → IsCell width (left_cell width text)
 left_is width text = record {
-  fits = omega (arith, length-take width (map plain text ++ replicate width 32));
-  printable = All-take Printable width (map plain text ++ replicate width 32)
-      (All-append Printable (map plain text) (replicate width 32) (plains text) (All-replicate Printable width 32 refl));
+  fits = omega (
+    arith,
+    length_front width text,
+    length-append (front_of width text) (replicate (width - length text) 32),
+    length-replicate {A = ℕ} (width - length text) 32,
+  );
+  printable = All-append Printable (front_of width text) (replicate (width - length text) 32)
+      (plains (take width text)) (All-replicate Printable (width - length text) 32 refl);
 }
 
 right_is : (width : ℕ) (text : List ℕ) → IsCell width (right_cell width text)
 right_is width text = record {
   fits = omega (
     arith,
-    length-append (replicate (width - length text) 32) (take width (map plain text)),
+    length_front width text,
+    length-append (replicate (width - length text) 32) (front_of width text),
     length-replicate {A = ℕ} (width - length text) 32,
-    length-take width (map plain text),
-    length-map text plain,
   );
-  printable = All-append Printable (replicate (width - length text) 32) (take width (map plain text))
-      (All-replicate Printable (width - length text) 32 refl) (All-take Printable width (map plain text) (plains text));
+  printable = All-append Printable (replicate (width - length text) 32) (front_of width text)
+      (All-replicate Printable (width - length text) 32 refl) (plains (take width text));
 }
 
 note_is : (text : List ℕ) → IsCell 30 (note_cell text)
 note_is text = record {
-  fits = omega (arith, length-take 29 (map plain text));
-  printable = All-cons Printable 32 (take 29 (map plain text)) refl (All-take Printable 29 (map plain text) (plains text));
+  fits = omega (arith, length-map (take 29 text) plain, length-take 29 text);
+  printable = All-cons Printable 32 (front_of 29 text) refl (plains (take 29 text));
 }
 
 empty : IsCell 30 []
 empty = record { fits = omega arith; printable = All-nil Printable }
 
--- two signs before a cell, and behind it
-two_before : (a b : ℕ) (cell : List ℕ) → Printable a → Printable b → IsCell 34 cell → IsCell 36 (a ∷ b ∷ cell)
-two_before a b cell pa pb is = record {
-  fits = omega (arith, is.fits);
-  printable = All-cons Printable a (b ∷ cell) pa (All-cons Printable b cell pb is.printable);
+-- two cells side by side
+joined_is : (m n : ℕ) (left right : List ℕ) → IsCell m left → IsCell n right → IsCell (m + n) (left ++ right)
+joined_is m n left right l r = record {
+  fits = omega (arith, l.fits, r.fits, length-append left right);
+  printable = All-append Printable left right l.printable r.printable;
 }
 
-two_behind : (a b : ℕ) (cell : List ℕ) → Printable a → Printable b → IsCell 34 cell → IsCell 36 (cell ++ (a ∷ b ∷ []))
-two_behind a b cell pa pb is = record {
-  fits = omega (arith, is.fits, length-append cell (a ∷ b ∷ []));
-  printable = All-append Printable cell (a ∷ b ∷ []) is.printable
-      (All-cons Printable a (b ∷ []) pa (All-cons Printable b [] pb (All-nil Printable)));
-}
+signs_are : (a b : ℕ) → Printable a → Printable b → IsCell 2 (a ∷ b ∷ [])
+signs_are a b pa pb = record { fits = omega arith; printable = All-cons Printable a (b ∷ []) pa (All-cons Printable b [] pb (All-nil Printable)) }
 
-sent_is : (end : End) (caption : List ℕ) → IsCell 36 (sent_cell end caption)
-sent_is ends.A caption = two_before 45 45 (left_cell 34 caption) refl refl (left_is 34 caption)
-sent_is ends.B caption = two_behind 45 45 (right_cell 34 caption) refl refl (right_is 34 caption)
+start_is : IsCell 2 arrow_start
+start_is = signs_are 45 45 refl refl
 
-given_is : (end : End) (caption : List ℕ) → IsCell 36 (given_cell end caption)
-given_is ends.A caption = two_before 60 45 (left_cell 34 caption) refl refl (left_is 34 caption)
-given_is ends.B caption = two_behind 45 62 (right_cell 34 caption) refl refl (right_is 34 caption)
+head_is : (end : End) → IsCell 2 (arrow_head end)
+head_is ends.A = signs_are 60 45 refl refl
+head_is ends.B = signs_are 45 62 refl refl
+
+packet_is : (end : End) (signs caption : List ℕ) → IsCell 2 signs → IsCell 36 (packet_cell end signs caption)
+packet_is ends.A signs caption is = joined_is 2 34 signs (left_cell 34 caption) is (left_is 34 caption)
+packet_is ends.B signs caption is = joined_is 34 2 (right_cell 34 caption) signs (right_is 34 caption) is
 
 cells_are_a_line : (left middle right : List ℕ) → IsCell 29 left → IsCell 36 middle → IsCell 30 right → IsLine (row_of_cells left middle right)
 cells_are_a_line left middle right l m r = record {
@@ -112,9 +124,10 @@ packet_fits cell is = cells_are_a_line (replicate 29 32) cell [] (spaces 29) is 
 
 what_fits : (all : List Row) (end : End) (what : What) → IsLine (what_line all end what)
 what_fits all end (kinds.Sent number bytes label) =
-    packet_fits (sent_cell end (sent_caption number (times_given all end number) (string_bytes label)))
-    (sent_is end (sent_caption number (times_given all end number) (string_bytes label)))
-what_fits all end (kinds.Given number) = packet_fits (given_cell end (given_caption number)) (given_is end (given_caption number))
+    let caption : List ℕ = sent_caption number (times_given all end number) (string_bytes label) in
+    packet_fits (packet_cell end arrow_start caption) (packet_is end arrow_start caption start_is)
+what_fits all end (kinds.Given number) =
+    packet_fits (packet_cell end (arrow_head end) (given_caption number)) (packet_is end (arrow_head end) (given_caption number) (head_is end))
 what_fits all end (kinds.Told text) = told_fits end (string_bytes text)
 
 pub lines_fit : (all : List Row) (row : Row) → IsLine (line_of all row)

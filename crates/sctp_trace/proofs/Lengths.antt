@@ -1,8 +1,8 @@
--- How long the parts of a capture are.
-use Rattle.std.proofs.Common.{◌≡◌, ℕ, ◌+◌, ◌/◌, ◌%◌, ◌^◌, ◌≤◌, List, [], ◌∷◌, ◌++◌, length, refl, arith, length-append}
+-- How long the parts of a capture are, and what its interfaces are made of.
+use Rattle.std.proofs.Common.{◌≡◌, ℕ, ◌+◌, ◌/◌, ◌%◌, ◌^◌, ◌≤◌, List, [], ◌∷◌, ◌++◌, length, refl, ap, ◌∙◌, arith, length-append, append_assoc}
 use Rattle.std.proofs.lemmas.Bool.Decides.{nat_tests}
 use Rattle.std.proofs.lemmas.List.{length-replicate, length-take, length-drop}
-use Rattle.std.specs.Prelude.{Bool, true, false, if◌then◌else◌, nat_lt, take, drop, codes, replicate}
+use Rattle.std.specs.Prelude.{Bool, true, false, if◌then◌else◌, nat_lt, take, drop, replicate}
 use Rattle.sctp_crc32c.specs.Crc32c.{crc32c_word}
 use Rattle.sctp_wire.specs.Checksum.{with_zero_field}
 use Rattle.sctp_wire.specs.Fields.{be32, length_be32}
@@ -11,7 +11,7 @@ use Rattle.sctp_trace.specs.declared.rows.End.{End}
 use Rattle.sctp_trace.specs.declared.rows.End.TheVariants as ends
 use Rattle.sctp_trace.specs.Rows.{end_name}
 use Rattle.sctp_trace.specs.Bytes.{le16, le32, summed, with_crc32c}
-use Rattle.sctp_trace.specs.Capture.{padded, option_bytes, section_body, interface_body, packet_body}
+use Rattle.sctp_trace.specs.Capture.{padded, option_bytes, block, interface_body, interface, packet_numbers, packet_body}
 
 pub length_le16 : (n : ℕ) → length (le16 n) ≡ 2
 unfolding le16
@@ -27,60 +27,50 @@ behind16 n rest = omega (arith, length-append (le16 n) rest, length_le16 n)
 behind32 : (n : ℕ) (rest : List ℕ) → length (le32 n ++ rest) ≡ 4 + length rest
 behind32 n rest = omega (arith, length-append (le32 n) rest, length_le32 n)
 
-pub length_padded : (bytes : List ℕ) → length (padded bytes) ≤ length bytes + 3
+pub length_padded : (bytes : List ℕ) → length (padded bytes) ≡ length bytes + padding (length bytes)
 unfolding padded
 length_padded bytes =
     omega (arith, length-append bytes (replicate (padding (length bytes)) 0), length-replicate {A = ℕ} (padding (length bytes)) 0)
 
-pub length_option : (code : ℕ) (value : List ℕ) → length (option_bytes code value) ≤ length value + 7
+pub length_option : (code : ℕ) (value : List ℕ) → length (option_bytes code value) ≡ 4 + (length value + padding (length value))
 unfolding option_bytes
 length_option code value =
     omega (arith, behind16 code (le16 (length value) ++ padded value), behind16 (length value) (padded value), length_padded value)
 
-pub length_section_body : length section_body ≡ 16
-unfolding section_body
-length_section_body = omega (
+-- a section's interface, in three parts
+parts : (end : End) → (1 ∷ 0 ∷ 0 ∷ 0 ∷ 40 ∷ 0 ∷ 0 ∷ 0 ∷ 248 ∷ 0 ∷ 0 ∷ 0 ∷ 0 ∷ 0 ∷ 0 ∷ 0 ∷ 2 ∷ 0 ∷ 1 ∷ 0 ∷ [])
+    ++ (end_name end ++ (0 ∷ 0 ∷ 0 ∷ 9 ∷ 0 ∷ 1 ∷ 0 ∷ 9 ∷ 0 ∷ 0 ∷ 0 ∷ 0 ∷ 0 ∷ 0 ∷ 0 ∷ 40 ∷ 0 ∷ 0 ∷ 0 ∷ [])) ≡ interface end
+unfolding le16 le32 padded option_bytes block interface_body
+parts ends.A = refl
+parts ends.B = refl
+
+pub interface_in_parts : (end : End) (old : List ℕ) → ((old ++ (1 ∷ 0 ∷ 0 ∷ 0 ∷ 40 ∷ 0 ∷ 0 ∷ 0 ∷ 248 ∷ 0 ∷ 0 ∷ 0 ∷ 0 ∷ 0 ∷ 0 ∷ 0 ∷ 2 ∷ 0 ∷ 1 ∷ 0 ∷ []))
+    ++ end_name end) ++ (0 ∷ 0 ∷ 0 ∷ 9 ∷ 0 ∷ 1 ∷ 0 ∷ 9 ∷ 0 ∷ 0 ∷ 0 ∷ 0 ∷ 0 ∷ 0 ∷ 0 ∷ 40 ∷ 0 ∷ 0 ∷ 0 ∷ []) ≡ old ++ interface end
+interface_in_parts end old =
+    let front : List ℕ = 1 ∷ 0 ∷ 0 ∷ 0 ∷ 40 ∷ 0 ∷ 0 ∷ 0 ∷ 248 ∷ 0 ∷ 0 ∷ 0 ∷ 0 ∷ 0 ∷ 0 ∷ 0 ∷ 2 ∷ 0 ∷ 1 ∷ 0 ∷ [] in
+    let back : List ℕ = 0 ∷ 0 ∷ 0 ∷ 9 ∷ 0 ∷ 1 ∷ 0 ∷ 9 ∷ 0 ∷ 0 ∷ 0 ∷ 0 ∷ 0 ∷ 0 ∷ 0 ∷ 40 ∷ 0 ∷ 0 ∷ 0 ∷ [] in
+    append_assoc (old ++ front) (end_name end) back
+    ∙ (append_assoc old front (end_name end ++ back) ∙ ap (λ (bytes : List ℕ). old ++ bytes) (parts end))
+
+length_numbers : (interface nanoseconds size : ℕ) → length (packet_numbers interface nanoseconds size) ≡ 20
+length_numbers interface nanoseconds size = omega (
   arith,
-  behind32 0x1a2b3c4d (le16 1 ++ (le16 0 ++ (le32 0xffffffff ++ le32 0xffffffff))),
-  behind16 1 (le16 0 ++ (le32 0xffffffff ++ le32 0xffffffff)),
-  behind16 0 (le32 0xffffffff ++ le32 0xffffffff),
-  behind32 0xffffffff (le32 0xffffffff),
-  length_le32 0xffffffff,
+  behind32 interface (le32 (nanoseconds / 2 ^ 32) ++ (le32 (nanoseconds % 2 ^ 32) ++ (le32 size ++ le32 size))),
+  behind32 (nanoseconds / 2 ^ 32) (le32 (nanoseconds % 2 ^ 32) ++ (le32 size ++ le32 size)),
+  behind32 (nanoseconds % 2 ^ 32) (le32 size ++ le32 size),
+  behind32 size (le32 size),
+  length_le32 size,
 )
 
-length_interface_body : (name : List ℕ) → length (interface_body name) ≤ length name + 27
-unfolding interface_body
-length_interface_body name =
-    let unit : List ℕ = option_bytes 9 (9 ∷ []) ++ le32 0 in
-    omega (
-      arith,
-      behind16 248 (le16 0 ++ (le32 0 ++ (option_bytes 2 name ++ unit))),
-      behind16 0 (le32 0 ++ (option_bytes 2 name ++ unit)),
-      behind32 0 (option_bytes 2 name ++ unit),
-      length-append (option_bytes 2 name) unit,
-      length-append (option_bytes 9 (9 ∷ [])) (le32 0),
-      length_option 2 name,
-      length_option 9 (9 ∷ []),
-      length_le32 0,
-    )
-
-pub length_interface : (end : End) → length (interface_body (end_name end)) ≤ 28
-length_interface ends.A = omega (arith, length_interface_body (codes "a"))
-length_interface ends.B = omega (arith, length_interface_body (codes "b"))
-
 pub length_packet_body : (interface nanoseconds : ℕ) (packet comment : List ℕ)
-    → length (packet_body interface nanoseconds packet comment) ≤ length packet + length comment + 34
+    → length (packet_body interface nanoseconds packet comment) ≡ 28 + (length packet + padding (length packet)) + (length comment + padding (length comment))
 unfolding packet_body
 length_packet_body interface nanoseconds packet comment =
     let told : List ℕ = option_bytes 1 comment ++ le32 0 in
-    let size : List ℕ = le32 (length packet) ++ (padded packet ++ told) in
     omega (
       arith,
-      behind32 interface (le32 (nanoseconds / 2 ^ 32) ++ (le32 (nanoseconds % 2 ^ 32) ++ (le32 (length packet) ++ size))),
-      behind32 (nanoseconds / 2 ^ 32) (le32 (nanoseconds % 2 ^ 32) ++ (le32 (length packet) ++ size)),
-      behind32 (nanoseconds % 2 ^ 32) (le32 (length packet) ++ size),
-      behind32 (length packet) size,
-      behind32 (length packet) (padded packet ++ told),
+      length-append (packet_numbers interface nanoseconds (length packet)) (padded packet ++ told),
+      length_numbers interface nanoseconds (length packet),
       length-append (padded packet) told,
       length-append (option_bytes 1 comment) (le32 0),
       length_padded packet,

@@ -1,3 +1,5 @@
 pub mod Columns
 pub mod Lengths
+pub mod OneMore
+pub mod Pictures
 pub mod Written

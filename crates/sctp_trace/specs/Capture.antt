@@ -1,5 +1,5 @@
 -- A capture in the format pcapng: blocks, of which each tells its length at both ends. Numbers have their lowest byte first.
-use Rattle.std.specs.Prelude.{ℕ, ◌+◌, ◌/◌, ◌%◌, ◌^◌, Bool, false, List, [], ◌∷◌, ◌++◌, length, codes, replicate, zero, suc, nat_lt}
+use Rattle.std.specs.Prelude.{◌≡◌, ℕ, ◌+◌, ◌/◌, ◌%◌, ◌^◌, Bool, false, List, [], ◌∷◌, ◌++◌, length, codes, replicate, zero, suc, nat_lt}
 use Rattle.std.specs.List.{flat_map, list_any}
 use Rattle.sctp_wire.specs.Item.{padding}
 use Rattle.sctp_trace.specs.declared.rows.End.{End}
@@ -51,11 +51,18 @@ abbrev pub interface_number : End → ℕ
 interface_number ends.A = 0
 interface_number ends.B = 1
 
--- the interface, the time's upper and lower half, the length as captured and as sent, the packet, and a comment
+-- the interface, the time's upper and lower half, and the packet's length as captured and as sent
+abbrev pub packet_numbers : (interface nanoseconds size : ℕ) → List ℕ
+packet_numbers interface nanoseconds size = le32 interface ++ (le32 (nanoseconds / 2 ^ 32) ++ (le32 (nanoseconds % 2 ^ 32) ++ (le32 size ++ le32 size)))
+
+-- these numbers, the packet, and a comment
 unfoldable pub packet_body : (interface nanoseconds : ℕ) → (packet comment : List ℕ) → List ℕ
 packet_body interface nanoseconds packet comment =
-    le32 interface ++ (le32 (nanoseconds / 2 ^ 32) ++ (le32 (nanoseconds % 2 ^ 32) ++ (le32 (length packet) ++ (le32 (length packet)
-    ++ (padded packet ++ (option_bytes 1 comment ++ end_of_options))))))
+    packet_numbers interface nanoseconds (length packet) ++ (padded packet ++ (option_bytes 1 comment ++ end_of_options))
+
+-- how long the block of such a packet is, whatever its end and time
+abbrev pub IsPacketSize : (packet comment : List ℕ) → (size : ℕ) → Type 0
+IsPacketSize packet comment size = (interface nanoseconds : ℕ) → size ≡ length (packet_body interface nanoseconds packet comment) + 12
 
 abbrev pub packet_block : End → (nanoseconds : ℕ) → (packet comment : List ℕ) → List ℕ
 packet_block end nanoseconds packet comment = block 6 (packet_body (interface_number end) nanoseconds packet comment)

@@ -10,12 +10,16 @@ use Rattle.sctp_trace.specs.declared.rows.Row.{Row}
 use Rattle.sctp_trace.specs.Arrows.{times_given}
 use Rattle.sctp_trace.specs.Ascii.{plain, is_printable}
 
--- the front of the text, and spaces up to this many columns, behind it or before it
+-- as much of the text as fits the width
+abbrev pub front_of : (width : ℕ) → (text : List ℕ) → List ℕ
+front_of width text = map plain (take width text)
+
+-- the front of the text, and spaces up to the width, behind it or before it
 abbrev pub left_cell : (width : ℕ) → (text : List ℕ) → List ℕ
-left_cell width text = take width (map plain text ++ replicate width 32)
+left_cell width text = front_of width text ++ replicate (width - length text) 32
 
 abbrev pub right_cell : (width : ℕ) → (text : List ℕ) → List ℕ
-right_cell width text = replicate (width - length text) 32 ++ take width (map plain text)
+right_cell width text = replicate (width - length text) 32 ++ front_of width text
 
 -- what is said of a packet that was given so many times
 abbrev pub mark : ℕ → List ℕ
@@ -29,21 +33,29 @@ sent_caption number times label = codes " " ++ (decimal number ++ (mark times ++
 abbrev pub given_caption : (number : ℕ) → List ℕ
 given_caption number = codes " " ++ (decimal number ++ codes " ")
 
--- between the lifelines, 36 columns
-abbrev pub sent_cell : End → List ℕ → List ℕ
-sent_cell ends.A caption = codes "--" ++ left_cell 34 caption
-sent_cell ends.B caption = right_cell 34 caption ++ codes "--"
+-- where an arrow begins, and its head
+abbrev pub arrow_start : List ℕ
+arrow_start = codes "--"
 
-abbrev pub given_cell : End → List ℕ → List ℕ
-given_cell ends.A caption = codes "<-" ++ left_cell 34 caption
-given_cell ends.B caption = right_cell 34 caption ++ codes "->"
+abbrev pub arrow_head : End → List ℕ
+arrow_head ends.A = codes "<-"
+arrow_head ends.B = codes "->"
+
+-- between the lifelines, 36 columns: two signs at the end's lifeline, and the caption beside them
+abbrev pub packet_cell : End → (signs caption : List ℕ) → List ℕ
+packet_cell ends.A signs caption = signs ++ left_cell 34 caption
+packet_cell ends.B signs caption = right_cell 34 caption ++ signs
 
 abbrev pub row_of_cells : (left middle right : List ℕ) → List ℕ
 row_of_cells left middle right = left ++ (codes " |" ++ (middle ++ (codes "|" ++ (right ++ (10 ∷ [])))))
 
+-- both lifelines, with nothing between them
+abbrev pub lifelines : List ℕ
+lifelines = codes " |" ++ (replicate 36 32 ++ codes "|")
+
 -- what b says, behind a space
 abbrev pub note_cell : List ℕ → List ℕ
-note_cell text = codes " " ++ take 29 (map plain text)
+note_cell text = codes " " ++ front_of 29 text
 
 abbrev pub told_line : End → List ℕ → List ℕ
 told_line ends.A text = row_of_cells (right_cell 29 text) (replicate 36 32) []
@@ -53,8 +65,8 @@ abbrev pub packet_line : List ℕ → List ℕ
 packet_line cell = row_of_cells (replicate 29 32) cell []
 
 abbrev pub what_line : (all : List Row) → End → What → List ℕ
-what_line all end (kinds.Sent number bytes label) = packet_line (sent_cell end (sent_caption number (times_given all end number) (string_bytes label)))
-what_line all end (kinds.Given number) = packet_line (given_cell end (given_caption number))
+what_line all end (kinds.Sent number bytes label) = packet_line (packet_cell end arrow_start (sent_caption number (times_given all end number) (string_bytes label)))
+what_line all end (kinds.Given number) = packet_line (packet_cell end (arrow_head end) (given_caption number))
 what_line all end (kinds.Told text) = told_line end (string_bytes text)
 
 abbrev pub line_of : (all : List Row) → Row → List ℕ

@@ -3,6 +3,7 @@ pub mod Ascii
 pub mod Bytes
 pub mod Capture
 pub mod Chart
+pub mod Followed
 pub mod Label
 pub mod Ladder
 pub mod Rows

@@ -3,6 +3,7 @@
 //! All three are made of [`Row`]s: what happened at either end, in order, as plain values.
 #![tactic(auto)]
 
+mod conversation;
 mod crc;
 mod giving;
 mod label;
@@ -13,8 +14,9 @@ mod svg;
 mod text;
 mod xml;
 
+pub use conversation::{Conversation, Ways};
 pub use crc::with_crc32c;
-pub use giving::{Arrow, arrows, sending, times_given};
+pub use giving::{Arrow, Cross, arrows, crosses};
 pub use label::packet_label;
 pub use laws::lines_fit;
 pub use pcapng::{CaptureError, capture};

@@ -2,12 +2,12 @@
 
 ghost use Rattle.std.specs.Prelude.{◌≡◌, ℕ, ◌+◌, ◌<◌, ◌≤◌, ◌^◌, ◌++◌, true, false, length, replicate, IfOk, IfErr, OnOk};
 ghost use Rattle.sctp_trace.specs.Bytes.{le16, le32, with_crc32c};
-ghost use Rattle.sctp_trace.specs.Rows.{end_name};
-ghost use Rattle.sctp_trace.specs.Capture.{padded, option_bytes, block, section_body, section_header, interface_body, interface, interface_number, fate, packet_body, packet_block, row_bytes, capture_bytes, is_too_long, has_long_packet};
+ghost use Rattle.sctp_trace.specs.Capture.{padded, option_bytes, block, section_header, interface, interface_number, fate, packet_numbers, packet_body, packet_block, IsPacketSize, row_bytes, capture_bytes, is_too_long, has_long_packet};
+ghost use Rattle.sctp_trace.specs.Followed.{IsFollowed};
 ghost use Rattle.sctp_trace.specs.declared.pcapng.CaptureError.TheVariants.{Memory as no_memory};
 
+use crate::conversation::Conversation;
 use crate::crc::with_crc32c;
-use crate::giving::times_given;
 use crate::rows::{End, Row, What};
 use sctp_wire::padding_len;
 use std::alloc::{AllocError, Global};
@@ -16,24 +16,23 @@ use thiserror::Error;
 /// 2^32.
 const UPPER: u64 = 0x1_0000_0000;
 
-const SECTION_HEADER: u32 = 0x0a0d_0d0a;
+/// The whole block: byte order, version 1.0, and a length that isn't told.
+const SECTION_HEADER: [u8; 28] = [
+    0x0a, 0x0d, 0x0d, 0x0a, 28, 0, 0, 0, 0x4d, 0x3c, 0x2b, 0x1a, 1, 0, 0, 0, 0xff, 0xff, 0xff,
+    0xff, 0xff, 0xff, 0xff, 0xff, 28, 0, 0, 0,
+];
 
-const BYTE_ORDER: u32 = 0x1a2b_3c4d;
+/// An interface up to its name of one byte: link type 248, and no limit of a packet's length.
+const INTERFACE_FRONT: [u8; 20] = [
+    1, 0, 0, 0, 40, 0, 0, 0, 248, 0, 0, 0, 0, 0, 0, 0, 2, 0, 1, 0,
+];
 
-const INTERFACE: u32 = 1;
+/// And behind it: times in nanoseconds, whose unit is a tenth to the power of 9.
+const INTERFACE_BACK: [u8; 19] = [0, 0, 0, 9, 0, 1, 0, 9, 0, 0, 0, 0, 0, 0, 0, 40, 0, 0, 0];
 
 const ENHANCED_PACKET: u32 = 6;
 
-const LINK_TYPE_SCTP: u16 = 248;
-
 const OPTION_COMMENT: u16 = 1;
-
-const OPTION_NAME: u16 = 2;
-
-const OPTION_TIME_RESOLUTION: u16 = 9;
-
-/// A tenth to this power is the unit of time.
-const NANOSECONDS: u8 = 9;
 
 /// Why there is no capture.
 #[derive(Clone, Copy, Debug, PartialEq, Eq, Error)]
@@ -93,69 +92,20 @@ fn push_option(bytes: &mut Vec<u8>, code: u16, value: &[u8]) -> Result<(), Alloc
     push_padded(bytes, value)
 }
 
-#[tactic(auto, unfolding(crate::specs::Capture::block))]
-fn push_block(bytes: &mut Vec<u8>, kind: u32, body: &[u8]) -> Result<(), AllocError>
-    requires { length body.now + 12 < 2 ^ 32 }
-    ensures { OnOk result (bytes.new.items ≡ bytes.old.items ++ block kind body.now) }
-{
-    let size = (body.len() + 12) as u32;
-    push_u32(bytes, kind)?;
-    push_u32(bytes, size)?;
-    bytes.extend_from_slice(body)?;
-    push_u32(bytes, size)
-}
-
-#[tactic(auto, unfolding(crate::specs::Capture::section_body))]
-fn section_body(alloc: Global) -> Result<Vec<u8>, AllocError>
-    ensures { IfOk result (λ body. body.items ≡ section_body) }
-{
-    let mut body = Vec::new(alloc);
-    push_u32(&mut body, BYTE_ORDER)?;
-    push_u16(&mut body, 1)?;
-    push_u16(&mut body, 0)?;
-    push_u32(&mut body, u32::MAX)?;
-    push_u32(&mut body, u32::MAX)?;
-    Ok(body)
-}
-
-#[tactic(auto, using(crate::proofs::Lengths::length_section_body))]
-fn push_section_header(bytes: &mut Vec<u8>, alloc: Global) -> Result<(), AllocError>
+#[tactic(auto, unfolding(crate::specs::Bytes::le16, crate::specs::Bytes::le32, crate::specs::Capture::block, crate::specs::Capture::section_body))]
+fn push_section_header(bytes: &mut Vec<u8>) -> Result<(), AllocError>
     ensures { OnOk result (bytes.new.items ≡ bytes.old.items ++ section_header) }
 {
-    let body = section_body(alloc)?;
-    push_block(bytes, SECTION_HEADER, &body)
+    bytes.extend_from_slice(&SECTION_HEADER)
 }
 
-fn end_name(end: End) -> &'static str
-    ensures name { result.now ≡ end_name end }
-    ensures short { length result.now ≡ 1 }
-{
-    match end {
-        End::A => "a",
-        End::B => "b",
-    }
-}
-
-#[tactic(auto, unfolding(crate::specs::Capture::interface_body))]
-fn interface_body(alloc: Global, end: End) -> Result<Vec<u8>, AllocError>
-    ensures { IfOk result (λ body. body.items ≡ interface_body (end_name end)) }
-{
-    let mut body = Vec::new(alloc);
-    push_u16(&mut body, LINK_TYPE_SCTP)?;
-    push_u16(&mut body, 0)?;
-    push_u32(&mut body, 0)?;
-    push_option(&mut body, OPTION_NAME, end_name(end).as_bytes())?;
-    push_option(&mut body, OPTION_TIME_RESOLUTION, &[NANOSECONDS])?;
-    push_u32(&mut body, 0)?;
-    Ok(body)
-}
-
-#[tactic(auto, using(crate::proofs::Lengths::length_interface))]
-fn push_interface(bytes: &mut Vec<u8>, alloc: Global, end: End) -> Result<(), AllocError>
+#[tactic(auto, using(crate::proofs::Lengths::interface_in_parts))]
+fn push_interface(bytes: &mut Vec<u8>, end: End) -> Result<(), AllocError>
     ensures { OnOk result (bytes.new.items ≡ bytes.old.items ++ interface end) }
 {
-    let body = interface_body(alloc, end)?;
-    push_block(bytes, INTERFACE, &body)
+    bytes.extend_from_slice(&INTERFACE_FRONT)?;
+    bytes.extend_from_slice(end.name().as_bytes())?;
+    bytes.extend_from_slice(&INTERFACE_BACK)
 }
 
 /// How often a packet was given, in words.
@@ -180,35 +130,54 @@ fn interface_number(end: End) -> u32
     }
 }
 
+fn push_numbers(
+    bytes: &mut Vec<u8>,
+    end: End,
+    nanoseconds: u64,
+    size: u32,
+) -> Result<(), AllocError>
+    ensures { OnOk result (bytes.new.items ≡ bytes.old.items ++ packet_numbers (interface_number end) nanoseconds size) }
+{
+    push_u32(bytes, interface_number(end))?;
+    push_u32(bytes, (nanoseconds / UPPER) as u32)?;
+    push_u32(bytes, (nanoseconds % UPPER) as u32)?;
+    push_u32(bytes, size)?;
+    push_u32(bytes, size)
+}
+
 #[tactic(auto, unfolding(crate::specs::Capture::packet_body))]
-fn packet_body(
-    alloc: Global,
+fn push_packet_body(
+    bytes: &mut Vec<u8>,
     end: End,
     nanoseconds: u64,
     packet: &[u8],
     comment: &str,
-) -> Result<Vec<u8>, AllocError>
+) -> Result<(), AllocError>
     requires packet { length packet.now < 2 ^ 16 }
     requires comment { length comment.now < 2 ^ 16 }
-    ensures { IfOk result (λ body. body.items ≡ packet_body (interface_number end) nanoseconds packet.now comment.now) }
+    ensures { OnOk result (bytes.new.items ≡ bytes.old.items ++ packet_body (interface_number end) nanoseconds packet.now comment.now) }
 {
-    let size = packet.len() as u32;
-    let mut body = Vec::new(alloc);
-    push_u32(&mut body, interface_number(end))?;
-    push_u32(&mut body, (nanoseconds / UPPER) as u32)?;
-    push_u32(&mut body, (nanoseconds % UPPER) as u32)?;
-    push_u32(&mut body, size)?;
-    push_u32(&mut body, size)?;
-    push_padded(&mut body, packet)?;
-    push_option(&mut body, OPTION_COMMENT, comment.as_bytes())?;
-    push_u32(&mut body, 0)?;
-    Ok(body)
+    push_numbers(bytes, end, nanoseconds, packet.len() as u32)?;
+    push_padded(bytes, packet)?;
+    push_option(bytes, OPTION_COMMENT, comment.as_bytes())?;
+    push_u32(bytes, 0)
 }
 
+/// A packet's block, in bytes: its numbers, the packet and the comment.
 #[tactic(auto, using(crate::proofs::Lengths::length_packet_body))]
+fn packet_size(packet: &[u8], comment: &str) -> u32
+    requires packet { length packet.now < 2 ^ 16 }
+    requires comment { length comment.now < 2 ^ 16 }
+    ensures { IsPacketSize packet.now comment.now result }
+{
+    let packet = packet.len() + padding_len(packet.len());
+    let comment = comment.len() + padding_len(comment.len());
+    (40 + packet + comment) as u32
+}
+
+#[tactic(auto, unfolding(crate::specs::Capture::block))]
 fn push_packet(
     bytes: &mut Vec<u8>,
-    alloc: Global,
     end: End,
     nanoseconds: u64,
     packet: &[u8],
@@ -218,8 +187,11 @@ fn push_packet(
     requires comment { length comment.now < 2 ^ 16 }
     ensures { OnOk result (bytes.new.items ≡ bytes.old.items ++ packet_block end nanoseconds packet.now comment.now) }
 {
-    let body = packet_body(alloc, end, nanoseconds, packet, comment)?;
-    push_block(bytes, ENHANCED_PACKET, &body)
+    let size = packet_size(packet, comment);
+    push_u32(bytes, ENHANCED_PACKET)?;
+    push_u32(bytes, size)?;
+    push_packet_body(bytes, end, nanoseconds, packet, comment)?;
+    push_u32(bytes, size)
 }
 
 #[tactic(auto, using(crate::proofs::Lengths::length_with_crc32c))]
@@ -238,20 +210,42 @@ fn push_sent(
         return Err(CaptureError::TooLong);
     }
     let packet = with_crc32c(alloc, packet)?;
-    push_packet(bytes, alloc, row.end, row.nanoseconds, &packet, fate(times))?;
+    push_packet(bytes, row.end, row.nanoseconds, &packet, fate(times))?;
     Ok(())
 }
 
-fn push_row(bytes: &mut Vec<u8>, alloc: Global, rows: &[Row], row: &Row) -> Result<(), CaptureError>
-    ensures wrote { OnOk result (bytes.new.items ≡ bytes.old.items ++ row_bytes rows.now row.now) }
+fn push_row(
+    bytes: &mut Vec<u8>,
+    alloc: Global,
+    conversation: &Conversation,
+    row: &Row,
+) -> Result<(), CaptureError>
+    requires { IsFollowed conversation.now }
+    ensures wrote { OnOk result (bytes.new.items ≡ bytes.old.items ++ row_bytes conversation.now.rows.now row.now) }
     ensures short { OnOk result (is_too_long row.now.what ≡ false) }
     ensures long { IfErr result (λ e. e ≡ CaptureError.TooLong → is_too_long row.now.what ≡ true) }
 {
     if let What::Sent(number, packet, _) = &row.what {
-        let times = times_given(rows, row.end, *number);
+        let times = conversation.times_given(row.end, *number);
         push_sent(bytes, alloc, row, packet, times)?;
     }
     Ok(())
+}
+
+fn packets(alloc: Global, conversation: &Conversation) -> Result<Vec<u8>, CaptureError>
+    requires { IsFollowed conversation.now }
+    ensures wrote { IfOk result (λ bytes. bytes.items ≡ capture_bytes conversation.now.rows.now) }
+    ensures short { OnOk result (has_long_packet conversation.now.rows.now ≡ false) }
+    ensures long { IfErr result (λ e. e ≡ CaptureError.TooLong → has_long_packet conversation.now.rows.now ≡ true) }
+{
+    let mut bytes = Vec::new(alloc);
+    push_section_header(&mut bytes)?;
+    push_interface(&mut bytes, End::A)?;
+    push_interface(&mut bytes, End::B)?;
+    for row in conversation.rows {
+        push_row(&mut bytes, alloc, conversation, row)?;
+    }
+    Ok(bytes)
 }
 
 /// The packets in the order in which they were sent, each with its CRC32c, at the clock of its end; its comment says how often it was
@@ -261,12 +255,8 @@ pub fn capture(alloc: Global, rows: &[Row]) -> Result<Vec<u8>, CaptureError>
     ensures short { OnOk result (has_long_packet rows.now ≡ false) }
     ensures long { IfErr result (λ e. e ≡ CaptureError.TooLong → has_long_packet rows.now ≡ true) }
 {
-    let mut bytes = Vec::new(alloc);
-    push_section_header(&mut bytes, alloc)?;
-    push_interface(&mut bytes, alloc, End::A)?;
-    push_interface(&mut bytes, alloc, End::B)?;
-    for row in rows {
-        push_row(&mut bytes, alloc, rows, row)?;
-    }
-    Ok(bytes)
+    let conversation = Conversation::of(alloc, rows)?;
+    let bytes = packets(alloc, &conversation);
+    drop(conversation);
+    bytes
 }

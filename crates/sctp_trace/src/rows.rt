@@ -1,9 +1,7 @@
 //! What happened, row by row.
 
-ghost use Rattle.std.specs.Prelude.{◌≡◌, ◌&&◌, ◌==◌, Some};
+ghost use Rattle.std.specs.Prelude.{◌≡◌, ◌&&◌, ◌==◌};
 ghost use Rattle.sctp_trace.specs.Rows.{other, end_name, same_end, sends, is_given};
-
-use std::fmt;
 
 /// One of the two ends; the lifeline of `A` is the left one.
 #[derive(Clone, Copy, Debug, PartialEq, Eq)]
@@ -12,18 +10,17 @@ pub enum End {
     B,
 }
 
-impl fmt::Display for End {
-    ghost output = { λ end. Some (end_name end) };
-
-    fn fmt<W: fmt::Write>(&self, f: &mut fmt::Formatter<W>) -> fmt::Result {
+impl End {
+    /// The end's name.
+    pub fn name(self) -> &'static str
+        ensures { result.now ≡ end_name self }
+    {
         match self {
-            End::A => write!(f, "a"),
-            End::B => write!(f, "b"),
+            End::A => "a",
+            End::B => "b",
         }
     }
-}
 
-impl End {
     /// The other end.
     pub fn other(self) -> End
         ensures { result ≡ other self }

@@ -1,88 +1,131 @@
 //! The rows as an SVG: two lifelines, an arrow for each giving, a cross where a packet was never given, and beside the lifelines what
 //! the ends say.
 
-ghost use Rattle.std.specs.Prelude.{◌≡◌, IfOk, length};
+ghost use Rattle.std.specs.Prelude.{◌≡◌, ◌∷◌, [], ◌++◌, map, string_bytes, IfOk, OnOk};
+ghost use Rattle.std.specs.Fmt.{decimal};
 ghost use Rattle.sctp_trace.specs.declared.xml.Element.TheViews.{out-Element};
-ghost use Rattle.sctp_trace.specs.Arrows.{arrows};
-ghost use Rattle.sctp_trace.specs.Chart.{HasArrows, IsChart};
+ghost use Rattle.sctp_trace.specs.Followed.{IsFollowed};
+ghost use Rattle.sctp_trace.specs.Chart.{lifeline_at, height_at, place_at, shown, class_shown, IsLineBetween, IsArrow, IsCross, HasArrows, HasCrosses, IsPicture, IsChart};
 
-use crate::giving::{Arrow, arrows, times_given};
+use crate::conversation::Conversation;
+use crate::giving::{Arrow, Cross, arrows, crosses};
 use crate::rows::{End, Row, What};
 use crate::xml::{Attribute, Element, Key, Tag, write};
 use std::alloc::{AllocError, Global};
 
-const ROW_HEIGHT: usize = 14;
+const ROW_HEIGHT: u128 = 14;
 
-const TOP: usize = 40;
+const TOP: u128 = 40;
 
-const LEFT: usize = 330;
+const LEFT: u128 = 330;
 
-const RIGHT: usize = 670;
+const MIDDLE: u128 = 500;
 
-const WIDTH: usize = 1000;
+const RIGHT: u128 = 670;
+
+const WIDTH: u128 = 1000;
 
 const STYLE: &str =
     "text{font:11px sans-serif;paint-order:stroke;stroke:white;stroke-width:3px}.end{text-anchor:end}\
 .name{font-weight:bold;text-anchor:middle}.life{stroke:gray}.way{stroke:black}.head{fill:black}.lost{stroke:red;fill:none}";
 
-fn height_of(row: usize) -> usize {
-    row.saturating_mul(ROW_HEIGHT).saturating_add(TOP)
+/// A place on the chart: units from the left and from the top.
+#[derive(Clone, Copy)]
+struct Point {
+    x: u128,
+    y: u128,
 }
 
-fn lifeline_of(end: End) -> usize {
+fn height_of(row: usize) -> u128
+    ensures { result ≡ height_at row }
+{
+    row as u128 * ROW_HEIGHT + TOP
+}
+
+fn lifeline_of(end: End) -> u128
+    ensures { result ≡ lifeline_at end }
+{
     match end {
         End::A => LEFT,
         End::B => RIGHT,
     }
 }
 
-fn element(alloc: Global, tag: Tag, class: &str) -> Result<Element, AllocError> {
-    let mut attributes = Vec::new(alloc);
-    let value = String::from_str(alloc, class)?;
-    attributes.push(Attribute {
-        key: Key::Class,
-        value,
-    })?;
-    Ok(Element {
-        tag,
-        attributes,
-        text: String::new(alloc),
-        children: Vec::new(alloc),
-    })
+fn place(end: End, row: usize) -> Point
+    ensures { result ≡ place_at end row }
+{
+    Point {
+        x: lifeline_of(end),
+        y: height_of(row),
+    }
+}
+
+fn push_text(attributes: &mut Vec<Attribute>, key: Key, value: String) -> Result<(), AllocError>
+    ensures { OnOk result (map shown attributes.new.items ≡ map shown attributes.old.items ++ ((key, string_bytes value) ∷ [])) }
+{
+    attributes.push(Attribute { key, value })?;
+    Ok(())
 }
 
 fn push_number(
     alloc: Global,
     attributes: &mut Vec<Attribute>,
     key: Key,
-    n: usize,
-) -> Result<(), AllocError> {
+    n: u128,
+) -> Result<(), AllocError>
+    ensures { OnOk result (map shown attributes.new.items ≡ map shown attributes.old.items ++ ((key, decimal n) ∷ [])) }
+{
     let value = format!(in alloc; "{n}")?;
-    attributes.push(Attribute { key, value })?;
-    Ok(())
+    push_text(attributes, key, value)
 }
 
-fn line(
-    alloc: Global,
-    class: &str,
-    from: (usize, usize),
-    to: (usize, usize),
-) -> Result<Element, AllocError> {
-    let mut line = element(alloc, Tag::Line, class)?;
-    push_number(alloc, &mut line.attributes, Key::X1, from.0)?;
-    push_number(alloc, &mut line.attributes, Key::Y1, from.1)?;
-    push_number(alloc, &mut line.attributes, Key::X2, to.0)?;
-    push_number(alloc, &mut line.attributes, Key::Y2, to.1)?;
-    Ok(line)
+/// The attribute of a class, and none where it is empty.
+fn class_of(alloc: Global, class: &str) -> Result<Vec<Attribute>, AllocError>
+    ensures { IfOk result (λ attributes. map shown attributes.items ≡ class_shown class.now) }
+{
+    let mut attributes = Vec::new(alloc);
+    if !class.is_empty() {
+        push_text(&mut attributes, Key::Class, String::from_str(alloc, class)?)?;
+    }
+    Ok(attributes)
+}
+
+/// An element that has no text yet.
+fn element(alloc: Global, tag: Tag, attributes: Vec<Attribute>, children: Vec<Element>) -> Element
+    ensures tag { (out-Element result).tag ≡ tag }
+    ensures attributes { (out-Element result).attributes.items ≡ attributes.items }
+    ensures children { (out-Element result).children.items ≡ children.items }
+{
+    Element {
+        tag,
+        attributes,
+        text: String::new(alloc),
+        children,
+    }
+}
+
+fn group(alloc: Global, class: &str, children: Vec<Element>) -> Result<Element, AllocError>
+    ensures { IfOk result (λ group. (out-Element group).children.items ≡ children.items) }
+{
+    let attributes = class_of(alloc, class)?;
+    Ok(element(alloc, Tag::Group, attributes, children))
+}
+
+fn line(alloc: Global, class: &str, from: Point, to: Point) -> Result<Element, AllocError>
+    ensures { IfOk result (IsLineBetween from to) }
+{
+    let mut attributes = class_of(alloc, class)?;
+    push_number(alloc, &mut attributes, Key::X1, from.x)?;
+    push_number(alloc, &mut attributes, Key::Y1, from.y)?;
+    push_number(alloc, &mut attributes, Key::X2, to.x)?;
+    push_number(alloc, &mut attributes, Key::Y2, to.y)?;
+    Ok(element(alloc, Tag::Line, attributes, Vec::new(alloc)))
 }
 
 fn path(alloc: Global, class: &str, way: String) -> Result<Element, AllocError> {
-    let mut path = element(alloc, Tag::Path, class)?;
-    path.attributes.push(Attribute {
-        key: Key::D,
-        value: way,
-    })?;
-    Ok(path)
+    let mut attributes = class_of(alloc, class)?;
+    push_text(&mut attributes, Key::D, way)?;
+    Ok(element(alloc, Tag::Path, attributes, Vec::new(alloc)))
 }
 
 /// The front of the words: what a column of the chart has room for.
@@ -93,64 +136,74 @@ fn front(words: &str) -> &str {
     }
 }
 
-fn words_at(
-    alloc: Global,
-    class: &str,
-    at: (usize, usize),
-    words: &str,
-) -> Result<Element, AllocError> {
-    let mut text = element(alloc, Tag::Text, class)?;
-    push_number(alloc, &mut text.attributes, Key::X, at.0)?;
-    push_number(alloc, &mut text.attributes, Key::Y, at.1)?;
+fn words_at(alloc: Global, class: &str, at: Point, words: &str) -> Result<Element, AllocError> {
+    let mut attributes = class_of(alloc, class)?;
+    push_number(alloc, &mut attributes, Key::X, at.x)?;
+    push_number(alloc, &mut attributes, Key::Y, at.y)?;
+    let mut text = element(alloc, Tag::Text, attributes, Vec::new(alloc));
     text.text.push_str(front(words))?;
     Ok(text)
 }
 
-/// A line from the sending to the giving, and its head.
-fn arrow_group(alloc: Global, arrow: &Arrow) -> Result<Element, AllocError> {
-    let to = lifeline_of(arrow.from.other());
-    let end = height_of(arrow.given);
-    let start = match arrow.sent {
-        Some(row) => height_of(row),
-        None => end,
-    };
-    let from = lifeline_of(arrow.from);
+/// The triangle at an arrow's end.
+fn head(alloc: Global, arrow: &Arrow, at: Point) -> Result<Element, AllocError> {
+    let Point { x, y } = at;
     let way = match arrow.from {
-        End::A => format!(in alloc; "M{to},{end} l-9,-4 v7 z")?,
-        End::B => format!(in alloc; "M{to},{end} l9,-4 v7 z")?,
+        End::A => format!(in alloc; "M{x},{y} l-9,-4 v7 z")?,
+        End::B => format!(in alloc; "M{x},{y} l9,-4 v7 z")?,
     };
-    let mut group = element(alloc, Tag::Group, "arrow")?;
-    group
-        .children
-        .push(line(alloc, "way", (from, start), (to, end))?)?;
-    group.children.push(path(alloc, "head", way)?)?;
-    Ok(group)
+    path(alloc, "head", way)
 }
 
-/// A group for each arrow.
-fn arrow_groups(alloc: Global, arrows: &[Arrow]) -> Result<Vec<Element>, AllocError>
-    ensures { IfOk result (λ groups. length groups.items ≡ length arrows.now) }
+/// A line from the sending to the giving, and its head.
+fn arrow_group(alloc: Global, arrow: &Arrow) -> Result<Element, AllocError>
+    ensures { IfOk result (IsArrow arrow.now) }
 {
-    let mut groups = Vec::new(alloc);
-    for arrow in arrows {
-        groups.push(arrow_group(alloc, arrow)?)?;
+    let from = place(arrow.from, arrow.sent.unwrap_or(arrow.given));
+    let to = place(arrow.from.other(), arrow.given);
+    let way = line(alloc, "way", from, to)?;
+    let head = head(alloc, arrow, to)?;
+    let children = Vec::from_array(alloc, [way, head])?;
+    group(alloc, "arrow", children)
+}
+
+/// One group with a group for each arrow.
+fn arrows_group(alloc: Global, conversation: &Conversation) -> Result<Element, AllocError>
+    requires { IsFollowed conversation.now }
+    ensures { IfOk result (HasArrows conversation.now.rows.now) }
+{
+    let arrows = arrows(alloc, conversation)?;
+    let mut children = Vec::new(alloc);
+    for arrow in &arrows {
+        children.push(arrow_group(alloc, arrow)?)?;
     }
-    Ok(groups)
+    group(alloc, "", children)
 }
 
 /// Half a line and a cross, where the packet was never given.
-fn lost_group(alloc: Global, from: End, row: usize) -> Result<Element, AllocError> {
-    let start = lifeline_of(from);
-    let height = height_of(row);
-    let middle = (LEFT + RIGHT) / 2;
-    let end = height.saturating_add(5);
-    let cross = format!(in alloc; "M{middle},{end} m-5,-5 l10,10 m0,-10 l-10,10")?;
-    let mut group = element(alloc, Tag::Group, "lost")?;
-    group
-        .children
-        .push(line(alloc, "lost", (start, height), (middle, end))?)?;
-    group.children.push(path(alloc, "lost", cross)?)?;
-    Ok(group)
+fn cross_group(alloc: Global, cross: &Cross) -> Result<Element, AllocError>
+    ensures { IfOk result (IsCross cross.now) }
+{
+    let from = place(cross.from, cross.sent);
+    let y = height_of(cross.sent) + 5;
+    let sign = format!(in alloc; "M{MIDDLE},{y} m-5,-5 l10,10 m0,-10 l-10,10")?;
+    let way = line(alloc, "lost", from, Point { x: MIDDLE, y })?;
+    let sign = path(alloc, "lost", sign)?;
+    let children = Vec::from_array(alloc, [way, sign])?;
+    group(alloc, "lost", children)
+}
+
+/// One group with a group for each cross.
+fn crosses_group(alloc: Global, conversation: &Conversation) -> Result<Element, AllocError>
+    requires { IsFollowed conversation.now }
+    ensures { IfOk result (HasCrosses conversation.now.rows.now) }
+{
+    let crosses = crosses(alloc, conversation)?;
+    let mut children = Vec::new(alloc);
+    for cross in &crosses {
+        children.push(cross_group(alloc, cross)?)?;
+    }
+    group(alloc, "", children)
 }
 
 /// Words of an end: beside its lifeline, or on the arrow that begins there.
@@ -161,27 +214,48 @@ fn words_of(
     is_between: bool,
     words: &str,
 ) -> Result<Element, AllocError> {
-    let height = height_of(row);
-    match (end, is_between) {
-        (End::A, true) => words_at(alloc, "", (LEFT + 8, height.saturating_sub(2)), words),
-        (End::B, true) => words_at(alloc, "end", (RIGHT - 8, height.saturating_sub(2)), words),
-        (End::A, false) => words_at(alloc, "end", (LEFT - 8, height.saturating_add(4)), words),
-        (End::B, false) => words_at(alloc, "", (RIGHT + 8, height.saturating_add(4)), words),
-    }
+    let y = height_of(row);
+    let (class, at) = match (end, is_between) {
+        (End::A, true) => (
+            "",
+            Point {
+                x: LEFT + 8,
+                y: y - 2,
+            },
+        ),
+        (End::B, true) => (
+            "end",
+            Point {
+                x: RIGHT - 8,
+                y: y - 2,
+            },
+        ),
+        (End::A, false) => (
+            "end",
+            Point {
+                x: LEFT - 8,
+                y: y + 4,
+            },
+        ),
+        (End::B, false) => (
+            "",
+            Point {
+                x: RIGHT + 8,
+                y: y + 4,
+            },
+        ),
+    };
+    words_at(alloc, class, at, words)
 }
 
 fn push_row(
     alloc: Global,
     children: &mut Vec<Element>,
-    rows: &[Row],
     at: usize,
     row: &Row,
 ) -> Result<(), AllocError> {
     match &row.what {
         What::Sent(number, _, label) => {
-            if times_given(rows, row.end, *number) == 0 {
-                children.push(lost_group(alloc, row.end, at)?)?;
-            }
             let words = format!(in alloc; "{number}: {label}")?;
             children.push(words_of(alloc, row.end, at, true, &words)?)?;
         }
@@ -191,94 +265,72 @@ fn push_row(
     Ok(())
 }
 
-fn lifeline(alloc: Global, end: End, bottom: usize) -> Result<Element, AllocError> {
-    let x = lifeline_of(end);
-    let name = format!(in alloc; "{end}")?;
-    let mut group = element(alloc, Tag::Group, "life")?;
-    group
-        .children
-        .push(words_at(alloc, "name", (x, 16), &name)?)?;
-    group
-        .children
-        .push(line(alloc, "life", (x, 22), (x, bottom))?)?;
-    Ok(group)
+/// One group with what stands beside the lifelines and on the arrows.
+fn words_group(alloc: Global, rows: &[Row]) -> Result<Element, AllocError> {
+    let mut children = Vec::new(alloc);
+    for at in 0..rows.len() {
+        push_row(alloc, &mut children, at, &rows[at])?;
+    }
+    group(alloc, "words", children)
 }
 
-fn root_attributes(alloc: Global, height: usize) -> Result<Vec<Attribute>, AllocError> {
+fn lifeline(alloc: Global, end: End, bottom: u128) -> Result<Element, AllocError> {
+    let x = lifeline_of(end);
+    let name = words_at(alloc, "name", Point { x, y: 16 }, end.name())?;
+    let line = line(alloc, "life", Point { x, y: 22 }, Point { x, y: bottom })?;
+    let children = Vec::from_array(alloc, [name, line])?;
+    group(alloc, "life", children)
+}
+
+fn root_attributes(alloc: Global, height: u128) -> Result<Vec<Attribute>, AllocError> {
     let mut attributes = Vec::new(alloc);
     let space = String::from_str(alloc, "http://www.w3.org/2000/svg")?;
-    attributes.push(Attribute {
-        key: Key::Xmlns,
-        value: space,
-    })?;
+    push_text(&mut attributes, Key::Xmlns, space)?;
     let view = format!(in alloc; "0 0 {WIDTH} {height}")?;
-    attributes.push(Attribute {
-        key: Key::ViewBox,
-        value: view,
-    })?;
+    push_text(&mut attributes, Key::ViewBox, view)?;
     push_number(alloc, &mut attributes, Key::Width, WIDTH)?;
     push_number(alloc, &mut attributes, Key::Height, height)?;
     Ok(attributes)
 }
 
 fn style_element(alloc: Global) -> Result<Element, AllocError> {
-    let mut style = element(alloc, Tag::Style, "")?;
+    let mut style = element(alloc, Tag::Style, Vec::new(alloc), Vec::new(alloc));
     style.text.push_str(STYLE)?;
     Ok(style)
 }
 
-/// One group with all arrows.
-fn arrows_group(alloc: Global, rows: &[Row]) -> Result<Element, AllocError>
-    ensures { IfOk result (λ group. length (out-Element group).children.items ≡ length (arrows rows.now)) }
+fn tree(alloc: Global, conversation: &Conversation) -> Result<Element, AllocError>
+    requires { IsFollowed conversation.now }
+    ensures { IfOk result (IsPicture conversation.now.rows.now) }
 {
-    let arrows = arrows(alloc, rows)?;
-    let children = arrow_groups(alloc, &arrows)?;
-    let attributes = Vec::new(alloc);
-    let text = String::new(alloc);
-    Ok(Element {
-        tag: Tag::Group,
-        attributes,
-        text,
-        children,
-    })
-}
-
-/// One group with what stands beside the lifelines and on the arrows.
-fn words_group(alloc: Global, rows: &[Row]) -> Result<Element, AllocError> {
-    let mut group = element(alloc, Tag::Group, "words")?;
-    for at in 0..rows.len() {
-        push_row(alloc, &mut group.children, rows, at, &rows[at])?;
-    }
-    Ok(group)
-}
-
-fn tree(alloc: Global, rows: &[Row]) -> Result<Element, AllocError>
-    ensures { IfOk result (HasArrows rows.now) }
-{
-    let bottom = height_of(rows.len());
+    let bottom = height_of(conversation.rows.len());
+    let attributes = root_attributes(alloc, bottom)?;
     let mut children = Vec::new(alloc);
     children.push(style_element(alloc)?)?;
     children.push(lifeline(alloc, End::A, bottom)?)?;
     children.push(lifeline(alloc, End::B, bottom)?)?;
-    children.push(arrows_group(alloc, rows)?)?;
-    children.push(words_group(alloc, rows)?)?;
-    let attributes = root_attributes(alloc, bottom)?;
-    let text = String::new(alloc);
-    Ok(Element {
-        tag: Tag::Svg,
-        attributes,
-        text,
-        children,
-    })
+    children.push(arrows_group(alloc, conversation)?)?;
+    children.push(crosses_group(alloc, conversation)?)?;
+    children.push(words_group(alloc, conversation.rows)?)?;
+    Ok(element(alloc, Tag::Svg, attributes, children))
+}
+
+fn picture(alloc: Global, rows: &[Row]) -> Result<Element, AllocError>
+    ensures { IfOk result (IsPicture rows.now) }
+{
+    let conversation = Conversation::of(alloc, rows)?;
+    let picture = tree(alloc, &conversation);
+    drop(conversation);
+    picture
 }
 
 /// An SVG of 1,000 units' width, in which a row has 14 units' height. Bytes of texts that are no printable ASCII are question marks.
 pub fn chart(alloc: Global, rows: &[Row]) -> Result<Vec<u8>, AllocError>
     ensures { IfOk result (λ bytes. IsChart rows.now bytes.items) }
 {
-    let tree = tree(alloc, rows)?;
+    let picture = picture(alloc, rows)?;
     let mut bytes = Vec::new(alloc);
-    write(&mut bytes, &tree)?;
-    drop(tree);
+    write(&mut bytes, &picture)?;
+    drop(picture);
     Ok(bytes)
 }

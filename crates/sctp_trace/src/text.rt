@@ -1,11 +1,11 @@
 //! The rows as text of at most 98 columns: what a says, two lifelines with the packets between them, what b says.
 
-ghost use Rattle.std.specs.Prelude.{◌≡◌, ◌++◌, ◌+◌, ◌-◌, ◌<◌, ◌^◌, ◌≤◌, length, map, replicate, OnOk, IfOk, codes, string_bytes};
-ghost use Rattle.std.specs.Fmt.{decimal};
+ghost use Rattle.std.specs.Prelude.{◌≡◌, ◌++◌, map, take, replicate, OnOk, IfOk, string_bytes};
 ghost use Rattle.sctp_trace.specs.Ascii.{plain};
-ghost use Rattle.sctp_trace.specs.Ladder.{left_cell, right_cell, note_cell, mark, sent_caption, given_caption, sent_cell, given_cell, row_of_cells, told_line, packet_line, line_of, ladder_text};
+ghost use Rattle.sctp_trace.specs.Followed.{IsFollowed};
+ghost use Rattle.sctp_trace.specs.Ladder.{left_cell, right_cell, mark, sent_caption, given_caption, arrow_head, packet_cell, lifelines, note_cell, told_line, packet_line, line_of, heading, ladder_text};
 
-use crate::giving::times_given;
+use crate::conversation::Conversation;
 use crate::rows::{End, Row, What};
 use crate::xml::plain;
 use std::alloc::{AllocError, Global};
@@ -16,56 +16,48 @@ const ARROW_WIDTH: usize = 36;
 
 const CAPTION_WIDTH: usize = 34;
 
-fn push_spaces(line: &mut Vec<u8>, count: usize) -> Result<(), AllocError>
-    ensures { OnOk result (line.new.items ≡ line.old.items ++ replicate count 32) }
+fn push_spaces(text: &mut Vec<u8>, count: usize) -> Result<(), AllocError>
+    ensures { OnOk result (text.new.items ≡ text.old.items ++ replicate count 32) }
 {
     for _ in 0..count {
-        line.push(b' ')?;
+        text.push(b' ')?;
     }
     Ok(())
 }
 
-fn plain_bytes(alloc: Global, text: &[u8]) -> Result<Vec<u8>, AllocError>
-    ensures { IfOk result (λ v. v.items ≡ map plain text.now) }
+/// As many bytes as fit the width.
+fn front(words: &[u8], width: usize) -> &[u8]
+    ensures { result.now ≡ take width words.now }
 {
-    let mut found = Vec::new(alloc);
-    for byte in text {
-        found.push(plain(*byte))?;
+    if words.len() <= width {
+        return words;
     }
-    Ok(found)
+    &words[..width]
 }
 
-/// The front of the text, and spaces behind it up to the width.
-fn left_cell(alloc: Global, width: usize, text: &[u8]) -> Result<Vec<u8>, AllocError>
-    ensures { IfOk result (λ v. v.items ≡ left_cell width text.now) }
+fn push_plain(text: &mut Vec<u8>, words: &[u8]) -> Result<(), AllocError>
+    ensures { OnOk result (text.new.items ≡ text.old.items ++ map plain words.now) }
 {
-    let mut cell = plain_bytes(alloc, text)?;
-    push_spaces(&mut cell, width)?;
-    cell.truncate(width);
-    Ok(cell)
+    for byte in words {
+        text.push(plain(*byte))?;
+    }
+    Ok(())
 }
 
-/// The front of the text, and spaces before it up to the width.
-fn right_cell(alloc: Global, width: usize, text: &[u8]) -> Result<Vec<u8>, AllocError>
-    ensures { IfOk result (λ v. v.items ≡ right_cell width text.now) }
+/// The front of the words, and spaces behind it up to the width.
+fn push_left(text: &mut Vec<u8>, width: usize, words: &[u8]) -> Result<(), AllocError>
+    ensures { OnOk result (text.new.items ≡ text.old.items ++ left_cell width words.now) }
 {
-    let mut front = plain_bytes(alloc, text)?;
-    front.truncate(width);
-    let mut cell = Vec::new(alloc);
-    push_spaces(&mut cell, width.saturating_sub(text.len()))?;
-    cell.extend_from_slice(&front)?;
-    Ok(cell)
+    push_plain(text, front(words, width))?;
+    push_spaces(text, width.saturating_sub(words.len()))
 }
 
-/// What b says, behind a space.
-fn note_cell(alloc: Global, text: &[u8]) -> Result<Vec<u8>, AllocError>
-    ensures { IfOk result (λ v. v.items ≡ note_cell text.now) }
+/// The front of the words, and spaces before it up to the width.
+fn push_right(text: &mut Vec<u8>, width: usize, words: &[u8]) -> Result<(), AllocError>
+    ensures { OnOk result (text.new.items ≡ text.old.items ++ right_cell width words.now) }
 {
-    let mut front = plain_bytes(alloc, text)?;
-    front.truncate(NOTE_WIDTH);
-    let mut cell = Vec::from_slice(alloc, b" ")?;
-    cell.extend_from_slice(&front)?;
-    Ok(cell)
+    push_spaces(text, width.saturating_sub(words.len()))?;
+    push_plain(text, front(words, width))
 }
 
 fn mark(times: usize) -> &'static str
@@ -96,115 +88,125 @@ fn given_caption(alloc: Global, number: usize) -> Result<String, AllocError>
     format!(in alloc; " {number} ")
 }
 
-fn push_sent(line: &mut Vec<u8>, alloc: Global, end: End, caption: &[u8]) -> Result<(), AllocError>
-    ensures { OnOk result (line.new.items ≡ line.old.items ++ sent_cell end caption.now) }
+/// The two signs of an arrow's head.
+fn arrow_head(end: End) -> &'static [u8]
+    ensures { result.now ≡ arrow_head end }
+{
+    match end {
+        End::A => b"<-",
+        End::B => b"->",
+    }
+}
+
+/// The signs at the end's lifeline, and the caption beside them.
+fn push_cell(text: &mut Vec<u8>, end: End, signs: &[u8], caption: &[u8]) -> Result<(), AllocError>
+    ensures { OnOk result (text.new.items ≡ text.old.items ++ packet_cell end signs.now caption.now) }
 {
     match end {
         End::A => {
-            line.extend_from_slice(b"--")?;
-            line.extend_from_slice(&left_cell(alloc, CAPTION_WIDTH, caption)?)
+            text.extend_from_slice(signs)?;
+            push_left(text, CAPTION_WIDTH, caption)
         }
         End::B => {
-            line.extend_from_slice(&right_cell(alloc, CAPTION_WIDTH, caption)?)?;
-            line.extend_from_slice(b"--")
+            push_right(text, CAPTION_WIDTH, caption)?;
+            text.extend_from_slice(signs)
         }
     }
 }
 
-fn push_given(line: &mut Vec<u8>, alloc: Global, end: End, caption: &[u8]) -> Result<(), AllocError>
-    ensures { OnOk result (line.new.items ≡ line.old.items ++ given_cell end caption.now) }
+fn push_packet(text: &mut Vec<u8>, end: End, signs: &[u8], caption: &[u8]) -> Result<(), AllocError>
+    ensures { OnOk result (text.new.items ≡ text.old.items ++ packet_line (packet_cell end signs.now caption.now)) }
 {
-    match end {
-        End::A => {
-            line.extend_from_slice(b"<-")?;
-            line.extend_from_slice(&left_cell(alloc, CAPTION_WIDTH, caption)?)
-        }
-        End::B => {
-            line.extend_from_slice(&right_cell(alloc, CAPTION_WIDTH, caption)?)?;
-            line.extend_from_slice(b"->")
-        }
-    }
-}
-
-fn push_cells(
-    text: &mut Vec<u8>,
-    left: &[u8],
-    middle: &[u8],
-    right: &[u8],
-) -> Result<(), AllocError>
-    ensures { OnOk result (text.new.items ≡ text.old.items ++ row_of_cells left.now middle.now right.now) }
-{
-    text.extend_from_slice(left)?;
+    push_spaces(text, NOTE_WIDTH)?;
     text.extend_from_slice(b" |")?;
-    text.extend_from_slice(middle)?;
-    text.extend_from_slice(b"|")?;
-    text.extend_from_slice(right)?;
-    text.extend_from_slice(b"\n")
+    push_cell(text, end, signs, caption)?;
+    text.extend_from_slice(b"|\n")
 }
 
-fn spaces(alloc: Global, count: usize) -> Result<Vec<u8>, AllocError>
-    ensures { IfOk result (λ v. v.items ≡ replicate count 32) }
+fn push_lifelines(text: &mut Vec<u8>) -> Result<(), AllocError>
+    ensures { OnOk result (text.new.items ≡ text.old.items ++ lifelines) }
 {
-    let mut found = Vec::new(alloc);
-    push_spaces(&mut found, count)?;
-    Ok(found)
+    text.extend_from_slice(b" |")?;
+    push_spaces(text, ARROW_WIDTH)?;
+    text.extend_from_slice(b"|")
 }
 
-fn push_told(text: &mut Vec<u8>, alloc: Global, end: End, words: &[u8]) -> Result<(), AllocError>
+/// What b says, behind a space.
+fn push_note(text: &mut Vec<u8>, words: &[u8]) -> Result<(), AllocError>
+    ensures { OnOk result (text.new.items ≡ text.old.items ++ note_cell words.now) }
+{
+    text.extend_from_slice(b" ")?;
+    push_plain(text, front(words, NOTE_WIDTH))
+}
+
+fn push_told(text: &mut Vec<u8>, end: End, words: &[u8]) -> Result<(), AllocError>
     ensures { OnOk result (text.new.items ≡ text.old.items ++ told_line end words.now) }
 {
-    let middle = spaces(alloc, ARROW_WIDTH)?;
     match end {
-        End::A => push_cells(text, &right_cell(alloc, NOTE_WIDTH, words)?, &middle, b""),
-        End::B => push_cells(
-            text,
-            &spaces(alloc, NOTE_WIDTH)?,
-            &middle,
-            &note_cell(alloc, words)?,
-        ),
+        End::A => {
+            push_right(text, NOTE_WIDTH, words)?;
+            push_lifelines(text)?;
+            text.extend_from_slice(b"\n")
+        }
+        End::B => {
+            push_spaces(text, NOTE_WIDTH)?;
+            push_lifelines(text)?;
+            push_note(text, words)?;
+            text.extend_from_slice(b"\n")
+        }
     }
 }
 
-fn push_packet(text: &mut Vec<u8>, alloc: Global, cell: &[u8]) -> Result<(), AllocError>
-    ensures { OnOk result (text.new.items ≡ text.old.items ++ packet_line cell.now) }
+fn push_line(
+    text: &mut Vec<u8>,
+    alloc: Global,
+    conversation: &Conversation,
+    row: &Row,
+) -> Result<(), AllocError>
+    requires { IsFollowed conversation.now }
+    ensures { OnOk result (text.new.items ≡ text.old.items ++ line_of conversation.now.rows.now row.now) }
 {
-    let note = spaces(alloc, NOTE_WIDTH)?;
-    push_cells(text, &note, cell, b"")
-}
-
-fn push_line(text: &mut Vec<u8>, alloc: Global, rows: &[Row], row: &Row) -> Result<(), AllocError>
-    ensures { OnOk result (text.new.items ≡ text.old.items ++ line_of rows.now row.now) }
-{
-    let mut cell = Vec::new(alloc);
     match &row.what {
         What::Sent(number, _, label) => {
-            let times = times_given(rows, row.end, *number);
+            let times = conversation.times_given(row.end, *number);
             let caption = sent_caption(alloc, *number, times, label)?;
-            push_sent(&mut cell, alloc, row.end, caption.as_bytes())?;
-            push_packet(text, alloc, &cell)
+            push_packet(text, row.end, b"--", caption.as_bytes())
         }
         What::Given(number) => {
             let caption = given_caption(alloc, *number)?;
-            push_given(&mut cell, alloc, row.end, caption.as_bytes())?;
-            push_packet(text, alloc, &cell)
+            push_packet(text, row.end, arrow_head(row.end), caption.as_bytes())
         }
-        What::Told(words) => push_told(text, alloc, row.end, words.as_bytes()),
+        What::Told(words) => push_told(text, row.end, words.as_bytes()),
     }
+}
+
+/// The ends' names over their lifelines.
+fn push_heading(text: &mut Vec<u8>) -> Result<(), AllocError>
+    ensures { OnOk result (text.new.items ≡ text.old.items ++ heading) }
+{
+    push_right(text, NOTE_WIDTH, b"a")?;
+    push_lifelines(text)?;
+    text.extend_from_slice(b" b\n")
+}
+
+fn lines(alloc: Global, conversation: &Conversation) -> Result<Vec<u8>, AllocError>
+    requires { IsFollowed conversation.now }
+    ensures { IfOk result (λ text. text.items ≡ ladder_text conversation.now.rows.now) }
+{
+    let mut text = Vec::new(alloc);
+    push_heading(&mut text)?;
+    for row in conversation.rows {
+        push_line(&mut text, alloc, conversation, row)?;
+    }
+    Ok(text)
 }
 
 /// A line a row, under the ends' names. Bytes that are no printable ASCII are question marks.
 pub fn ladder(alloc: Global, rows: &[Row]) -> Result<Vec<u8>, AllocError>
     ensures { IfOk result (λ text. text.items ≡ ladder_text rows.now) }
 {
-    let mut text = Vec::new(alloc);
-    push_cells(
-        &mut text,
-        &right_cell(alloc, NOTE_WIDTH, b"a")?,
-        &spaces(alloc, ARROW_WIDTH)?,
-        b" b",
-    )?;
-    for row in rows {
-        push_line(&mut text, alloc, rows, row)?;
-    }
-    Ok(text)
+    let conversation = Conversation::of(alloc, rows)?;
+    let text = lines(alloc, &conversation);
+    drop(conversation);
+    text
 }

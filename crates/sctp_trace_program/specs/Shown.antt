@@ -1,11 +1,12 @@
--- What a row shows, and what an entry of the log says of packets.
-use Rattle.std.specs.Prelude.{ℕ, List, [], slice_get, Option, Some, None}
+-- What a row shows, and what an entry of the log says of packets and of the time.
+use Rattle.std.specs.Prelude.{ℕ, ◌-◌, ◌^◌, min, List, [], ◌∷◌, slice_get, Option, Some, None}
 use Rattle.sctp_network_table.specs.Judge as judge
 use Rattle.sctp_trace.specs.declared.rows.End.{End}
 use Rattle.sctp_trace.specs.declared.rows.End.TheVariants as ends
 use Rattle.sctp_trace.specs.declared.rows.What.{What}
 use Rattle.sctp_trace.specs.declared.rows.What.TheVariants as kinds
 use Rattle.sctp_trace.specs.declared.rows.Row.{Row}
+use Rattle.sctp_trace_program.specs.declared.log.Clocks.{Clocks}
 
 -- A packet that an end sent, by its number and its bytes; one that was given to it; or something else of it.
 pub data Shown : Type 0 where
@@ -20,6 +21,9 @@ what_shows end (kinds.Told text) = Other end
 
 abbrev pub row_shows : Row → Shown
 row_shows row = what_shows row.end row.what
+
+abbrev pub row_time : Row → ℕ
+row_time row = row.nanoseconds
 
 abbrev pub lifeline : judge.End → End
 lifeline judge.A = ends.A
@@ -41,3 +45,47 @@ entry_shows packets (judge.Emitted x number) = Packet (lifeline x) number (bytes
 entry_shows packets (judge.Happened x event) = Other (lifeline x)
 entry_shows packets (judge.GaveUp x given_up) = Other (lifeline x)
 entry_shows packets (judge.BecameReady x message) = Other (lifeline x)
+
+abbrev pub entry_end : judge.Entry → judge.End
+entry_end (judge.Called x clock call answer) = x
+entry_end (judge.Given x clock number) = x
+entry_end (judge.Foreign x clock bytes) = x
+entry_end (judge.Timed x clock now) = x
+entry_end (judge.Associated x association) = x
+entry_end (judge.Emitted x number) = x
+entry_end (judge.Happened x event) = x
+entry_end (judge.GaveUp x given_up) = x
+entry_end (judge.BecameReady x message) = x
+
+-- a moment in 64 bits: later ones than fit are the last
+abbrev pub stamp : ℕ → ℕ
+stamp moment = min moment (2 ^ 64 - 1)
+
+abbrev pub clock_of : judge.End → Clocks → ℕ
+clock_of judge.A clocks = clocks.a
+clock_of judge.B clocks = clocks.b
+
+abbrev pub with_clock : judge.End → ℕ → Clocks → Clocks
+with_clock judge.A moment clocks = record { a = stamp moment; b = clocks.b }
+with_clock judge.B moment clocks = record { a = clocks.a; b = stamp moment }
+
+-- calls, packets that are given, bytes from elsewhere and moments tell the clock of their end
+abbrev pub clocks_after : Clocks → judge.Entry → Clocks
+clocks_after clocks (judge.Called x clock call answer) = with_clock x clock clocks
+clocks_after clocks (judge.Given x clock number) = with_clock x clock clocks
+clocks_after clocks (judge.Foreign x clock bytes) = with_clock x clock clocks
+clocks_after clocks (judge.Timed x clock now) = with_clock x clock clocks
+clocks_after clocks (judge.Associated x association) = clocks
+clocks_after clocks (judge.Emitted x number) = clocks
+clocks_after clocks (judge.Happened x event) = clocks
+clocks_after clocks (judge.GaveUp x given_up) = clocks
+clocks_after clocks (judge.BecameReady x message) = clocks
+
+-- each entry is at the clock of its end
+abbrev pub times_from : Clocks → List judge.Entry → List ℕ
+times_from clocks [] = []
+times_from clocks (entry ∷ entries) = clock_of (entry_end entry) (clocks_after clocks entry) ∷ times_from (clocks_after clocks entry) entries
+
+-- both clocks begin at zero
+abbrev pub times_of : List judge.Entry → List ℕ
+times_of entries = times_from (record { a = 0; b = 0 }) entries

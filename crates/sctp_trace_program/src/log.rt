@@ -3,7 +3,7 @@
 ghost use Rattle.std.specs.Prelude.{◌≡◌, ℕ, List, map, slice_get, IfOk};
 ghost use Rattle.sctp_network_table.specs.Judge.{End as LoggedEnd, Entry as LoggedEntry};
 ghost use Rattle.sctp_network_side.specs.SideView.{end_tree, entry_tree};
-ghost use Rattle.sctp_trace_program.specs.Shown.{Packet, Giving, Other, lifeline, bytes_in, row_shows, entry_shows};
+ghost use Rattle.sctp_trace_program.specs.Shown.{Packet, Giving, Other, lifeline, bytes_in, row_shows, row_time, entry_shows, entry_end, stamp, clock_of, with_clock, clocks_after, times_of};
 
 use crate::note::note_of;
 use sctp_serial::SocketTime;
@@ -39,31 +39,48 @@ pub struct Clocks {
 }
 
 impl Clocks {
-    fn of(&self, end: End) -> u64 {
+    fn of(&self, end: End) -> u64
+        ensures { result ≡ clock_of (end_tree end) self.now }
+    {
         match end {
             End::A => self.a,
             End::B => self.b,
         }
     }
 
-    // An entry tells the clock of its end.
-    fn read(&mut self, entry: &Entry) {
+    // An entry may tell the clock of its end.
+    fn read(&mut self, entry: &Entry)
+        ensures { self.new ≡ clocks_after self.old (entry_tree entry.now) }
+    {
         match entry {
-            Entry::Call(end, clock, _, _)
-            | Entry::Give(end, clock, _)
-            | Entry::Foreign(end, clock, _)
-            | Entry::Time(end, clock, _) => self.set(*end, *clock),
-            _ => {}
+            Entry::Call(end, clock, _, _) => self.set(*end, *clock),
+            Entry::Give(end, clock, _) => self.set(*end, *clock),
+            Entry::Foreign(end, clock, _) => self.set(*end, *clock),
+            Entry::Time(end, clock, _) => self.set(*end, *clock),
+            Entry::Packet(_, _) => {}
+            Entry::Association(_, _) => {}
+            Entry::Event(_, _) => {}
+            Entry::GivenUp(_, _) => {}
+            Entry::Ready(_, _) => {}
         }
     }
 
-    fn set(&mut self, end: End, now: SocketTime) {
-        let nanoseconds = u64::try_from(now.as_nanos()).unwrap_or(u64::MAX);
+    fn set(&mut self, end: End, now: SocketTime)
+        ensures { self.new ≡ with_clock (end_tree end) now self.old }
+    {
+        let nanoseconds = stamp(now);
         match end {
             End::A => self.a = nanoseconds,
             End::B => self.b = nanoseconds,
         }
     }
+}
+
+/// The moment in nanoseconds; later ones than fit are the last.
+fn stamp(now: SocketTime) -> u64
+    ensures { result ≡ stamp now }
+{
+    now.as_nanos().min(u64::MAX as u128) as u64
 }
 
 fn lifeline_of(end: End) -> sctp_trace::End
@@ -82,7 +99,8 @@ fn sent<W: Watched>(
     end: End,
     number: usize,
 ) -> Result<Row, AllocError>
-    ensures { IfOk result (λ row. row_shows row ≡ Packet (lifeline (end_tree end)) number (bytes_in (slice_get (W.packets_of world.now (end_tree end)) number))) }
+    ensures shown { IfOk result (λ row. row_shows row ≡ Packet (lifeline (end_tree end)) number (bytes_in (slice_get (W.packets_of world.now (end_tree end)) number))) }
+    ensures time { IfOk result (λ row. row.nanoseconds ≡ clock_of (end_tree end) clocks.now) }
 {
     let bytes = world.bytes_of(end, number);
     let label = packet_label(alloc, bytes)?;
@@ -95,7 +113,8 @@ fn sent<W: Watched>(
 }
 
 fn given(clocks: &Clocks, end: End, number: usize) -> Row
-    ensures { row_shows result ≡ Giving (lifeline (end_tree end)) number }
+    ensures shown { row_shows result ≡ Giving (lifeline (end_tree end)) number }
+    ensures time { result.nanoseconds ≡ clock_of (end_tree end) clocks.now }
 {
     Row {
         end: lifeline_of(end),
@@ -105,7 +124,8 @@ fn given(clocks: &Clocks, end: End, number: usize) -> Row
 }
 
 fn told(alloc: Global, clocks: &Clocks, end: End, entry: &Entry) -> Result<Row, AllocError>
-    ensures { IfOk result (λ row. row_shows row ≡ Other (lifeline (end_tree end))) }
+    ensures shown { IfOk result (λ row. row_shows row ≡ Other (lifeline (end_tree end))) }
+    ensures time { IfOk result (λ row. row.nanoseconds ≡ clock_of (end_tree end) clocks.now) }
 {
     let note = note_of(alloc, entry)?;
     Ok(Row {
@@ -121,7 +141,8 @@ fn row_of<W: Watched>(
     clocks: &Clocks,
     entry: &Entry,
 ) -> Result<Row, AllocError>
-    ensures { IfOk result (λ row. row_shows row ≡ entry_shows (W.packets_of world.now) (entry_tree entry.now)) }
+    ensures shown { IfOk result (λ row. row_shows row ≡ entry_shows (W.packets_of world.now) (entry_tree entry.now)) }
+    ensures time { IfOk result (λ row. row.nanoseconds ≡ clock_of (entry_end (entry_tree entry.now)) clocks.now) }
 {
     match entry {
         Entry::Packet(end, number) => sent(alloc, world, clocks, *end, *number),
@@ -136,9 +157,11 @@ fn row_of<W: Watched>(
     }
 }
 
-/// A row for each entry of the log, in their order: the packets are those that the ends sent, and the givings those of the log.
+/// A row for each entry of the log, in their order, at the clock of its end: the packets are those that the ends sent, and the givings
+/// those of the log.
 pub fn rows_of<W: Watched>(alloc: Global, world: &W) -> Result<Vec<Row>, AllocError>
-    ensures { IfOk result (λ rows. map row_shows rows.items ≡ map (entry_shows (W.packets_of world.now)) (W.log_of world.now)) }
+    ensures shown { IfOk result (λ rows. map row_shows rows.items ≡ map (entry_shows (W.packets_of world.now)) (W.log_of world.now)) }
+    ensures times { IfOk result (λ rows. map row_time rows.items ≡ times_of (W.log_of world.now)) }
 {
     let mut rows = Vec::new(alloc);
     let mut clocks = Clocks { a: 0, b: 0 };

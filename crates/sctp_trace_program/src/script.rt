@@ -1,5 +1,8 @@
 //! The script: commands, a line each, and what becomes of them.
 
+ghost use Rattle.std.specs.Prelude.{IfOk};
+ghost use Rattle.sctp_trace_program.specs.Drawn.{IsDrawing, Draws};
+
 use crate::log::{Watched, rows_of};
 use sctp_state::CallError;
 use sctp_trace::{CaptureError, Row, capture, chart, ladder};
@@ -131,7 +134,9 @@ fn run_input<W: Watched>(rt: &HostRuntime, world: &mut W) -> Result<Option<u64>,
     run_lines(rt.alloc(), world, &lines)
 }
 
-fn drawing(alloc: Global, rows: &[Row], format: Format) -> Result<Vec<u8>, Fault> {
+fn drawing(alloc: Global, rows: &[Row], format: Format) -> Result<Vec<u8>, Fault>
+    ensures { IfOk result (λ bytes. IsDrawing format rows.now bytes.items) }
+{
     match format {
         Format::Text => Ok(ladder(alloc, rows)?),
         Format::Chart => Ok(chart(alloc, rows)?),
@@ -139,17 +144,24 @@ fn drawing(alloc: Global, rows: &[Row], format: Format) -> Result<Vec<u8>, Fault
     }
 }
 
-fn write_drawing(rt: &HostRuntime, rows: &[Row], format: Format) -> Result<(), Fault> {
-    let bytes = drawing(rt.alloc(), rows, format)?;
+/// What is drawn of the world's log.
+fn draw<W: Watched>(alloc: Global, world: &W, format: Format) -> Result<Vec<u8>, Fault>
+    ensures { IfOk result (λ bytes. Draws format (W.log_of world.now) (W.packets_of world.now) bytes.items) }
+{
+    let rows = rows_of(alloc, world)?;
+    drawing(alloc, &rows, format)
+}
+
+fn write_all(rt: &HostRuntime, bytes: &[u8]) -> Result<(), Fault> {
     let mut writer = io::writer(rt);
-    writer.write_all(&bytes)?;
+    writer.write_all(bytes)?;
     Ok(())
 }
 
 /// Says that the line is no command. A ladder stands before, as far as it goes.
-fn stop(rt: &HostRuntime, rows: &[Row], format: Format, number: u64) -> Result<(), Fault> {
+fn stop(rt: &HostRuntime, bytes: &[u8], format: Format, number: u64) -> Result<(), Fault> {
     if format == Format::Text {
-        write_drawing(rt, rows, format)?;
+        write_all(rt, bytes)?;
         println!(rt; "line {number} is not a command")?;
     } else {
         eprintln!(rt; "line {number} is not a command")?;
@@ -167,9 +179,9 @@ pub fn trace<W: Watched>(rt: &HostRuntime, world: W, format: Format) -> Result<(
 
 fn trace_on<W: Watched>(rt: &HostRuntime, world: &mut W, format: Format) -> Result<(), Fault> {
     let stopped = run_input(rt, world)?;
-    let rows = rows_of(rt.alloc(), world)?;
+    let bytes = draw(rt.alloc(), world, format)?;
     match stopped {
-        None => write_drawing(rt, &rows, format),
-        Some(number) => stop(rt, &rows, format, number),
+        None => write_all(rt, &bytes),
+        Some(number) => stop(rt, &bytes, format, number),
     }
 }

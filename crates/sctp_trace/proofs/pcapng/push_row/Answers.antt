@@ -10,4 +10,4 @@ returns-in_ok-push_sent-clause-wrote c =
     (ap₂ (λ (packet : List ℕ) (times : ℕ). packet_block c.args.row.now.end c.args.row.now.nanoseconds (with_crc32c packet) (fate times))
     c.deref.ensures.value
     c.times_given-times.ensures
-    ∙ sym (ap (what_bytes c.args.rows.now c.args.row.now.end c.args.row.now.nanoseconds) c.in-Sent.is))
+    ∙ sym (ap (what_bytes c.args.conversation.now.rows.now c.args.row.now.end c.args.row.now.nanoseconds) c.in-Sent.is))

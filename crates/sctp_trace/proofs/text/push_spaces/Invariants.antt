@@ -3,4 +3,4 @@ use Rattle.std.specs.Prelude.{replicate}
 use Rattle.sctp_trace.proofs.text.push_spaces.Given as goal
 
 abbrev pub invariant-loop : goal.invariant-loop
-invariant-loop l = l.line.items ≡ l.initial.line.items ++ replicate l.counter 32
+invariant-loop l = l.text.items ≡ l.initial.text.items ++ replicate l.counter 32

@@ -2,10 +2,11 @@ use Rattle.std.proofs.Common.{◌≡◌, ◌++◌, take, false}
 use Rattle.std.specs.List.{flat_map}
 use Rattle.sctp_trace.specs.declared.rows.End.TheVariants as ends
 use Rattle.sctp_trace.specs.Capture.{section_header, interface, row_bytes, has_long_packet}
-use Rattle.sctp_trace.proofs.pcapng.capture.Given as goal
+use Rattle.sctp_trace.proofs.pcapng.packets.Given as goal
 
 abbrev pub invariant-loop-row : goal.invariant-loop-row
 invariant-loop-row l = record {
-  wrote : l.bytes.items ≡ section_header ++ (interface ends.A ++ (interface ends.B ++ flat_map (row_bytes l.rows) (take l.row-index l.rows)));
-  short : has_long_packet (take l.row-index l.rows) ≡ false;
+  wrote : l.bytes.items ≡ section_header
+      ++ (interface ends.A ++ (interface ends.B ++ flat_map (row_bytes l.conversation.rows.now) (take l.row-index l.conversation.rows.now)));
+  short : has_long_packet (take l.row-index l.conversation.rows.now) ≡ false;
 }
