@@ -5,7 +5,7 @@ use Rattle.std.proofs.lemmas.List.Folds.{list_all-append}
 use Rattle.std.proofs.lemmas.Bool.{and_parts}
 use Rattle.sctp_chunk.specs.declared.sack.GapAckBlock.{GapAckBlock}
 use Rattle.sctp_state.specs.declared.api.GivenUpCause.{GivenUpCause}
-use Rattle.sctp_state.specs.declared.api.GivenUpCause.TheVariants.{Lifetime, Retransmissions}
+use Rattle.sctp_state.specs.declared.api.GivenUpCause.TheVariants.{Lifetime, Retransmissions, Reset}
 use Rattle.sctp_state.specs.Events.{Event, SendPacket, OnConnected, OnConnectionRestarted, OnClosed, OnAborted, OnBufferedAmountLow, OnTotalBufferedAmountLow, OnLifecycleMessageDelivered, Told, tell_all, give_up, expiry}
 use Rattle.sctp_outstanding.specs.Item.{Item, is_abandoned}
 use Rattle.sctp_outstanding.specs.Items.{Items, Discard}
@@ -298,9 +298,11 @@ module _ {P : Type 0} where
   waits : (ms : List Queued) (t : Told P) → TellsQuietly t (told_waiting ms t)
   waits [] t = quiet_same t
   waits (m ∷ ms) t =
-      let said : Told P = tell_all (expiry m.lifecycle) t in
+      let gone : Told P = give_up m.number Reset t in
+      let said : Told P = tell_all (expiry m.lifecycle) gone in
       let u : Told P = cond (is_partly m) t said in
-      quiet_then t u (told_waiting ms u) (waits_if (is_partly m) t said (quiet_all (expiry m.lifecycle) t (quiet_expiry P m.lifecycle)))
+      quiet_then t u (told_waiting ms u)
+      (waits_if (is_partly m) t said (quiet_then t gone said (quiet_given_up m.number Reset t) (quiet_all (expiry m.lifecycle) gone (quiet_expiry P m.lifecycle))))
       (waits ms u)
 
   quiet_prepared : (id : ℕ) (q : Queue) (t : Told P) → TellsQuietly t (prepare_reset id q t).told

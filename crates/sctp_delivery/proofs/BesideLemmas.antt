@@ -9,6 +9,7 @@ use Rattle.sctp_rx.specs.ReassemblyQueue.{Reassembly}
 use Rattle.sctp_rules.specs.State.{Message, Sender, Transfer, new_sender}
 use Rattle.sctp_rules.specs.Rules.{Event, accept, begin, number, close, give_up, data_comes, late_comes, deliver, send_sack, leave, send_forward, forward_comes, forget, IsAllowed, Happens, after, run}
 use Rattle.sctp_rules.specs.Kept.{Kept}
+use Rattle.sctp_rules.specs.Lifted.{no_base}
 use Rattle.sctp_rules.proofs.KeepsLemmas.{keeps}
 use Rattle.sctp_tx_rules.proofs.WholeLemmas.{shown_again}
 use Rattle.sctp_rx_rules.specs.Near.{ReadsNear}
@@ -67,10 +68,10 @@ module _ (message : ℕ → Message) (lifecycle : ℕ → Option ℕ) (mixed : B
   same_receiver x (forget t c) s = cc
 
   near_once : (first shift : ℕ) (x : Transfer) (e : Event) (r : Reassembly) → Kept message mixed x → IsAllowed message mixed x e
-      → (after message mixed x e).receiver ≡ x.receiver → ReadsNear message mixed first shift x r → ReadsNear message mixed first shift (after message mixed x e) r
+      → (after message mixed x e).receiver ≡ x.receiver → ReadsNear message mixed no_base first shift x r → ReadsNear message mixed no_base first shift (after message mixed x e) r
   near_once first shift x e r k may same h = record {
     tsns = sender_keeps message mixed first shift x e r k may same h.tsns;
-    mids = λ m. sender_keeps_mids message mixed x k m e may same r (h.mids m);
+    mids = λ m. sender_keeps_mids message mixed x k m e may same no_base r (h.mids m);
   }
 
   module _ (x : Transfer) (e : Event) (k : Kept message mixed x) (may : IsAllowed message mixed x e) (same : SameReceiver x (after message mixed x e)) where
@@ -81,7 +82,7 @@ module _ (message : ℕ → Message) (lifecycle : ℕ → Option ℕ) (mixed : B
     fresh_once handed h = record {
       none_handed = h.none_handed;
       no_sacks = same.sacks ∙ h.no_sacks;
-      receives = λ o size. sender_goes message mixed 0 x [] _ _ (h.receives o size) e k may same.receiver;
+      receives = λ o size. sender_goes message mixed 0 no_base x [] _ _ (h.receives o size) e k may same.receiver;
       near = λ first size. near_once first 0 x e _ k may same.receiver (h.near first size);
     }
 
@@ -90,7 +91,7 @@ module _ (message : ℕ → Message) (lifecycle : ℕ → Option ℕ) (mixed : B
     receives_once (CookieWait tag first t1) handed h = fresh_once handed h
     receives_once (Open phase t) handed h = record {
       shift = h.shift;
-      receives = sender_goes message mixed h.shift x handed t.tracker.tracker t.reassembly h.receives e k may same.receiver;
+      receives = sender_goes message mixed h.shift no_base x handed t.tracker.tracker t.reassembly h.receives e k may same.receiver;
       near = near_once t.tracker.first h.shift x e t.reassembly k may same.receiver h.near;
       is_tracker = h.is_tracker;
       not_deferred = h.not_deferred;

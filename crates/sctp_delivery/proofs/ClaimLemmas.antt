@@ -19,6 +19,7 @@ use Rattle.sctp_rx.specs.ReassemblyQueue.{reassembly}
 use Rattle.sctp_rules.specs.State.{Message, ForwardPoint, Sender, Transfer, IsAmong, new_sender, fragment, count}
 use Rattle.sctp_rules.specs.Rules.{Event, accept, begin, number, close, give_up, data_comes, late_comes, deliver, send_sack, leave, send_forward, forward_comes, forget, Happens, run}
 use Rattle.sctp_rules.specs.Kept.{Kept}
+use Rattle.sctp_rules.specs.Lifted.{no_base}
 use Rattle.sctp_rules.specs.Windows.{Windows}
 use Rattle.sctp_rules.specs.Written.{AreTheirOwn}
 use Rattle.sctp_tx_rules.specs.Shown.{Shows}
@@ -169,13 +170,13 @@ module _ (message : ℕ → Message) (mixed : Bool) where
   pub record IsFresh (handed : List messages.Message) (x : Transfer) : Type 0 where
     pub none_handed : handed ≡ []
     pub no_sacks : x.sacks ≡ []
-    pub receives : (o : Options) (size : ℕ) → Receives message mixed 0 x [] (tracker o origin) (reassembly size mixed)
-    pub near : (first size : ℕ) → ReadsNear message mixed first 0 x (reassembly size mixed)
+    pub receives : (o : Options) (size : ℕ) → Receives message mixed no_base 0 x [] (tracker o origin) (reassembly size mixed)
+    pub near : (first size : ℕ) → ReadsNear message mixed no_base first 0 x (reassembly size mixed)
 
   pub record IsReceiving (handed : List messages.Message) (t : Tcb) (x : Transfer) : Type 0 where
     pub shift : ℕ
-    pub receives : Receives message mixed shift x handed t.tracker.tracker t.reassembly
-    pub near : ReadsNear message mixed t.tracker.first shift x t.reassembly
+    pub receives : Receives message mixed no_base shift x handed t.tracker.tracker t.reassembly
+    pub near : ReadsNear message mixed no_base t.tracker.first shift x t.reassembly
     pub is_tracker : IsTracker t.tracker.tracker
     pub not_deferred : t.reassembly.deferred ≡ None
     pub first : t.tracker.first ≡ t.identity.peer_first

@@ -1,13 +1,14 @@
 -- Each act but for an acceptance leaves what an end knows of its messages, and makes right records alone.
-use Rattle.std.proofs.Common.{◌≡◌, ℕ, ◌≤◌, ◌||◌, Bool, true, false, Option, Some, None, List, [], ◌∷◌, length, slice_get, refl, sym, subst, arith}
-use Rattle.std.specs.List.{AllByRecursion}
+use Rattle.std.proofs.Common.{◌≡◌, ℕ, ◌≤◌, ◌||◌, ◌==◌, Bool, true, false, Option, Some, None, List, [], ◌∷◌, ◌++◌, length, slice_get, refl, sym, subst, ◌∙◌, arith}
+use Rattle.std.specs.List.{AllByRecursion, list_any}
 use Rattle.std.proofs.lemmas.Bool.{ltb-false}
+use Rattle.std.proofs.lemmas.Bool.Decides.{nat_tests}
 use Rattle.sctp_serial.specs.Messages.{Message}
 use Rattle.sctp_serial.specs.Time.{later}
 use Rattle.sctp_state.specs.Numbers.{ms}
 use Rattle.sctp_state.specs.Options.{SendOptions}
 use Rattle.sctp_state.specs.declared.api.GivenUpCause.{GivenUpCause}
-use Rattle.sctp_state.specs.declared.api.GivenUpCause.TheVariants.{Lifetime, Retransmissions}
+use Rattle.sctp_state.specs.declared.api.GivenUpCause.TheVariants.{Lifetime, Retransmissions, Reset}
 use Rattle.sctp_state.specs.Events.{GivenUp, Told}
 use Rattle.sctp_capabilities.specs.Capabilities.{negotiated}
 use Rattle.sctp_state.specs.Handover.{HandoverState}
@@ -25,19 +26,20 @@ use Rattle.sctp_table.specs.Acknowledging.{cleaned}
 use Rattle.sctp_table.specs.Opening.{agreed_by, queue_if, other_mode, queue_for}
 use Rattle.sctp_table.specs.Resets.{on_outcome}
 use Rattle.sctp_table.specs.Sending.{fast_most}
-use Rattle.sctp_table.specs.Laws.{Call, Restore}
+use Rattle.sctp_table.specs.Laws.{Call, ResetStreams, Restore}
 use Rattle.sctp_table_laws.specs.Mapped.{Carried}
 use Rattle.sctp_course.specs.Acts.{Making, IsOffered, point_of, fragments_of, PacketAct, begins, adds_plain, emits, complains, counts, before_packets, after_packets, OpeningAct, connects, adds_init, answers_new, answers_waiting, answers_echoed, answers_again, echoes, adds_cookie, establishes, opens, restarts, opens_again, maintains, adds_cookie_ack, before_opening, after_opening, ClosingAct, closes, shuts, shuts_on, before_closing, after_closing, DataAct, takes_data, takes_idata, takes_forward, takes_iforward, before_data, after_data, SackAct, takes_sack, samples, counts_errors, before_sack, after_sack, SendingAct, asks, adds_ack, expires, adds_forward, forwards_later, asks_no_reset, asks_reset, adds_request, sends, sends_fast, before_sending, after_sending, TimeAct, advances, delay_ends, times_out, beats, times_init, times_cookie, times_request, wakes_request, before_time, after_time, CallAct, accepts, refuses, takes_message, sets_low_threshold, sets_priority, sets_max_message_size, before_call, after_call, ResetAct, prepares, defers, performs, processes, takes_response, adds_responses, before_reset, after_reset, HandoverAct, leaves, takes_up, before_handover, after_handover, InputAct, ends_packet, before_input, after_input, Keeps}
 use Rattle.sctp_delivery.specs.Proper.{Acceptance, limit_of, HasExpired, IsRight, forgone_then, IsProper}
-use Rattle.sctp_delivery.proofs.ProperQueueLemmas.{Holds, holds_mode, holds_reset, holds_priority, holds_threshold, holds_prepared, holds_each_stepped, same_waiting}
+use Rattle.sctp_delivery.proofs.ProperQueueLemmas.{Holds, holds_mode, holds_reset, holds_priority, holds_threshold, holds_prepared, holds_each_stepped, stream_stands, waits_right}
 use Rattle.sctp_delivery.proofs.ProperItemLemmas.{AllStay, Goes, Fills, goes_sack, goes_expired, goes_timed_out, fills_sent, keeps_fast}
 
 -- ---- what is known
 
--- of a message with this number, as it was accepted
-pub record Known (accepted : List Acceptance) (number : ℕ) (expires : Option ℕ) (limit : ℕ) : Type 0 where
+-- of a message of this stream with this number, as it was accepted
+pub record Known (accepted : List Acceptance) (stream number : ℕ) (expires : Option ℕ) (limit : ℕ) : Type 0 where
   pub acceptance : Acceptance
   pub there : slice_get accepted number ≡ Some acceptance
+  pub on : acceptance.offer.message.stream ≡ stream
   pub moment : expires ≡ expiry_of acceptance.at acceptance.offer.options.lifetime
   pub often : limit ≡ limit_of acceptance.offer
 
@@ -51,27 +53,45 @@ has_expired a moment now (Some span) e f h =
     let same : moment ≡ later (later a.at span) ms = cc in
     record { lifetime = span; given = e; over = over_before a.at span now (subst (λ (n : ℕ). n ≤ now) same h) }
 
--- a record that is made, or stands, at this moment
-abbrev pub IsProperAt : List Acceptance → (now : ℕ) → GivenUp → Type 0
-IsProperAt accepted now g = IsProper accepted (forgone_then now g)
+-- what is named is there
+names_it : (stream : ℕ) (before behind : List ℕ) → list_any (λ id. id == stream) (before ++ stream ∷ behind) ≡ true
+names_it stream [] behind = same_number stream (list_any (λ id. id == stream) behind)
+  where
+    same_number : (n : ℕ) (rest : Bool) → (n == n) || rest ≡ true
+    same_number n rest = grind (arith, nat_tests)
+names_it stream (id ∷ before) behind = or_right (id == stream) _ (names_it stream before behind)
+  where
+    or_right : (a b : Bool) → b ≡ true → a || b ≡ true
+    or_right true b e = refl
+    or_right false b e = e
 
-module _ (accepted : List Acceptance) where
-  late : (now n limit moment : ℕ) → Known accepted n (Some moment) limit → moment ≤ now → IsProperAt accepted now (record { number = n; cause = Lifetime })
-  late now n limit moment k h = record {
+-- a record that is made, or stands, at this moment, as these streams are reset
+abbrev pub IsProperAt : List Acceptance → (resets : List ℕ) → (now : ℕ) → GivenUp → Type 0
+IsProperAt accepted resets now g = IsProper accepted (forgone_then now resets g)
+
+module _ (accepted : List Acceptance) (resets : List ℕ) where
+  late : (now id n limit moment : ℕ) → Known accepted id n (Some moment) limit → moment ≤ now → IsProperAt accepted resets now (record { number = n; cause = Lifetime })
+  late now id n limit moment k h = record {
     acceptance = k.acceptance;
     there = k.there;
     right = has_expired k.acceptance moment now k.acceptance.offer.options.lifetime refl k.moment h;
   }
 
-  used : (now n limit count : ℕ) (o : Option ℕ) → Known accepted n o limit → limit ≤ count → IsProperAt accepted now (record { number = n; cause = Retransmissions count })
-  used now n limit count o k h = record { acceptance = k.acceptance; there = k.there; right = subst (λ (m : ℕ). m ≤ count) k.often h }
+  used : (now id n limit count : ℕ) (o : Option ℕ) → Known accepted id n o limit → limit ≤ count → IsProperAt accepted resets now (record { number = n; cause = Retransmissions count })
+  used now id n limit count o k h = record { acceptance = k.acceptance; there = k.there; right = subst (λ (m : ℕ). m ≤ count) k.often h }
+
+  cleared : (now id n limit : ℕ) (o : Option ℕ) → list_any (λ k. k == id) resets ≡ true → Known accepted id n o limit
+      → IsProperAt accepted resets now (record { number = n; cause = Reset })
+  cleared now id n limit o named k =
+      record { acceptance = k.acceptance; there = k.there; right = subst (λ (s : ℕ). list_any (λ j. j == s) resets ≡ true) (sym k.on) named }
 
   -- a record stays proper as time goes on
-  right_on : (cause : GivenUpCause) (now next : ℕ) (a : Acceptance) → now ≤ next → IsRight cause now a → IsRight cause next a
+  right_on : (cause : GivenUpCause) (now next : ℕ) (a : Acceptance) → now ≤ next → IsRight cause now resets a → IsRight cause next resets a
   right_on Lifetime now next a h r = record { lifetime = r.lifetime; given = r.given; over = let o : later a.at r.lifetime ≤ now = r.over in omega (arith, o, h) }
   right_on (Retransmissions count) now next a h r = r
+  right_on Reset now next a h r = r
 
-  pub proper_on : (now next : ℕ) (gs : List GivenUp) → now ≤ next → AllByRecursion (IsProperAt accepted now) gs → AllByRecursion (IsProperAt accepted next) gs
+  pub proper_on : (now next : ℕ) (gs : List GivenUp) → now ≤ next → AllByRecursion (IsProperAt accepted resets now) gs → AllByRecursion (IsProperAt accepted resets next) gs
   proper_on now next [] h all = all
   proper_on now next (g ∷ gs) h all = (
     record { acceptance = all.0.acceptance; there = all.0.there; right = right_on g.cause now next all.0.acceptance h all.0.right },
@@ -86,19 +106,19 @@ kept_in (CookieWait tag first t1) = []
 kept_in (Open phase t) = t.sender.outstanding.items.kept
 
 -- after these acceptances: the queue, the kept items, and the records that were told
-pub record Sound (accepted : List Acceptance) (kept : List Item) (now : ℕ) (q : Queue) (gone : List GivenUp) : Type 0 where
+pub record Sound (accepted : List Acceptance) (resets : List ℕ) (kept : List Item) (now : ℕ) (q : Queue) (gone : List GivenUp) : Type 0 where
   pub holds : Holds (Known accepted) (length accepted) q
   pub stay : AllStay (Known accepted) kept
-  pub proper : AllByRecursion (IsProperAt accepted now) gone
+  pub proper : AllByRecursion (IsProperAt accepted resets now) gone
 
-abbrev pub SoundAt : List Acceptance → Making Carried → Type 0
-SoundAt accepted m = Sound accepted (kept_in m.state) m.context.now m.context.queue m.context.told.gone
+abbrev pub SoundAt : List Acceptance → (resets : List ℕ) → Making Carried → Type 0
+SoundAt accepted resets m = Sound accepted resets (kept_in m.state) m.context.now m.context.queue m.context.told.gone
 
-module _ (accepted : List Acceptance) where
+module _ (accepted : List Acceptance) (resets : List ℕ) where
   abbrev pub Onward : (before after : Making Carried) → Type 0
-  Onward a b = SoundAt accepted a → SoundAt accepted b
+  Onward a b = SoundAt accepted resets a → SoundAt accepted resets b
 
-  abbrev K : ℕ → Option ℕ → ℕ → Type 0
+  abbrev K : ℕ → ℕ → Option ℕ → ℕ → Type 0
   K = Known accepted
 
   abbrev Q : Queue → Type 0
@@ -116,29 +136,30 @@ module _ (accepted : List Acceptance) where
       holds_mode K (length accepted) is_interleaved (queue_if (resets || other_mode is_interleaved old) q) (reset_if (resets || other_mode is_interleaved old) q h)
 
   -- another queue, and no items or the same
-  with_queue : (kept : List Item) (now : ℕ) (q next : Queue) (gone : List GivenUp) → (Q q → Q next) → Sound accepted kept now q gone → Sound accepted kept now next gone
+  with_queue : (kept : List Item) (now : ℕ) (q next : Queue) (gone : List GivenUp) → (Q q → Q next) → Sound accepted resets kept now q gone → Sound accepted resets kept now next gone
   with_queue kept now q next gone f h = record { holds = f h.holds; stay = h.stay; proper = h.proper }
 
-  anew : (kept : List Item) (now : ℕ) (q next : Queue) (gone : List GivenUp) → (Q q → Q next) → Sound accepted kept now q gone → Sound accepted [] now next gone
+  anew : (kept : List Item) (now : ℕ) (q next : Queue) (gone : List GivenUp) → (Q q → Q next) → Sound accepted resets kept now q gone → Sound accepted resets [] now next gone
   anew kept now q next gone f h = record { holds = f h.holds; stay = tt; proper = h.proper }
 
   -- what a sender goes on to, with the same queue
   onward : (s t : Sender) (now : ℕ) (q : Queue) (told more : Told Carried)
-      → (Goes K (IsProperAt accepted now) now (late accepted now) (used accepted now) s told → Goes K (IsProperAt accepted now) now (late accepted now) (used accepted now) t more)
-      → Sound accepted s.outstanding.items.kept now q told.gone → Sound accepted t.outstanding.items.kept now q more.gone
+      → (Goes K (IsProperAt accepted resets now) now (late accepted resets now) (used accepted resets now) s told → Goes K (IsProperAt accepted resets now) now (late accepted resets now) (used accepted resets now) t more)
+      → Sound accepted resets s.outstanding.items.kept now q told.gone → Sound accepted resets t.outstanding.items.kept now q more.gone
   onward s t now q told more f h =
-      let g : Goes K (IsProperAt accepted now) now (late accepted now) (used accepted now) t more = f (record { keeps = h.stay; right = h.proper }) in
+      let g : Goes K (IsProperAt accepted resets now) now (late accepted resets now) (used accepted resets now) t more = f (record { keeps = h.stay; right = h.proper }) in
       record { holds = h.holds; stay = g.keeps; proper = g.right }
 
-  on_answer : (o : Outcome) (kept : List Item) (c : Context Carried) → Sound accepted kept c.now c.queue c.told.gone
-      → Sound accepted kept (on_outcome o c).now (on_outcome o c).queue (on_outcome o c).told.gone
+  on_answer : (o : Outcome) (kept : List Item) (c : Context Carried) → Sound accepted resets kept c.now c.queue c.told.gone
+      → Sound accepted resets kept (on_outcome o c).now (on_outcome o c).queue (on_outcome o c).told.gone
   on_answer Unsettled kept c h = h
   on_answer (Done streams) kept c h = record { holds = holds_each_stepped K (length accepted) Performed streams c.queue h.holds; stay = h.stay; proper = h.proper }
   on_answer (Denied streams) kept c h = record { holds = holds_each_stepped K (length accepted) Refused streams c.queue h.holds; stay = h.stay; proper = h.proper }
 
   -- ---- acts, of a call that offers no message and takes no handover up
 
-  module _ (call : Call) (offers : (m : Message) (o : SendOptions) → IsOffered call m o → ⊥) (restores : (s : HandoverState) → call ≡ Restore s → ⊥) where
+  module _ (call : Call) (offers : (m : Message) (o : SendOptions) → IsOffered call m o → ⊥) (restores : (s : HandoverState) → call ≡ Restore s → ⊥)
+      (asked : (streams : List ℕ) → call ≡ ResetStreams streams → resets ≡ streams) where
     sound_packets : (act : PacketAct Carried call) → Onward (before_packets act) (after_packets act)
     sound_packets (begins p m new summed) h = h
     sound_packets (adds_plain chunk m plain others) h = h
@@ -184,7 +205,7 @@ module _ (accepted : List Acceptance) where
     sound_sack : (act : SackAct Carried call) → Onward (before_sack act) (after_sack act)
     sound_sack (takes_sack tag k phase t m heard valid) h =
         onward t.sender _ m.context.now m.context.queue m.context.told _
-        (goes_sack K (IsProperAt accepted m.context.now) m.context.now (late accepted m.context.now) (used accepted m.context.now) true (point_of k t) k.a_rwnd
+        (goes_sack K (IsProperAt accepted resets m.context.now) m.context.now (late accepted resets m.context.now) (used accepted resets m.context.now) true (point_of k t) k.a_rwnd
         (cleaned k.gap_ack_blocks) t.sender m.context.told) h
     sound_sack (samples r phase t m) h = h
     sound_sack (counts_errors e m) h = h
@@ -194,7 +215,7 @@ module _ (accepted : List Acceptance) where
     sound_sending (adds_ack phase t m) h = h
     sound_sending (expires phase t m) h =
         onward t.sender _ m.context.now m.context.queue m.context.told _
-        (goes_expired K (IsProperAt accepted m.context.now) m.context.now (late accepted m.context.now) (used accepted m.context.now) t.sender m.context.told) h
+        (goes_expired K (IsProperAt accepted resets m.context.now) m.context.now (late accepted resets m.context.now) (used accepted resets m.context.now) t.sender m.context.told) h
     sound_sending (adds_forward phase t m due) h = h
     sound_sending (forwards_later n m) h = h
     sound_sending (asks_no_reset most m none) h =
@@ -206,19 +227,19 @@ module _ (accepted : List Acceptance) where
     sound_sending (adds_request r phase t m is) h = h
     sound_sending (sends phase t m) h =
         let now : ℕ = m.context.now in
-        let f : Fills K (IsProperAt accepted now) now (late accepted now) (used accepted now) (length accepted) (fragments_of t m) =
-        fills_sent K (IsProperAt accepted now) now (late accepted now) (used accepted now) (length accepted) (room m.packet) t.sender m.context.queue m.context.told h.holds h.stay h.proper in
+        let f : Fills K (IsProperAt accepted resets now) now (late accepted resets now) (used accepted resets now) (length accepted) (fragments_of t m) =
+        fills_sent K (IsProperAt accepted resets now) now (late accepted resets now) (used accepted resets now) (length accepted) (room m.packet) t.sender m.context.queue m.context.told h.holds h.stay h.proper in
         record { holds = f.holds; stay = f.keeps; proper = f.right }
     sound_sending (sends_fast phase t m some) h =
         record { holds = h.holds; stay = keeps_fast K m.context.now (fast_most m.context.options) t.sender h.stay; proper = h.proper }
 
     sound_time : (act : TimeAct Carried call) → Onward (before_time act) (after_time act)
     sound_time (advances now m is on) h =
-        record { holds = h.holds; stay = h.stay; proper = proper_on accepted m.context.now now m.context.told.gone (ltb-false now m.context.now on) h.proper }
+        record { holds = h.holds; stay = h.stay; proper = proper_on accepted resets m.context.now now m.context.told.gone (ltb-false now m.context.now on) h.proper }
     sound_time (delay_ends phase t m) h = h
     sound_time (times_out phase t m due) h =
         onward t.sender _ m.context.now m.context.queue m.context.told _
-        (goes_timed_out K (IsProperAt accepted m.context.now) m.context.now (late accepted m.context.now) (used accepted m.context.now) t.sender m.context.told) h
+        (goes_timed_out K (IsProperAt accepted resets m.context.now) m.context.now (late accepted resets m.context.now) (used accepted resets m.context.now) t.sender m.context.told) h
     sound_time (beats b m) h = h
     sound_time (times_init tag first old new m) h = h
     sound_time (times_cookie old new cookie t m) h = h
@@ -236,11 +257,16 @@ module _ (accepted : List Acceptance) where
     sound_calls (sets_max_message_size bytes m is) h = h
 
     sound_resets : (act : ResetAct Carried call) → Onward (before_reset act) (after_reset act)
-    sound_resets (prepares stream phase t m asked can) h = record {
-      holds = holds_prepared K (length accepted) stream m.context.queue m.context.told h.holds;
-      stay = h.stay;
-      proper = subst (AllByRecursion (IsProperAt accepted m.context.now)) (sym (same_waiting (queue.stream stream m.context.queue.streams).messages m.context.told)) h.proper;
-    }
+    sound_resets (prepares stream phase t m is can) h =
+        let now : ℕ = m.context.now in
+        let named : list_any (λ id. id == stream) resets ≡ true =
+        subst (λ (ids : List ℕ). list_any (λ id. id == stream) ids ≡ true) (sym (asked is.streams is.asked ∙ is.among.split)) (names_it stream is.among.before is.among.behind) in
+        record {
+          holds = holds_prepared K (length accepted) stream m.context.queue m.context.told h.holds;
+          stay = h.stay;
+          proper = waits_right K (IsProperAt accepted resets now) now (late accepted resets now) stream (λ n limit o k. cleared accepted resets now stream n limit o named k)
+              (queue.stream stream m.context.queue.streams).messages m.context.told (stream_stands K stream m.context.queue.streams h.holds.stand) h.proper;
+        }
     sound_resets (defers number response last_tsn streams phase t m asked known ahead) h = h
     sound_resets (performs number response last_tsn streams phase t m asked known there) h = h
     sound_resets (processes number streams phase t m asked known) h = h

@@ -10,9 +10,11 @@ use Rattle.sctp_state.specs.declared.api.errors.SendError.{SendError}
 use Rattle.sctp_state.specs.Events.{GivenUp}
 use Rattle.sctp_state.specs.Options.{Options, SendOptions}
 use Rattle.sctp_table.specs.Association.{Standing, Endpoint, where_open, with_context}
+use Rattle.sctp_state.specs.declared.api.errors.ResetStreamsError.{ResetStreamsError}
+use Rattle.sctp_table.specs.Resets.{reset_refusal, reset_if}
 use Rattle.sctp_table.specs.Sending.{is_alone, send_in}
 use Rattle.sctp_table.specs.Calls.{shown_state, refusal_of, offer, offer_all, sent_if}
-use Rattle.sctp_table.specs.Input.{refusal}
+use Rattle.sctp_table.specs.Input.{refusal, on_standing}
 use Rattle.sctp_table.specs.Laws.{Call, Connect, Close, Shutdown, Send, SendMany, ResetStreams, TakeMessage, SetLowThreshold, SetPriority, SetMaxMessageSize, Advance, HandOver, Restore, Packet, NoPacket, called}
 use Rattle.sctp_table_laws.specs.Mapped.{Carried}
 use Rattle.sctp_course.specs.Acts.{idle, calm, IsOffered, alone, among}
@@ -21,7 +23,7 @@ use Rattle.sctp_course.proofs.PacketActsLemmas.{does_send_buffered}
 use Rattle.sctp_course.proofs.RowActsLemmas.{placed, does_where_open}
 use Rattle.sctp_course.proofs.ActsLemmas.{keeps_call}
 use Rattle.sctp_delivery.specs.Accepted.{Offer, accepted_by, accepted_in, accepted_at, accepted}
-use Rattle.sctp_delivery.specs.Proper.{clock, Acceptance, accepted_then, acceptances, gone_of, gone_given, gone_if, gone_by, gone_at, forgone_then, forgone, IsProper, restores, RestoresNone, RecordsAreProper, AcceptancesAreAccepted}
+use Rattle.sctp_delivery.specs.Proper.{clock, Acceptance, accepted_then, acceptances, gone_of, gone_given, gone_if, gone_by, gone_at, reset_unless, reset_by, reset_at, forgone_then, forgone, IsProper, restores, RestoresNone, RecordsAreProper, AcceptancesAreAccepted}
 use Rattle.sctp_delivery.proofs.ProperQueueLemmas.{all_behind}
 use Rattle.sctp_delivery.proofs.ProperActsLemmas.{IsProperAt, SoundAt, kept_in, stays_sound}
 use Rattle.sctp_delivery.proofs.ProperOffersLemmas.{proper_more, shorter, offers_sound}
@@ -52,20 +54,25 @@ no_offer : (call : Call) → is_steady call ≡ true → (m : Message) (o : Send
 no_offer call e m o (alone is) = not_steady call (Send m o) e is refl
 no_offer call e m o (among ms is in_it) = not_steady call (SendMany ms o) e is refl
 
-steady_sound : (old : List Acceptance) (call : Call) → is_steady call ≡ true → (e : Endpoint Carried) → SoundAt old (calm e) → SoundAt old (calm (called call e))
-steady_sound old call steady e h =
-    keeps_call call (stays_sound old call (no_offer call steady) (λ s is. not_steady call (Restore s) steady is refl)) e h
+-- and reset these streams alone
+abbrev ResetsJust : Call → List ℕ → Type 0
+ResetsJust call resets = (streams : List ℕ) → call ≡ ResetStreams streams → resets ≡ streams
+
+steady_sound : (old : List Acceptance) (resets : List ℕ) (call : Call) → is_steady call ≡ true → ResetsJust call resets → (e : Endpoint Carried) → SoundAt old resets (calm e)
+    → SoundAt old resets (calm (called call e))
+steady_sound old resets call steady asked e h =
+    keeps_call call (stays_sound old resets call (no_offer call steady) (λ s is. not_steady call (Restore s) steady is refl) asked) e h
 
 -- ---- each call
 
 module _ (old : List Acceptance) where
   -- what may be sent goes out
-  sent_sound : (s : Standing Carried) (w : Stream) → SoundAt old (placed s w) → SoundAt old (placed (where_open send_in s) w)
+  sent_sound : (s : Standing Carried) (w : Stream) → SoundAt old [] (placed s w) → SoundAt old [] (placed (where_open send_in s) w)
   sent_sound s w h =
-      let k = stays_sound old TakeMessage (no_offer TakeMessage refl) (λ s is. not_steady TakeMessage (Restore s) refl is refl) in
+      let k = stays_sound old [] TakeMessage (no_offer TakeMessage refl) (λ s is. not_steady TakeMessage (Restore s) refl is refl) (λ streams is. cc) in
       does_where_open k w send_in s (λ phase t c. does_send_buffered k phase w (is_alone phase) t c) h
 
-  sent_if_sound : (r : Option SendError) (s : Standing Carried) (w : Stream) → SoundAt old (placed s w) → SoundAt old (placed (sent_if r s) w)
+  sent_if_sound : (r : Option SendError) (s : Standing Carried) (w : Stream) → SoundAt old [] (placed s w) → SoundAt old [] (placed (sent_if r s) w)
   sent_if_sound None s w h = sent_sound s w h
   sent_if_sound (Some e) s w h = h
 
@@ -73,74 +80,85 @@ module _ (old : List Acceptance) where
 abbrev with_call : List Acceptance → Call → Side → List Acceptance
 with_call old call x = old ++ map (accepted_then (clock x)) (accepted_by call x)
 
+-- between turns
+abbrev pub Rests : List Acceptance → Side → Type 0
+Rests all x = (resets : List ℕ) → SoundAt all resets (calm x.end)
+
 module _ (old : List Acceptance) (x : Side) where
-  offered_sound : (ms : List Message) (o : SendOptions) → length (with_call old (SendMany ms o) x) < 2 ^ 32 → SoundAt old (calm x.end)
-      → SoundAt (with_call old (SendMany ms o) x) (idle (state_of x) (offer_all ms o (shown_state (state_of x)) x.end.standing.context) x.end.words)
-  offered_sound ms o few h = offers_sound (kept_in (state_of x)) o (shown_state (state_of x)) ms old x.end.standing.context few h
+  offered_sound : (ms : List Message) (o : SendOptions) → length (with_call old (SendMany ms o) x) < 2 ^ 32 → SoundAt old [] (calm x.end)
+      → SoundAt (with_call old (SendMany ms o) x) [] (idle (state_of x) (offer_all ms o (shown_state (state_of x)) x.end.standing.context) x.end.words)
+  offered_sound ms o few h = offers_sound [] (kept_in (state_of x)) o (shown_state (state_of x)) ms old x.end.standing.context few h
 
-  nothing_more : (call : Call) → is_steady call ≡ true → SoundAt old (calm x.end) → SoundAt (old ++ []) (calm (called call x.end))
-  nothing_more call steady h =
-      subst (λ (xs : List Acceptance). SoundAt xs (calm (called call x.end))) (sym (append-nil old)) (steady_sound old call steady x.end h)
+  nothing_more : (resets : List ℕ) (call : Call) → is_steady call ≡ true → ResetsJust call resets → SoundAt old resets (calm x.end) → SoundAt (old ++ []) resets (calm (called call x.end))
+  nothing_more resets call steady asked h =
+      subst (λ (xs : List Acceptance). SoundAt xs resets (calm (called call x.end))) (sym (append-nil old)) (steady_sound old resets call steady asked x.end h)
 
-  call_sound : (call : Call) → restores (Calls call) ≡ false → length (with_call old call x) < 2 ^ 32 → SoundAt old (calm x.end)
-      → SoundAt (with_call old call x) (calm (called call x.end))
+  -- by whether streams can be reset
+  abbrev after_reset_if : Option ResetStreamsError → (streams : List ℕ) → Endpoint Carried
+  after_reset_if o streams = on_standing (reset_if o streams) x.end
+
+  reset_sound : (streams : List ℕ) (o : Option ResetStreamsError) → reset_refusal (state_of x) ≡ o → Rests old x
+      → SoundAt (old ++ []) (reset_unless o streams) (calm (after_reset_if o streams))
+  reset_sound streams None e h =
+      subst (λ (o : Option ResetStreamsError). SoundAt (old ++ []) streams (calm (after_reset_if o streams))) e
+      (nothing_more streams (ResetStreams streams) refl (λ ids is. cc) (h streams))
+  reset_sound streams (Some r) e h = subst (λ (xs : List Acceptance). SoundAt xs [] (calm x.end)) (sym (append-nil old)) (h [])
+
+  call_sound : (call : Call) → restores (Calls call) ≡ false → length (with_call old call x) < 2 ^ 32 → Rests old x
+      → SoundAt (with_call old call x) (reset_by (Calls call) x) (calm (called call x.end))
   call_sound (Send m o) none few h =
       sent_if_sound (with_call old (Send m o) x) (refusal_of m x.end.standing)
-      (with_context x.end.standing (offer m o (shown_state (state_of x)) x.end.standing.context)) x.end.words (offered_sound (m ∷ []) o few h)
+      (with_context x.end.standing (offer m o (shown_state (state_of x)) x.end.standing.context)) x.end.words (offered_sound (m ∷ []) o few (h []))
   call_sound (SendMany ms o) none few h =
       sent_sound (with_call old (SendMany ms o) x) (with_context x.end.standing (offer_all ms o (shown_state (state_of x)) x.end.standing.context)) x.end.words
-      (offered_sound ms o few h)
+      (offered_sound ms o few (h []))
   call_sound (Restore s) none few h = cc
-  call_sound Connect none few h = nothing_more Connect refl h
-  call_sound Close none few h = nothing_more Close refl h
-  call_sound Shutdown none few h = nothing_more Shutdown refl h
-  call_sound (ResetStreams streams) none few h = nothing_more (ResetStreams streams) refl h
-  call_sound TakeMessage none few h = nothing_more TakeMessage refl h
-  call_sound (SetLowThreshold stream bytes) none few h = nothing_more (SetLowThreshold stream bytes) refl h
-  call_sound (SetPriority stream priority) none few h = nothing_more (SetPriority stream priority) refl h
-  call_sound (SetMaxMessageSize bytes) none few h = nothing_more (SetMaxMessageSize bytes) refl h
-  call_sound (Advance now) none few h = nothing_more (Advance now) refl h
-  call_sound HandOver none few h = nothing_more HandOver refl h
-  call_sound (Packet p) none few h = nothing_more (Packet p) refl h
-  call_sound NoPacket none few h = nothing_more NoPacket refl h
+  call_sound Connect none few h = nothing_more [] Connect refl (λ ids is. cc) (h [])
+  call_sound Close none few h = nothing_more [] Close refl (λ ids is. cc) (h [])
+  call_sound Shutdown none few h = nothing_more [] Shutdown refl (λ ids is. cc) (h [])
+  call_sound (ResetStreams streams) none few h = reset_sound streams (reset_refusal (state_of x)) refl h
+  call_sound TakeMessage none few h = nothing_more [] TakeMessage refl (λ ids is. cc) (h [])
+  call_sound (SetLowThreshold stream bytes) none few h = nothing_more [] (SetLowThreshold stream bytes) refl (λ ids is. cc) (h [])
+  call_sound (SetPriority stream priority) none few h = nothing_more [] (SetPriority stream priority) refl (λ ids is. cc) (h [])
+  call_sound (SetMaxMessageSize bytes) none few h = nothing_more [] (SetMaxMessageSize bytes) refl (λ ids is. cc) (h [])
+  call_sound (Advance now) none few h = nothing_more [] (Advance now) refl (λ ids is. cc) (h [])
+  call_sound HandOver none few h = nothing_more [] HandOver refl (λ ids is. cc) (h [])
+  call_sound (Packet p) none few h = nothing_more [] (Packet p) refl (λ ids is. cc) (h [])
+  call_sound NoPacket none few h = nothing_more [] NoPacket refl (λ ids is. cc) (h [])
 
 -- ---- turns
 
--- between turns
-abbrev pub Rests : List Acceptance → Side → Type 0
-Rests all x = SoundAt all (calm x.end)
-
--- after one, with its records
-pub record Turns (all : List Acceptance) (x : Side) (gone : List GivenUp) : Type 0 where
+-- after one that resets these streams, with its records
+pub record Turns (all : List Acceptance) (resets : List ℕ) (x : Side) (gone : List GivenUp) : Type 0 where
   pub rests : Rests all x
-  pub proper : AllByRecursion (IsProperAt all (clock x)) gone
+  pub proper : AllByRecursion (IsProperAt all resets (clock x)) gone
 
-turns_took : (all : List Acceptance) (e : Endpoint Carried) (x : Side) → SoundAt all (calm e) → Turns all (took e x) (gone_of e)
-turns_took all e x h = record { rests = record { holds = h.holds; stay = h.stay; proper = tt }; proper = h.proper }
+turns_took : (all : List Acceptance) (resets : List ℕ) (e : Endpoint Carried) (x : Side) → SoundAt all resets (calm e) → Turns all resets (took e x) (gone_of e)
+turns_took all resets e x h = record { rests = λ later. record { holds = h.holds; stay = h.stay; proper = tt }; proper = h.proper }
 
-turns_none : (all : List Acceptance) (x : Side) → Rests all x → Turns all x []
-turns_none all x h = record { rests = h; proper = tt }
+turns_none : (all : List Acceptance) (resets : List ℕ) (x : Side) → Rests all x → Turns all resets x []
+turns_none all resets x h = record { rests = h; proper = tt }
 
-no_more : (old : List Acceptance) (x : Side) (gone : List GivenUp) → Turns old x gone → Turns (old ++ []) x gone
-no_more old x gone t = subst (λ (xs : List Acceptance). Turns xs x gone) (sym (append-nil old)) t
+no_more : (old : List Acceptance) (x : Side) (gone : List GivenUp) → Turns old [] x gone → Turns (old ++ []) [] x gone
+no_more old x gone t = subst (λ (xs : List Acceptance). Turns xs [] x gone) (sym (append-nil old)) t
 
 module _ (old : List Acceptance) (x y : Side) (h : Rests old x) where
-  turns_given : (p : Option Carried) (checksum : ℕ) → Turns old (given p checksum x) (gone_given p checksum x)
-  turns_given None checksum = turns_none old x h
+  turns_given : (p : Option Carried) (checksum : ℕ) → Turns old [] (given p checksum x) (gone_given p checksum x)
+  turns_given None checksum = turns_none old [] x h
   turns_given (Some p) checksum =
       let e : Endpoint Carried = called (Packet (as_heard p checksum)) x.end in
-      let t : Turns old (took e x) (gone_of e) = turns_took old e x (steady_sound old (Packet (as_heard p checksum)) refl x.end h) in
+      let t : Turns old [] (took e x) (gone_of e) = turns_took old [] e x (steady_sound old [] (Packet (as_heard p checksum)) refl (λ ids is. cc) x.end (h [])) in
       record { rests = t.rests; proper = t.proper }
 
-  turns_refused : (r : Option (List ℕ)) (p : PacketTree) → Turns old (foreign_if r p x) (gone_if r p x)
-  turns_refused None p = turns_none old x h
-  turns_refused (Some text) p = turns_took old (called (Packet p) x.end) x (steady_sound old (Packet p) refl x.end h)
+  turns_refused : (r : Option (List ℕ)) (p : PacketTree) → Turns old [] (foreign_if r p x) (gone_if r p x)
+  turns_refused None p = turns_none old [] x h
+  turns_refused (Some text) p = turns_took old [] (called (Packet p) x.end) x (steady_sound old [] (Packet p) refl (λ ids is. cc) x.end (h []))
 
   abbrev with_turn : Turn → List Acceptance
   with_turn t = old ++ map (accepted_then (clock x)) (accepted_in t x)
 
-  turn_proper : (t : Turn) → restores t ≡ false → length (with_turn t) < 2 ^ 32 → Turns (with_turn t) (turned t x y) (gone_by t x y)
-  turn_proper (Calls call) none few = turns_took (with_turn (Calls call)) (called call x.end) x (call_sound old x call none few h)
+  turn_proper : (t : Turn) → restores t ≡ false → length (with_turn t) < 2 ^ 32 → Turns (with_turn t) (reset_by t x) (turned t x y) (gone_by t x y)
+  turn_proper (Calls call) none few = turns_took (with_turn (Calls call)) (reset_by (Calls call) x) (called call x.end) x (call_sound old x call none few h)
   turn_proper (Gives which checksum) none few = no_more old _ _ (turns_given (slice_get (emitted y) which) checksum)
   turn_proper (Refuses p) none few = no_more old _ _ (turns_refused (refusal p.header.verification_tag p.chunks (state_of x)) p)
 
@@ -151,17 +169,17 @@ abbrev pub accepted_now : (x acts : Bool) → Turn → Pair → List Acceptance
 accepted_now x acts t w = map (accepted_then (clock (side_of x w))) (accepted_at x acts t w)
 
 pub goes_on : (old : List Acceptance) (x acts : Bool) (t : Turn) (w : Pair) → restores t ≡ false → length (old ++ accepted_now x acts t w) < 2 ^ 32
-    → Rests old (side_of x w) → Turns (old ++ accepted_now x acts t w) (side_of x (goes acts t w)) (gone_at x acts t w)
+    → Rests old (side_of x w) → Turns (old ++ accepted_now x acts t w) (reset_at x acts t w) (side_of x (goes acts t w)) (gone_at x acts t w)
 goes_on old true true t w none few h = turn_proper old w.a w.b h t none few
 goes_on old false false t w none few h = turn_proper old w.b w.a h t none few
-goes_on old true false t w none few h = no_more old w.a [] (turns_none old w.a h)
-goes_on old false true t w none few h = no_more old w.b [] (turns_none old w.b h)
+goes_on old true false t w none few h = no_more old w.a [] (turns_none old [] w.a h)
+goes_on old false true t w none few h = no_more old w.b [] (turns_none old [] w.b h)
 
 -- records of a turn, where more messages are accepted later
-all_then : (all more : List Acceptance) (now : ℕ) (gs : List GivenUp) → AllByRecursion (IsProperAt all now) gs
-    → AllByRecursion (IsProper (all ++ more)) (map (forgone_then now) gs)
-all_then all more now [] h = tt
-all_then all more now (g ∷ gs) h = (proper_more all more now g h.0, all_then all more now gs h.1)
+all_then : (all more : List Acceptance) (resets : List ℕ) (now : ℕ) (gs : List GivenUp) → AllByRecursion (IsProperAt all resets now) gs
+    → AllByRecursion (IsProper (all ++ more)) (map (forgone_then now resets) gs)
+all_then all more resets now [] h = tt
+all_then all more resets now (g ∷ gs) h = (proper_more resets all more now g h.0, all_then all more resets now gs h.1)
 
 left_false : (p q : Bool) → (p || q) ≡ false → p ≡ false
 left_false true q e = e
@@ -182,9 +200,10 @@ run_proper x (e ∷ es) old w none few h =
     let joins : all ++ more ≡ old ++ (accepted_now x e.0 e.1 w ++ more) = append_assoc old (accepted_now x e.0 e.1 w) more in
     let short : length (all ++ more) < 2 ^ 32 = subst (λ (xs : List Acceptance). length xs < 2 ^ 32) (sym joins) few in
     let now : ℕ = clock (side_of x v) in
-    let t : Turns all (side_of x v) (gone_at x e.0 e.1 w) = goes_on old x e.0 e.1 w (left_false (restores e.1) later none) (shorter all more short) h in
+    let resets : List ℕ = reset_at x e.0 e.1 w in
+    let t : Turns all resets (side_of x v) (gone_at x e.0 e.1 w) = goes_on old x e.0 e.1 w (left_false (restores e.1) later none) (shorter all more short) h in
     subst (λ (xs : List Acceptance). AllByRecursion (IsProper xs) (forgone x (e ∷ es) w)) joins
-    (all_behind (IsProper (all ++ more)) (map (forgone_then now) (gone_at x e.0 e.1 w)) (forgone x es v) (all_then all more now (gone_at x e.0 e.1 w) t.proper)
+    (all_behind (IsProper (all ++ more)) (map (forgone_then now resets) (gone_at x e.0 e.1 w)) (forgone x es v) (all_then all more resets now (gone_at x e.0 e.1 w) t.proper)
     (run_proper x es all v (right_false (restores e.1) later none) short t.rests))
 
 -- ---- the laws
@@ -206,8 +225,8 @@ as_many : (x : Bool) (es : List (Bool × Turn)) (w : Pair) → length (accepted 
 as_many x es w = sym (ap length (acceptances_accepted x es w)) ∙ length-map (acceptances x es w) (λ (a : Acceptance). a.offer)
 
 pub at_first : (x : Bool) (a b : Options) (words_a words_b : Stream) → Rests [] (side_of x (start a b words_a words_b))
-at_first true a b words_a words_b = record { holds = record { stand = tt; counts = refl }; stay = tt; proper = tt }
-at_first false a b words_a words_b = record { holds = record { stand = tt; counts = refl }; stay = tt; proper = tt }
+at_first true a b words_a words_b = λ resets. record { holds = record { stand = tt; counts = refl }; stay = tt; proper = tt }
+at_first false a b words_a words_b = λ resets. record { holds = record { stand = tt; counts = refl }; stay = tt; proper = tt }
 
 pub records_proper : RecordsAreProper
 records_proper a b words_a words_b turns none x few =

@@ -54,9 +54,9 @@ lacks_stays Gone e = cc
 
 -- ---- what is known of an item stays known while it changes
 
-module _ (Known : ℕ → Option ℕ → ℕ → Type 0) where
+module _ (Known : ℕ → ℕ → Option ℕ → ℕ → Type 0) where
   abbrev pub Stays : Item → Type 0
-  Stays i = is_gone i.state ≡ false → Known i.number i.expires i.limit
+  Stays i = is_gone i.state ≡ false → Known i.fragment.stream_id i.number i.expires i.limit
 
   abbrev pub AllStay : List Item → Type 0
   AllStay is = AllByRecursion Stays is
@@ -163,9 +163,9 @@ module _ (Known : ℕ → Option ℕ → ℕ → Type 0) where
 
 -- ---- losses and lifetimes, where a message that is known to have expired, or to have used its resendings up, may be given up
 
-module _ {P : Type 0} (Known : ℕ → Option ℕ → ℕ → Type 0) (Right : GivenUp → Type 0) (now : ℕ)
-    (late : (n limit moment : ℕ) → Known n (Some moment) limit → moment ≤ now → Right (record { number = n; cause = Lifetime }))
-    (used : (n limit count : ℕ) (o : Option ℕ) → Known n o limit → limit ≤ count → Right (record { number = n; cause = Retransmissions count })) where
+module _ {P : Type 0} (Known : ℕ → ℕ → Option ℕ → ℕ → Type 0) (Right : GivenUp → Type 0) (now : ℕ)
+    (late : (id n limit moment : ℕ) → Known id n (Some moment) limit → moment ≤ now → Right (record { number = n; cause = Lifetime }))
+    (used : (id n limit count : ℕ) (o : Option ℕ) → Known id n o limit → limit ≤ count → Right (record { number = n; cause = Retransmissions count })) where
   abbrev Tells : Told P → Type 0
   Tells t = AllByRecursion Right t.gone
 
@@ -183,7 +183,7 @@ module _ {P : Type 0} (Known : ℕ → Option ℕ → ℕ → Type 0) (Right : G
       let flown : flies i.state ≡ true = (and_parts (is_outstanding i) (is_lost at_once i) lost).0 in
       let spent : is_used_up i ≡ true = (and_parts x.items.is_partial (is_used_up i) (and_parts (loses at_once i) (x.items.is_partial && is_used_up i) e).1).1 in
       gives i.number (Retransmissions (i.sent - 1)) x
-      (used i.number i.limit (i.sent - 1) i.expires (s (flies_stays i.state flown)) (leb-true i.limit (i.sent - 1) spent)) h
+      (used i.fragment.stream_id i.number i.limit (i.sent - 1) i.expires (s (flies_stays i.state flown)) (leb-true i.limit (i.sent - 1) spent)) h
   nacks_item false at_once fast is_lossy k i x e s h =
       record { stay = changed Known (nack at_once fast) k x.items.kept (nack_stays Known at_once fast) h.stay; right = h.right }
 
@@ -206,7 +206,7 @@ module _ {P : Type 0} (Known : ℕ → Option ℕ → ℕ → Type 0) (Right : G
       let lost : lacks i.state ≡ true = (and_parts (is_nacked i) (has_expired now i) over).0 in
       let due : has_expired now i ≡ true = (and_parts (is_nacked i) (has_expired now i) over).1 in
       gives i.number Lifetime x
-      (due_right Known Right now late i.number i.limit i.expires (s (lacks_stays i.state lost)) (same_due now i.expires ∙ due)) h
+      (due_right Known Right now late i.fragment.stream_id i.number i.limit i.expires (s (lacks_stays i.state lost)) (same_due now i.expires ∙ due)) h
   expires_item false i x e s h = h
 
   expires_at : (o : Option Item) (k : ℕ) (x : Step P) → slice_get x.items.kept k ≡ o → Fares x

@@ -1,14 +1,15 @@
--- What a queue knows of each message that waits it knows for good; and of a message that is dropped because it expired, the
--- record is right.
-use Rattle.std.proofs.Common.{◌≡◌, ℕ, zero, suc, ◌+◌, ◌==◌, ◌≤◌, not, Bool, true, false, cond, Less, Equal, Greater, Option, Some, None, List, [], ◌∷◌, ◌++◌, length, filter, refl, ap, subst, ◌∙◌}
+-- What a queue knows of each message that waits it knows for good; and of a message that is dropped, because it expired or its
+-- stream is to be reset, the record is right.
+use Rattle.std.proofs.Common.{◌≡◌, ℕ, zero, suc, ◌+◌, ◌==◌, ◌≤◌, not, Bool, true, false, cond, Less, Equal, Greater, Option, Some, None, List, [], ◌∷◌, ◌++◌, length, filter, refl, sym, ap, subst, ◌∙◌, arith}
 use Rattle.std.specs.Prelude.{⊤, is_some, unwrap_or, option_map}
 use Rattle.std.specs.List.{AllByRecursion}
 use Rattle.std.specs.Map.{lookup, set_value, keys_of}
-use Rattle.std.specs.Ordering.{nat_cmp, match_ordering}
+use Rattle.std.specs.Ordering.{nat_cmp, match_ordering, is_eq}
 use Rattle.std.specs.declared.cmp.Ordering.{Ordering}
 use Rattle.std.specs.BTreeMap.{is_at, insert_entry}
 use Rattle.std.proofs.lemmas.Bool.{and_parts, leb-true}
-use Rattle.sctp_state.specs.declared.api.GivenUpCause.TheVariants.{Lifetime}
+use Rattle.std.proofs.lemmas.Bool.Decides.{nat_tests}
+use Rattle.sctp_state.specs.declared.api.GivenUpCause.TheVariants.{Lifetime, Reset}
 use Rattle.sctp_state.specs.Events.{GivenUp, Told, give_up, tell_all, expiry}
 use Rattle.sctp_send_queue.specs.declared.send_queue.message.MessageNumbers.{MessageNumbers}
 use Rattle.sctp_send_queue.specs.declared.send_queue.stream.ResetStep.{ResetStep}
@@ -32,17 +33,21 @@ pub due_came : (now : ℕ) (o : Option ℕ) → is_due now o ≡ true → (momen
 due_came now None e = cc
 due_came now (Some moment) e = (moment, refl, leb-true moment now e)
 
--- ---- of each message, by its number, the moment from which it is expired, and how often it may be sent again
+-- a key that is found
+at_it : (id k : ℕ) → is_at (nat_cmp id) k ≡ true → id ≡ k
+at_it id k e = grind (arith, nat_tests)
 
-module _ (Known : ℕ → Option ℕ → ℕ → Type 0) where
-  abbrev pub Waits : Queued → Type 0
-  Waits m = Known m.number m.expires m.limit
+-- ---- of each message, by its stream and number, the moment from which it is expired, and how often it may be sent again
 
-  abbrev pub AllWait : List Queued → Type 0
-  AllWait ms = AllByRecursion Waits ms
+module _ (Known : ℕ → ℕ → Option ℕ → ℕ → Type 0) where
+  abbrev pub Waits : ℕ → Queued → Type 0
+  Waits id m = Known id m.number m.expires m.limit
+
+  abbrev pub AllWait : ℕ → List Queued → Type 0
+  AllWait id ms = AllByRecursion (Waits id) ms
 
   abbrev pub Stands : ℕ × Stream → Type 0
-  Stands e = AllWait e.1.messages
+  Stands e = AllWait e.0 e.1.messages
 
   abbrev pub AllStand : Entries → Type 0
   AllStand es = AllByRecursion Stands es
@@ -55,47 +60,48 @@ module _ (Known : ℕ → Option ℕ → ℕ → Type 0) where
   -- of what was made of one
   abbrev pub Makes : Option Produced → Type 0
   Makes None = ⊤
-  Makes (Some p) = Known p.number p.expires p.limit
+  Makes (Some p) = Known p.fragment.stream_id p.number p.expires p.limit
 
   -- ---- streams
 
-  set_stands : (id : ℕ) (s : Stream) (es : Entries) → AllWait s.messages → AllStand es → AllStand (set_value (is_at (nat_cmp id)) es s)
+  set_stands : (id : ℕ) (s : Stream) (es : Entries) → AllWait id s.messages → AllStand es → AllStand (set_value (is_at (nat_cmp id)) es s)
   set_stands id s [] f h = h
-  set_stands id s (e ∷ es) f h = go (is_at (nat_cmp id) e.0) (set_stands id s es f h.1)
+  set_stands id s (e ∷ es) f h = go (is_at (nat_cmp id) e.0) refl (set_stands id s es f h.1)
     where
-      go : (b : Bool) → AllStand (set_value (is_at (nat_cmp id)) es s) → AllStand (cond b ((e.0, s) ∷ es) (e ∷ set_value (is_at (nat_cmp id)) es s))
-      go true rest = (f, h.1)
-      go false rest = (h.0, rest)
+      go : (b : Bool) → is_at (nat_cmp id) e.0 ≡ b → AllStand (set_value (is_at (nat_cmp id)) es s) → AllStand (cond b ((e.0, s) ∷ es) (e ∷ set_value (is_at (nat_cmp id)) es s))
+      go true at rest = (subst (λ (k : ℕ). AllWait k s.messages) (at_it id e.0 at) f, h.1)
+      go false at rest = (h.0, rest)
 
-  insert_stands : (id : ℕ) (s : Stream) (es : Entries) → AllWait s.messages → AllStand es → AllStand (insert_entry nat_cmp es id s)
+  insert_stands : (id : ℕ) (s : Stream) (es : Entries) → AllWait id s.messages → AllStand es → AllStand (insert_entry nat_cmp es id s)
   insert_stands id s [] f h = (f, h)
-  insert_stands id s (e ∷ es) f h = go (nat_cmp id e.0) (insert_stands id s es f h.1)
+  insert_stands id s (e ∷ es) f h = go (nat_cmp id e.0) refl (insert_stands id s es f h.1)
     where
-      go : (o : Ordering) → AllStand (insert_entry nat_cmp es id s) → AllStand (match_ordering o ((id, s) ∷ e ∷ es) ((e.0, s) ∷ es) (e ∷ insert_entry nat_cmp es id s))
-      go Less rest = (f, h)
-      go Equal rest = (f, h.1)
-      go Greater rest = (h.0, rest)
+      go : (o : Ordering) → nat_cmp id e.0 ≡ o → AllStand (insert_entry nat_cmp es id s)
+          → AllStand (match_ordering o ((id, s) ∷ e ∷ es) ((e.0, s) ∷ es) (e ∷ insert_entry nat_cmp es id s))
+      go Less at rest = (f, h)
+      go Equal at rest = (subst (λ (k : ℕ). AllWait k s.messages) (at_it id e.0 (ap is_eq at)) f, h.1)
+      go Greater at rest = (h.0, rest)
 
-  abbrev MayStand : Option Stream → Type 0
-  MayStand None = ⊤
-  MayStand (Some s) = AllWait s.messages
+  abbrev MayStand : ℕ → Option Stream → Type 0
+  MayStand id None = ⊤
+  MayStand id (Some s) = AllWait id s.messages
 
-  found_stands : (id : ℕ) (es : Entries) → AllStand es → MayStand (lookup (is_at (nat_cmp id)) es)
+  found_stands : (id : ℕ) (es : Entries) → AllStand es → MayStand id (lookup (is_at (nat_cmp id)) es)
   found_stands id [] h = tt
-  found_stands id (e ∷ es) h = go (is_at (nat_cmp id) e.0) (found_stands id es h.1)
+  found_stands id (e ∷ es) h = go (is_at (nat_cmp id) e.0) refl (found_stands id es h.1)
     where
-      go : (b : Bool) → MayStand (lookup (is_at (nat_cmp id)) es) → MayStand (cond b (Some e.1) (lookup (is_at (nat_cmp id)) es))
-      go true rest = h.0
-      go false rest = rest
+      go : (b : Bool) → is_at (nat_cmp id) e.0 ≡ b → MayStand id (lookup (is_at (nat_cmp id)) es) → MayStand id (cond b (Some e.1) (lookup (is_at (nat_cmp id)) es))
+      go true at rest = subst (λ (k : ℕ). AllWait k e.1.messages) (sym (at_it id e.0 at)) h.0
+      go false at rest = rest
 
-  stream_stands : (id : ℕ) (ss : Streams) → AllStand ss.entries → AllWait (stream id ss).messages
+  pub stream_stands : (id : ℕ) (ss : Streams) → AllStand ss.entries → AllWait id (stream id ss).messages
   stream_stands id ss h = go (lookup (is_at (nat_cmp id)) ss.entries) (found_stands id ss.entries h)
     where
-      go : (o : Option Stream) → MayStand o → AllWait (unwrap_or o (blank ss)).messages
+      go : (o : Option Stream) → MayStand id o → AllWait id (unwrap_or o (blank ss)).messages
       go None k = tt
       go (Some s) k = k
 
-  put_stands : (id : ℕ) (s : Stream) (ss : Streams) → AllWait s.messages → AllStand ss.entries → AllStand (put id s ss).entries
+  put_stands : (id : ℕ) (s : Stream) (ss : Streams) → AllWait id s.messages → AllStand ss.entries → AllStand (put id s ss).entries
   put_stands id s ss f h = set_stands id s ss.entries f h
 
   opened_stands : (id : ℕ) (ss : Streams) → AllStand ss.entries → AllStand (opened id ss).entries
@@ -105,61 +111,61 @@ module _ (Known : ℕ → Option ℕ → ℕ → Type 0) where
       go true = h
       go false = insert_stands id (blank ss) ss.entries tt h
 
-  put_opened : (id : ℕ) (s : Stream) (ss : Streams) → AllWait s.messages → AllStand ss.entries → AllStand (put id s (opened id ss)).entries
+  put_opened : (id : ℕ) (s : Stream) (ss : Streams) → AllWait id s.messages → AllStand ss.entries → AllStand (put id s (opened id ss)).entries
   put_opened id s ss f h = put_stands id s (opened id ss) f (opened_stands id ss h)
 
   -- ---- the messages of a stream
 
-  fresh_waits : (now : ℕ) (ms : List Queued) → AllWait ms → AllWait (fresh now ms)
-  fresh_waits now [] h = h
-  fresh_waits now (m ∷ ms) h = go (is_stale now m) (fresh_waits now ms h.1)
+  fresh_waits : (id : ℕ) (now : ℕ) (ms : List Queued) → AllWait id ms → AllWait id (fresh now ms)
+  fresh_waits id now [] h = h
+  fresh_waits id now (m ∷ ms) h = go (is_stale now m) (fresh_waits id now ms h.1)
     where
-      go : (b : Bool) → AllWait (fresh now ms) → AllWait (cond b (fresh now ms) (m ∷ ms))
+      go : (b : Bool) → AllWait id (fresh now ms) → AllWait id (cond b (fresh now ms) (m ∷ ms))
       go true rest = rest
       go false rest = h
 
-  moved_waits : (size : ℕ) (n : MessageNumbers) (ms : List Queued) → AllWait ms → AllWait (moved_front size n ms)
-  moved_waits size n [] h = h
-  moved_waits size n (m ∷ ms) h = go (ends size m)
+  moved_waits : (id : ℕ) (size : ℕ) (n : MessageNumbers) (ms : List Queued) → AllWait id ms → AllWait id (moved_front size n ms)
+  moved_waits id size n [] h = h
+  moved_waits id size n (m ∷ ms) h = go (ends size m)
     where
-      go : (b : Bool) → AllWait (cond b ms (moved size n m ∷ ms))
+      go : (b : Bool) → AllWait id (cond b ms (moved size n m ∷ ms))
       go true = h.1
       go false = h
 
-  advanced_waits : (size : ℕ) (s : Stream) → AllWait s.messages → AllWait (advanced size s).messages
-  advanced_waits size s h = moved_waits size (front_numbers s.messages s) s.messages h
+  advanced_waits : (id : ℕ) (size : ℕ) (s : Stream) → AllWait id s.messages → AllWait id (advanced size s).messages
+  advanced_waits id size s h = moved_waits id size (front_numbers s.messages s) s.messages h
 
-  made_known : (id size : ℕ) (n : MessageNumbers) (ms : List Queued) → AllWait ms → Makes (front_made id size n ms)
+  made_known : (id size : ℕ) (n : MessageNumbers) (ms : List Queued) → AllWait id ms → Makes (front_made id size n ms)
   made_known id size n [] h = tt
   made_known id size n (m ∷ ms) h = h.0
 
-  next_known : (id size : ℕ) (s : Stream) → AllWait s.messages → Makes (next_fragment id size s)
+  next_known : (id size : ℕ) (s : Stream) → AllWait id s.messages → Makes (next_fragment id size s)
   next_known id size s h = made_known id size (front_numbers s.messages s) s.messages h
 
-  cut_waits : (number : ℕ) (ms : List Queued) (s : Stream) → AllWait ms → AllWait s.messages → AllWait (without_front number ms s).messages
-  cut_waits number [] s h k = k
-  cut_waits number (m ∷ ms) s h k = go (m.number == number)
+  cut_waits : (id : ℕ) (number : ℕ) (ms : List Queued) (s : Stream) → AllWait id ms → AllWait id s.messages → AllWait id (without_front number ms s).messages
+  cut_waits id number [] s h k = k
+  cut_waits id number (m ∷ ms) s h k = go (m.number == number)
     where
-      go : (b : Bool) → AllWait (cond b (record s { messages = ms; pause = settled s.pause }) s).messages
+      go : (b : Bool) → AllWait id (cond b (record s { messages = ms; pause = settled s.pause }) s).messages
       go true = h.1
       go false = k
 
-  partly_waits : (ms : List Queued) → AllWait ms → AllWait (filter is_partly ms)
-  partly_waits [] h = h
-  partly_waits (m ∷ ms) h = go (is_partly m) (partly_waits ms h.1)
+  partly_waits : (id : ℕ) (ms : List Queued) → AllWait id ms → AllWait id (filter is_partly ms)
+  partly_waits id [] h = h
+  partly_waits id (m ∷ ms) h = go (is_partly m) (partly_waits id ms h.1)
     where
-      go : (b : Bool) → AllWait (filter is_partly ms) → AllWait (cond b (m ∷ filter is_partly ms) (filter is_partly ms))
+      go : (b : Bool) → AllWait id (filter is_partly ms) → AllWait id (cond b (m ∷ filter is_partly ms) (filter is_partly ms))
       go true rest = (h.0, rest)
       go false rest = rest
 
-  step_waits : (step : ResetStep) (s : Stream) → AllWait s.messages → AllWait (after_step step s).messages
-  step_waits Requested s h = h
-  step_waits Performed s h = h
-  step_waits Refused s h = h
+  step_waits : (id : ℕ) (step : ResetStep) (s : Stream) → AllWait id s.messages → AllWait id (after_step step s).messages
+  step_waits id Requested s h = h
+  step_waits id Performed s h = h
+  step_waits id Refused s h = h
 
-  whole_waits : (ms : List Queued) → AllWait ms → AllWait (whole_front ms)
-  whole_waits [] h = h
-  whole_waits (m ∷ ms) h = h
+  whole_waits : (id : ℕ) (ms : List Queued) → AllWait id ms → AllWait id (whole_front ms)
+  whole_waits id [] h = h
+  whole_waits id (m ∷ ms) h = h
 
   -- ---- calls on a queue
 
@@ -184,13 +190,13 @@ module _ (Known : ℕ → Option ℕ → ℕ → Type 0) where
 
     pub holds_prepared : {P : Type 0} (id : ℕ) (q : Queue) (t : Told P) → H q → H (prepare_reset id q t).queue
     holds_prepared id q t h = record {
-      stand = put_opened id (prepared (stream id q.streams)) q.streams (partly_waits (stream id q.streams).messages (stream_stands id q.streams h.stand)) h.stand;
+      stand = put_opened id (prepared (stream id q.streams)) q.streams (partly_waits id (stream id q.streams).messages (stream_stands id q.streams h.stand)) h.stand;
       counts = h.counts;
     }
 
     holds_stepped : (step : ResetStep) (id : ℕ) (q : Queue) → H q → H (stepped step id q)
     holds_stepped step id q h = record {
-      stand = put_stands id (after_step step (stream id q.streams)) q.streams (step_waits step (stream id q.streams) (stream_stands id q.streams h.stand)) h.stand;
+      stand = put_stands id (after_step step (stream id q.streams)) q.streams (step_waits id step (stream id q.streams) (stream_stands id q.streams h.stand)) h.stand;
       counts = h.counts;
     }
 
@@ -200,7 +206,7 @@ module _ (Known : ℕ → Option ℕ → ℕ → Type 0) where
 
     holds_restarted : (id : ℕ) (q : Queue) → H q → H (restarted_one id q)
     holds_restarted id q h = record {
-      stand = put_stands id (restarted (stream id q.streams)) q.streams (whole_waits (stream id q.streams).messages (stream_stands id q.streams h.stand)) h.stand;
+      stand = put_stands id (restarted (stream id q.streams)) q.streams (whole_waits id (stream id q.streams).messages (stream_stands id q.streams h.stand)) h.stand;
       counts = h.counts;
     }
 
@@ -219,9 +225,9 @@ module _ (Known : ℕ → Option ℕ → ℕ → Type 0) where
     holds_discard : {P : Type 0} (id number : ℕ) (q : Queue) (t : Told P) → H q → H (discard id number q t).queue
     holds_discard id number q t h =
         let s : Stream = stream id q.streams in
-        let ws : AllWait s.messages = stream_stands id q.streams h.stand in
+        let ws : AllWait id s.messages = stream_stands id q.streams h.stand in
         left_holds id (streams_discarded id number q.streams) (front_discarded number s.messages) q t
-        (put_stands id (without_front number s.messages s) q.streams (cut_waits number s.messages s ws ws) h.stand) h.counts
+        (put_stands id (without_front number s.messages s) q.streams (cut_waits id number s.messages s ws ws) h.stand) h.counts
 
     pub holds_discards : {P : Type 0} (ds : List Discard) (q : Queue) (t : Told P) → H q → H (discard_all ds q t).queue
     holds_discards [] q t h = h
@@ -230,36 +236,27 @@ module _ (Known : ℕ → Option ℕ → ℕ → Type 0) where
         holds_discards ds x.queue x.told (holds_discard d.stream d.number q t h)
 
   -- one more is accepted
-  pub holds_added : (id next : ℕ) (m : Queued) (q : Queue) → Waits m → Holds next q → Holds (next_number next) (added id m q)
+  pub holds_added : (id next : ℕ) (m : Queued) (q : Queue) → Waits id m → Holds next q → Holds (next_number next) (added id m q)
   holds_added id next m q w h =
       let s : Stream = stream id q.streams in record {
-        stand = put_opened id (pushed m s) q.streams (all_behind Waits s.messages (m ∷ []) (stream_stands id q.streams h.stand) (w, tt)) h.stand;
+        stand = put_opened id (pushed m s) q.streams (all_behind (Waits id) s.messages (m ∷ []) (stream_stands id q.streams h.stand) (w, tt)) h.stand;
         counts = ap next_number h.counts;
       }
 
 -- a message that is known to have expired may be given up for that
-module _ (Known : ℕ → Option ℕ → ℕ → Type 0) (Right : GivenUp → Type 0) (now : ℕ)
-    (expired : (n limit moment : ℕ) → Known n (Some moment) limit → moment ≤ now → Right (record { number = n; cause = Lifetime })) where
-  pub due_right : (n limit : ℕ) (o : Option ℕ) → Known n o limit → is_due now o ≡ true → Right (record { number = n; cause = Lifetime })
-  due_right n limit o k e =
+module _ (Known : ℕ → ℕ → Option ℕ → ℕ → Type 0) (Right : GivenUp → Type 0) (now : ℕ)
+    (expired : (id n limit moment : ℕ) → Known id n (Some moment) limit → moment ≤ now → Right (record { number = n; cause = Lifetime })) where
+  pub due_right : (id n limit : ℕ) (o : Option ℕ) → Known id n o limit → is_due now o ≡ true → Right (record { number = n; cause = Lifetime })
+  due_right id n limit o k e =
       let d : (moment : ℕ) × (o ≡ Some moment) × (moment ≤ now) = due_came now o e in
-      expired n limit d.0 (subst (λ (z : Option ℕ). Known n z limit) d.1 k) d.2
+      expired id n limit d.0 (subst (λ (z : Option ℕ). Known id n z limit) d.1 k) d.2
 
-  stale_right : (m : Queued) → Waits Known m → is_stale now m ≡ true → Right (record { number = m.number; cause = Lifetime })
-  stale_right m w e = due_right m.number m.limit m.expires w (and_parts (not (is_some m.numbers)) (is_due now m.expires) e).1
+  stale_right : (id : ℕ) (m : Queued) → Waits Known id m → is_stale now m ≡ true → Right (record { number = m.number; cause = Lifetime })
+  stale_right id m w e = due_right id m.number m.limit m.expires w (and_parts (not (is_some m.numbers)) (is_due now m.expires) e).1
 
 -- ---- what is told
 
 module _ {P : Type 0} where
-  -- nothing of this is a record
-  pub same_waiting : (ms : List Queued) (t : Told P) → (told_waiting ms t).gone ≡ t.gone
-  same_waiting [] t = refl
-  same_waiting (m ∷ ms) t = same_waiting ms (cond (is_partly m) t (tell_all (expiry m.lifecycle) t)) ∙ go (is_partly m)
-    where
-      go : (b : Bool) → (cond b t (tell_all (expiry m.lifecycle) t)).gone ≡ t.gone
-      go true = refl
-      go false = refl
-
   left_told : (id : ℕ) (ss : Streams) (o : Option (Option ℕ)) (q : Queue) (t : Told P) → (discard_from id ss o q t).told.gone ≡ t.gone
   left_told id ss None q t = refl
   left_told id ss (Some l) q t = refl
@@ -270,20 +267,33 @@ module _ {P : Type 0} where
       let x : Changed P = discard d.stream d.number q t in
       same_discards ds x.queue x.told ∙ left_told d.stream (streams_discarded d.stream d.number q.streams) (front_discarded d.number (stream d.stream q.streams).messages) q t
 
-  module _ (Known : ℕ → Option ℕ → ℕ → Type 0) (Right : GivenUp → Type 0) (now : ℕ)
-      (expired : (n limit moment : ℕ) → Known n (Some moment) limit → moment ≤ now → Right (record { number = n; cause = Lifetime })) where
+  module _ (Known : ℕ → ℕ → Option ℕ → ℕ → Type 0) (Right : GivenUp → Type 0) (now : ℕ)
+      (expired : (id n limit moment : ℕ) → Known id n (Some moment) limit → moment ≤ now → Right (record { number = n; cause = Lifetime })) where
     abbrev pub AllRight : Told P → Type 0
     AllRight t = AllByRecursion Right t.gone
 
-    drops_right : (ms : List Queued) (t : Told P) → AllWait Known ms → AllRight t → AllRight (dropped now ms t)
-    drops_right [] t ws h = h
-    drops_right (m ∷ ms) t ws h = go (is_stale now m) refl (drops_right ms said ws.1)
+    -- a stream is to be reset
+    pub waits_right : (id : ℕ) → ((n limit : ℕ) (o : Option ℕ) → Known id n o limit → Right (record { number = n; cause = Reset })) → (ms : List Queued) (t : Told P)
+        → AllWait Known id ms → AllRight t → AllRight (told_waiting ms t)
+    waits_right id cleared [] t ws h = h
+    waits_right id cleared (m ∷ ms) t ws h = waits_right id cleared ms (cond (is_partly m) t said) ws.1 (go (is_partly m))
+      where
+        said : Told P
+        said = tell_all (expiry m.lifecycle) (give_up m.number Reset t)
+
+        go : (b : Bool) → AllRight (cond b t said)
+        go true = h
+        go false = all_behind Right t.gone _ h (cleared m.number m.limit m.expires ws.0, tt)
+
+    drops_right : (id : ℕ) (ms : List Queued) (t : Told P) → AllWait Known id ms → AllRight t → AllRight (dropped now ms t)
+    drops_right id [] t ws h = h
+    drops_right id (m ∷ ms) t ws h = go (is_stale now m) refl (drops_right id ms said ws.1)
       where
         said : Told P
         said = tell_all (expiry m.lifecycle) (give_up m.number Lifetime t)
 
         go : (b : Bool) → is_stale now m ≡ b → (AllRight said → AllRight (dropped now ms said)) → AllRight (cond b (dropped now ms said) t)
-        go true e rest = rest (all_behind Right t.gone _ h (stale_right Known Right now expired m ws.0 e, tt))
+        go true e rest = rest (all_behind Right t.gone _ h (stale_right Known Right now expired id m ws.0 e, tt))
         go false e rest = h
 
     told_made_right : (id : ℕ) (is_low is_total_low : Bool) (o : Option Produced) (t : Told P) → AllRight t → AllRight (told_made id is_low is_total_low o t)
@@ -300,15 +310,15 @@ module _ {P : Type 0} where
       turns : (id size : ℕ) (q : Queue) (t : Told P) → Holds Known next q → AllRight t → Turns (turn now id size q t)
       turns id size q t h k =
           let s : Stream = stream id q.streams in
-          let ws : AllWait Known s.messages = stream_stands Known id q.streams h.stand in
+          let ws : AllWait Known id s.messages = stream_stands Known id q.streams h.stand in
           let ss : Streams = streams_without_stale now id q.streams in
-          let first : AllStand Known ss.entries = put_stands Known id (without_stale now s) q.streams (fresh_waits Known now s.messages ws) h.stand in
+          let first : AllStand Known ss.entries = put_stands Known id (without_stale now s) q.streams (fresh_waits Known id now s.messages ws) h.stand in
           let r : Stream = stream id ss in
-          let rs : AllWait Known r.messages = stream_stands Known id ss first in
+          let rs : AllWait Known id r.messages = stream_stands Known id ss first in
           record {
-            holds = record { stand = put_stands Known id (advanced size r) ss (advanced_waits Known size r rs) first; counts = h.counts };
+            holds = record { stand = put_stands Known id (advanced size r) ss (advanced_waits Known id size r rs) first; counts = h.counts };
             made = next_known Known id size r rs;
-            right = told_made_right id _ _ (next_fragment id size r) (dropped now s.messages t) (drops_right s.messages t ws k);
+            right = told_made_right id _ _ (next_fragment id size r) (dropped now s.messages t) (drops_right id s.messages t ws k);
           }
 
       turns_if : (b : Bool) (x y : Turn P) → Turns x → Turns y → Turns (cond b x y)

@@ -118,7 +118,7 @@ module _ (message : ℕ → Message) (lifecycle : ℕ → Option ℕ) (mixed : B
   pub few_stay : AreFew x.sender
   few_stay = subst AreFew (sym sender) premises.few
 
-  own_stay : AreTheirOwn x.sender x.forward_points
+  pub own_stay : AreTheirOwn x.sender x.forward_points
   own_stay =
       subst (λ (o : Sender). AreTheirOwn o x.forward_points) (sym sender)
       (subst (λ (fs : List ForwardPoint). AreTheirOwn from.sender fs) (sym points) premises.written)
@@ -177,25 +177,25 @@ module _ (message : ℕ → Message) (lifecycle : ℕ → Option ℕ) (mixed : B
   pub data_is_heard : (tag tsn : ℕ) (is_immediate : Bool) (f : FragmentTree) → IsHeard call tag (data_chunk tsn is_immediate f)
       → (mixed ≡ false) × DataHeard message mixed x t.tracker tsn f
   data_is_heard tag tsn is_immediate f heard =
-      let s = data_was_said message mixed x own_stay t.tracker.first least tsn is_immediate f (heard_here tag (data_chunk tsn is_immediate f) heard) in
+      let s = data_was_said message mixed x t.tracker.first least tsn is_immediate f (heard_here tag (data_chunk tsn is_immediate f) heard) in
       (s.0, data_here tsn f s.1)
 
   pub idata_is_heard : (tag tsn : ℕ) (is_immediate : Bool) (f : FragmentTree) → IsHeard call tag (idata_chunk tsn is_immediate f)
       → (mixed ≡ true) × DataHeard message mixed x t.tracker tsn f
   idata_is_heard tag tsn is_immediate f heard =
-      let s = idata_was_said message mixed x own_stay t.tracker.first least short_stays tsn is_immediate f (heard_here tag (idata_chunk tsn is_immediate f) heard) in
+      let s = idata_was_said message mixed x t.tracker.first least short_stays tsn is_immediate f (heard_here tag (idata_chunk tsn is_immediate f) heard) in
       (s.0, data_here tsn f s.1)
 
   pub point_is_heard : (tag tsn : ℕ) (skipped : List SkippedStream) → IsHeard call tag (forward_tsn_chunk tsn skipped)
       → (mixed ≡ false) × PointHeard mixed x t.tracker tsn skipped
   point_is_heard tag tsn skipped heard =
-      let s = point_was_said message mixed x kept own_stay t.tracker.first least tsn skipped (heard_here tag (forward_tsn_chunk tsn skipped) heard) in
+      let s = point_was_said message mixed x kept t.tracker.first least tsn skipped (heard_here tag (forward_tsn_chunk tsn skipped) heard) in
       (s.0, point_here tsn skipped s.1)
 
   pub ipoint_is_heard : (tag tsn : ℕ) (skipped : List SkippedStream) → IsHeard call tag (i_forward_tsn_chunk tsn skipped)
       → (mixed ≡ true) × PointHeard mixed x t.tracker tsn skipped
   ipoint_is_heard tag tsn skipped heard =
-      let s = ipoint_was_said message mixed x kept own_stay t.tracker.first least tsn skipped (heard_here tag (i_forward_tsn_chunk tsn skipped) heard) in
+      let s = ipoint_was_said message mixed x kept t.tracker.first least tsn skipped (heard_here tag (i_forward_tsn_chunk tsn skipped) heard) in
       (s.0, point_here tsn skipped s.1)
 
 -- a call brings responses alone, whatever state the end is in

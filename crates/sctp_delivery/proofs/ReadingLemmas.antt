@@ -18,9 +18,9 @@ use Rattle.sctp_rx.specs.ReassemblyQueue.{Reassembly}
 use Rattle.sctp_rules.specs.State.{Message, Entry, ForwardPoint, Transfer, IsAmong, fragment, place_of, count, ordered_of}
 use Rattle.sctp_rules.specs.Rules.{covers}
 use Rattle.sctp_rules.specs.Kept.{Kept}
+use Rattle.sctp_rules.specs.Lifted.{no_base}
 use Rattle.sctp_rules.specs.Points.{AreApart}
 use Rattle.sctp_rules.specs.Windows.{Windows}
-use Rattle.sctp_rules.specs.Written.{AreTheirOwn}
 use Rattle.sctp_rules.proofs.ToolsLemmas.{not_both}
 use Rattle.sctp_tx_rules.specs.Shown.{tree_of}
 use Rattle.sctp_tx_rules.specs.Points.{skip_of, chunk_of}
@@ -50,11 +50,9 @@ plain_part f = record f { mid = 0; fsn = 0 }
 abbrev mixed_part : FragmentTree → FragmentTree
 mixed_part f = record f { ssn = 0; ppid = cond f.is_beginning f.ppid 0; fsn = cond f.is_beginning 0 f.fsn }
 
-module _ (message : ℕ → Message) (mixed : Bool) (x : Transfer) (own : AreTheirOwn x.sender x.forward_points) (first least : ℕ) where
-  ssn_of : (k : ℕ) → ordered_of message (place_of x.sender k) ≡ true → (tree_of message x.sender (fragment x.sender k)).ssn ≡ wire halves 0 (origin + x.sender.number (place_of x.sender k))
-  ssn_of k o =
-      ap (λ (b : Bool). wire halves 0 (cond b (origin + x.sender.written (place_of x.sender k)) origin)) o
-      ∙ ap (λ (n : ℕ). wire halves 0 (origin + n)) (own.messages (place_of x.sender k))
+module _ (message : ℕ → Message) (mixed : Bool) (x : Transfer) (first least : ℕ) where
+  ssn_of : (k : ℕ) → ordered_of message (place_of x.sender k) ≡ true → (tree_of message x.sender (fragment x.sender k)).ssn ≡ wire halves 0 (origin + x.sender.written (place_of x.sender k))
+  ssn_of k o = ap (λ (b : Bool). wire halves 0 (cond b (origin + x.sender.written (place_of x.sender k)) origin)) o
 
   plain_said : (tsn : ℕ) (f g : FragmentTree) → SaysData message first least x.sender tsn g → f ≡ plain_part g → mixed ≡ false
       → DataSaid message mixed first least x tsn f
@@ -113,7 +111,7 @@ module _ (message : ℕ → Message) (mixed : Bool) (x : Transfer) (own : AreThe
           };
           written = record {
             ssn = λ p. absurd (not_both both p);
-            mid = λ m. ap (λ (z : FragmentTree). z.mid) is ∙ ap (λ (n : ℕ). wire words 0 (origin + n)) (own.messages (place_of x.sender k));
+            mid = λ m. ap (λ (z : FragmentTree). z.mid) is;
           };
         }
 
@@ -178,27 +176,23 @@ pub record PointSaid (mixed : Bool) (first least : ℕ) (x : Transfer) (tsn : �
   pub entries : AreEntries mixed skipped point.entries
 
 -- an entry is written with its number
-plain_entry : (e : Entry) → e.written ≡ e.number → e.ordered ≡ true → IsEntry false (ssn_skip (skip_of false e)) e
-plain_entry e is o = (o, refl, omega (arith, is))
+plain_entry : (e : Entry) → e.ordered ≡ true → IsEntry false (ssn_skip (skip_of false e)) e
+plain_entry e o = (o, refl, omega arith)
 
-mixed_entry : (e : Entry) → e.written ≡ e.number → IsEntry true (mid_skip (skip_of true e)) e
-mixed_entry e is = go e.ordered refl
+mixed_entry : (e : Entry) → IsEntry true (mid_skip (skip_of true e)) e
+mixed_entry e = go e.ordered refl
   where
-    same : wire words 0 (origin + e.written) ≡ wire words 0 (origin + e.number)
-    same = ap (λ (n : ℕ). wire words 0 (origin + n)) is
-
     go : (b : Bool) → e.ordered ≡ b → IsEntry true (IForwardTsn (cond (not b) (Unordered (record { 0 = e.stream })) (Ordered (record { 0 = e.stream }))) (record { 0 = wire words 0 (origin + e.written) })) e
-    go true o = (o, refl, same)
-    go false o = (o, refl, same)
+    go true o = (o, refl, refl)
+    go false o = (o, refl, refl)
 
-plain_entries : (es : List Entry) → ((e : Entry) → IsAmong e es → e.written ≡ e.number) → ((e : Entry) → IsAmong e es → e.ordered ≡ true)
-    → AreEntries false (map ssn_skip (map (skip_of false) es)) es
-plain_entries [] own all = tt
-plain_entries (e ∷ es) own all = (plain_entry e (own e (inl refl)) (all e (inl refl)), plain_entries es (λ d a. own d (inr a)) (λ d a. all d (inr a)))
+plain_entries : (es : List Entry) → ((e : Entry) → IsAmong e es → e.ordered ≡ true) → AreEntries false (map ssn_skip (map (skip_of false) es)) es
+plain_entries [] all = tt
+plain_entries (e ∷ es) all = (plain_entry e (all e (inl refl)), plain_entries es (λ d a. all d (inr a)))
 
-mixed_entries : (es : List Entry) → ((e : Entry) → IsAmong e es → e.written ≡ e.number) → AreEntries true (map mid_skip (map (skip_of true) es)) es
-mixed_entries [] own = tt
-mixed_entries (e ∷ es) own = (mixed_entry e (own e (inl refl)), mixed_entries es (λ d a. own d (inr a)))
+mixed_entries : (es : List Entry) → AreEntries true (map mid_skip (map (skip_of true) es)) es
+mixed_entries [] = tt
+mixed_entries (e ∷ es) = (mixed_entry e, mixed_entries es)
 
 -- how it is written
 module _ (first : ℕ) (tsn : ℕ) (skipped : List SkippedStream) (f : ForwardPoint) where
@@ -224,7 +218,7 @@ module _ (first : ℕ) (tsn : ℕ) (skipped : List SkippedStream) (f : ForwardPo
       skipped_same : i_forward_tsn_chunk tsn skipped ≡ chunk_of true first f → skipped ≡ map mid_skip (map (skip_of true) f.entries)
       skipped_same e = cc
 
-module _ (message : ℕ → Message) (mixed : Bool) (x : Transfer) (kept : Kept message mixed x) (own : AreTheirOwn x.sender x.forward_points) (first least : ℕ) where
+module _ (message : ℕ → Message) (mixed : Bool) (x : Transfer) (kept : Kept message mixed x) (first least : ℕ) where
   -- without interleaving each entry is of an ordered stream
   are_ordered : mixed ≡ false → (f : ForwardPoint) → IsAmong f x.forward_points → (e : Entry) → IsAmong e f.entries → e.ordered ≡ true
   are_ordered plain f sent e a = go e.ordered refl
@@ -258,7 +252,7 @@ module _ (message : ℕ → Message) (mixed : Bool) (x : Transfer) (kept : Kept 
   plain_point tsn skipped h =
       let c = plain_chunk first tsn skipped h.point mixed h.written in
       let es : List Entry = h.point.entries in
-      let are : AreEntries false (map ssn_skip (map (skip_of false) es)) es = plain_entries es (own.entries h.point h.sent) (are_ordered c.0 h.point h.sent) in
+      let are : AreEntries false (map ssn_skip (map (skip_of false) es)) es = plain_entries es (are_ordered c.0 h.point h.sent) in
       let written : AreEntries mixed skipped es = subst (λ (m : Bool). AreEntries m skipped es) (sym c.0) (subst (λ (z : List SkippedStream). AreEntries false z es) (sym c.2) are) in
       (c.0, point_said tsn skipped h.point h.sent h.apart h.ahead c.1 written)
 
@@ -267,7 +261,7 @@ module _ (message : ℕ → Message) (mixed : Bool) (x : Transfer) (kept : Kept 
   mixed_point tsn skipped h =
       let c = mixed_chunk first tsn skipped h.point mixed h.written in
       let es : List Entry = h.point.entries in
-      let written : AreEntries mixed skipped es = subst (λ (m : Bool). AreEntries m skipped es) (sym c.0) (subst (λ (z : List SkippedStream). AreEntries true z es) (sym c.2) (mixed_entries es (own.entries h.point h.sent))) in
+      let written : AreEntries mixed skipped es = subst (λ (m : Bool). AreEntries m skipped es) (sym c.0) (subst (λ (z : List SkippedStream). AreEntries true z es) (sym c.2) (mixed_entries es)) in
       (c.0, point_said tsn skipped h.point h.sent h.apart h.ahead c.1 written)
 
   -- a point is heard as it was sent
@@ -307,10 +301,10 @@ responses_were_said message mixed x first least ps h = go h.said h.is h.says
 
 -- the tracker reads the number that was written, in a packet that is not older than 2^30 fragments
 pub number_is_read : (message : ℕ → Message) (mixed : Bool) (shift : ℕ) (x : Transfer) (handed : List messages.Message) (d : DataTracker) (r : Reassembly) (k least most tsn : ℕ)
-    → Kept message mixed x → Windows message x → Receives message mixed shift x handed d.tracker r → IsTracker d.tracker → k < count x.sender → least ≤ k
+    → Kept message mixed x → Windows message x → Receives message mixed no_base shift x handed d.tracker r → IsTracker d.tracker → k < count x.sender → least ≤ k
     → most ≤ least + 2 ^ 30 → most ≤ count x.sender → count x.sender < most + 2 ^ 30 → tsn ≡ wire words d.first (origin + k)
     → tracker.number_of d tsn ≡ origin + k
 number_is_read message mixed shift x handed d r k least most tsn kept windows receives is_tracker below from near past young tsn_is =
     let n : ℕ = max most (suc k) in
     ap (λ (w : ℕ). tracker.number_of d w) tsn_is
-    ∙ tracker_reads message mixed shift x handed d r k n kept windows receives is_tracker (omega arith) (omega (arith, from, near)) (omega (arith, below, past), omega (arith, young))
+    ∙ tracker_reads message mixed no_base shift x handed d r k n kept windows.items receives is_tracker (omega arith) (omega (arith, from, near)) (omega (arith, below, past), omega (arith, young))

@@ -16,6 +16,8 @@ use Rattle.sctp_rx.specs.ReassemblyQueue.{reassembly}
 use Rattle.sctp_rx.specs.Sack.{reported}
 use Rattle.sctp_rules.specs.State.{Message, Sender, Transfer, count}
 use Rattle.sctp_rules.specs.Windows.{Windows}
+use Rattle.sctp_rules.specs.Lifted.{no_base}
+use Rattle.sctp_rules.specs.Written.{AreTheirOwn}
 use Rattle.sctp_rx_rules.specs.Receives.{Receives}
 use Rattle.sctp_rx_rules.specs.Near.{AreFew}
 use Rattle.sctp_table.specs.Association.{Identity, Tcb, tcb, Phase, CookieEchoed, ShutdownPending, State, Closed, CookieWait, Open}
@@ -29,7 +31,7 @@ use Rattle.sctp_course.proofs.AddedLemmas.{holds_added}
 use Rattle.sctp_course.proofs.JoinActsLemmas.{Setting, InvAt, packets_both}
 use Rattle.sctp_delivery.proofs.ClaimLemmas.{is_receiving, SaysIn, first_in, IsFresh, IsReceiving, ReceivesIn, ReceiverClaim, ReceiverPremises, ReceiverGoes}
 use Rattle.sctp_delivery.proofs.FrameLemmas.{Lasts, GoesOnShut}
-use Rattle.sctp_delivery.proofs.ReadingDataLemmas.{windows_stay, few_stay, data_is_heard, idata_is_heard, point_is_heard, ipoint_is_heard}
+use Rattle.sctp_delivery.proofs.ReadingDataLemmas.{windows_stay, own_stay, few_stay, data_is_heard, idata_is_heard, point_is_heard, ipoint_is_heard}
 use Rattle.sctp_delivery.proofs.TrackerStaysLemmas.{tracker_new, tracker_told}
 use Rattle.sctp_delivery.proofs.ReceiverToolLemmas.{SameSender, sender_stays, no_chunks_said, no_packets_said}
 use Rattle.sctp_delivery.proofs.SenderToolLemmas.{goes_none}
@@ -55,7 +57,7 @@ module _ (message : ℕ → Message) (mixed : Bool) (handed : List messages.Mess
       let size : ℕ = o.max_receiver_window_buffer_size in
       let made : IsReceiving message mixed handed (record (tcb o i a_rwnd k) { reassembly = reassembly size mixed }) x = record {
         shift = 0;
-        receives = subst (λ (ms : List messages.Message). Receives message mixed 0 x ms (tracker.tracker o origin) (reassembly size mixed)) (sym h.none_handed) (h.receives o size);
+        receives = subst (λ (ms : List messages.Message). Receives message mixed no_base 0 x ms (tracker.tracker o origin) (reassembly size mixed)) (sym h.none_handed) (h.receives o size);
         near = h.near i.peer_first size;
         is_tracker = tracker_new o;
         not_deferred = refl;
@@ -169,13 +171,16 @@ module _ (message : ℕ → Message) (lifecycle : ℕ → Option ℕ) (mixed : B
     few : AreFew x.sender
     few = few_stay message lifecycle mixed g call from p handed phase t m inv x claim.kept claim.shown same.sender same.acknowledged same.forward_points
 
+    own : AreTheirOwn x.sender x.forward_points
+    own = own_stay message lifecycle mixed g call from p handed phase t m inv x claim.kept claim.shown same.sender same.acknowledged same.forward_points
+
     data_leads : (tag tsn : ℕ) (is_immediate : Bool) (f : FragmentTree) → IsHeard call tag (data_chunk tsn is_immediate f) → takes tsn t ≡ true
         → Leads message mixed handed x (taken tsn is_immediate f t)
     data_leads tag tsn is_immediate f heard may =
         let h = data_is_heard message lifecycle mixed g call from p handed phase t m inv x claim.kept claim.shown same.sender same.acknowledged same.forward_points
         tag tsn is_immediate f heard in
         let valid = and_parts (not (is_full t.reassembly)) (is_valid t.tracker.tracker (tracker.number_of t.tracker tsn)) may in
-        taken_leads message mixed handed x t claim.shown claim.kept windows few tsn is_immediate f h.1 valid.1
+        taken_leads message mixed handed x t claim.shown claim.kept windows own few tsn is_immediate f h.1 valid.1
 
     idata_leads : (tag tsn : ℕ) (is_immediate : Bool) (f : FragmentTree) → IsHeard call tag (idata_chunk tsn is_immediate f) → takes tsn t ≡ true
         → Leads message mixed handed x (taken tsn is_immediate f t)
@@ -183,21 +188,21 @@ module _ (message : ℕ → Message) (lifecycle : ℕ → Option ℕ) (mixed : B
         let h = idata_is_heard message lifecycle mixed g call from p handed phase t m inv x claim.kept claim.shown same.sender same.acknowledged same.forward_points
         tag tsn is_immediate f heard in
         let valid = and_parts (not (is_full t.reassembly)) (is_valid t.tracker.tracker (tracker.number_of t.tracker tsn)) may in
-        taken_leads message mixed handed x t claim.shown claim.kept windows few tsn is_immediate f h.1 valid.1
+        taken_leads message mixed handed x t claim.shown claim.kept windows own few tsn is_immediate f h.1 valid.1
 
     point_leads : (tag tsn : ℕ) (skipped : List SkippedStream) → IsHeard call tag (forward_tsn_chunk tsn skipped)
         → is_valid t.tracker.tracker (tracker.number_of t.tracker tsn) ≡ true → Leads message mixed handed x (forwarded tsn skipped t)
     point_leads tag tsn skipped heard valid =
         let h = point_is_heard message lifecycle mixed g call from p handed phase t m inv x claim.kept claim.shown same.sender same.acknowledged same.forward_points
         tag tsn skipped heard in
-        passed_leads message mixed handed x t claim.shown claim.kept windows few tsn skipped h.1 valid
+        passed_leads message mixed handed x t claim.shown claim.kept windows own few tsn skipped h.1 valid
 
     ipoint_leads : (tag tsn : ℕ) (skipped : List SkippedStream) → IsHeard call tag (i_forward_tsn_chunk tsn skipped)
         → is_valid t.tracker.tracker (tracker.number_of t.tracker tsn) ≡ true → Leads message mixed handed x (forwarded tsn skipped t)
     ipoint_leads tag tsn skipped heard valid =
         let h = ipoint_is_heard message lifecycle mixed g call from p handed phase t m inv x claim.kept claim.shown same.sender same.acknowledged same.forward_points
         tag tsn skipped heard in
-        passed_leads message mixed handed x t claim.shown claim.kept windows few tsn skipped h.1 valid
+        passed_leads message mixed handed x t claim.shown claim.kept windows own few tsn skipped h.1 valid
 
     ack_leads : (y : Transfer) × ReceiverClaim message mixed from handed (with_chunk (selective_ack t) (in_open phase (acknowledged t) m)) y
     ack_leads =

@@ -1,23 +1,29 @@
 -- Fragments, forward points and acknowledgements of a receiver: where each leads the rules, and the values after it.
-use Rattle.std.proofs.Common.{◌≡◌, ℕ, suc, ◌+◌, Bool, true, false, None, List, [], ◌∷◌, map, refl, sym, subst}
+use Rattle.std.proofs.Common.{◌≡◌, ℕ, suc, ◌+◌, Bool, true, false, None, List, [], ◌∷◌, map, refl, sym, ◌∙◌, subst, arith}
 use Rattle.std.specs.List.{list_all}
 use Rattle.sctp_serial.specs.Messages as messages
 use Rattle.sctp_serial.specs.Unwrapped.{origin, words, wire}
 use Rattle.sctp_packet.specs.Chunk.{FragmentTree}
 use Rattle.sctp_chunk.specs.declared.forward_tsn.SkippedStream.{SkippedStream}
 use Rattle.sctp_rx.specs.Tracker as tracker
-use Rattle.sctp_rx.specs.Tracker.{Tracker, IsTracker, DataTracker, is_valid, has_seen, moves_on, observe}
+use Rattle.sctp_rx.specs.Tracker.{Tracker, IsTracker, is_valid, has_seen, moves_on, observe}
 use Rattle.sctp_rx.specs.ReassemblyQueue.{Reassembly}
-use Rattle.sctp_rules.specs.State.{Message, Transfer, ForwardPoint, IsAmong}
-use Rattle.sctp_rules.specs.Rules.{Event, data_comes, late_comes, forward_comes, deliver, no_stream, run}
+use Rattle.sctp_rules.specs.State.{Message, Transfer, ForwardPoint, IsAmong, place_of}
+use Rattle.sctp_rules.specs.Rules.{Event, data_comes, late_comes, forward_comes, deliver, no_stream, covers, run}
 use Rattle.sctp_rules.specs.Kept.{Kept}
 use Rattle.sctp_rules.specs.Points.{AreApart}
 use Rattle.sctp_rules.specs.Windows.{Windows}
+use Rattle.sctp_rules.specs.Lifted.{no_base, IsNow, AreEntriesNow}
+use Rattle.sctp_rules.specs.Written.{AreTheirOwn}
+use Rattle.sctp_rules.proofs.WindowsLemmas.{number_window, named_window}
 use Rattle.sctp_rx_rules.specs.View.{was_seen}
 use Rattle.sctp_rx_rules.specs.Read.{Carries, is_behind, shift_after}
 use Rattle.sctp_rx_rules.specs.Receives.{Receives}
-use Rattle.sctp_rx_rules.specs.Near.{IsWritten, AreEntries, AreFew, ReadsNear, GoesNear}
+use Rattle.sctp_rx_rules.specs.Near.{IsWritten, AreEntries, AreFew, IsNearNext, AreNearNext, ReadsNear, GoesNear}
 use Rattle.sctp_rx_rules.proofs.NearComesLemmas.{held_near, late_near, point_near}
+use Rattle.sctp_rx_rules.proofs.NearRowLemmas.{is_ahead}
+use Rattle.sctp_rx_rules.proofs.NearNumberLemmas.{among_covers, greatest}
+use Rattle.sctp_rx_rules.proofs.NearTsnLemmas.{not_acknowledged}
 use Rattle.sctp_rx_rules.proofs.RowLemmas.{old_point, again}
 use Rattle.sctp_table.specs.Association.{Tcb}
 use Rattle.sctp_table.specs.Data.{added_unless, skipped_if, taken, forwarded}
@@ -32,13 +38,13 @@ pub record Arrives (message : ℕ → Message) (mixed : Bool) (first : ℕ) (han
   pub to : Transfer
   pub goes : GoesOn message mixed is_receiving x to
   pub shift : ℕ
-  pub receives : Receives message mixed shift to handed t r
-  pub near : ReadsNear message mixed first shift to r
+  pub receives : Receives message mixed no_base shift to handed t r
+  pub near : ReadsNear message mixed no_base first shift to r
   pub is_tracker : IsTracker t
   pub not_deferred : r.deferred ≡ None
 
 module _ (message : ℕ → Message) (mixed : Bool) (first : ℕ) (handed : List messages.Message) (x : Transfer) where
-  arrives_by : (shift : ℕ) (es : List Event) (t : Tracker) (r : Reassembly) → GoesNear message mixed first shift x es handed t r → list_all is_receiving es ≡ true
+  arrives_by : (shift : ℕ) (es : List Event) (t : Tracker) (r : Reassembly) → GoesNear message mixed no_base first shift x es handed t r → list_all is_receiving es ≡ true
       → IsTracker t → Arrives message mixed first handed x t r
   arrives_by shift es t r g all is = record {
     to = run message mixed x es;
@@ -50,10 +56,10 @@ module _ (message : ℕ → Message) (mixed : Bool) (first : ℕ) (handed : List
     not_deferred = g.goes.not_deferred;
   }
 
-  module _ (kept : Kept message mixed x) (windows : Windows message x) (few : AreFew x.sender) (shift : ℕ) (t : Tracker) (r : Reassembly)
-      (shown : Receives message mixed shift x handed t r) (near : ReadsNear message mixed first shift x r) (is : IsTracker t) (none : r.deferred ≡ None) where
+  module _ (kept : Kept message mixed x) (windows : Windows message x) (own : AreTheirOwn x.sender x.forward_points) (few : AreFew x.sender) (shift : ℕ) (t : Tracker) (r : Reassembly)
+      (shown : Receives message mixed no_base shift x handed t r) (near : ReadsNear message mixed no_base first shift x r) (is : IsTracker t) (none : r.deferred ≡ None) where
     -- the values show the same state
-    stays : (u : Tracker) → Receives message mixed shift x handed u r → IsTracker u → Arrives message mixed first handed x u r
+    stays : (u : Tracker) → Receives message mixed no_base shift x handed u r → IsTracker u → Arrives message mixed first handed x u r
     stays u receives later = record {
       to = x;
       goes = goes_none message mixed is_receiving x;
@@ -71,19 +77,25 @@ module _ (message : ℕ → Message) (mixed : Bool) (first : ℕ) (handed : List
       later : IsTracker (observe (origin + k) now t)
       later = tracker_observes t (origin + k) now is valid
 
+      is_now : IsNow no_base message x.sender k
+      is_now = let e = own.messages (place_of x.sender k) in omega (arith, e)
+
+      ordered : was_seen t k ≡ false → IsNearNext message x k
+      ordered unseen o = number_window message mixed x kept windows k (not_acknowledged message mixed x kept k (sym (shown.seen k) ∙ unseen)) carries.numbered o
+
       new_arrives : was_seen t k ≡ false → (b : Bool) → is_behind message mixed x.sender x.receiver k ≡ b
           → Arrives message mixed first handed x (observe (origin + k) now t) (added_unless false tsn f r)
       new_arrives unseen false current =
-          let l = held_near message mixed first shift x kept windows handed t r shown near k tsn f tsn_is carries unseen is none few written now current in
+          let l = held_near message mixed no_base first shift x kept windows.items handed t r shown near k tsn f tsn_is carries unseen is_now is none few written (ordered unseen) now current in
           arrives_by (shift_after r.first shift k) (data_comes k ∷ map deliver l.0) (observe (origin + k) now t) (added_unless false tsn f r) l.1 (ready_is_receiving l.0)
           later
       new_arrives unseen true late =
-          let l = late_near message mixed first shift x kept windows handed t r shown near k tsn f tsn_is carries unseen is none few written now late in
+          let l = late_near message mixed no_base first shift x kept windows.items handed t r shown near k tsn f tsn_is carries unseen is_now is none few written (ordered unseen) now late in
           arrives_by (shift_after r.first shift k) (late_comes k ∷ []) (observe (origin + k) now t) (added_unless false tsn f r) l refl later
 
       fragment_by : (b : Bool) → was_seen t k ≡ b → Arrives message mixed first handed x (observe (origin + k) now t) (added_unless b tsn f r)
       fragment_by false unseen = new_arrives unseen (is_behind message mixed x.sender x.receiver k) refl
-      fragment_by true seen = stays (observe (origin + k) now t) (again message mixed shift x handed t r shown k now is seen) later
+      fragment_by true seen = stays (observe (origin + k) now t) (again message mixed shift no_base x handed t r shown k now is seen) later
 
       pub fragment_arrives : Arrives message mixed first handed x (observe (origin + k) now t) (added_unless (was_seen t k) tsn f r)
       fragment_arrives = fragment_by (was_seen t k) refl
@@ -96,12 +108,21 @@ module _ (message : ℕ → Message) (mixed : Bool) (first : ℕ) (handed : List
       passed : IsTracker (tracker.forward (origin + k) t)
       passed = tracker_passes t (origin + k) is valid
 
+      are_now : AreEntriesNow no_base f
+      are_now e a = let w = own.entries f sent e a in omega (arith, w)
+
+      named : moves_on (origin + k) t ≡ true → AreNearNext x f
+      named moves e a o =
+          named_window message mixed x kept windows f sent (is_ahead message mixed no_base shift x kept handed t r shown is k f last moves) e.stream e.number
+          (subst (λ z. covers f.entries z e.stream e.number ≡ true) o (among_covers e f.entries a))
+          (λ m h. greatest f.entries apart e a m (subst (λ z. covers f.entries z e.stream m ≡ true) (sym o) h))
+
       point_by : (b : Bool) → moves_on (origin + k) t ≡ b → Arrives message mixed first handed x (tracker.forward (origin + k) t) (skipped_if b tsn skipped r)
       point_by true moves =
-          let l = point_near message mixed first shift x kept windows handed t r shown near is k tsn f sent last moves tsn_is none few apart skipped are in
+          let l = point_near message mixed no_base first shift x kept windows.items handed t r shown near is k tsn f sent last moves are_now tsn_is none few apart (named moves) skipped are in
           arrives_by (shift_after r.first shift k) (forward_comes f no_stream ∷ map deliver l.0) (tracker.forward (origin + k) t) (skipped_if true tsn skipped r) l.1
           (ready_is_receiving l.0) passed
-      point_by false old = stays (tracker.forward (origin + k) t) (old_point message mixed shift x handed t r shown (origin + k) old) passed
+      point_by false old = stays (tracker.forward (origin + k) t) (old_point message mixed shift no_base x handed t r shown (origin + k) old) passed
 
       pub point_arrives : Arrives message mixed first handed x (tracker.forward (origin + k) t) (skipped_if (moves_on (origin + k) t) tsn skipped r)
       point_arrives = point_by (moves_on (origin + k) t) refl
@@ -114,7 +135,7 @@ pub record Leads (message : ℕ → Message) (mixed : Bool) (handed : List messa
   pub shown : IsReceiving message mixed handed t to
 
 module _ (message : ℕ → Message) (mixed : Bool) (handed : List messages.Message) (x : Transfer) (t : Tcb) (shown : IsReceiving message mixed handed t x)
-    (kept : Kept message mixed x) (windows : Windows message x) (few : AreFew x.sender) where
+    (kept : Kept message mixed x) (windows : Windows message x) (own : AreTheirOwn x.sender x.forward_points) (few : AreFew x.sender) where
   leads_to : (u : Tracker) (r : Reassembly) → Arrives message mixed t.tracker.first handed x u r
       → Leads message mixed handed x (record t { tracker = record t.tracker { tracker = u }; reassembly = r })
   leads_to u r a = record {
@@ -135,7 +156,7 @@ module _ (message : ℕ → Message) (mixed : Bool) (handed : List messages.Mess
   taken_leads tsn now f h valid =
       let n : ℕ = origin + h.at in
       let there : is_valid t.tracker.tracker n ≡ true = subst (λ (m : ℕ). is_valid t.tracker.tracker m ≡ true) h.number_is valid in
-      let a = fragment_arrives message mixed t.tracker.first handed x kept windows few shown.shift t.tracker.tracker t.reassembly shown.receives shown.near
+      let a = fragment_arrives message mixed t.tracker.first handed x kept windows own few shown.shift t.tracker.tracker t.reassembly shown.receives shown.near
       shown.is_tracker shown.not_deferred h.at tsn f h.tsn_is h.carries h.written now there in
       let l : Leads message mixed handed x (taken_at n tsn now f) =
       leads_to (observe n now t.tracker.tracker) (added_unless (has_seen t.tracker.tracker n) tsn f t.reassembly) a in
@@ -152,7 +173,7 @@ module _ (message : ℕ → Message) (mixed : Bool) (handed : List messages.Mess
   passed_leads tsn skipped h valid =
       let n : ℕ = origin + h.at in
       let there : is_valid t.tracker.tracker n ≡ true = subst (λ (m : ℕ). is_valid t.tracker.tracker m ≡ true) h.number_is valid in
-      let a = point_arrives message mixed t.tracker.first handed x kept windows few shown.shift t.tracker.tracker t.reassembly shown.receives shown.near
+      let a = point_arrives message mixed t.tracker.first handed x kept windows own few shown.shift t.tracker.tracker t.reassembly shown.receives shown.near
       shown.is_tracker shown.not_deferred h.at tsn skipped h.point h.sent h.upto h.tsn_is h.apart h.entries there in
       let l : Leads message mixed handed x (passed_at n tsn skipped) =
       leads_to (tracker.forward n t.tracker.tracker) (skipped_if (moves_on n t.tracker.tracker) tsn skipped t.reassembly) a in

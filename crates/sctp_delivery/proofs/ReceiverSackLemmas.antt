@@ -10,6 +10,7 @@ use Rattle.sctp_tracker.proofs.SeenRunsLemmas.{next_is_new}
 use Rattle.sctp_rules.specs.State.{Message, Transfer, count}
 use Rattle.sctp_rules.specs.Rules.{IsAllowed, send_sack, after}
 use Rattle.sctp_rules.specs.Kept.{Kept}
+use Rattle.sctp_rules.specs.Lifted.{no_base}
 use Rattle.sctp_rules.specs.Windows.{Windows}
 use Rattle.sctp_rules.proofs.WindowsLemmas.{front_window}
 use Rattle.sctp_rx_rules.specs.View.{was_seen}
@@ -26,7 +27,7 @@ abbrev pub front_of : Tracker → ℕ
 front_of t = suc t.seen.front - origin
 
 module _ (message : ℕ → Message) (mixed : Bool) (x : Transfer) (kept : Kept message mixed x) (handed : List messages.Message) where
-  module _ (shift : ℕ) (t : Tracker) (r : Reassembly) (shown : Receives message mixed shift x handed t r) (is : IsTracker t) where
+  module _ (shift : ℕ) (t : Tracker) (r : Reassembly) (shown : Receives message mixed no_base shift x handed t r) (is : IsTracker t) where
     front_at : origin + front_of t ≡ suc t.seen.front
     front_at = let l = is.least in let b = is.begun in omega (arith, l, b)
 
@@ -48,7 +49,7 @@ module _ (message : ℕ → Message) (mixed : Bool) (x : Transfer) (kept : Kept 
     front_between = front_window message mixed x kept (front_of t) (sym (shown.seen (front_of t)) ∙ unseen) (λ n l. sym (shown.seen n) ∙ below n l)
 
     front_allowed : IsAllowed message mixed x (send_sack (front_of t))
-    front_allowed = sack_allowed message mixed shift x handed t r shown kept (front_of t) front_at
+    front_allowed = sack_allowed message mixed shift no_base x handed t r shown kept (front_of t) front_at
 
   module _ (windows : Windows message x) (t : Tcb) (shown : IsReceiving message mixed handed t x) where
     abbrev point : ℕ
@@ -66,10 +67,10 @@ module _ (message : ℕ → Message) (mixed : Bool) (x : Transfer) (kept : Kept 
     pub sack_shown : IsReceiving message mixed handed t sack_sent
     sack_shown = record {
       shift = shown.shift;
-      receives = sender_goes message mixed shown.shift x handed t.tracker.tracker t.reassembly shown.receives (send_sack point) kept may refl;
+      receives = sender_goes message mixed shown.shift no_base x handed t.tracker.tracker t.reassembly shown.receives (send_sack point) kept may refl;
       near = record {
         tsns = sender_keeps message mixed t.tracker.first shown.shift x (send_sack point) t.reassembly kept may refl shown.near.tsns;
-        mids = λ m. sender_keeps_mids message mixed x kept m (send_sack point) may refl t.reassembly (shown.near.mids m);
+        mids = λ m. sender_keeps_mids message mixed x kept m (send_sack point) may refl no_base t.reassembly (shown.near.mids m);
       };
       is_tracker = shown.is_tracker;
       not_deferred = shown.not_deferred;

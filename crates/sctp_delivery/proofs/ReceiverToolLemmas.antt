@@ -9,6 +9,7 @@ use Rattle.sctp_rx.specs.Tracker.{Tracker}
 use Rattle.sctp_rx.specs.ReassemblyQueue.{Reassembly}
 use Rattle.sctp_rules.specs.State.{Message, Transfer, IsAmong}
 use Rattle.sctp_rules.specs.Rules.{Event, accept, begin, number, close, give_up, data_comes, late_comes, deliver, send_sack, leave, send_forward, forward_comes, forget, after, run}
+use Rattle.sctp_rules.specs.Lifted.{no_base}
 use Rattle.sctp_rx_rules.specs.Receives.{Goes}
 use Rattle.sctp_table_laws.specs.Mapped.{Carried}
 use Rattle.sctp_delivery.proofs.ClaimLemmas.{is_receiving, GoesOn, SaysIn}
@@ -21,7 +22,7 @@ ready_is_receiving (p ∷ ps) = ready_is_receiving ps
 module _ (message : ℕ → Message) (mixed : Bool) where
   -- by the laws of the receiver's values
   pub receiving_goes : (shift : ℕ) (x : Transfer) (es : List Event) (handed : List messages.Message) (t : Tracker) (r : Reassembly)
-      → Goes message mixed shift x es handed t r → list_all is_receiving es ≡ true → GoesOn message mixed is_receiving x (run message mixed x es)
+      → Goes message mixed no_base shift x es handed t r → list_all is_receiving es ≡ true → GoesOn message mixed is_receiving x (run message mixed x es)
   receiving_goes shift x es handed t r goes all = record { events = es; may = goes.may; all = all; leads = refl }
 
   -- ---- what stays

@@ -6,6 +6,7 @@ use Rattle.sctp_send_queue.specs.Queue.{Queue}
 use Rattle.sctp_rx.specs.Tracker.{Tracker}
 use Rattle.sctp_rx.specs.ReassemblyQueue.{Reassembly}
 use Rattle.sctp_rules.specs.State.{Message, Transfer}
+use Rattle.sctp_rules.specs.Lifted.{no_base}
 use Rattle.sctp_rx_rules.specs.View.{view_with, IsSeenAs}
 use Rattle.sctp_rx_rules.specs.Receives.{Receives}
 use Rattle.sctp_rx_rules.specs.Near.{ReadsNear}
@@ -27,8 +28,8 @@ abbrev without_first : Reassembly → Reassembly
 without_first r = record r { ready = drop 1 r.ready }
 
 module _ (message : ℕ → Message) (mixed : Bool) (x : Transfer) where
-  receives_taken : (shift : ℕ) (handed : List messages.Message) (t : Tracker) (r : Reassembly) → Receives message mixed shift x handed t r
-      → Receives message mixed shift x (handed ++ take 1 r.ready) t (without_first r)
+  receives_taken : (shift : ℕ) (handed : List messages.Message) (t : Tracker) (r : Reassembly) → Receives message mixed no_base shift x handed t r
+      → Receives message mixed no_base shift x (handed ++ take 1 r.ready) t (without_first r)
   receives_taken shift handed t r h =
       let all : handed ++ r.ready ≡ (handed ++ take 1 r.ready) ++ drop 1 r.ready =
       ap (λ (ms : List messages.Message). handed ++ ms) (sym (take-append-drop 1 r.ready)) ∙ sym (append_assoc handed (take 1 r.ready) (drop 1 r.ready)) in
@@ -42,7 +43,7 @@ module _ (message : ℕ → Message) (mixed : Bool) (x : Transfer) where
         fresh = h.fresh;
       }
 
-  near_taken : (first shift : ℕ) (r : Reassembly) → ReadsNear message mixed first shift x r → ReadsNear message mixed first shift x (without_first r)
+  near_taken : (first shift : ℕ) (r : Reassembly) → ReadsNear message mixed no_base first shift x r → ReadsNear message mixed no_base first shift x (without_first r)
   near_taken first shift r h = record {
     tsns = h.tsns;
     mids = λ m. record { streams = (h.mids m).streams; points = (h.mids m).points };

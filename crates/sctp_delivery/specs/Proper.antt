@@ -1,6 +1,6 @@
 -- Along a course: why an end gave messages up. A record is proper where its message was accepted, and either outlived its
--- lifetime or was sent again as often as it may be.
-use Rattle.std.specs.Prelude.{◌≡◌, ℕ, ◌^◌, ◌≤◌, ◌<◌, Bool, true, false, Option, Some, None, unwrap_or, List, [], ◌∷◌, ◌++◌, length, map, slice_get}
+-- lifetime, or was sent again as often as it may be, or is made as the end is asked to reset its stream.
+use Rattle.std.specs.Prelude.{◌≡◌, ℕ, ◌^◌, ◌≤◌, ◌<◌, Bool, true, false, Option, Some, None, unwrap_or, List, [], ◌∷◌, ◌++◌, length, map, slice_get, ◌==◌}
 use Rattle.std.specs.List.{AllByRecursion, list_any}
 use Rattle.rand_core.specs.Stream.{Stream}
 use Rattle.sctp_packet.specs.Packet.{PacketTree}
@@ -9,10 +9,12 @@ use Rattle.sctp_serial.specs.Time.{later}
 use Rattle.sctp_state.specs.Options.{Options, plainly}
 use Rattle.sctp_state.specs.Events.{GivenUp}
 use Rattle.sctp_state.specs.declared.api.GivenUpCause.{GivenUpCause}
-use Rattle.sctp_state.specs.declared.api.GivenUpCause.TheVariants.{Lifetime, Retransmissions}
+use Rattle.sctp_state.specs.declared.api.GivenUpCause.TheVariants.{Lifetime, Retransmissions, Reset}
+use Rattle.sctp_state.specs.declared.api.errors.ResetStreamsError.{ResetStreamsError}
 use Rattle.sctp_table.specs.Association.{Endpoint}
 use Rattle.sctp_table.specs.Input.{refusal}
-use Rattle.sctp_table.specs.Laws.{Send, Advance, Restore, Packet, called}
+use Rattle.sctp_table.specs.Resets.{reset_refusal}
+use Rattle.sctp_table.specs.Laws.{Send, ResetStreams, Advance, Restore, Packet, called}
 use Rattle.sctp_table_laws.specs.Mapped.{Carried}
 use Rattle.sctp_course.specs.Course.{Side, Pair, emitted, Turn, Calls, Gives, Refuses, as_heard, goes, run, side_of, FollowsTheRules, HasNotEnded, start, state_of}
 use Rattle.sctp_course.specs.Opens.{at_first, one_connects}
@@ -61,18 +63,35 @@ gone_at true true turn w = gone_by turn w.a w.b
 gone_at false false turn w = gone_by turn w.b w.a
 gone_at x acts turn w = []
 
--- a record, and the clock of its end then
+-- the streams that are reset, unless the end refuses
+abbrev pub reset_unless : Option ResetStreamsError → (streams : List ℕ) → List ℕ
+reset_unless None streams = streams
+reset_unless (Some e) streams = []
+
+-- the streams that an end is asked to reset at its turn, and does
+abbrev pub reset_by : Turn → Side → List ℕ
+reset_by (Calls (ResetStreams streams)) x = reset_unless (reset_refusal (state_of x)) streams
+reset_by turn x = []
+
+-- true is end a: those of end x at a turn of this end
+abbrev pub reset_at : (x acts : Bool) → Turn → Pair → List ℕ
+reset_at true true turn w = reset_by turn w.a
+reset_at false false turn w = reset_by turn w.b
+reset_at x acts turn w = []
+
+-- a record, the clock of its end then, and the streams that are reset at that turn
 pub record Forgone : Type 0 where
   pub given_up : GivenUp
   pub at : ℕ
+  pub resets : List ℕ
 
-abbrev pub forgone_then : ℕ → GivenUp → Forgone
-forgone_then now g = record { given_up = g; at = now }
+abbrev pub forgone_then : (now : ℕ) → (resets : List ℕ) → GivenUp → Forgone
+forgone_then now resets g = record { given_up = g; at = now; resets = resets }
 
 -- all of an end, in order
 abbrev pub forgone : (x : Bool) → List (Bool × Turn) → Pair → List Forgone
 forgone x [] w = []
-forgone x (e ∷ es) w = map (forgone_then (clock (side_of x (goes e.0 e.1 w)))) (gone_at x e.0 e.1 w) ++ forgone x es (goes e.0 e.1 w)
+forgone x (e ∷ es) w = map (forgone_then (clock (side_of x (goes e.0 e.1 w))) (reset_at x e.0 e.1 w)) (gone_at x e.0 e.1 w) ++ forgone x es (goes e.0 e.1 w)
 
 -- ---- proper records
 
@@ -86,15 +105,20 @@ pub record HasExpired (now : ℕ) (a : Acceptance) : Type 0 where
   pub given : a.offer.options.lifetime ≡ Some lifetime
   pub over : later a.at lifetime ≤ now
 
-abbrev pub IsRight : GivenUpCause → (now : ℕ) → Acceptance → Type 0
-IsRight Lifetime now a = HasExpired now a
-IsRight (Retransmissions count) now a = limit_of a.offer ≤ count
+-- its stream is among these
+abbrev pub is_of_one : (streams : List ℕ) → Acceptance → Bool
+is_of_one streams a = list_any (λ id. id == a.offer.message.stream) streams
+
+abbrev pub IsRight : GivenUpCause → (now : ℕ) → (resets : List ℕ) → Acceptance → Type 0
+IsRight Lifetime now resets a = HasExpired now a
+IsRight (Retransmissions count) now resets a = limit_of a.offer ≤ count
+IsRight Reset now resets a = is_of_one resets a ≡ true
 
 -- of one of these messages, by its place
 pub record IsProper (accepted : List Acceptance) (f : Forgone) : Type 0 where
   pub acceptance : Acceptance
   pub there : slice_get accepted f.given_up.number ≡ Some acceptance
-  pub right : IsRight f.given_up.cause f.at acceptance
+  pub right : IsRight f.given_up.cause f.at f.resets acceptance
 
 -- ---- the laws
 
@@ -137,4 +161,4 @@ pub record TwoAreGivenUp : Type 0 where
   pub restores_none : RestoresNone two_are_lost
   pub not_ended : HasNotEnded (run two_are_lost at_first)
   pub gives_up : forgone true two_are_lost at_first
-      ≡ forgone_then ten_seconds (record { number = 0; cause = Retransmissions 0 }) ∷ forgone_then ten_seconds (record { number = 1; cause = Lifetime }) ∷ []
+      ≡ forgone_then ten_seconds [] (record { number = 0; cause = Retransmissions 0 }) ∷ forgone_then ten_seconds [] (record { number = 1; cause = Lifetime }) ∷ []

@@ -5,7 +5,7 @@ use Rattle.sctp_chunk.specs.declared.forward_tsn.SkippedStream.{SkippedStream}
 use Rattle.sctp_packet.specs.Chunk.{FragmentTree}
 use Rattle.sctp_rx.specs.Tracker.{DataTracker}
 use Rattle.sctp_rx.specs.Tracker as tracker
-use Rattle.sctp_rx.specs.Streams.{is_far}
+use Rattle.sctp_rx.specs.Streams.{is_far, entries_in}
 use Rattle.sctp_rx.specs.ReassemblyQueue.{Reassembly, fragment_waits, point_waits, add_or_wait, forward_or_wait}
 use Rattle.sctp_rx.specs.ReassemblyQueue as reassembly
 use Rattle.sctp_outstanding.specs.Items.{Outstanding}
@@ -71,12 +71,19 @@ module _ (n : Names) where
   added_any false true number first f r = refl
   added_any false false number first f r = refl
 
-  skipped_any : (far waits : Bool) (number first : ℕ) (es : List SkippedStream) (r : Reassembly)
-      → cond far (named_reassembly n r) (cond waits (reassembly.waits (reassembly.Forwarded number es) (came_at number (moved n.peer first) (named_reassembly n r))) (reassembly.forward_now number es (came_at number (moved n.peer first) (named_reassembly n r))))
-      ≡ named_reassembly n (cond far r (cond waits (reassembly.waits (reassembly.Forwarded number es) (came_at number first r)) (reassembly.forward_now number es (came_at number first r))))
-  skipped_any true waits number first es r = refl
-  skipped_any false true number first es r = refl
-  skipped_any false false number first es r = refl
+  -- the part of a forward point that is taken at once, and that which waits or has nothing to do
+  abbrev taken_in_part : (none : Bool) (number : ℕ) → List SkippedStream → Reassembly → Reassembly
+  taken_in_part none number es r =
+      let part : Reassembly = reassembly.forward_in false (reassembly.resetting r.deferred) number es r in
+      cond none part (reassembly.waits (reassembly.Forwarded number (entries_in true (reassembly.resetting r.deferred) es)) part)
+
+  skipped_any : (far waits none : Bool) (number first : ℕ) (es : List SkippedStream) (r : Reassembly)
+      → cond far (named_reassembly n r) (cond waits (taken_in_part none number es (came_at number (moved n.peer first) (named_reassembly n r))) (reassembly.forward_now number es (came_at number (moved n.peer first) (named_reassembly n r))))
+      ≡ named_reassembly n (cond far r (cond waits (taken_in_part none number es (came_at number first r)) (reassembly.forward_now number es (came_at number first r))))
+  skipped_any true waits none number first es r = refl
+  skipped_any false true true number first es r = refl
+  skipped_any false true false number first es r = refl
+  skipped_any false false none number first es r = refl
 
   pub named_added : (tsn : ℕ) (f : FragmentTree) (r : Reassembly) → reassembly.add (moved n.peer tsn) f (named_reassembly n r) ≡ named_reassembly n (reassembly.add tsn f r)
   named_added tsn f r =
@@ -92,7 +99,8 @@ module _ (n : Names) where
       let first : ℕ = unwrap_or r.first tsn in
       ap (λ (k : ℕ). skipped_at k (unwrap_or (option_map (moved n.peer) r.first) (moved n.peer tsn)) es (named_reassembly n r)) (queue_number r tsn)
       ∙ (ap (λ (k : ℕ). skipped_at number k es (named_reassembly n r)) (first_named r.first tsn)
-      ∙ skipped_any (is_far number) (point_waits number r.deferred) number first es r)
+      ∙ skipped_any (is_far number) (point_waits number r.deferred)
+      ((length (entries_in true (reassembly.resetting r.deferred) es) == 0) && (length (reassembly.waiting_in r.deferred) == 0)) number first es r)
 
   -- ---- DATA in a control block
 

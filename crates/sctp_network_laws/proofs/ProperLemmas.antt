@@ -9,22 +9,23 @@ use Rattle.rand_core.specs.Stream.{Stream}
 use Rattle.sctp_state.specs.Options.{Options}
 use Rattle.sctp_state.specs.Events.{GivenUp}
 use Rattle.sctp_table.specs.Association.{Endpoint}
+use Rattle.sctp_table.specs.Resets.{reset_refusal}
 use Rattle.sctp_table.specs.Laws as table
 use Rattle.sctp_table_laws.specs.Mapped.{Mapping, Carried, map_end, as_bytes}
 use Rattle.sctp_course.specs.Course as course
 use Rattle.sctp_course.specs.Course.{Pair, Turn, Calls, turned, goes, start}
 use Rattle.sctp_delivery.specs.Accepted.{Offer, accepted_in}
 use Rattle.sctp_delivery.specs.Proper as courses
-use Rattle.sctp_delivery.specs.Proper.{Acceptance, accepted_then, gone_by, gone_at, forgone_then, IsProper, restores}
+use Rattle.sctp_delivery.specs.Proper.{Acceptance, accepted_then, gone_by, gone_at, reset_unless, reset_by, reset_at, forgone_then, IsProper, restores}
 use Rattle.sctp_delivery.proofs.ProperActsLemmas.{IsProperAt}
 use Rattle.sctp_delivery.proofs.ProperOffersLemmas.{shorter}
 use Rattle.sctp_delivery.proofs.ProperCourseLemmas.{Rests, Turns, accepted_now, goes_on, offers_back, at_first}
-use Rattle.sctp_network_table.specs.Judge.{End, A, B, same_end, none_unless, Entry, Called, Given, Foreign, Timed, GaveUp, Call, Connect, given_up_by, given_up}
-use Rattle.sctp_network_table.specs.World.{Side, World, Action, CallOf, Give, GiveForeign, TellTime, ComesTo, told, skipped, Gives, Happens, Runs, side_of, other, settled, news_of, calls, call_entry, after_call, tells_time, time_entry, after_time, step_of, association, ready_at, fresh_world}
+use Rattle.sctp_network_table.specs.Judge.{End, A, B, same_end, none_unless, Entry, Called, Given, Foreign, Timed, GaveUp, Call, Connect, Reset, given_up_by, given_up}
+use Rattle.sctp_network_table.specs.World.{Side, World, Action, CallOf, Give, GiveForeign, TellTime, ComesTo, told, skipped, Gives, Happens, Runs, side_of, other, settled, news_of, calls, call_entry, after_call, tells_time, time_entry, after_time, step_of, answer_to, association, ready_at, fresh_world}
 use Rattle.sctp_network_table.specs.World as worlds
 use Rattle.sctp_network_laws.specs.Courses.{ActionFits, IsInBytes, is_a, end_of, hearing, IsForeign, IsTurnOf}
 use Rattle.sctp_network_laws.specs.Delivered.{offers_by, offers}
-use Rattle.sctp_network_laws.specs.Proper.{clock_if, clock_after, clock_from, clock, acceptances_by, acceptances, WorldsAreProper, AcceptancesAreOffers}
+use Rattle.sctp_network_laws.specs.Proper.{clock_if, clock_after, clock_from, clock, reset_in, resets_if, resets_after, resets_from, resets, acceptances_by, acceptances, WorldsAreProper, AcceptancesAreOffers}
 use Rattle.sctp_network_laws.proofs.LoggedLemmas.{IsQuietOn, none_in_news}
 use Rattle.sctp_course.proofs.JoinLemmas.{not_both}
 use Rattle.sctp_network_laws.proofs.EventLemmas.{same_itself}
@@ -38,35 +39,39 @@ use Rattle.sctp_network_laws.proofs.DeliveredLemmas.{calls_log, time_side, time_
 
 -- ---- a log, entry by entry
 
--- of a record of this end, by what was accepted so far and the clock
-abbrev IsRight : End → List Acceptance → (now : ℕ) → Entry → Type 0
-IsRight x all now (GaveUp y g) = same_end x y ≡ true → IsProperAt all now g
-IsRight x all now entry = ⊤
+-- of a record of this end, by what was accepted so far, the clock, and the streams that the event resets
+abbrev IsRight : End → List Acceptance → (now : ℕ) → (resets : List ℕ) → Entry → Type 0
+IsRight x all now resets (GaveUp y g) = same_end x y ≡ true → IsProperAt all resets now g
+IsRight x all now resets entry = ⊤
 
-abbrev Each : End → List Acceptance → (now : ℕ) → List Entry → Type 0
-Each x all now [] = ⊤
-Each x all now (e ∷ log) = IsRight x all now e × Each x (all ++ acceptances_by x e) (clock_after x now e) log
+abbrev Each : End → List Acceptance → (now : ℕ) → (resets : List ℕ) → List Entry → Type 0
+Each x all now resets [] = ⊤
+Each x all now resets (e ∷ log) = IsRight x all now resets e × Each x (all ++ acceptances_by x e) (clock_after x now e) (resets_after x resets e) log
 
-each_both : (x : End) (all : List Acceptance) (now : ℕ) (log more : List Entry) → Each x all now log → Each x (all ++ acceptances x log) (clock_from x now log) more
-    → Each x all now (log ++ more)
-each_both x all now [] more h k = subst (λ (l : List Acceptance). Each x l now more) (append-nil all) k
-each_both x all now (e ∷ log) more h k = (
-  h.0,
-  each_both x (all ++ acceptances_by x e) (clock_after x now e) log more h.1
-      (subst (λ (l : List Acceptance). Each x l (clock_from x (clock_after x now e) log) more) (sym (append_assoc all (acceptances_by x e) (acceptances x log))) k),
-)
+each_both : (x : End) (all : List Acceptance) (now : ℕ) (resets : List ℕ) (log more : List Entry) → Each x all now resets log
+    → Each x (all ++ acceptances x log) (clock_from x now log) (resets_from x resets log) more → Each x all now resets (log ++ more)
+each_both x all now resets [] more h k = subst (λ (l : List Acceptance). Each x l now resets more) (append-nil all) k
+each_both x all now resets (e ∷ log) more h k =
+    let later : List ℕ = resets_after x resets e in (
+      h.0,
+      each_both x (all ++ acceptances_by x e) (clock_after x now e) later log more h.1
+          (subst (λ (l : List Acceptance). Each x l (clock_from x (clock_after x now e) log) (resets_from x later log) more)
+          (sym (append_assoc all (acceptances_by x e) (acceptances x log))) k),
+    )
 
-at_each : (x : End) (all : List Acceptance) (now : ℕ) (log before behind : List Entry) (g : GivenUp) → Each x all now log → log ≡ before ++ GaveUp x g ∷ behind
-    → IsProperAt (all ++ acceptances x before) (clock_from x now before) g
-at_each x all now [] [] behind g h is = cc
-at_each x all now [] (f ∷ before) behind g h is = cc
-at_each x all now (d ∷ log) [] behind g h is =
-    subst (λ (l : List Acceptance). IsProperAt l now g) (sym (append-nil all))
-    (subst (IsRight x all now) (split_head d (GaveUp x g) log behind is) h.0 (same_itself x))
-at_each x all now (d ∷ log) (f ∷ before) behind g h is =
-    subst (λ (e : Entry). IsProperAt (all ++ (acceptances_by x e ++ acceptances x before)) (clock_from x (clock_after x now e) before) g) (split_head d f log (before ++ GaveUp x g ∷ behind) is)
-    (subst (λ (l : List Acceptance). IsProperAt l (clock_from x (clock_after x now d) before) g) (append_assoc all (acceptances_by x d) (acceptances x before))
-    (at_each x (all ++ acceptances_by x d) (clock_after x now d) log before behind g h.1 (split_tail d f log (before ++ GaveUp x g ∷ behind) is)))
+at_each : (x : End) (all : List Acceptance) (now : ℕ) (resets : List ℕ) (log before behind : List Entry) (g : GivenUp) → Each x all now resets log
+    → log ≡ before ++ GaveUp x g ∷ behind → IsProperAt (all ++ acceptances x before) (resets_from x resets before) (clock_from x now before) g
+at_each x all now resets [] [] behind g h is = cc
+at_each x all now resets [] (f ∷ before) behind g h is = cc
+at_each x all now resets (d ∷ log) [] behind g h is =
+    subst (λ (l : List Acceptance). IsProperAt l resets now g) (sym (append-nil all))
+    (subst (IsRight x all now resets) (split_head d (GaveUp x g) log behind is) h.0 (same_itself x))
+at_each x all now resets (d ∷ log) (f ∷ before) behind g h is =
+    subst (λ (e : Entry). IsProperAt (all ++ (acceptances_by x e ++ acceptances x before)) (resets_from x (resets_after x resets e) before) (clock_from x (clock_after x now e) before) g)
+    (split_head d f log (before ++ GaveUp x g ∷ behind) is)
+    (subst (λ (l : List Acceptance). IsProperAt l (resets_from x (resets_after x resets d) before) (clock_from x (clock_after x now d) before) g)
+    (append_assoc all (acceptances_by x d) (acceptances x before))
+    (at_each x (all ++ acceptances_by x d) (clock_after x now d) (resets_after x resets d) log before behind g h.1 (split_tail d f log (before ++ GaveUp x g ∷ behind) is)))
 
 -- ---- entries behind the first of an event
 
@@ -97,11 +102,11 @@ stand_still x now (Foreign y clock bytes ∷ more) h = cc
 stand_still x now (Timed y clock moment ∷ more) h = cc
 stand_still x now (e ∷ more) h = stand_still x now more h
 
-module _ (x : End) (all : List Acceptance) (now : ℕ) where
-  each_more : (log : List Entry) → Each x all now log → Each x (all ++ []) now log
-  each_more log h = subst (λ (l : List Acceptance). Each x l now log) (sym (append-nil all)) h
+module _ (x : End) (all : List Acceptance) (resets : List ℕ) (now : ℕ) where
+  each_more : (log : List Entry) → Each x all now resets log → Each x (all ++ []) now resets log
+  each_more log h = subst (λ (l : List Acceptance). Each x l now resets log) (sym (append-nil all)) h
 
-  each_quiet : (more : List Entry) → flat_map firsts more ≡ [] → AllByRecursion (IsProperAt all now) (given_up x more) → Each x all now more
+  each_quiet : (more : List Entry) → flat_map firsts more ≡ [] → AllByRecursion (IsProperAt all resets now) (given_up x more) → Each x all now resets more
   each_quiet [] h k = tt
   each_quiet (Called y clock call answer ∷ more) h k = cc
   each_quiet (Given y clock packet ∷ more) h k = cc
@@ -109,19 +114,20 @@ module _ (x : End) (all : List Acceptance) (now : ℕ) where
   each_quiet (Timed y clock moment ∷ more) h k = cc
   each_quiet (GaveUp y g ∷ more) h k = go (same_end x y) refl k (λ l. each_more more (each_quiet more h l))
     where
-      go : (b : Bool) → same_end x y ≡ b → AllByRecursion (IsProperAt all now) (none_unless b g ++ given_up x more)
-          → (AllByRecursion (IsProperAt all now) (given_up x more) → Each x (all ++ []) now more) → Each x all now (GaveUp y g ∷ more)
+      go : (b : Bool) → same_end x y ≡ b → AllByRecursion (IsProperAt all resets now) (none_unless b g ++ given_up x more)
+          → (AllByRecursion (IsProperAt all resets now) (given_up x more) → Each x (all ++ []) now resets more) → Each x all now resets (GaveUp y g ∷ more)
       go true is k rest = (λ e. k.0, rest k.1)
       go false is k rest = (λ e. absurd (not_both (same_end x y) e is), rest k)
   each_quiet (e ∷ more) h k = (tt, each_more more (each_quiet more h k))
 
 -- ---- one event at end x, which was `own` in the course and is `next`
 
--- a first entry with this clock
-record HasClock (x : End) (n : ℕ) (first : Entry) : Type 0 where
-  right : (y : End) (all : List Acceptance) (now : ℕ) → IsRight y all now first
+-- a first entry with this clock, at which these streams are reset
+record HasClock (x : End) (n : ℕ) (cleared : List ℕ) (first : Entry) : Type 0 where
+  right : (y : End) (all : List Acceptance) (now : ℕ) (rs : List ℕ) → IsRight y all now rs first
   takes : (y : End) → acceptances_by y first ≡ map (accepted_then n) (offers_by y first)
   ticks : (y : End) (m : ℕ) → clock_after y m first ≡ clock_if (same_end y x) n m
+  clears : (y : End) (rs : List ℕ) → resets_after y rs first ≡ resets_if (same_end y x) cleared rs
   gone : (y : End) → given_up_by y first ≡ []
 
 record Marks (x : End) (turn : Turn) (own next : course.Side) (log longer : List Entry) : Type 0 where
@@ -129,15 +135,16 @@ record Marks (x : End) (turn : Turn) (own next : course.Side) (log longer : List
   more : List Entry
   logged : longer ≡ log ++ first ∷ more
   quiet : flat_map firsts more ≡ []
-  right : (y : End) (all : List Acceptance) (now : ℕ) → IsRight y all now first
+  right : (y : End) (all : List Acceptance) (now : ℕ) (rs : List ℕ) → IsRight y all now rs first
   gone : (y : End) → given_up_by y first ≡ []
   accepts : acceptances_by x first ≡ map (accepted_then (courses.clock own)) (accepted_in turn own)
   accepts_none : acceptances_by (other x) first ≡ []
   ticks : (m : ℕ) → clock_after x m first ≡ courses.clock next
   ticks_none : (m : ℕ) → clock_after (other x) m first ≡ m
+  clears : (rs : List ℕ) → resets_after x rs first ≡ reset_by turn own
 
 marks_by : (x : End) (turn : Turn) (own next : course.Side) (log longer : List Entry) (first : Entry) (more : List Entry) (n : ℕ)
-    → longer ≡ log ++ first ∷ more → flat_map firsts more ≡ [] → HasClock x n first → offers_by x first ≡ accepted_in turn own → offers_by (other x) first ≡ []
+    → longer ≡ log ++ first ∷ more → flat_map firsts more ≡ [] → HasClock x n (reset_by turn own) first → offers_by x first ≡ accepted_in turn own → offers_by (other x) first ≡ []
     → map (accepted_then n) (accepted_in turn own) ≡ map (accepted_then (courses.clock own)) (accepted_in turn own) → n ≡ courses.clock next
     → Marks x turn own next log longer
 marks_by x turn own next log longer first more n logged quiet h offers none then is = record {
@@ -151,6 +158,7 @@ marks_by x turn own next log longer first more n logged quiet h offers none then
   accepts_none = h.takes (other x) ∙ ap (map (accepted_then n)) none;
   ticks = λ m. h.ticks x m ∙ (ap (λ (b : Bool). clock_if b n m) (same_itself x) ∙ is);
   ticks_none = λ m. h.ticks (other x) m ∙ ap (λ (b : Bool). clock_if b n m) (not_other x);
+  clears = λ rs. h.clears x rs ∙ ap (λ (b : Bool). resets_if b (reset_by turn own) rs) (same_itself x);
 }
 
 call_still : (call : Call) → moves (Calls (step_of call)) ≡ false
@@ -171,17 +179,26 @@ module _ (f : Mapping Carried (List ℕ)) (x : End) (own beside : course.Side) (
   quiet_news : (after : Endpoint (List ℕ)) → flat_map firsts (news_of x (side_of x w) after) ≡ []
   quiet_news after = none_in_news firsts x (none_first x) (λ m. refl) (length (side_of x w).packets) (length (ready_at s)) (association s) after
 
-  still_marks : (first : Entry) (more : List Entry) → moves turn ≡ false → u.log ≡ w.log ++ first ∷ more → flat_map firsts more ≡ [] → HasClock x (worlds.clock s) first
+  still_marks : (first : Entry) (more : List Entry) → moves turn ≡ false → u.log ≡ w.log ++ first ∷ more → flat_map firsts more ≡ [] → HasClock x (worlds.clock s) (reset_by turn own) first
       → offers_by x first ≡ accepted_in turn own → offers_by (other x) first ≡ [] → Marks x turn own next w.log u.log
   still_marks first more still logged quiet h offers none =
       marks_by x turn own next w.log u.log first more (worlds.clock s) logged quiet h offers none (ap (λ (n : ℕ). map (accepted_then n) (accepted_in turn own)) clock_is)
       (clock_is ∙ sym (turn_still turn own beside still))
 
+  -- the streams that a call resets
+  call_resets : (call : Call) → reset_in call (answer_to call s) ≡ reset_by (Calls (step_of call)) own
+  call_resets (Reset streams) = ap (λ (z : Endpoint (List ℕ)). reset_unless (reset_refusal z.standing.state) streams) is
+  call_resets call = refl
+
+  cleared_by : (cleared : List ℕ) → cleared ≡ reset_by turn own → (y : End) (rs : List ℕ) → resets_if (same_end y x) cleared rs ≡ resets_if (same_end y x) (reset_by turn own) rs
+  cleared_by cleared e y rs = ap (λ (r : List ℕ). resets_if (same_end y x) r rs) e
+
   call_marks : (call : Call) → turn ≡ Calls (step_of call) → u ≡ calls x call w → Marks x turn own next w.log u.log
   call_marks call t e =
       let b : BeginsWith x (Calls (step_of call)) own (call_entry x call s) = call_begins f x own s is call in
       still_marks (call_entry x call s) (news_of x (side_of x w) (after_call call s)) (ap moves t ∙ call_still call) (ap (λ (z : World). z.log) e ∙ calls_log x call w)
-      (quiet_news (after_call call s)) (record { right = λ y all now. tt; takes = λ y. refl; ticks = λ y m. refl; gone = λ y. refl })
+      (quiet_news (after_call call s))
+      (record { right = λ y all now rs. tt; takes = λ y. refl; ticks = λ y m. refl; clears = cleared_by (reset_in call (answer_to call s)) (call_resets call ∙ ap (λ (z : Turn). reset_by z own) (sym t)); gone = λ y. refl })
       (b.offers ∙ ap (λ (z : Turn). accepted_in z own) (sym t)) b.no_offers
 
   time_marks : (now : ℕ) → turn ≡ Calls (table.Advance now) → u ≡ tells_time x now w → Marks x turn own next w.log u.log
@@ -190,22 +207,24 @@ module _ (f : Mapping Carried (List ℕ)) (x : End) (own beside : course.Side) (
       let none : accepted_in turn own ≡ [] = ap (λ (z : Turn). accepted_in z own) t in
       let at : side_of x u ≡ settled (side_of x w) after = ap (side_of x) e ∙ time_side x now w in
       marks_by x turn own next w.log u.log (time_entry x now s) (news_of x (side_of x w) after) (worlds.clock after) (ap (λ (z : World). z.log) e ∙ time_log x now w)
-      (quiet_news after) (record { right = λ y all m. tt; takes = λ y. refl; ticks = λ y m. refl; gone = λ y. refl }) (sym none) refl
+      (quiet_news after)
+      (record { right = λ y all m rs. tt; takes = λ y. refl; ticks = λ y m. refl; clears = cleared_by [] (sym (ap (λ (z : Turn). reset_by z own) t)); gone = λ y. refl })
+      (sym none) refl
       (ap (map (accepted_then (worlds.clock after))) none ∙ sym (ap (map (accepted_then (courses.clock own))) none))
       (ap (λ (z : Side). worlds.clock z.socket) (sym at) ∙ ap worlds.clock is_next)
 
-  give_marks : (packet : ℕ) → moves turn ≡ false → accepted_in turn own ≡ [] → Gives x packet w u → Marks x turn own next w.log u.log
-  give_marks packet still none g =
+  give_marks : (packet : ℕ) → moves turn ≡ false → accepted_in turn own ≡ [] → reset_by turn own ≡ [] → Gives x packet w u → Marks x turn own next w.log u.log
+  give_marks packet still none clear g =
       still_marks (Given x (worlds.clock s) packet) (news_of x (side_of x w) g.told.after) still g.told.logged (quiet_news g.told.after)
-      (record { right = λ y all now. tt; takes = λ y. refl; ticks = λ y m. refl; gone = λ y. refl }) (sym none) refl
+      (record { right = λ y all now rs. tt; takes = λ y. refl; ticks = λ y m. refl; clears = cleared_by [] (sym clear); gone = λ y. refl }) (sym none) refl
 
-  foreign_marks : (bytes : List ℕ) → moves turn ≡ false → accepted_in turn own ≡ [] → ComesTo x bytes (side_of x w) (side_of x u) w.log u.log → Marks x turn own next w.log u.log
-  foreign_marks bytes still none (told t judged) =
+  foreign_marks : (bytes : List ℕ) → moves turn ≡ false → accepted_in turn own ≡ [] → reset_by turn own ≡ [] → ComesTo x bytes (side_of x w) (side_of x u) w.log u.log → Marks x turn own next w.log u.log
+  foreign_marks bytes still none clear (told t judged) =
       still_marks (Foreign x (worlds.clock s) (Some bytes)) (news_of x (side_of x w) t.after) still t.logged (quiet_news t.after)
-      (record { right = λ y all now. tt; takes = λ y. refl; ticks = λ y m. refl; gone = λ y. refl }) (sym none) refl
-  foreign_marks bytes still none (skipped judged stays logged) =
+      (record { right = λ y all now rs. tt; takes = λ y. refl; ticks = λ y m. refl; clears = cleared_by [] (sym clear); gone = λ y. refl }) (sym none) refl
+  foreign_marks bytes still none clear (skipped judged stays logged) =
       still_marks (Foreign x (worlds.clock s) None) [] still logged refl
-      (record { right = λ y all now. tt; takes = λ y. refl; ticks = λ y m. refl; gone = λ y. refl }) (sym none) refl
+      (record { right = λ y all now rs. tt; takes = λ y. refl; ticks = λ y m. refl; clears = cleared_by [] (sym clear); gone = λ y. refl }) (sym none) refl
 
 -- ---- what the turns are
 
@@ -225,6 +244,14 @@ foreign_moves : (bytes : List ℕ) (turn : Turn) → IsForeign bytes turn → mo
 foreign_moves bytes turn (inl h) = ap moves h.2
 foreign_moves bytes turn (inr h) = ap moves h
 
+hearing_resets : (b : Bool) (n sum : ℕ) (own : course.Side) → reset_by (hearing b n sum) own ≡ []
+hearing_resets true n sum own = refl
+hearing_resets false n sum own = refl
+
+foreign_resets : (bytes : List ℕ) (own : course.Side) (turn : Turn) → IsForeign bytes turn → reset_by turn own ≡ []
+foreign_resets bytes own turn (inl h) = ap (λ (z : Turn). reset_by z own) h.2
+foreign_resets bytes own turn (inr h) = ap (λ (z : Turn). reset_by z own) h
+
 module _ (word_of_a word_of_b : List ℕ → ℕ) where
   turn_restores : (action : Action) (turn : Turn) (c : Pair) → IsTurnOf word_of_a word_of_b action turn c → restores turn ≡ false
   turn_restores (CallOf x call) turn c is = ap restores is ∙ call_restores call
@@ -241,14 +268,14 @@ module _ (word_of_a word_of_b : List ℕ → ℕ) where
   marks_of (CallOf B call) w u c turn e is h k = call_marks (as_bytes word_of_b) B c.b c.a turn w u h.b.image.socket k.b.image.socket call is e
   marks_of (Give n A) w u c turn g is h k =
       give_marks (as_bytes word_of_a) A c.a c.b turn w u h.a.image.socket k.a.image.socket n (ap moves is.heard ∙ hearing_moves _ n _)
-      (given_accepts word_of_a word_of_b n c.a c.b c.a turn is) g
+      (given_accepts word_of_a word_of_b n c.a c.b c.a turn is) (ap (λ (z : Turn). reset_by z c.a) is.heard ∙ hearing_resets _ n _ c.a) g
   marks_of (Give n B) w u c turn g is h k =
       give_marks (as_bytes word_of_b) B c.b c.a turn w u h.b.image.socket k.b.image.socket n (ap moves is.heard ∙ hearing_moves _ n _)
-      (given_accepts word_of_b word_of_a n c.b c.a c.b turn is) g
+      (given_accepts word_of_b word_of_a n c.b c.a c.b turn is) (ap (λ (z : Turn). reset_by z c.b) is.heard ∙ hearing_resets _ n _ c.b) g
   marks_of (GiveForeign A bytes) w u c turn g is h k =
-      foreign_marks (as_bytes word_of_a) A c.a c.b turn w u h.a.image.socket k.a.image.socket bytes (foreign_moves bytes turn is) (foreign_accepts bytes c.a turn is) g.comes
+      foreign_marks (as_bytes word_of_a) A c.a c.b turn w u h.a.image.socket k.a.image.socket bytes (foreign_moves bytes turn is) (foreign_accepts bytes c.a turn is) (foreign_resets bytes c.a turn is) g.comes
   marks_of (GiveForeign B bytes) w u c turn g is h k =
-      foreign_marks (as_bytes word_of_b) B c.b c.a turn w u h.b.image.socket k.b.image.socket bytes (foreign_moves bytes turn is) (foreign_accepts bytes c.b turn is) g.comes
+      foreign_marks (as_bytes word_of_b) B c.b c.a turn w u h.b.image.socket k.b.image.socket bytes (foreign_moves bytes turn is) (foreign_accepts bytes c.b turn is) (foreign_resets bytes c.b turn is) g.comes
   marks_of (TellTime A now) w u c turn e is h k = time_marks (as_bytes word_of_a) A c.a c.b turn w u h.a.image.socket k.a.image.socket now is e
   marks_of (TellTime B now) w u c turn e is h k = time_marks (as_bytes word_of_b) B c.b c.a turn w u h.b.image.socket k.b.image.socket now is e
 
@@ -268,11 +295,20 @@ ticks_at B A turn c log longer m = m.ticks_none (courses.clock c.b)
 ticks_at A B turn c log longer m = m.ticks_none (courses.clock c.a)
 ticks_at B B turn c log longer m = m.ticks (courses.clock c.b)
 
+-- what is told at the turn of either end is proper, with the streams that the log says
+tells_at : (x y : End) (turn : Turn) (c : Pair) (log longer : List Entry) (m : Marks y turn (course.side_of (is_a y) c) (course.side_of (is_a y) (goes (is_a y) turn c)) log longer)
+    (all : List Acceptance) (now : ℕ) (rs : List ℕ) → AllByRecursion (IsProperAt all (reset_at (is_a x) (is_a y) turn c) now) (gone_at (is_a x) (is_a y) turn c)
+    → AllByRecursion (IsProperAt all (resets_after x rs m.first) now) (gone_at (is_a x) (is_a y) turn c)
+tells_at A A turn c log longer m all now rs h = subst (λ (r : List ℕ). AllByRecursion (IsProperAt all r now) (gone_at true true turn c)) (sym (m.clears rs)) h
+tells_at B A turn c log longer m all now rs h = tt
+tells_at A B turn c log longer m all now rs h = tt
+tells_at B B turn c log longer m all now rs h = subst (λ (r : List ℕ). AllByRecursion (IsProperAt all r now) (gone_at false false turn c)) (sym (m.clears rs)) h
+
 -- ---- along a run
 
 -- what is known of an end and of its log
 record Known (x : End) (log : List Entry) (end : course.Side) : Type 0 where
-  each : Each x [] 0 log
+  each : Each x [] 0 [] log
   time : clock x log ≡ courses.clock end
   rests : Rests (acceptances x log) end
 
@@ -301,7 +337,7 @@ module _ (x y : End) (turn : Turn) (c : Pair) (log longer : List Entry)
       (ap (λ (l : List Acceptance). acceptances_by x m.first ++ l) (accept_none x m.more m.quiet)
       ∙ (append-nil (acceptances_by x m.first) ∙ accepts_at x y turn c log longer m)))
 
-  turns : Turns (old ++ new) then (gone_at (is_a x) (is_a y) turn c)
+  turns : Turns (old ++ new) (reset_at (is_a x) (is_a y) turn c) then (gone_at (is_a x) (is_a y) turn c)
   turns = goes_on old (is_a x) (is_a y) turn c none (subst (λ (l : List Acceptance). length l < 2 ^ 32) grown few) k.rests
 
   ticked : clock_after x (clock x log) m.first ≡ courses.clock then
@@ -310,16 +346,20 @@ module _ (x y : End) (turn : Turn) (c : Pair) (log longer : List Entry)
   gone_more : given_up x m.more ≡ gone_at (is_a x) (is_a y) turn c
   gone_more = sym (ap (λ (l : List GivenUp). l ++ given_up x m.more) (m.gone x)) ∙ gone
 
-  behind : Each x (old ++ acceptances_by x m.first) (clock_after x (clock x log) m.first) m.more
+  abbrev reset_now : List ℕ
+  reset_now = resets_after x (resets x log) m.first
+
+  behind : Each x (old ++ acceptances_by x m.first) (clock_after x (clock x log) m.first) reset_now m.more
   behind =
-      subst (λ (l : List Acceptance). Each x (old ++ l) (clock_after x (clock x log) m.first) m.more) (sym (accepts_at x y turn c log longer m))
-      (subst (λ (n : ℕ). Each x (old ++ new) n m.more) (sym ticked)
-      (each_quiet x (old ++ new) (courses.clock then) m.more m.quiet
-      (subst (AllByRecursion (IsProperAt (old ++ new) (courses.clock then))) (sym gone_more) turns.proper)))
+      subst (λ (l : List Acceptance). Each x (old ++ l) (clock_after x (clock x log) m.first) reset_now m.more) (sym (accepts_at x y turn c log longer m))
+      (subst (λ (n : ℕ). Each x (old ++ new) n reset_now m.more) (sym ticked)
+      (each_quiet x (old ++ new) reset_now (courses.clock then) m.more m.quiet
+      (subst (AllByRecursion (IsProperAt (old ++ new) reset_now (courses.clock then))) (sym gone_more)
+      (tells_at x y turn c log longer m (old ++ new) (courses.clock then) (resets x log) turns.proper))))
 
   known_on : Known x longer then
   known_on = record {
-    each = subst (Each x [] 0) (sym m.logged) (each_both x [] 0 log (m.first ∷ m.more) k.each (m.right x old (clock x log), behind));
+    each = subst (Each x [] 0 []) (sym m.logged) (each_both x [] 0 [] log (m.first ∷ m.more) k.each (m.right x old (clock x log) (resets x log), behind));
     time =
         ap (clock x) m.logged
         ∙ (clock_both x 0 log (m.first ∷ m.more) ∙ (stand_still x (clock_after x (clock x log) m.first) m.more m.quiet ∙ ticked));
@@ -328,8 +368,8 @@ module _ (x y : End) (turn : Turn) (c : Pair) (log longer : List Entry)
 
 module _ (word_of_a word_of_b : List ℕ → ℕ) (x : End) where
   along : (actions : List Action) (w v : World) (c : Pair) → All ActionFits actions → Runs actions w v → IsInBytes v → Both word_of_a word_of_b w c
-      → length (acceptances x v.log) < 2 ^ 32 → Known x w.log (course.side_of (is_a x) c) → Each x [] 0 v.log
-  along [] w v c fit e small h few k = subst (λ (z : World). Each x [] 0 z.log) (sym e) k.each
+      → length (acceptances x v.log) < 2 ^ 32 → Known x w.log (course.side_of (is_a x) c) → Each x [] 0 [] v.log
+  along [] w v c fit e small h few k = subst (λ (z : World). Each x [] 0 [] z.log) (sym e) k.each
   along (action ∷ actions) w v c fit r small h few k =
       let u : World = r.0 in
       let later : Extends u v = runs_extends actions u v r.2 in
@@ -368,7 +408,7 @@ known_first B a b words_a words_b = record { each = tt; time = refl; rests = at_
 
 pub worlds_proper : WorldsAreProper
 worlds_proper a b words_a words_b word_of_a word_of_b actions w fits_a fits_b fit runs small x few before behind g is =
-    at_each x [] 0 w.log before behind g
+    at_each x [] 0 [] w.log before behind g
     (along word_of_a word_of_b x actions (fresh_world a b words_a words_b word_of_a word_of_b) w (start a b words_a words_b) fit runs small
     (fresh_both a b words_a words_b word_of_a word_of_b fits_a fits_b) (subst (λ (n : ℕ). n < 2 ^ 32) (as_many x w.log) few) (known_first x a b words_a words_b))
     is

@@ -1,13 +1,13 @@
 -- Why an end of a world gave messages up, by the log alone: a record is proper where its message was accepted before it, and either
--- outlived its lifetime or was sent again as often as it may be.
+-- outlived its lifetime, or was sent again as often as it may be, or the event is a call that reset its stream.
 use Rattle.std.specs.Prelude.{◌≡◌, ℕ, ◌^◌, ◌<◌, Bool, true, false, List, [], ◌∷◌, ◌++◌, length, map, All}
 use Rattle.std.specs.List.{flat_map}
 use Rattle.rand_core.specs.Stream.{Stream}
 use Rattle.sctp_state.specs.Options.{Options}
 use Rattle.sctp_state.specs.Events.{GivenUp}
 use Rattle.sctp_table_laws.specs.Sound.{OptionsFit}
-use Rattle.sctp_delivery.specs.Proper.{Acceptance, accepted_then, forgone_then, IsProper}
-use Rattle.sctp_network_table.specs.Judge.{End, same_end, Entry, Called, Given, Foreign, Timed, GaveUp}
+use Rattle.sctp_delivery.specs.Proper.{Acceptance, accepted_then, reset_unless, forgone_then, IsProper}
+use Rattle.sctp_network_table.specs.Judge.{End, same_end, Call, Reset, Answer, AskedReset, Entry, Called, Given, Foreign, Timed, GaveUp}
 use Rattle.sctp_network_table.specs.World.{World, Action, Runs, fresh_world}
 use Rattle.sctp_network_laws.specs.Courses.{ActionFits, IsInBytes}
 use Rattle.sctp_network_laws.specs.Delivered.{offers_by, offers}
@@ -34,6 +34,32 @@ clock_from x before (entry ∷ log) = clock_from x (clock_after x before entry) 
 abbrev pub clock : End → List Entry → ℕ
 clock x log = clock_from x 0 log
 
+-- ---- streams that are reset
+
+abbrev pub reset_in : Call → Answer → List ℕ
+reset_in (Reset streams) (AskedReset refused) = reset_unless refused streams
+reset_in call answer = []
+
+abbrev pub resets_if : Bool → (streams before : List ℕ) → List ℕ
+resets_if true streams before = streams
+resets_if false streams before = before
+
+-- Each event of an end begins with the streams that it resets: those of a call that answered Ok.
+abbrev pub resets_after : End → (before : List ℕ) → Entry → List ℕ
+resets_after x before (Called y clock call answer) = resets_if (same_end x y) (reset_in call answer) before
+resets_after x before (Given y clock packet) = resets_if (same_end x y) [] before
+resets_after x before (Foreign y clock bytes) = resets_if (same_end x y) [] before
+resets_after x before (Timed y clock now) = resets_if (same_end x y) [] before
+resets_after x before entry = before
+
+abbrev pub resets_from : End → (before : List ℕ) → List Entry → List ℕ
+resets_from x before [] = before
+resets_from x before (entry ∷ log) = resets_from x (resets_after x before entry) log
+
+-- those of an end's last event
+abbrev pub resets : End → List Entry → List ℕ
+resets x log = resets_from x [] log
+
 -- ---- what was accepted, and when
 
 abbrev pub acceptances_by : End → Entry → List Acceptance
@@ -48,7 +74,7 @@ acceptances x log = flat_map (acceptances_by x) log
 -- each record of this end, by what stands before it
 abbrev pub AreProper : End → List Entry → Type 0
 AreProper x log =
-    (before behind : List Entry) (g : GivenUp) → log ≡ before ++ GaveUp x g ∷ behind → IsProper (acceptances x before) (forgone_then (clock x before) g)
+    (before behind : List Entry) (g : GivenUp) → log ≡ before ++ GaveUp x g ∷ behind → IsProper (acceptances x before) (forgone_then (clock x before) (resets x before) g)
 
 -- In each run, where an end accepts fewer than 2^32 messages.
 abbrev pub WorldsAreProper : Type 0

@@ -1,5 +1,5 @@
 -- Fragments that were received, until the message that they belong to is ready, and ready messages, until they are taken.
-use Rattle.std.specs.Prelude.{◌≡◌, ℕ, ◌+◌, ◌-◌, ◌*◌, ◌/◌, ◌^◌, ◌<◌, ◌≤◌, ◌&&◌, nat_lt, nat_le, min, max, sum_by, Bool, false, if◌then◌else◌, Option, Some, None, is_some, unwrap_or, List, [], ◌∷◌, ◌++◌, length}
+use Rattle.std.specs.Prelude.{◌≡◌, ℕ, ◌+◌, ◌-◌, ◌*◌, ◌/◌, ◌^◌, ◌<◌, ◌≤◌, ◌&&◌, ◌==◌, nat_lt, nat_le, min, max, sum_by, Bool, true, false, if◌then◌else◌, Option, Some, None, is_some, unwrap_or, List, [], ◌∷◌, ◌++◌, length}
 use Rattle.sctp_serial.specs.declared.api.StreamId.{StreamId}
 use Rattle.sctp_serial.specs.Messages.{Message}
 use Rattle.sctp_serial.specs.Unwrapped.{origin, words, nearest}
@@ -7,7 +7,7 @@ use Rattle.sctp_chunk.specs.declared.forward_tsn.SkippedStream.{SkippedStream}
 use Rattle.sctp_chunk.specs.Chunk.{FragmentTree}
 use Rattle.sctp_reassembly.specs.Delivery.{ready_bytes}
 use Rattle.sctp_reassembly.specs.Streams as streams
-use Rattle.sctp_reassembly.specs.Streams.{Streams, Outcome, no_streams, held_bytes, is_far, is_named}
+use Rattle.sctp_reassembly.specs.Streams.{Streams, Outcome, no_streams, held_bytes, is_far, is_named, entries_in}
 
 -- what came while a reset was deferred, with SSNs and MIDs as they came
 pub data Waiting : Type 0 where
@@ -105,12 +105,16 @@ add_now n f r = made (streams.add n f r.streams) r
 abbrev pub forward_now : ℕ → List SkippedStream → Reassembly → Reassembly
 forward_now n es r = made (streams.forward n es r.streams) r
 
+-- what a forward point says of these streams, or of the others
+abbrev pub forward_in : (named : Bool) → List StreamId → ℕ → List SkippedStream → Reassembly → Reassembly
+forward_in named ids n es r = made (streams.forward_in named ids n es r.streams) r
+
 -- while a reset is deferred, a fragment above its last TSN waits if it is on one of its streams
 abbrev pub fragment_waits : ℕ → ℕ → Option Deferred → Bool
 fragment_waits n id None = false
 fragment_waits n id (Some d) = nat_lt d.last n && is_named d.streams id
 
--- and so does a forward point above it
+-- and so does a part of a forward point above it
 abbrev pub point_waits : ℕ → Option Deferred → Bool
 point_waits n None = false
 point_waits n (Some d) = nat_lt d.last n
@@ -125,9 +129,25 @@ waits w r = record r { deferred = with_waiting w r.deferred }
 abbrev pub add_or_wait : ℕ → FragmentTree → Reassembly → Reassembly
 add_or_wait n f r = if fragment_waits n f.stream_id r.deferred then waits (Added n f) r else add_now n f r
 
--- the part of a forward point that waits is all of it
+-- the streams of the reset, and what waits for it
+abbrev pub resetting : Option Deferred → List StreamId
+resetting None = []
+resetting (Some d) = d.streams
+
+abbrev pub waiting_in : Option Deferred → List Waiting
+waiting_in None = []
+waiting_in (Some d) = d.waiting
+
+-- Entries for the reset's streams wait. With none, and nothing that waits before them, there is nothing to do later: what is
+-- held of these streams the reset forgets.
+abbrev pub wait_with : ℕ → List SkippedStream → Reassembly → Reassembly
+wait_with n es r = if (length es == 0) && (length (waiting_in r.deferred) == 0) then r else waits (Forwarded n es) r
+
+-- what a forward point says of the reset's streams waits, the rest is taken at once
 abbrev pub forward_or_wait : ℕ → List SkippedStream → Reassembly → Reassembly
-forward_or_wait n es r = if point_waits n r.deferred then waits (Forwarded n es) r else forward_now n es r
+forward_or_wait n es r =
+    if point_waits n r.deferred then wait_with n (entries_in true (resetting r.deferred) es) (forward_in false (resetting r.deferred) n es r)
+    else forward_now n es r
 
 -- a fragment with this TSN
 abbrev pub add : ℕ → FragmentTree → Reassembly → Reassembly
@@ -144,21 +164,18 @@ defer tsn ids r = record r {
   deferred = if is_some r.deferred then r.deferred else Some (record { last = number_of r tsn; streams = ids; waiting = [] });
 }
 
-abbrev pub apply : Waiting → Reassembly → Reassembly
-apply (Added n f) r = add_now n f r
-apply (Forwarded n es) r = forward_now n es r
+-- what waited for the reset of these streams
+abbrev pub apply : List StreamId → Waiting → Reassembly → Reassembly
+apply ids (Added n f) r = add_now n f r
+apply ids (Forwarded n es) r = forward_in true ids n es r
 
-abbrev pub apply_each : List Waiting → Reassembly → Reassembly
-apply_each [] r = r
-apply_each (w ∷ ws) r = apply_each ws (apply w r)
-
-abbrev pub waiting_in : Option Deferred → List Waiting
-waiting_in None = []
-waiting_in (Some d) = d.waiting
+abbrev pub apply_each : List StreamId → List Waiting → Reassembly → Reassembly
+apply_each ids [] r = r
+apply_each ids (w ∷ ws) r = apply_each ids ws (apply ids w r)
 
 -- the streams are reset, or all where none is named; then comes what waited, in order
 abbrev pub reset : List StreamId → Reassembly → Reassembly
-reset ids r = apply_each (waiting_in r.deferred) (record r { streams = streams.reset ids r.streams; deferred = None })
+reset ids r = apply_each (resetting r.deferred) (waiting_in r.deferred) (record r { streams = streams.reset ids r.streams; deferred = None })
 
 -- what is true of every queue
 pub record IsQueue (r : Reassembly) : Type 0 where

@@ -174,6 +174,23 @@ dropped_to tsn ss =
 abbrev pub forward : ℕ → List SkippedStream → Streams → Outcome
 forward tsn es ss = skip_each (by_stream es) (dropped_to tsn ss)
 
+-- ---- what a forward point says of some streams alone: of those that are named, or of the others
+
+abbrev pub is_part : (named : Bool) → List StreamId → ℕ → Bool
+is_part named ids id = if named then is_named ids id else not (is_named ids id)
+
+abbrev pub entries_in : (named : Bool) → List StreamId → List SkippedStream → List SkippedStream
+entries_in named ids es = filter (λ e. is_part named ids (skipped_id e)) es
+
+abbrev pub dropped_in : (named : Bool) → List StreamId → ℕ → Streams → Streams
+dropped_in named ids tsn ss = record ss {
+  unordered = if ss.is_interleaved then ss.unordered else map (λ e. (e.0, if is_part named ids e.0 then unordered_forward_tsn tsn e.1 else e.1)) ss.unordered;
+}
+
+-- that part of a forward point to this TSN
+abbrev pub forward_in : (named : Bool) → List StreamId → ℕ → List SkippedStream → Streams → Outcome
+forward_in named ids tsn es ss = skip_each (by_stream (entries_in named ids es)) (dropped_in named ids tsn ss)
+
 -- ---- streams are reset
 
 -- a reset forgets the streams: what is held of them belongs to messages that were given up

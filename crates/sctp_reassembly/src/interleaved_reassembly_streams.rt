@@ -139,6 +139,10 @@ impl ReassemblyStreams for InterleavedReassemblyStreams {
         let _fields = &self.ordered;
     }
 
+    fn drop_in(&mut self, _named: bool, _ids: &[StreamId], _tsn: u64) {
+        let _fields = &self.ordered;
+    }
+
     fn reset_streams(&mut self, ids: &[StreamId]) {
         self.ordered.forget(ids);
         self.unordered.forget(ids);

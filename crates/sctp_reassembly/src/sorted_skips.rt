@@ -1,9 +1,11 @@
 //! Entries of a forward point in the order of their streams.
 
 ghost use Rattle.std.specs.Prelude.{◌≡◌, IfOk};
-ghost use Rattle.sctp_reassembly.specs.Streams.{skipped_id, by_stream};
+ghost use Rattle.sctp_reassembly.specs.Streams.{skipped_id, by_stream, entries_in};
 
+use crate::ordered_streams::is_part;
 use sctp_chunk::SkippedStream;
+use sctp_serial::StreamId;
 use std::alloc::{AllocError, Global};
 
 fn stream_id(entry: SkippedStream) -> u16
@@ -25,4 +27,18 @@ pub(crate) fn by_stream(
     let mut sorted = Vec::from_slice(alloc, entries)?;
     sorted.sort_by_key(|entry| stream_id(*entry))?;
     Ok(sorted)
+}
+
+/// The entries for streams that are named, or for the others.
+pub(crate) fn entries_in(
+    alloc: Global,
+    named: bool,
+    ids: &[StreamId],
+    entries: &[SkippedStream],
+) -> Result<Vec<SkippedStream>, AllocError>
+    ensures { IfOk result (λ part. part.items ≡ entries_in named ids.now entries.now) }
+{
+    let mut part = Vec::from_slice(alloc, entries)?;
+    part.retain(|entry| is_part(named, ids, stream_id(*entry)));
+    Ok(part)
 }

@@ -109,6 +109,14 @@ impl ReassemblyStreams for TraditionalReassemblyStreams {
         self.unordered.forward_all(first);
     }
 
+    fn drop_in(&mut self, named: bool, ids: &[StreamId], tsn: u64) {
+        let first = TraditionalKey {
+            number: FIRST,
+            index: tsn + 1,
+        };
+        self.unordered.forward_part(named, ids, first);
+    }
+
     fn reset_streams(&mut self, ids: &[StreamId]) {
         self.ordered.forget(ids);
         self.unordered.forget(ids);

@@ -29,7 +29,7 @@ module _ (base : Bool → ℕ → ℕ) where
       let e : base κ.ordered κ.stream + (κ.number - base κ.ordered κ.stream) ≡ κ.number = omega (arith, l) in
       ap (λ (n : ℕ). let y : MessageKey = record κ { number = n } in y) e
 
-  up_next : (mixed : Bool) (κ : KeyOf mixed) → up_key base mixed (next_of mixed κ) ≡ next_of mixed (up_key base mixed κ)
+  pub up_next : (mixed : Bool) (κ : KeyOf mixed) → up_key base mixed (next_of mixed κ) ≡ next_of mixed (up_key base mixed κ)
   up_next false κ = refl
   up_next true κ = refl
 
@@ -174,7 +174,7 @@ readied_up base mixed q r (one_more m κ n w y z more) =
 -- ---- a fragment of the epoch that the receiver is in
 
 module _ (base : Bool → ℕ → ℕ) (message : ℕ → Message) (o : Sender) (t : ℕ) (now : IsNow base message o t) where
-  up_wire_key : (mixed : Bool) → up_key base mixed (wire_key mixed message o t) ≡ key_of mixed message o t
+  pub up_wire_key : (mixed : Bool) → up_key base mixed (wire_key mixed message o t) ≡ key_of mixed message o t
   up_wire_key false = refl
   up_wire_key true = ap (λ (n : ℕ). let y : MessageKey = record (message_key message o t) { number = n } in y) now
 
@@ -232,7 +232,7 @@ module _ (base : Bool → ℕ → ℕ) (kind : Bool) (s : ℕ) where
       one true h false i ih = rw (h, i) ih
       one false h c i ih = rw h ih
 
-  raised_wire : (es : List Entry) → ((e : Entry) → IsAmong e es → base e.ordered e.stream + e.written ≡ e.number) → (n : ℕ)
+  pub raised_wire : (es : List Entry) → ((e : Entry) → IsAmong e es → base e.ordered e.stream + e.written ≡ e.number) → (n : ℕ)
       → b0 + raised (map as_written es) kind s n ≡ raised es kind s (b0 + n)
   raised_wire [] all n = refl
   raised_wire (e ∷ es) all n =

@@ -4,6 +4,10 @@ use Rattle.std.specs.Prelude.{◌≡◌, ℕ, ◌+◌, ◌-◌, ◌==◌, ◌||�
 use Rattle.sctp_rules.specs.State.{Message, Entry, ForwardPoint, Sender, IsAmong, fragment, place_of, ordered_of, stream_of}
 use Rattle.sctp_rules.specs.Reassembly.{Chunk, chunk_with, Queue, KeyOf, next_of}
 
+-- where no stream was reset
+abbrev pub no_base : Bool → ℕ → ℕ
+no_base kind s = 0
+
 module _ (base : Bool → ℕ → ℕ) where
   abbrev pub up_key : (mixed : Bool) → KeyOf mixed → KeyOf mixed
   up_key false κ = κ

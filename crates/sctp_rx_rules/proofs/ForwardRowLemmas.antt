@@ -1,5 +1,5 @@
 -- A forward point that comes is a few of the rules.
-use Rattle.std.proofs.Common.{◌≡◌, ℕ, suc, ◌+◌, ◌-◌, ◌^◌, ◌<◌, Bool, true, false, inl, inr, Some, None, List, [], ◌∷◌, ◌++◌, map, refl, ap, sym, ◌∙◌, subst, arith, append_assoc, leb}
+use Rattle.std.proofs.Common.{◌≡◌, ℕ, suc, ◌+◌, ◌-◌, ◌^◌, ◌<◌, Bool, true, false, not, inl, inr, Some, None, List, [], ◌∷◌, ◌++◌, map, refl, ap, sym, ◌∙◌, subst, arith, append_assoc, leb}
 use Rattle.std.specs.Prelude.{◌||◌, nat_lt, unwrap_or}
 use Rattle.std.proofs.lemmas.Bool.{cond-false, true≢false}
 use Rattle.std.proofs.lemmas.Bool.Decides.{nat_tests}
@@ -10,8 +10,8 @@ use Rattle.sctp_chunk.specs.declared.forward_tsn.SkippedStream.TheVariants.{Forw
 use Rattle.sctp_rx.specs.Held.{Held}
 use Rattle.sctp_rx.specs.Settled.{AreSettled}
 use Rattle.sctp_rx.specs.Streams as streams
-use Rattle.sctp_rx.specs.Streams.{Streams, Outcome, is_far, by_stream, dropped_to}
-use Rattle.sctp_rx.specs.ReassemblyQueue.{Reassembly, number_of, came, made, forward, forward_now, forward_or_wait, point_waits, waits, Forwarded}
+use Rattle.sctp_rx.specs.Streams.{Streams, Outcome, is_far, by_stream, dropped_to, entries_in}
+use Rattle.sctp_rx.specs.ReassemblyQueue.{Reassembly, number_of, came, made, forward, forward_now, forward_or_wait, point_waits, forward_in, wait_with, resetting}
 use Rattle.sctp_rx.specs.Tracker as tracker
 use Rattle.sctp_rx.specs.Tracker.{Tracker}
 use Rattle.sctp_tracker.proofs.SeenOneFormLemmas.{contains-up_to}
@@ -20,10 +20,12 @@ use Rattle.sctp_rules.specs.State.{Message, Entry, ForwardPoint, Transfer, IsAmo
 use Rattle.sctp_rules.specs.Rules.{forward_comes, deliver, no_stream}
 use Rattle.sctp_rules.specs.Kept.{Kept}
 use Rattle.sctp_rules.specs.Reassembly.{Queue, KeyOf, next_of, key_of, below_of, KeyLaws}
-use Rattle.sctp_rules.proofs.ReceiverRowLemmas.{key_laws, point_comes}
+use Rattle.sctp_rules.proofs.ReceiverRowLemmas.{key_laws}
+use Rattle.sctp_rules.proofs.LiftedLemmas.{wire_point_row}
 use Rattle.sctp_rx_rules.specs.View.{IsSeenAs, was_seen, chunk_of_held, key_of_held, unordered_at, held_on, view_with, view_of}
 use Rattle.sctp_rx_rules.specs.Read.{StandsFor, StandForAll, shift_after}
-use Rattle.sctp_rules.specs.Points.{AreApart}
+use Rattle.sctp_rules.specs.Points.{IsApart, AreApart}
+use Rattle.sctp_rules.specs.Lifted.{up_chunk, as_written, wire_point, AreEntriesNow}
 use Rattle.sctp_rx_rules.specs.Receives.{Receives, Goes}
 use Rattle.sctp_rx_rules.proofs.KeyLemmas.{Decided, twice_not}
 use Rattle.sctp_rx_rules.proofs.TakesLemmas.{takes_fewer, takes_readied}
@@ -53,9 +55,20 @@ point_seen t seen same k upto n e = contains-up_to (origin + k) (origin + n) t.s
     by : (n : ℕ) → leb (origin + n) (origin + k) ≡ nat_lt n upto
     by n = grind (arith, nat_tests, e)
 
-module _ (message : ℕ → Message) (mixed : Bool) (before : ℕ) (x : Transfer) (kept : Kept message mixed x) (handed : List messages.Message) (t : Tracker) (r : Reassembly) (shown : Receives message mixed before x handed t r)
+-- entries as they are written are apart where the entries are
+pub written_apart : (es : List Entry) → AreApart es → AreApart (map as_written es)
+written_apart [] h = tt
+written_apart (e ∷ es) h = (each es h.0, written_apart es h.1)
+  where
+    each : (ds : List Entry) → ((d : Entry) → IsAmong d ds → IsApart e d) → (d : Entry) → IsAmong d (map as_written ds) → IsApart (as_written e) d
+    each [] h d a = absurd a
+    each (c ∷ ds) h d (inl same) = subst (λ (z : Entry). IsApart (as_written e) z) (sym same) (h c (inl refl))
+    each (c ∷ ds) h d (inr a) = each ds (λ b m. h b (inr m)) d a
+
+module _ (message : ℕ → Message) (mixed : Bool) (base : Bool → ℕ → ℕ) (before : ℕ) (x : Transfer) (kept : Kept message mixed x) (handed : List messages.Message) (t : Tracker) (r : Reassembly)
+    (shown : Receives message mixed base before x handed t r)
     (none : r.deferred ≡ None) (k tsn : ℕ) (xs : List SkippedStream) (f : ForwardPoint) (sent : IsAmong f x.forward_points) (last : f.upto ≡ suc k) (tsn_is : number_of r tsn + shift_after r.first before k ≡ origin + k) (small : k < 2 ^ 62)
-    (stand : StandForAll mixed r.streams xs f.entries) (apart : AreApart f.entries) where
+    (stand : StandForAll mixed r.streams xs (wire_point f).entries) (apart : AreApart f.entries) (are_now : AreEntriesNow base f) where
   abbrev shift : ℕ
   shift = shift_after r.first before k
 
@@ -80,36 +93,43 @@ module _ (message : ℕ → Message) (mixed : Bool) (before : ℕ) (x : Transfer
   abbrev outcome : Outcome
   outcome = streams.forward n xs r.streams
 
+  -- the point as it is written
+  abbrev w : ForwardPoint
+  w = wire_point f
+
   -- the entries in order
   abbrev es : List Entry
-  es = put_entries f.entries []
+  es = put_entries w.entries []
 
   sorted : StandForAll mixed r.streams (by_stream xs) es
-  sorted = sorted_stands mixed r.streams xs f.entries [] [] stand tt
+  sorted = sorted_stands mixed r.streams xs w.entries [] [] stand tt
 
   es_apart : AreApart es
-  es_apart = sorted_apart f.entries [] apart tt (λ e d a b. absurd b)
+  es_apart = sorted_apart w.entries [] (written_apart f.entries apart) tt (λ e d a b. absurd b)
 
   -- unordered DATA has no number
   unnumbered : mixed ≡ false → (s : ℕ) (h : Held) → IsAmong h (held_on r.streams false s) → h.number ≡ origin
   unnumbered m s h a =
       let file = seen_as.filed false s h a in
       let there = seen_as.holds false s h a in
-      let c = sent_of message mixed shift x kept q shown.shows (key_of_held mixed shift h) (chunk_of_held there.0 h) there.1 in
+      let c = sent_of message mixed base shift x kept q shown.shows (key_of_held mixed shift h) (chunk_of_held there.0 h) there.1 in
       let kind : ordered_of message (place_of x.sender c.0) ≡ false = sym (ap (λ z. z.ordered) c.3) ∙ twice_not h.fragment.is_unordered false file.kind_is in
-      let number : h.number - origin ≡ 0 = ap (λ z. z.number) c.3 ∙ cond-false (ordered_of message (place_of x.sender c.0) || mixed) (x.sender.number (place_of x.sender c.0)) 0 (ap (λ z. z || mixed) kind ∙ m) in
+      let own : (not h.fragment.is_unordered || mixed) ≡ false = ap (λ z. z || mixed) (twice_not h.fragment.is_unordered false file.kind_is) ∙ m in
+      let up : (up_chunk base mixed (chunk_of_held there.0 h)).number ≡ h.number - origin =
+      cond-false (not h.fragment.is_unordered || mixed) (base (not h.fragment.is_unordered) h.fragment.stream_id + (h.number - origin)) (h.number - origin) own in
+      let number : h.number - origin ≡ 0 = sym up ∙ (ap (λ z. z.number) c.3 ∙ cond-false (ordered_of message (place_of x.sender c.0) || mixed) (x.sender.number (place_of x.sender c.0)) 0 (ap (λ z. z || mixed) kind ∙ m)) in
       let from = file.number_from in
       omega (arith, number, from)
 
-  upto_is : n + shift + 1 ≡ origin + f.upto
+  upto_is : n + shift + 1 ≡ origin + w.upto
   upto_is = omega (arith, tsn_is, last)
 
   abbrev m : Queue (KeyOf mixed) (next_of mixed)
-  m = left mixed shift r.streams ready q seen_as shown.mode n f es (λ kind s j. sorted_covers kind s j f.entries) (λ kind s j. sorted_raised kind s f.entries j) upto_is (λ b. all_ordered mixed r.streams (by_stream xs) es b sorted) unnumbered
+  m = left mixed shift r.streams ready q seen_as shown.mode n w es (λ kind s j. sorted_covers kind s j w.entries) (λ kind s j. sorted_raised kind s w.entries j) upto_is (λ b. all_ordered mixed r.streams (by_stream xs) es b sorted) unnumbered
 
   done : Done mixed shift decide m ready outcome
   done =
-      let p = left_seen mixed shift r.streams ready q seen_as shown.mode n f es (λ kind s j. sorted_covers kind s j f.entries) (λ kind s j. sorted_raised kind s f.entries j) upto_is (λ b. all_ordered mixed r.streams (by_stream xs) es b sorted) unnumbered in
+      let p = left_seen mixed shift r.streams ready q seen_as shown.mode n w es (λ kind s j. sorted_covers kind s j w.entries) (λ kind s j. sorted_raised kind s w.entries j) upto_is (λ b. all_ordered mixed r.streams (by_stream xs) es b sorted) unnumbered in
       skips mixed shift decide (by_stream xs) es (dropped_to n r.streams) ready m
       (all_still mixed r.streams (dropped_to n r.streams) (by_stream xs) es (record { ordered = λ e a o. refl; unordered = λ e a o. untouched mixed refl e a o }) sorted) es_apart shown.mode
       (λ e a o. (rest_of r.streams [] shown.settled).order true e.stream) p
@@ -130,23 +150,24 @@ module _ (message : ℕ → Message) (mixed : Bool) (before : ℕ) (x : Transfer
   pub call_is : forward tsn xs r ≡ made outcome (came tsn r)
   call_is =
       cond-false (is_far n) r (forward_or_wait n xs (came tsn r)) near
-      ∙ cond-false (point_waits n r.deferred) (waits (Forwarded n xs) (came tsn r)) (forward_now n xs (came tsn r)) (ap (point_waits n) none)
+      ∙ cond-false (point_waits n r.deferred) (wait_with n (entries_in true (resetting r.deferred) xs) (forward_in false (resetting r.deferred) n xs (came tsn r)))
+      (forward_now n xs (came tsn r)) (ap (point_waits n) none)
 
   pub first_is : (forward tsn xs r).first ≡ Some (unwrap_or r.first tsn)
   first_is = ap (λ z. z.first) call_is
 
-  pub row_point : (ps : List ℕ) × Goes message mixed shift x (forward_comes f no_stream ∷ map deliver ps) handed (tracker.forward (origin + k) t) (forward tsn xs r)
+  pub row_point : (ps : List ℕ) × Goes message mixed base shift x (forward_comes f no_stream ∷ map deliver ps) handed (tracker.forward (origin + k) t) (forward tsn xs r)
   row_point =
       let d = done in
       let settled = subst (λ z. AreSettled z.streams) call_is (settled_passes r shown.settled tsn xs) in
-      let point = point_left mixed shift r.streams ready q seen_as shown.mode n f es (λ kind s j. sorted_covers kind s j f.entries) (λ kind s j. sorted_raised kind s f.entries j) upto_is (λ b. all_ordered mixed r.streams (by_stream xs) es b sorted) unnumbered in
-      let fewer = left_fewer mixed shift r.streams ready q seen_as shown.mode n f es (λ kind s j. sorted_covers kind s j f.entries) (λ kind s j. sorted_raised kind s f.entries j) upto_is (λ b. all_ordered mixed r.streams (by_stream xs) es b sorted) unnumbered in
-      let none_more = none_left message mixed shift x kept outcome.streams (ready ++ outcome.messages) d.leads.queue d.leads.seen_as settled
-      (λ κ w e. sent_of message mixed shift x kept q shown.shows κ w (fewer κ w (takes_fewer mixed d.leads.takes κ w e))) in
-      let l = point_comes (KeyOf mixed) (next_of mixed) message mixed x kept (key_of mixed message x.sender) (below_of mixed) laws q shown.shows m d.leads.queue f no_stream sent point (takes_readied mixed d.leads.takes none_more) in
+      let point = point_left mixed shift r.streams ready q seen_as shown.mode n w es (λ kind s j. sorted_covers kind s j w.entries) (λ kind s j. sorted_raised kind s w.entries j) upto_is (λ b. all_ordered mixed r.streams (by_stream xs) es b sorted) unnumbered in
+      let fewer = left_fewer mixed shift r.streams ready q seen_as shown.mode n w es (λ kind s j. sorted_covers kind s j w.entries) (λ kind s j. sorted_raised kind s w.entries j) upto_is (λ b. all_ordered mixed r.streams (by_stream xs) es b sorted) unnumbered in
+      let none_more = none_left message mixed base shift x kept outcome.streams (ready ++ outcome.messages) d.leads.queue d.leads.seen_as settled
+      (λ κ c e. sent_of message mixed base shift x kept q shown.shows κ c (fewer κ c (takes_fewer mixed d.leads.takes κ c e))) in
+      let l = wire_point_row message mixed base x q m d.leads.queue f no_stream kept shown.shows sent are_now point (takes_readied mixed d.leads.takes none_more) in
       let p' : IsSeenAs mixed shift (view_of handed (made outcome (came tsn r))) d.leads.queue = subst (λ z. IsSeenAs mixed shift z d.leads.queue) (sym view_is) d.leads.seen_as in (
         l.0,
-        subst (λ z. Goes message mixed shift x (forward_comes f no_stream ∷ map deliver l.0) handed (tracker.forward (origin + k) t) z) (sym call_is)
-            (goes_to message mixed shift x kept (forward_comes f no_stream) (map deliver l.0) d.leads.queue l.1 handed (tracker.forward (origin + k) t) (made outcome (came tsn r)) p'
+        subst (λ z. Goes message mixed base shift x (forward_comes f no_stream ∷ map deliver l.0) handed (tracker.forward (origin + k) t) z) (sym call_is)
+            (goes_to message mixed base shift x kept (forward_comes f no_stream) (map deliver l.0) d.leads.queue l.1 handed (tracker.forward (origin + k) t) (made outcome (came tsn r)) p'
             (λ i. point_seen t x.receiver.seen shown.seen k f.upto i last) d.mode settled (λ e. cc) none),
       )

@@ -9,13 +9,14 @@ use Rattle.sctp_serial.specs.Unwrapped.{origin}
 use Rattle.sctp_packet.specs.Chunk.{FragmentTree}
 use Rattle.sctp_rx.specs.Held.{Held}
 use Rattle.sctp_rx.specs.Streams as streams
-use Rattle.sctp_rx.specs.Streams.{Streams, Outcome, is_far, held_as, place_of, add_in_order}
+use Rattle.sctp_rx.specs.Streams.{is_far, held_as, place_of}
 use Rattle.sctp_rx.specs.ReassemblyQueue.{Reassembly, number_of, came, made, add, add_now, add_or_wait, fragment_waits, waits, Added}
 use Rattle.sctp_rules.specs.State as rules
 use Rattle.sctp_rules.specs.State.{Message, Transfer, Sender, Receiver, IsAmong, fragment, count, ordered_of, stream_of, put}
 use Rattle.sctp_rules.specs.Rules.{floor}
 use Rattle.sctp_rules.specs.Joints.{Shows}
-use Rattle.sctp_rules.specs.Reassembly.{Queue, KeyOf, next_of, key_of, chunk_of, IsLate}
+use Rattle.sctp_rules.specs.Reassembly.{Queue, KeyOf, next_of, IsLate}
+use Rattle.sctp_rules.specs.Lifted.{lifted, wire_key, wire_chunk, IsNow}
 use Rattle.sctp_rx_rules.specs.View.{IsFiled, IsSeenAs, chunk_of_held, key_of_held, ordered_at, unordered_at, view_of}
 use Rattle.sctp_rx_rules.specs.Read.{Carries, IsRead, number_read, is_behind}
 
@@ -29,10 +30,10 @@ module _ (message : ℕ → Message) (mixed : Bool) (shift : ℕ) (o : Sender) (
   kind_is : not f.is_unordered ≡ ordered_of message (rules.place_of o k)
   kind_is = ap not carries.kind ∙ not-not (ordered_of message (rules.place_of o k))
 
-  number_is : number_read f.is_unordered f r.streams - origin ≡ (chunk_of message mixed o k).number
+  number_is : number_read f.is_unordered f r.streams - origin ≡ (wire_chunk message mixed o k).number
   number_is = let e = read.number_is in omega (arith, e)
 
-  pub chunk_is : chunk_of_held (chunk_of message mixed o k).protocol_id (item r tsn f) ≡ chunk_of message mixed o k
+  pub chunk_is : chunk_of_held (wire_chunk message mixed o k).protocol_id (item r tsn f) ≡ wire_chunk message mixed o k
   chunk_is =
       let a = kind_is in
       let b = carries.stream in
@@ -40,7 +41,7 @@ module _ (message : ℕ → Message) (mixed : Bool) (shift : ℕ) (o : Sender) (
       let d = carries.begins in
       let e = carries.ends in
       let h = carries.payload in
-      λ i. record { ordered = a i; stream = b i; number = c i; is_beginning = d i; is_end = e i; protocol_id = (chunk_of message mixed o k).protocol_id; payload = h i }
+      λ i. record { ordered = a i; stream = b i; number = c i; is_beginning = d i; is_end = e i; protocol_id = (wire_chunk message mixed o k).protocol_id; payload = h i }
 
   -- its place in its message
   fsn_is : (m : Bool) → mixed ≡ m → m ≡ true → place_of m (number_of r tsn) f ≡ (fragment o k).index
@@ -51,18 +52,18 @@ module _ (message : ℕ → Message) (mixed : Bool) (shift : ℕ) (o : Sender) (
       go true s = sym (eqb-true ((fragment o k).index) 0 (sym carries.begins ∙ s))
       go false s = carries.fsn e s
 
-  item_key : (m : Bool) → mixed ≡ m → key_of_held m shift (held_as m (number_read f.is_unordered f r.streams) (number_of r tsn) f) ≡ key_of m message o k
+  item_key : (m : Bool) → mixed ≡ m → key_of_held m shift (held_as m (number_read f.is_unordered f r.streams) (number_of r tsn) f) ≡ wire_key m message o k
   item_key false e = let h = read.tsn_is in omega (arith, h)
   item_key true e =
       let a = kind_is in
       let b = carries.stream in
-      let c : number_read f.is_unordered f r.streams - origin ≡ o.number (rules.place_of o k) =
-      number_is ∙ cond-true (ordered_of message (rules.place_of o k) || mixed) (o.number (rules.place_of o k)) 0 (or_right (ordered_of message (rules.place_of o k)) mixed e) in
+      let c : number_read f.is_unordered f r.streams - origin ≡ o.written (rules.place_of o k) =
+      number_is ∙ cond-true (ordered_of message (rules.place_of o k) || mixed) (o.written (rules.place_of o k)) 0 (or_right (ordered_of message (rules.place_of o k)) mixed e) in
       let d = fsn_is true e refl in
       λ i. record { ordered = a i; stream = b i; number = c i; index = d i }
 
-  pub key_is : key_of_held mixed shift (item r tsn f) ≡ key_of mixed message o k
-  key_is = subst (λ z. key_of_held mixed shift (held_as z (number_read f.is_unordered f r.streams) (number_of r tsn) f) ≡ key_of mixed message o k) (sym mode) (item_key mixed refl)
+  pub key_is : key_of_held mixed shift (item r tsn f) ≡ wire_key mixed message o k
+  key_is = subst (λ z. key_of_held mixed shift (held_as z (number_read f.is_unordered f r.streams) (number_of r tsn) f) ≡ wire_key mixed message o k) (sym mode) (item_key mixed refl)
 
   index_from : (m : Bool) → m ≡ false → origin ≤ place_of m (number_of r tsn) f + shift
   index_from false e = let h = read.tsn_is in omega (arith, h)
@@ -85,7 +86,7 @@ module _ (message : ℕ → Message) (mixed : Bool) (shift : ℕ) (o : Sender) (
   far_is a n e l = grind (arith, nat_tests)
 
   pub number_near : is_far (item r tsn f).number ≡ false
-  number_near = let e = read.number_is in far_is (number_read f.is_unordered f r.streams) (chunk_of message mixed o k).number (omega (arith, e)) read.number_below
+  number_near = let e = read.number_is in far_is (number_read f.is_unordered f r.streams) (wire_chunk message mixed o k).number (omega (arith, e)) read.number_below
 
   -- the call
   pub added_now : r.deferred ≡ None → add tsn f r ≡ made (streams.add (number_of r tsn) f r.streams) (came tsn r)
@@ -96,21 +97,30 @@ module _ (message : ℕ → Message) (mixed : Bool) (shift : ℕ) (o : Sender) (
 -- ---- is it late?
 
 module _ (message : ℕ → Message) (mixed : Bool) (shift : ℕ) (x : Transfer) (handed : List messages.Message) (r : Reassembly) (k tsn : ℕ) (f : FragmentTree) (carries : Carries message mixed x.sender k f) (read : IsRead message mixed shift x.sender r k tsn f)
-    (q : Queue (KeyOf mixed) (next_of mixed)) (shows : Shows message mixed x q) (p : IsSeenAs mixed shift (view_of handed r) q) where
+    (base : Bool → ℕ → ℕ) (q : Queue (KeyOf mixed) (next_of mixed)) (shows : Shows message mixed x (lifted base mixed q)) (p : IsSeenAs mixed shift (view_of handed r) q)
+    (current : IsNow base message x.sender k) where
   abbrev place : ℕ
   place = rules.place_of x.sender k
 
   abbrev number : ℕ
   number = x.sender.number place
 
+  abbrev written : ℕ
+  written = x.sender.written place
+
   abbrev own : ℕ
-  own = (chunk_of message mixed x.sender k).number
+  own = (wire_chunk message mixed x.sender k).number
 
-  below : (a b c d : ℕ) → a ≡ origin + c → b ≡ origin + d → nat_lt a b ≡ nat_lt c d
-  below a b c d e g = grind (arith, nat_tests)
+  -- with the base b on both sides
+  below : (a c w n d e b : ℕ) → a ≡ origin + w → c ≡ origin + n → b + w ≡ d → b + n ≡ e → nat_lt a c ≡ nat_lt d e
+  below a c w n d e b f g h i = grind (arith, nat_tests)
 
-  below_passed : (a b c d : ℕ) → a ≡ origin + c → d ≡ b - origin → nat_lt a b ≡ nat_lt c d
-  below_passed a b c d e g = grind (arith, nat_tests)
+  below_passed : (a c w n d e b : ℕ) → a ≡ origin + w → n ≡ c - origin → b + w ≡ d → b + n ≡ e → nat_lt a c ≡ nat_lt d e
+  below_passed a c w n d e b f g h i = grind (arith, nat_tests)
+
+  -- the number of the rules
+  now_as : (b : Bool) → ordered_of message place ≡ b → base b (stream_of message place) + written ≡ number
+  now_as b e = subst (λ z. base z (stream_of message place) + written ≡ number) e current
 
   not_below : (a b c : ℕ) → a ≡ origin + c → c ≡ 0 → b ≤ origin → nat_lt a b ≡ false
   not_below a b c e g l = grind (arith, nat_tests)
@@ -124,9 +134,10 @@ module _ (message : ℕ → Message) (mixed : Bool) (shift : ℕ) (x : Transfer)
   pub ordered_behind : f.is_unordered ≡ false → nat_lt (item r tsn f).number (ordered_at r.streams f.stream_id).next ≡ is_behind message mixed x.sender x.receiver k
   ordered_behind e =
       let o = ordered_is false e in
-      let own_is : own ≡ number = cond-true (ordered_of message place || mixed) number 0 (ap (λ z. z || mixed) o) in
-      let next_is : (ordered_at r.streams f.stream_id).next ≡ origin + x.receiver.next (stream_of message place) = p.next f.stream_id ∙ (ap (λ z. origin + z) (shows.next_is f.stream_id) ∙ ap (λ z. origin + x.receiver.next z) carries.stream) in
-      below (item r tsn f).number (ordered_at r.streams f.stream_id).next number (x.receiver.next (stream_of message place)) (read.number_is ∙ ap (λ z. origin + z) own_is) next_is
+      let own_is : own ≡ written = cond-true (ordered_of message place || mixed) written 0 (ap (λ z. z || mixed) o) in
+      let next_is : (ordered_at r.streams f.stream_id).next ≡ origin + q.next (stream_of message place) = p.next f.stream_id ∙ ap (λ z. origin + q.next z) carries.stream in
+      below (item r tsn f).number (ordered_at r.streams f.stream_id).next written (q.next (stream_of message place)) number (x.receiver.next (stream_of message place)) (base true (stream_of message place))
+      (read.number_is ∙ ap (λ z. origin + z) own_is) next_is (now_as true o) (shows.next_is (stream_of message place))
       ∙ sym (ap (λ b. (b || mixed) && nat_lt number (floor x.receiver b (stream_of message place))) o)
 
   pub unordered_behind : f.is_unordered ≡ true → nat_lt (item r tsn f).number (unordered_at r.streams f.stream_id).passed ≡ is_behind message mixed x.sender x.receiver k
@@ -137,32 +148,37 @@ module _ (message : ℕ → Message) (mixed : Bool) (shift : ℕ) (x : Transfer)
 
       go : (m : Bool) → mixed ≡ m → nat_lt (item r tsn f).number (unordered_at r.streams f.stream_id).passed ≡ ((false || m) && nat_lt number (x.receiver.passed_below (stream_of message place)))
       go false m =
-          let own_is : own ≡ 0 = cond-false (ordered_of message place || mixed) number 0 (ap (λ z. z || mixed) o ∙ m) in
+          let own_is : own ≡ 0 = cond-false (ordered_of message place || mixed) written 0 (ap (λ z. z || mixed) o ∙ m) in
           not_below (item r tsn f).number (unordered_at r.streams f.stream_id).passed own read.number_is own_is (p.none_passed m f.stream_id)
       go true m =
-          let own_is : own ≡ number = cond-true (ordered_of message place || mixed) number 0 (ap (λ z. z || mixed) o ∙ m) in
-          let passed_is : x.receiver.passed_below (stream_of message place) ≡ (unordered_at r.streams f.stream_id).passed - origin =
-          sym (shows.passed_is m (stream_of message place)) ∙ (ap q.passed_below (sym carries.stream) ∙ p.passed m f.stream_id) in
-          below_passed (item r tsn f).number (unordered_at r.streams f.stream_id).passed number (x.receiver.passed_below (stream_of message place)) (read.number_is ∙ ap (λ z. origin + z) own_is) passed_is
+          let own_is : own ≡ written = cond-true (ordered_of message place || mixed) written 0 (ap (λ z. z || mixed) o ∙ m) in
+          let passed_is : q.passed_below (stream_of message place) ≡ (unordered_at r.streams f.stream_id).passed - origin =
+          ap q.passed_below (sym carries.stream) ∙ p.passed m f.stream_id in
+          below_passed (item r tsn f).number (unordered_at r.streams f.stream_id).passed written (q.passed_below (stream_of message place)) number (x.receiver.passed_below (stream_of message place))
+          (base false (stream_of message place)) (read.number_is ∙ ap (λ z. origin + z) own_is) passed_is (now_as false o) (shows.passed_is m (stream_of message place))
 
   -- as the queue sees it
-  pub late_in : is_behind message mixed x.sender x.receiver k ≡ true → IsLate (KeyOf mixed) (next_of mixed) mixed q (chunk_of message mixed x.sender k)
+  pub late_in : is_behind message mixed x.sender x.receiver k ≡ true → IsLate (KeyOf mixed) (next_of mixed) mixed q (wire_chunk message mixed x.sender k)
   late_in h = go (ordered_of message place) refl
     where
-      go : (b : Bool) → ordered_of message place ≡ b → IsLate (KeyOf mixed) (next_of mixed) mixed q (chunk_of message mixed x.sender k)
+      less : (a w n d e b : ℕ) → a ≡ w → b + w ≡ d → b + n ≡ e → nat_lt d e ≡ true → a < n
+      less a w n d e b f g h t = grind (arith, nat_tests)
+
+      go : (b : Bool) → ordered_of message place ≡ b → IsLate (KeyOf mixed) (next_of mixed) mixed q (wire_chunk message mixed x.sender k)
       go true o =
           let t : nat_lt number (x.receiver.next (stream_of message place)) ≡ true = sym (ap (λ b. (b || mixed) && nat_lt number (floor x.receiver b (stream_of message place))) o) ∙ h in
-          let own_is : own ≡ number = cond-true (ordered_of message place || mixed) number 0 (ap (λ z. z || mixed) o) in
-          let n = shows.next_is (stream_of message place) in
-          inl (o, less own (q.next (stream_of message place)) number (x.receiver.next (stream_of message place)) own_is n t)
-        where
-          less : (a b c d : ℕ) → a ≡ c → b ≡ d → nat_lt c d ≡ true → a < b
-          less a b c d e g t = grind (arith, nat_tests)
+          let own_is : own ≡ written = cond-true (ordered_of message place || mixed) written 0 (ap (λ z. z || mixed) o) in
+          inl (
+            o,
+            less own written (q.next (stream_of message place)) number (x.receiver.next (stream_of message place)) (base true (stream_of message place)) own_is (now_as true o)
+                (shows.next_is (stream_of message place)) t,
+          )
       go false o =
           let t = and_parts mixed (nat_lt number (x.receiver.passed_below (stream_of message place))) (sym (ap (λ b. (b || mixed) && nat_lt number (floor x.receiver b (stream_of message place))) o) ∙ h) in
-          let own_is : own ≡ number = cond-true (ordered_of message place || mixed) number 0 (ap (λ z. z || mixed) o ∙ t.0) in
-          let n = shows.passed_is t.0 (stream_of message place) in
-          inr (t.0, o, less own (q.passed_below (stream_of message place)) number (x.receiver.passed_below (stream_of message place)) own_is n t.1)
-        where
-          less : (a b c d : ℕ) → a ≡ c → b ≡ d → nat_lt c d ≡ true → a < b
-          less a b c d e g t = grind (arith, nat_tests)
+          let own_is : own ≡ written = cond-true (ordered_of message place || mixed) written 0 (ap (λ z. z || mixed) o ∙ t.0) in
+          inr (
+            t.0,
+            o,
+            less own written (q.passed_below (stream_of message place)) number (x.receiver.passed_below (stream_of message place)) (base false (stream_of message place)) own_is (now_as false o)
+                (shows.passed_is t.0 (stream_of message place)) t.1,
+          )

@@ -17,9 +17,12 @@ use Rattle.sctp_reassembly.proofs.SettledQueueLemmas.{settled_arrives}
 use Rattle.sctp_rules.specs.State.{Message, Transfer, put}
 use Rattle.sctp_rules.specs.Rules.{data_comes, late_comes, deliver}
 use Rattle.sctp_rules.specs.Kept.{Kept}
-use Rattle.sctp_rules.specs.Reassembly.{Chunk, Queue, KeyOf, next_of, key_of, below_of, chunk_of, KeyLaws}
+use Rattle.sctp_rules.specs.Reassembly.{Chunk, Queue, KeyOf, next_of, key_of, below_of, KeyLaws}
+use Rattle.sctp_rules.specs.Lifted.{up_key, up_chunk, up_some, lifted, wire_key, wire_chunk, IsNow}
 use Rattle.sctp_rules.specs.Reassembly as queues
-use Rattle.sctp_rules.proofs.ReceiverRowLemmas.{key_laws, new_chunk, late_chunk}
+use Rattle.sctp_rules.proofs.ReceiverRowLemmas.{key_laws}
+use Rattle.sctp_rules.proofs.LiftedLemmas.{lift_at, up_wire_key, up_wire_chunk, wire_chunk_row}
+use Rattle.sctp_rules.proofs.WireResetLemmas.{wire_late_row}
 use Rattle.sctp_rules.proofs.ToolsLemmas.{not_both}
 use Rattle.sctp_rx_rules.specs.View.{IsSeenAs, was_seen, chunk_of_held, key_of_held, ordered_at, unordered_at, held_on, view_with, view_of}
 use Rattle.sctp_rx_rules.specs.Read.{Carries, IsRead, shift_after, number_read, is_behind}
@@ -62,8 +65,9 @@ add_mode n f ss = go f.is_unordered
     go false = let h = held_as ss.is_interleaved (number_read false f ss) n f in ordered (is_far h.number) f.stream_id h
     go true = let h = held_as ss.is_interleaved (number_read true f ss) n f in unordered (is_far h.number) f.stream_id h
 
-module _ (message : ℕ → Message) (mixed : Bool) (before : ℕ) (x : Transfer) (kept : Kept message mixed x) (handed : List messages.Message) (t : Tracker) (r : Reassembly) (shown : Receives message mixed before x handed t r)
-    (is_tracker : IsTracker t) (none : r.deferred ≡ None) (k tsn : ℕ) (f : FragmentTree) (carries : Carries message mixed x.sender k f) (read : IsRead message mixed (shift_after r.first before k) x.sender r k tsn f) (unseen : was_seen t k ≡ false) where
+module _ (message : ℕ → Message) (mixed : Bool) (base : Bool → ℕ → ℕ) (before : ℕ) (x : Transfer) (kept : Kept message mixed x) (handed : List messages.Message) (t : Tracker) (r : Reassembly)
+    (shown : Receives message mixed base before x handed t r)
+    (is_tracker : IsTracker t) (none : r.deferred ≡ None) (k tsn : ℕ) (f : FragmentTree) (carries : Carries message mixed x.sender k f) (read : IsRead message mixed (shift_after r.first before k) x.sender r k tsn f) (unseen : was_seen t k ≡ false) (is_now : IsNow base message x.sender k) where
   abbrev shift : ℕ
   shift = shift_after r.first before k
 
@@ -85,26 +89,28 @@ module _ (message : ℕ → Message) (mixed : Bool) (before : ℕ) (x : Transfer
   unseen_there : x.receiver.seen k ≡ false
   unseen_there = sym (shown.seen k) ∙ unseen
 
-  key_at : key_of_held mixed shift (item r tsn f) ≡ key_of mixed message x.sender k
+  key_at : key_of_held mixed shift (item r tsn f) ≡ wire_key mixed message x.sender k
   key_at = key_is message mixed shift x.sender r k tsn f carries read shown.mode
 
   -- its protocol id
   abbrev own : ℕ
-  own = (chunk_of message mixed x.sender k).protocol_id
+  own = (wire_chunk message mixed x.sender k).protocol_id
 
   own_is : f.is_beginning ≡ true → own ≡ f.ppid
   own_is b = sym (carries.protocol_id b)
 
-  chunk_at : chunk_of_held own (item r tsn f) ≡ chunk_of message mixed x.sender k
+  chunk_at : chunk_of_held own (item r tsn f) ≡ wire_chunk message mixed x.sender k
   chunk_at = chunk_is message mixed shift x.sender r k tsn f carries read shown.mode
 
   new : q.chunks (key_of_held mixed shift (item r tsn f)) ≡ None
-  new = ap q.chunks key_at ∙ go (q.chunks (key_of mixed message x.sender k)) refl
+  new = ap q.chunks key_at ∙ go (q.chunks (wire_key mixed message x.sender k)) refl
     where
-      go : (o : Option Chunk) → q.chunks (key_of mixed message x.sender k) ≡ o → o ≡ None
+      go : (o : Option Chunk) → q.chunks (wire_key mixed message x.sender k) ≡ o → o ≡ None
       go None e = refl
       go (Some w) e =
-          let s = shown.shows.held (key_of mixed message x.sender k) w e in
+          let there = lift_at base mixed q (wire_key mixed message x.sender k) ∙ ap (up_some base mixed) e in
+          let key_up = up_wire_key base message x.sender k is_now mixed in
+          let s = shown.shows.held (key_of mixed message x.sender k) (up_chunk base mixed w) (ap (lifted base mixed q).chunks (sym key_up) ∙ there) in
           let seen = kept.incoming.held_seen s.0 s.1 in
           let same = laws.one s.0 k (kept.incoming.seen_below s.0 seen) carries.numbered s.2 in
           absurd (not_both (ap x.receiver.seen (sym same) ∙ seen) unseen_there)
@@ -135,18 +141,18 @@ module _ (message : ℕ → Message) (mixed : Bool) (before : ℕ) (x : Transfer
   pub first_is : (add tsn f r).first ≡ Some (unwrap_or r.first tsn)
   first_is = ap (λ z. z.first) call_is
 
-  pub row_held : is_behind message mixed x.sender x.receiver k ≡ false → (now : Bool) → (ps : List ℕ) × Goes message mixed shift x (data_comes k ∷ map deliver ps) handed (observe (origin + k) now t) (add tsn f r)
+  pub row_held : is_behind message mixed x.sender x.receiver k ≡ false → (now : Bool) → (ps : List ℕ) × Goes message mixed base shift x (data_comes k ∷ map deliver ps) handed (observe (origin + k) now t) (add tsn f r)
   row_held current now =
       let a = arrival f.is_unordered refl in
       let p' : IsSeenAs mixed shift (view_of handed (made outcome (came tsn r))) a.leads.queue = subst (λ z. IsSeenAs mixed shift z a.leads.queue) (sym view_is) a.leads.seen_as in
       let settled = subst (λ z. AreSettled z.streams) call_is (settled_arrives r shown.settled tsn f) in
-      let comes : queues.Added (KeyOf mixed) (next_of mixed) q a.middle (key_of mixed message x.sender k) (chunk_of message mixed x.sender k) =
-      subst (λ z. queues.Added (KeyOf mixed) (next_of mixed) q a.middle z (chunk_of message mixed x.sender k)) key_at (subst (λ z. queues.Added (KeyOf mixed) (next_of mixed) q a.middle (key_of_held mixed shift (item r tsn f)) z) chunk_at a.comes) in
-      let none_more = none_left message mixed shift x kept outcome.streams ((handed ++ r.ready) ++ outcome.messages) a.leads.queue a.leads.seen_as settled (λ κ w e. sent a.middle comes κ w (takes_fewer mixed a.leads.takes κ w e)) in
-      let l = new_chunk (KeyOf mixed) (next_of mixed) message mixed x kept (key_of mixed message x.sender) (below_of mixed) laws q shown.shows a.middle a.leads.queue k carries.numbered carries.real unseen_there comes (takes_readied mixed a.leads.takes none_more) in (
+      let comes : queues.Added (KeyOf mixed) (next_of mixed) q a.middle (wire_key mixed message x.sender k) (wire_chunk message mixed x.sender k) =
+      subst (λ z. queues.Added (KeyOf mixed) (next_of mixed) q a.middle z (wire_chunk message mixed x.sender k)) key_at (subst (λ z. queues.Added (KeyOf mixed) (next_of mixed) q a.middle (key_of_held mixed shift (item r tsn f)) z) chunk_at a.comes) in
+      let none_more = none_left message mixed base shift x kept outcome.streams ((handed ++ r.ready) ++ outcome.messages) a.leads.queue a.leads.seen_as settled (λ κ w e. sent a.middle comes κ w (takes_fewer mixed a.leads.takes κ w e)) in
+      let l = wire_chunk_row message mixed base x q a.middle a.leads.queue k kept shown.shows carries.numbered carries.real unseen_there is_now comes (takes_readied mixed a.leads.takes none_more) in (
         l.0,
-        subst (λ z. Goes message mixed shift x (data_comes k ∷ map deliver l.0) handed (observe (origin + k) now t) z) (sym call_is)
-            (goes_to message mixed shift x kept (data_comes k) (map deliver l.0) a.leads.queue l.1 handed (observe (origin + k) now t) (made outcome (came tsn r)) p'
+        subst (λ z. Goes message mixed base shift x (data_comes k ∷ map deliver l.0) handed (observe (origin + k) now t) z) (sym call_is)
+            (goes_to message mixed base shift x kept (data_comes k) (map deliver l.0) a.leads.queue l.1 handed (observe (origin + k) now t) (made outcome (came tsn r)) p'
             (λ n. observed_seen t is_tracker x.receiver.seen shown.seen k n now) mode_is settled (λ e. cc) none),
       )
     where
@@ -154,32 +160,37 @@ module _ (message : ℕ → Message) (mixed : Bool) (before : ℕ) (x : Transfer
       arrival false e =
           subst (Arrival mixed shift decide r.streams (handed ++ r.ready) q seen_as sorted f.stream_id (item r tsn f) own own_is new) (sym (in_order e))
           (ordered_arrives mixed shift decide r.streams (handed ++ r.ready) q seen_as sorted f.stream_id (item r tsn f) own own_is new (filed message mixed shift x.sender r k tsn f carries read shown.mode true e)
-          (ordered_behind message mixed shift x handed r k tsn f carries read q shown.shows seen_as e ∙ current) near)
+          (ordered_behind message mixed shift x handed r k tsn f carries read base q shown.shows seen_as is_now e ∙ current) near)
       arrival true e =
           subst (Arrival mixed shift decide r.streams (handed ++ r.ready) q seen_as sorted f.stream_id (item r tsn f) own own_is new) (sym (out_of_order e))
           (unordered_arrives mixed shift decide r.streams (handed ++ r.ready) q seen_as sorted f.stream_id (item r tsn f) own own_is new (filed message mixed shift x.sender r k tsn f carries read shown.mode false e)
-          (unordered_behind message mixed shift x handed r k tsn f carries read q shown.shows seen_as e ∙ current) near)
+          (unordered_behind message mixed shift x handed r k tsn f carries read base q shown.shows seen_as is_now e ∙ current) near)
 
-      sent : (m : Queue (KeyOf mixed) (next_of mixed)) → queues.Added (KeyOf mixed) (next_of mixed) q m (key_of mixed message x.sender k) (chunk_of message mixed x.sender k) → AreSent message mixed x.sender m
+      sent : (m : Queue (KeyOf mixed) (next_of mixed)) → queues.Added (KeyOf mixed) (next_of mixed) q m (wire_key mixed message x.sender k) (wire_chunk message mixed x.sender k) → AreSent message mixed base x.sender m
       sent m z κ w e =
-          elim (laws.decide κ (key_of mixed message x.sender k)) [
-            | inl y ↦ (k, carries.numbered, sym y, let a = z.here in let b = ap m.chunks y in cc)
-            | inr d ↦ sent_of message mixed shift x kept q shown.shows κ w (sym (z.kept κ d) ∙ e)
+          elim (laws.decide κ (wire_key mixed message x.sender k)) [
+            | inl y ↦ (
+              k,
+              carries.numbered,
+              sym (ap (up_key base mixed) y ∙ up_wire_key base message x.sender k is_now mixed),
+              ap (up_chunk base mixed) (let a = z.here in let b = ap m.chunks y in cc) ∙ up_wire_chunk base message x.sender k is_now mixed,
+            )
+            | inr d ↦ sent_of message mixed base shift x kept q shown.shows κ w (sym (z.kept κ d) ∙ e)
           ]
 
-  pub row_late : is_behind message mixed x.sender x.receiver k ≡ true → (now : Bool) → Goes message mixed shift x (late_comes k ∷ []) handed (observe (origin + k) now t) (add tsn f r)
+  pub row_late : is_behind message mixed x.sender x.receiver k ≡ true → (now : Bool) → Goes message mixed base shift x (late_comes k ∷ []) handed (observe (origin + k) now t) (add tsn f r)
   row_late late now =
       let p' : IsSeenAs mixed shift (view_of handed (made outcome (came tsn r))) q = subst (λ z. IsSeenAs mixed shift z q) (sym view_is) (seen_alike mixed shift (view_of handed r) (view_with outcome.streams ((handed ++ r.ready) ++ outcome.messages)) q (alike f.is_unordered refl) seen_as) in
       let settled = subst (λ z. AreSettled z.streams) call_is (settled_arrives r shown.settled tsn f) in
-      let l = late_chunk (KeyOf mixed) (next_of mixed) message mixed x kept (key_of mixed message x.sender) (below_of mixed) laws q shown.shows k carries.numbered unseen_there
-      (late_in message mixed shift x handed r k tsn f carries read q shown.shows seen_as late) (none_ready message mixed before x kept handed t r shown) in
-      subst (λ z. Goes message mixed shift x (late_comes k ∷ []) handed (observe (origin + k) now t) z) (sym call_is)
-      (goes_to message mixed shift x kept (late_comes k) [] q l handed (observe (origin + k) now t) (made outcome (came tsn r)) p' (λ n. observed_seen t is_tracker x.receiver.seen shown.seen k n now) mode_is settled (λ e. cc) none)
+      let l = wire_late_row message mixed base x q k kept shown.shows carries.numbered unseen_there is_now
+      (late_in message mixed shift x handed r k tsn f carries read base q shown.shows seen_as is_now late) (none_ready message mixed base before x kept handed t r shown) in
+      subst (λ z. Goes message mixed base shift x (late_comes k ∷ []) handed (observe (origin + k) now t) z) (sym call_is)
+      (goes_to message mixed base shift x kept (late_comes k) [] q l handed (observe (origin + k) now t) (made outcome (came tsn r)) p' (λ n. observed_seen t is_tracker x.receiver.seen shown.seen k n now) mode_is settled (λ e. cc) none)
     where
       alike : (b : Bool) → f.is_unordered ≡ b → AreAlike (view_of handed r) (view_with outcome.streams ((handed ++ r.ready) ++ outcome.messages))
       alike false e =
           subst (λ o. AreAlike (view_of handed r) (view_with o.streams ((handed ++ r.ready) ++ o.messages))) (sym (in_order e))
-          (ordered_late r.streams (handed ++ r.ready) f.stream_id (item r tsn f) near (ordered_behind message mixed shift x handed r k tsn f carries read q shown.shows seen_as e ∙ late))
+          (ordered_late r.streams (handed ++ r.ready) f.stream_id (item r tsn f) near (ordered_behind message mixed shift x handed r k tsn f carries read base q shown.shows seen_as is_now e ∙ late))
       alike true e =
           subst (λ o. AreAlike (view_of handed r) (view_with o.streams ((handed ++ r.ready) ++ o.messages))) (sym (out_of_order e))
-          (unordered_late r.streams (handed ++ r.ready) f.stream_id (item r tsn f) near (unordered_behind message mixed shift x handed r k tsn f carries read q shown.shows seen_as e ∙ late))
+          (unordered_late r.streams (handed ++ r.ready) f.stream_id (item r tsn f) near (unordered_behind message mixed shift x handed r k tsn f carries read base q shown.shows seen_as is_now e ∙ late))

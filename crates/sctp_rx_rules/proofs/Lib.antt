@@ -24,3 +24,4 @@ pub mod NearStreamLemmas
 pub mod NearKeptLemmas
 pub mod NearRunLemmas
 pub mod NearComesLemmas
+pub mod ResetRowLemmas

@@ -9,13 +9,13 @@ use Rattle.sctp_rx.specs.Tracker.{Tracker, IsTracker, moves_on, observe}
 use Rattle.sctp_rx.specs.ReassemblyQueue.{Reassembly, number_of, add, forward}
 use Rattle.sctp_rules.specs.State.{Message, ForwardPoint, Transfer, IsAmong}
 use Rattle.sctp_rules.specs.Rules.{Event, data_comes, late_comes, deliver, forward_comes, run, no_stream}
-use Rattle.sctp_rules.specs.Windows.{Windows}
+use Rattle.sctp_rules.specs.Lifted.{wire_point, IsNow, AreEntriesNow}
 use Rattle.sctp_rules.specs.Kept.{Kept}
 use Rattle.sctp_rx_rules.specs.View.{was_seen}
 use Rattle.sctp_rx_rules.specs.Read.{Carries, IsRead, StandForAll, is_behind, shift_after}
 use Rattle.sctp_rules.specs.Points.{AreApart}
 use Rattle.sctp_rx_rules.specs.Receives.{Receives, Goes}
-use Rattle.sctp_rx_rules.specs.Near.{IsWritten, AreEntries, AreFew, ReadsNear, GoesNear}
+use Rattle.sctp_rx_rules.specs.Near.{IsWritten, AreEntries, AreFew, ReadsNear, GoesNear, IsInWindow, IsNearNext, AreNearNext}
 use Rattle.sctp_rx_rules.proofs.FragmentRowLemmas.{row_held, row_late}
 use Rattle.sctp_rx_rules.proofs.ForwardRowLemmas.{row_point}
 use Rattle.sctp_rx_rules.proofs.NearRowLemmas.{kept_yet, fragment_is_read, fragment_keeps, point_is_read, point_below, point_keeps, is_ahead}
@@ -23,62 +23,67 @@ use Rattle.sctp_rx_rules.proofs.NearNumberLemmas.{entries_are_read}
 use Rattle.sctp_rx_rules.proofs.NearMidLemmas.{fragment_number, entry_mid}
 use Rattle.sctp_rx_rules.proofs.NearKeptLemmas.{fragment_keeps_mids, point_keeps_mids}
 
-module _ (message : ℕ → Message) (mixed : Bool) (first shift : ℕ) (x : Transfer) (kept : Kept message mixed x) (windows : Windows message x) (handed : List messages.Message) (t : Tracker) (r : Reassembly) (shown : Receives message mixed shift x handed t r)
-    (near : ReadsNear message mixed first shift x r) where
+module _ (message : ℕ → Message) (mixed : Bool) (base : Bool → ℕ → ℕ) (first shift : ℕ) (x : Transfer) (kept : Kept message mixed x) (windows : IsInWindow x) (handed : List messages.Message) (t : Tracker) (r : Reassembly)
+    (shown : Receives message mixed base shift x handed t r) (near : ReadsNear message mixed base first shift x r) where
   -- ---- a fragment
 
-  module _ (k tsn : ℕ) (f : FragmentTree) (tsn_is : tsn ≡ wire words first (origin + k)) (carries : Carries message mixed x.sender k f) (unseen : was_seen t k ≡ false) where
+  module _ (k tsn : ℕ) (f : FragmentTree) (tsn_is : tsn ≡ wire words first (origin + k)) (carries : Carries message mixed x.sender k f) (unseen : was_seen t k ≡ false)
+      (is_now : IsNow base message x.sender k) where
     abbrev later : ℕ
     later = shift_after r.first shift k
 
-    pub is_read : AreFew x.sender → IsWritten message mixed x.sender k f → IsRead message mixed later x.sender r k tsn f
-    is_read few written =
-        fragment_is_read message mixed first shift x kept windows handed t r shown near.tsns k tsn f tsn_is carries unseen few written
-        (λ m e. fragment_number message mixed x kept windows r (near.mids m) k f carries written (kept_yet message mixed first shift x kept windows handed t r shown near.tsns k tsn f tsn_is carries unseen) m shown.mode e)
+    pub is_read : AreFew x.sender → IsWritten message mixed x.sender k f → IsNearNext message x k → IsRead message mixed later x.sender r k tsn f
+    is_read few written ordered =
+        fragment_is_read message mixed base first shift x kept windows handed t r shown near.tsns k tsn f tsn_is carries unseen few written is_now ordered
+        (λ m e. fragment_number message mixed base x kept windows r (near.mids m) k f carries written (kept_yet message mixed base first shift x kept windows handed t r shown near.tsns k tsn f tsn_is carries unseen)
+        is_now m shown.mode e)
 
     module _ (is_tracker : IsTracker t) (none : r.deferred ≡ None) where
-      pub near_then : IsRead message mixed later x.sender r k tsn f → (now : Bool) (es : List Event) → Goes message mixed later x es handed (observe (origin + k) now t) (add tsn f r) → ReadsNear message mixed first later (run message mixed x es) (add tsn f r)
+      pub near_then : IsRead message mixed later x.sender r k tsn f → (now : Bool) (es : List Event) → Goes message mixed base later x es handed (observe (origin + k) now t) (add tsn f r) → ReadsNear message mixed base first later (run message mixed x es) (add tsn f r)
       near_then read now es goes = record {
-        tsns = fragment_keeps message mixed first shift x kept windows handed t r shown near.tsns k tsn f tsn_is carries unseen none read es (observe (origin + k) now t) goes;
-        mids = λ m. fragment_keeps_mids message mixed shift x kept windows handed t r shown m (near.mids m) is_tracker none k tsn f carries read unseen now es goes;
+        tsns = fragment_keeps message mixed base first shift x kept windows handed t r shown near.tsns k tsn f tsn_is carries unseen none read es (observe (origin + k) now t) goes;
+        mids = λ m. fragment_keeps_mids message mixed base shift x kept windows handed t r shown m (near.mids m) is_tracker none k tsn f carries read unseen is_now now es goes;
       }
 
-      pub held_near : AreFew x.sender → IsWritten message mixed x.sender k f → (now : Bool) → is_behind message mixed x.sender x.receiver k ≡ false
-          → (ps : List ℕ) × GoesNear message mixed first later x (data_comes k ∷ map deliver ps) handed (observe (origin + k) now t) (add tsn f r)
-      held_near few written now current =
-          let read = is_read few written in
-          let l = row_held message mixed shift x kept handed t r shown is_tracker none k tsn f carries read unseen current now in
+      pub held_near : AreFew x.sender → IsWritten message mixed x.sender k f → IsNearNext message x k → (now : Bool) → is_behind message mixed x.sender x.receiver k ≡ false
+          → (ps : List ℕ) × GoesNear message mixed base first later x (data_comes k ∷ map deliver ps) handed (observe (origin + k) now t) (add tsn f r)
+      held_near few written ordered now current =
+          let read = is_read few written ordered in
+          let l = row_held message mixed base shift x kept handed t r shown is_tracker none k tsn f carries read unseen is_now current now in
           (l.0, record { goes = l.1; near = near_then read now (data_comes k ∷ map deliver l.0) l.1 })
 
-      pub late_near : AreFew x.sender → IsWritten message mixed x.sender k f → (now : Bool) → is_behind message mixed x.sender x.receiver k ≡ true
-          → GoesNear message mixed first later x (late_comes k ∷ []) handed (observe (origin + k) now t) (add tsn f r)
-      late_near few written now late =
-          let read = is_read few written in
-          let l = row_late message mixed shift x kept handed t r shown is_tracker none k tsn f carries read unseen late now in
+      pub late_near : AreFew x.sender → IsWritten message mixed x.sender k f → IsNearNext message x k → (now : Bool) → is_behind message mixed x.sender x.receiver k ≡ true
+          → GoesNear message mixed base first later x (late_comes k ∷ []) handed (observe (origin + k) now t) (add tsn f r)
+      late_near few written ordered now late =
+          let read = is_read few written ordered in
+          let l = row_late message mixed base shift x kept handed t r shown is_tracker none k tsn f carries read unseen is_now late now in
           record { goes = l; near = near_then read now (late_comes k ∷ []) l }
 
   -- ---- a forward point
 
-  module _ (is_tracker : IsTracker t) (k tsn : ℕ) (f : ForwardPoint) (sent : IsAmong f x.forward_points) (last : f.upto ≡ suc k) (moves : moves_on (origin + k) t ≡ true) where
-    pub entries_read : AreFew x.sender → AreApart f.entries → (entries : List SkippedStream) → AreEntries mixed entries f.entries → StandForAll mixed r.streams entries f.entries
-    entries_read few apart entries are =
-        let ahead = is_ahead message mixed shift x kept handed t r shown is_tracker k f last moves in
-        entries_are_read message mixed shift x kept windows handed t r shown few f sent ahead apart (λ m e a u. entry_mid message mixed x kept windows r (near.mids m) f sent ahead apart e a u) entries are
+  module _ (is_tracker : IsTracker t) (k tsn : ℕ) (f : ForwardPoint) (sent : IsAmong f x.forward_points) (last : f.upto ≡ suc k) (moves : moves_on (origin + k) t ≡ true)
+      (are_now : AreEntriesNow base f) where
+    pub entries_read : AreFew x.sender → AreApart f.entries → AreNearNext x f → (entries : List SkippedStream) → AreEntries mixed entries f.entries
+        → StandForAll mixed r.streams entries (wire_point f).entries
+    entries_read few apart ordered entries are =
+        let ahead = is_ahead message mixed base shift x kept handed t r shown is_tracker k f last moves in
+        entries_are_read message mixed base shift x kept handed t r shown few f sent are_now ordered
+        (λ m e a u. entry_mid message mixed base x kept windows r (near.mids m) f sent ahead apart e a u (are_now e a)) entries are
 
     module _ (tsn_is : tsn ≡ wire words first (origin + k)) (none : r.deferred ≡ None) (few : AreFew x.sender) (apart : AreApart f.entries) where
       read : number_of r tsn + shift_after r.first shift k ≡ origin + k
-      read = point_is_read message mixed first shift x kept windows handed t r shown near.tsns is_tracker k tsn f sent last moves tsn_is
+      read = point_is_read message mixed base first shift x kept windows handed t r shown near.tsns is_tracker k tsn f sent last moves tsn_is
 
-      pub point_near_then : (entries : List SkippedStream) → StandForAll mixed r.streams entries f.entries
-          → (es : List Event) → Goes message mixed (shift_after r.first shift k) x es handed (tracker.forward (origin + k) t) (forward tsn entries r) → ReadsNear message mixed first (shift_after r.first shift k) (run message mixed x es) (forward tsn entries r)
+      pub point_near_then : (entries : List SkippedStream) → StandForAll mixed r.streams entries (wire_point f).entries
+          → (es : List Event) → Goes message mixed base (shift_after r.first shift k) x es handed (tracker.forward (origin + k) t) (forward tsn entries r) → ReadsNear message mixed base first (shift_after r.first shift k) (run message mixed x es) (forward tsn entries r)
       point_near_then entries stand es goes = record {
-        tsns = point_keeps message mixed first shift x kept windows handed t r shown near.tsns is_tracker k tsn f sent last moves tsn_is none few entries stand apart es (tracker.forward (origin + k) t) goes;
-        mids = λ m. point_keeps_mids message mixed shift x kept windows handed t r shown m (near.mids m) none k tsn entries f sent last read (point_below message mixed x kept few k f sent last) stand apart es goes;
+        tsns = point_keeps message mixed base first shift x kept windows handed t r shown near.tsns is_tracker k tsn f sent last moves tsn_is none few entries stand apart are_now es (tracker.forward (origin + k) t) goes;
+        mids = λ m. point_keeps_mids message mixed base shift x kept windows handed t r shown m (near.mids m) none k tsn entries f sent last read (point_below message mixed x kept few k f sent last) stand apart are_now es goes;
       }
 
-      pub point_near : (entries : List SkippedStream) → AreEntries mixed entries f.entries
-          → (ps : List ℕ) × GoesNear message mixed first (shift_after r.first shift k) x (forward_comes f no_stream ∷ map deliver ps) handed (tracker.forward (origin + k) t) (forward tsn entries r)
-      point_near entries are =
-          let stand = entries_read few apart entries are in
-          let l = row_point message mixed shift x kept handed t r shown none k tsn entries f sent last read (point_below message mixed x kept few k f sent last) stand apart in
+      pub point_near : AreNearNext x f → (entries : List SkippedStream) → AreEntries mixed entries f.entries
+          → (ps : List ℕ) × GoesNear message mixed base first (shift_after r.first shift k) x (forward_comes f no_stream ∷ map deliver ps) handed (tracker.forward (origin + k) t) (forward tsn entries r)
+      point_near ordered entries are =
+          let stand = entries_read few apart ordered entries are in
+          let l = row_point message mixed base shift x kept handed t r shown none k tsn entries f sent last read (point_below message mixed x kept few k f sent last) stand apart are_now in
           (l.0, record { goes = l.1; near = point_near_then entries stand (forward_comes f no_stream ∷ map deliver l.0) l.1 })

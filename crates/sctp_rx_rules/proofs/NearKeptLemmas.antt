@@ -12,20 +12,21 @@ use Rattle.sctp_rx.specs.Tracker.{Tracker, IsTracker, observe}
 use Rattle.sctp_rx.specs.ReassemblyQueue.{Reassembly, number_of, add, forward, reassembly}
 use Rattle.sctp_rules.specs.State.{Message, ForwardPoint, Sender, Receiver, Transfer, IsAmong, place_of, count, start, put, ordered_of, stream_of}
 use Rattle.sctp_rules.specs.Rules.{Event, accept, begin, number, close, give_up, data_comes, late_comes, deliver, send_sack, leave, send_forward, forward_comes, forget, IsAllowed, IsDue, after, run, covers, raised}
-use Rattle.sctp_rules.specs.Windows.{Windows}
+use Rattle.sctp_rules.specs.Lifted.{no_base, wire_point, IsNow, AreEntriesNow}
 use Rattle.sctp_rules.specs.Kept.{Kept}
 use Rattle.sctp_rules.proofs.LaterLemmas.{Later}
+use Rattle.sctp_rules.proofs.LiftedLemmas.{raised_wire}
 use Rattle.sctp_rules.proofs.StepLemmas.{later}
 use Rattle.sctp_rules.proofs.ToolsLemmas.{not_both, put_true, put_keeps, raised_up, raised_covers, raised_cases}
 use Rattle.sctp_rx_rules.specs.View.{was_seen, unordered_at}
 use Rattle.sctp_rx_rules.specs.Read.{Carries, IsRead, StandForAll, number_read, shift_after}
 use Rattle.sctp_rules.specs.Points.{AreApart}
 use Rattle.sctp_rx_rules.specs.Receives.{Receives, Goes}
-use Rattle.sctp_rx_rules.specs.Near.{IsOn, IsOf, IsNearStream, IsNamed, AreNearStreams}
+use Rattle.sctp_rx_rules.specs.Near.{IsOn, IsOf, IsNearStream, IsNamed, AreNearStreams, IsInWindow}
 use Rattle.sctp_rx_rules.proofs.KeyLemmas.{twice_not}
 use Rattle.sctp_rx_rules.proofs.FragmentLemmas.{added_now, number_near}
 use Rattle.sctp_rx_rules.proofs.FragmentRowLemmas.{observed_seen}
-use Rattle.sctp_rx_rules.proofs.ForwardRowLemmas.{call_is, point_seen}
+use Rattle.sctp_rx_rules.proofs.ForwardRowLemmas.{written_apart, call_is, point_seen}
 use Rattle.sctp_rx_rules.proofs.NearTsnLemmas.{not_acknowledged}
 use Rattle.sctp_rx_rules.proofs.NearMidLemmas.{rising, few_ahead}
 use Rattle.sctp_rx_rules.proofs.NearStreamLemmas.{ordered_leaves, near_here, near_off, point_nears}
@@ -42,25 +43,26 @@ still_named message x i f stays q = record {
 }
 
 -- a stream of which nothing came
-still_near : (message : ℕ → Message) (s : ℕ) (x : Transfer) (i : Receiver) (near later : ℕ) → later ≡ near → ((t : ℕ) → i.seen t ≡ true → IsOn message x.sender s t → x.receiver.seen t ≡ true)
-    → IsNearStream message s x near → IsNearStream message s (with_receiver x i) later
-still_near message s x i near later same old q = record { number = q.number; near_is = same ∙ q.near_is; met = q.met; seen = λ t h on. q.seen t (old t h on) on }
+still_near : (message : ℕ → Message) (base : Bool → ℕ → ℕ) (s : ℕ) (x : Transfer) (i : Receiver) (near later : ℕ) → later ≡ near → ((t : ℕ) → i.seen t ≡ true → IsOn message x.sender s t → x.receiver.seen t ≡ true)
+    → IsNearStream message base s x near → IsNearStream message base s (with_receiver x i) later
+still_near message base s x i near later same old q = record { number = q.number; near_is = same ∙ q.near_is; met = q.met; seen = λ t h on. q.seen t (old t h on) on }
 
-module _ (message : ℕ → Message) (mixed : Bool) (before : ℕ) (x : Transfer) (kept : Kept message mixed x) (windows : Windows message x) (handed : List messages.Message) (t : Tracker) (r : Reassembly) (shown : Receives message mixed before x handed t r)
-    (is_mixed : mixed ≡ true) (near : AreNearStreams message x r) where
+module _ (message : ℕ → Message) (mixed : Bool) (base : Bool → ℕ → ℕ) (before : ℕ) (x : Transfer) (kept : Kept message mixed x) (windows : IsInWindow x) (handed : List messages.Message) (t : Tracker) (r : Reassembly)
+    (shown : Receives message mixed base before x handed t r) (is_mixed : mixed ≡ true) (near : AreNearStreams message base x r) where
   -- ---- a fragment
 
-  module _ (is_tracker : IsTracker t) (none : r.deferred ≡ None) (k tsn : ℕ) (f : FragmentTree) (carries : Carries message mixed x.sender k f) (read : IsRead message mixed (shift_after r.first before k) x.sender r k tsn f) (unseen : was_seen t k ≡ false) where
+  module _ (is_tracker : IsTracker t) (none : r.deferred ≡ None) (k tsn : ℕ) (f : FragmentTree) (carries : Carries message mixed x.sender k f) (read : IsRead message mixed (shift_after r.first before k) x.sender r k tsn f) (unseen : was_seen t k ≡ false)
+      (is_now : IsNow base message x.sender k) where
     abbrev place : ℕ
     place = place_of x.sender k
 
     ordered_is : (b : Bool) → f.is_unordered ≡ b → ordered_of message place ≡ not b
     ordered_is b e = sym (twice_not f.is_unordered (ordered_of message place) carries.kind) ∙ ap not e
 
-    number_is : f.is_unordered ≡ true → number_read true f r.streams ≡ origin + x.sender.number place
+    number_is : f.is_unordered ≡ true → number_read true f r.streams ≡ origin + x.sender.written place
     number_is e =
         ap (λ z. number_read z f r.streams) (sym e) ∙ (read.number_is
-        ∙ ap (λ z. origin + z) (cond-true (ordered_of message place || mixed) (x.sender.number place) 0 (or_right (ordered_of message place) mixed is_mixed)))
+        ∙ ap (λ z. origin + z) (cond-true (ordered_of message place || mixed) (x.sender.written place) 0 (or_right (ordered_of message place) mixed is_mixed)))
 
     near_number : f.is_unordered ≡ true → is_far (number_read true f r.streams) ≡ false
     near_number e = ap (λ z. is_far (number_read z f r.streams)) (sym e) ∙ number_near message mixed (shift_after r.first before k) x.sender r k tsn f carries read shown.mode
@@ -69,92 +71,108 @@ module _ (message : ℕ → Message) (mixed : Bool) (before : ℕ) (x : Transfer
       came_or_was : (n : ℕ) → i.seen n ≡ true → (n ≡ k) ⊎ (x.receiver.seen n ≡ true)
       came_or_was n h = put_true x.receiver.seen k n (sym (seen_is n) ∙ h)
 
-      stream_kept : (s : ℕ) (b : Bool) → f.is_unordered ≡ b → IsNearStream message s (with_receiver x i) (unordered_at (add tsn f r).streams s).near
+      stream_kept : (s : ℕ) (b : Bool) → f.is_unordered ≡ b → IsNearStream message base s (with_receiver x i) (unordered_at (add tsn f r).streams s).near
       stream_kept s false e =
-          still_near message s x i (unordered_at r.streams s).near (unordered_at (add tsn f r).streams s).near
+          still_near message base s x i (unordered_at r.streams s).near (unordered_at (add tsn f r).streams s).near
           (ap (λ z. (unordered_at z.streams s).near) (added_now message mixed (shift_after r.first before k) x.sender r k tsn f carries read shown.mode none) ∙ ap (λ z. z.near) (ordered_leaves (number_of r tsn) f r.streams e s))
           (λ n h on. elim (came_or_was n h) [ inr a ↦ a | inl q ↦ absurd (not_both (ordered_is false e) (ap (λ z. ordered_of message (place_of x.sender z)) (sym q) ∙ on.unordered)) ]) (near.streams s)
       stream_kept s true e = elim (cases_eq s f.stream_id) [
         | inr d ↦
-            still_near message s x i (unordered_at r.streams s).near (unordered_at (add tsn f r).streams s).near
+            still_near message base s x i (unordered_at r.streams s).near (unordered_at (add tsn f r).streams s).near
             (ap (λ z. (unordered_at z.streams s).near) (added_now message mixed (shift_after r.first before k) x.sender r k tsn f carries read shown.mode none) ∙ ap (λ z. z.near) (near_off (number_of r tsn) f r.streams e (near_number e) s d))
             (λ n h on. elim (came_or_was n h) [ inr a ↦ a | inl q ↦ absurd (d (sym on.stream ∙ (ap (λ z. stream_of message (place_of x.sender z)) q ∙ sym carries.stream))) ]) (near.streams s)
         | inl q ↦
             let here : IsOn message x.sender s k = record { numbered = carries.numbered; unordered = ordered_is true e; stream = sym carries.stream ∙ sym q } in
             let n = number_is e in
+            let own : base false s + x.sender.written place ≡ x.sender.number place =
+            subst (λ z. base false z + x.sender.written place ≡ x.sender.number place) here.stream
+            (subst (λ z. base z (stream_of message place) + x.sender.written place ≡ x.sender.number place) here.unordered is_now) in
             let is = ap (λ z. (unordered_at z.streams s).near) (added_now message mixed (shift_after r.first before k) x.sender r k tsn f carries read shown.mode none) ∙ near_here (number_of r tsn) f r.streams e (near_number e) s q in
             record {
-              number = x.sender.number place;
+              number = x.sender.written place;
               near_is = omega (arith, is, n);
-              met = inr (k, record { on = here; number = refl });
-              seen = λ u h on. few_ahead message mixed x kept windows s k here (not_acknowledged message mixed x kept k (sym (shown.seen k) ∙ unseen)) u on;
+              met = inr (k, record { on = here; number = sym own });
+              seen = λ u h on.
+                  let l = few_ahead message mixed base x kept windows s k here (not_acknowledged message mixed x kept k (sym (shown.seen k) ∙ unseen)) u on in
+                  omega (arith, l, own);
             }
       ]
 
-      all_kept : AreNearStreams message (with_receiver x i) (add tsn f r)
+      all_kept : AreNearStreams message base (with_receiver x i) (add tsn f r)
       all_kept = record {
         streams = λ s. stream_kept s f.is_unordered refl;
         points = λ p a. still_named message x i p (λ n h. seen_is n ∙ put_keeps x.receiver.seen k n h) (near.points p a);
       }
 
-    pub fragment_keeps_mids : (now : Bool) (es : List Event) → Goes message mixed (shift_after r.first before k) x es handed (observe (origin + k) now t) (add tsn f r) → AreNearStreams message (run message mixed x es) (add tsn f r)
+    pub fragment_keeps_mids : (now : Bool) (es : List Event) → Goes message mixed base (shift_after r.first before k) x es handed (observe (origin + k) now t) (add tsn f r) → AreNearStreams message base (run message mixed x es) (add tsn f r)
     fragment_keeps_mids now es goes =
-        subst (λ z. AreNearStreams message z (add tsn f r)) (sym goes.rest_stays)
+        subst (λ z. AreNearStreams message base z (add tsn f r)) (sym goes.rest_stays)
         (all_kept (run message mixed x es).receiver (λ n. sym (goes.receives.seen n) ∙ observed_seen t is_tracker x.receiver.seen shown.seen k n now))
 
   -- ---- a forward point
 
   module _ (none : r.deferred ≡ None) (k tsn : ℕ) (xs : List SkippedStream) (f : ForwardPoint) (sent : IsAmong f x.forward_points) (last : f.upto ≡ suc k) (tsn_is : number_of r tsn + shift_after r.first before k ≡ origin + k) (small : k < 2 ^ 62)
-      (stand : StandForAll mixed r.streams xs f.entries) (apart : AreApart f.entries) where
+      (stand : StandForAll mixed r.streams xs (wire_point f).entries) (apart : AreApart f.entries) (are_now : AreEntriesNow base f) where
+    -- the number behind all that are named, as it is on the wire, and as it is in the rules
     abbrev top : ℕ → ℕ
-    top s = raised f.entries false s (suc (near.streams s).number)
+    top s = raised (wire_point f).entries false s (suc (near.streams s).number)
+
+    top_is : (s : ℕ) → base false s + top s ≡ raised f.entries false s (suc (base false s + (near.streams s).number))
+    top_is s =
+        let e : base false s + suc (near.streams s).number ≡ suc (base false s + (near.streams s).number) = omega arith in
+        raised_wire base false s f.entries are_now (suc (near.streams s).number) ∙ ap (λ z. raised f.entries false s z) e
 
     near_top : (s : ℕ) → suc (unordered_at (forward tsn xs r).streams s).near ≡ origin + top s
     near_top s =
-        ap (λ z. suc (unordered_at z.streams s).near) (call_is message mixed before x kept handed t r shown none k tsn xs f sent last tsn_is small stand apart)
-        ∙ point_nears s xs f.entries r.streams (number_of r tsn) (near.streams s).number (subst (λ z. StandForAll z r.streams xs f.entries) is_mixed stand) apart (shown.mode ∙ is_mixed) (near.streams s).near_is
+        ap (λ z. suc (unordered_at z.streams s).near) (call_is message mixed base before x kept handed t r shown none k tsn xs f sent last tsn_is small stand apart are_now)
+        ∙ point_nears s xs (wire_point f).entries r.streams (number_of r tsn) (near.streams s).number (subst (λ z. StandForAll z r.streams xs (wire_point f).entries) is_mixed stand)
+        (written_apart f.entries apart) (shown.mode ∙ is_mixed) (near.streams s).near_is
 
     module _ (i : Receiver) (seen_is : (n : ℕ) → i.seen n ≡ (nat_lt n f.upto || x.receiver.seen n)) where
-      point_met : (s : ℕ) → (top s - 1 ≡ 0) ⊎ ((u : ℕ) × IsOf message x.sender s (top s - 1) u)
+      point_met : (s : ℕ) → (top s - 1 ≡ 0) ⊎ ((u : ℕ) × IsOf message x.sender s (base false s + (top s - 1)) u)
       point_met s =
           let q = near.streams s in
-          let up = raised_up f.entries false s (suc q.number) in
-          elim (raised_cases f.entries false s (suc q.number) (top s - 1) (omega (arith, up))) [
-            | inl l ↦ let e : q.number ≡ top s - 1 = omega (arith, up, l) in subst (λ n. (n ≡ 0) ⊎ ((u : ℕ) × IsOf message x.sender s n u)) e q.met
+          let n : ℕ = base false s + q.number in
+          let is = top_is s in
+          let up = raised_up f.entries false s (suc n) in
+          elim (raised_cases f.entries false s (suc n) (base false s + (top s - 1)) (omega (arith, up, is))) [
+            | inl l ↦ let e : q.number ≡ top s - 1 = omega (arith, up, l, is) in subst (λ m. (m ≡ 0) ⊎ ((u : ℕ) × IsOf message x.sender s (base false s + m) u)) e q.met
             | inr c ↦
-                let z = (near.points f sent).last s (top s - 1) c in
+                let z = (near.points f sent).last s (base false s + (top s - 1)) c in
                 let lo = z.4 in
-                let hi = raised_covers f.entries false s (suc q.number) (x.sender.number (place_of x.sender z.0)) z.5 in
-                inr (z.0, record { on = z.1; number = omega (arith, lo, hi) })
+                let hi = raised_covers f.entries false s (suc n) (x.sender.number (place_of x.sender z.0)) z.5 in
+                inr (z.0, record { on = z.1; number = omega (arith, lo, hi, is, up) })
           ]
 
-      point_stream : (s : ℕ) → IsNearStream message s (with_receiver x i) (unordered_at (forward tsn xs r).streams s).near
+      point_stream : (s : ℕ) → IsNearStream message base s (with_receiver x i) (unordered_at (forward tsn xs r).streams s).near
       point_stream s =
           let q = near.streams s in
-          let up = raised_up f.entries false s (suc q.number) in
+          let n : ℕ = base false s + q.number in
+          let now = top_is s in
+          let up = raised_up f.entries false s (suc n) in
           let is = near_top s in
           record {
             number = top s - 1;
-            near_is = omega (arith, is, up);
+            near_is = omega (arith, is, up, now);
             met = point_met s;
             seen = λ u h on. elim (or_cases (nat_lt u f.upto) (x.receiver.seen u) (sym (seen_is u) ∙ h)) [
-              | inr a ↦ let l = q.seen u a on in omega (arith, l, up)
+              | inr a ↦ let l = q.seen u a on in omega (arith, l, up, now)
               | inl a ↦ elim ((near.points f sent).unseen s u on (ltb-true u f.upto a)) [
-                | inl b ↦ let l = q.seen u b on in omega (arith, l, up)
-                | inr c ↦ let l = raised_covers f.entries false s (suc q.number) (x.sender.number (place_of x.sender u)) c in omega (arith, l, up)
+                | inl b ↦ let l = q.seen u b on in omega (arith, l, up, now)
+                | inr c ↦ let l = raised_covers f.entries false s (suc n) (x.sender.number (place_of x.sender u)) c in omega (arith, l, up, now)
               ]
             ];
           }
 
-      all_pointed : AreNearStreams message (with_receiver x i) (forward tsn xs r)
+      all_pointed : AreNearStreams message base (with_receiver x i) (forward tsn xs r)
       all_pointed = record {
         streams = point_stream;
         points = λ p a. still_named message x i p (λ n h. seen_is n ∙ or_right (nat_lt n f.upto) (x.receiver.seen n) h) (near.points p a);
       }
 
-    pub point_keeps_mids : (es : List Event) → Goes message mixed (shift_after r.first before k) x es handed (tracker.forward (origin + k) t) (forward tsn xs r) → AreNearStreams message (run message mixed x es) (forward tsn xs r)
+    pub point_keeps_mids : (es : List Event) → Goes message mixed base (shift_after r.first before k) x es handed (tracker.forward (origin + k) t) (forward tsn xs r) → AreNearStreams message base (run message mixed x es) (forward tsn xs r)
     point_keeps_mids es goes =
-        subst (λ z. AreNearStreams message z (forward tsn xs r)) (sym goes.rest_stays)
+        subst (λ z. AreNearStreams message base z (forward tsn xs r)) (sym goes.rest_stays)
         (all_pointed (run message mixed x es).receiver (λ n. sym (goes.receives.seen n) ∙ point_seen t x.receiver.seen shown.seen k f.upto n last))
 
 -- ---- the sender goes on
@@ -306,8 +324,8 @@ module _ (message : ℕ → Message) (mixed : Bool) (x : Transfer) (kept : Kept 
           );
     }
 
-    pub sender_keeps_mids : (r : Reassembly) → AreNearStreams message x r → AreNearStreams message y r
-    sender_keeps_mids r near = record {
+    pub sender_keeps_mids : (base : Bool → ℕ → ℕ) (r : Reassembly) → AreNearStreams message base x r → AreNearStreams message base y r
+    sender_keeps_mids base r near = record {
       streams = λ s.
           let q = near.streams s in
           record {
@@ -329,7 +347,7 @@ module _ (message : ℕ → Message) (mixed : Bool) (x : Transfer) (kept : Kept 
 
 -- ---- the rest
 
-pub new_mids : (message : ℕ → Message) (mixed : Bool) (max_size : ℕ) → AreNearStreams message start (reassembly max_size mixed)
+pub new_mids : (message : ℕ → Message) (mixed : Bool) (max_size : ℕ) → AreNearStreams message no_base start (reassembly max_size mixed)
 new_mids message mixed max_size = record {
   streams = λ s. record { number = 0; near_is = refl; met = inl refl; seen = λ t h on. absurd (false≢true h) };
   points = λ f a. absurd a;

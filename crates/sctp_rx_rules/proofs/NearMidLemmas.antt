@@ -8,7 +8,7 @@ use Rattle.sctp_rx.specs.Streams.{unordered_number}
 use Rattle.sctp_rx.specs.ReassemblyQueue.{Reassembly}
 use Rattle.sctp_rules.specs.State.{Message, Entry, ForwardPoint, Sender, Transfer, IsAmong, place_of, count, ordered_of, stream_of}
 use Rattle.sctp_rules.specs.Rules.{covers}
-use Rattle.sctp_rules.specs.Windows.{Windows}
+use Rattle.sctp_rules.specs.Lifted.{IsNow}
 use Rattle.sctp_rules.specs.Kept.{Kept, Outgoing}
 use Rattle.sctp_rules.proofs.DeliverLemmas.{lower_place}
 use Rattle.sctp_rules.proofs.SackLemmas.{end_before}
@@ -16,7 +16,7 @@ use Rattle.sctp_rules.proofs.WindowsLemmas.{words_read}
 use Rattle.sctp_rx_rules.specs.View.{unordered_at}
 use Rattle.sctp_rx_rules.specs.Read.{Carries, number_read}
 use Rattle.sctp_rules.specs.Points.{AreApart}
-use Rattle.sctp_rx_rules.specs.Near.{IsOn, IsNearStream, AreNearStreams, IsWritten}
+use Rattle.sctp_rx_rules.specs.Near.{IsOn, IsNearStream, AreNearStreams, IsWritten, IsInWindow}
 use Rattle.sctp_rx_rules.proofs.KeyLemmas.{twice_not}
 use Rattle.sctp_rx_rules.proofs.NearTsnLemmas.{not_acknowledged, counted_from}
 use Rattle.sctp_rx_rules.proofs.NearNumberLemmas.{among_covers, greatest}
@@ -82,7 +82,7 @@ module _ (message : ℕ → Message) (o : Sender) (out : Outgoing message o) (s 
       let h = steps d t u a b l (omega (arith, r)) in
       omega (arith, h, r)
 
-module _ (message : ℕ → Message) (mixed : Bool) (x : Transfer) (kept : Kept message mixed x) (windows : Windows message x) (s : ℕ) where
+module _ (message : ℕ → Message) (mixed : Bool) (base : Bool → ℕ → ℕ) (x : Transfer) (kept : Kept message mixed x) (windows : IsInWindow x) (s : ℕ) where
   abbrev number_at : ℕ → ℕ
   number_at t = x.sender.number (place_of x.sender t)
 
@@ -107,11 +107,11 @@ module _ (message : ℕ → Message) (mixed : Bool) (x : Transfer) (kept : Kept 
       unseen v a e true h = let q = seen v h a in absurd (omega (arith, q, e))
 
   -- nor behind, where of the stream no greater number is passed below `upto`, and little is numbered from there on
-  not_behind : (near : ℕ) (q : IsNearStream message s x near) (k upto : ℕ) → IsOn message x.sender s k → ((u : ℕ) → IsOn message x.sender s u → u < upto → number_at u ≤ number_at k)
-      → count x.sender < upto + 2 ^ 30 → q.number < number_at k + 2 ^ 31
-  not_behind near q k upto on last c =
+  not_behind : (near : ℕ) (q : IsNearStream message base s x near) (k upto w : ℕ) → base false s + w ≡ number_at k → IsOn message x.sender s k → ((u : ℕ) → IsOn message x.sender s u → u < upto → number_at u ≤ number_at k)
+      → count x.sender < upto + 2 ^ 30 → base false s + q.number < number_at k + 2 ^ 31
+  not_behind near q k upto w is on last c =
       elim q.met [
-        | inl z ↦ omega (arith, z)
+        | inl z ↦ omega (arith, z, is)
         | inr m ↦
             let t = m.0 in
             let a = m.1.on in
@@ -141,13 +141,13 @@ module _ (message : ℕ → Message) (mixed : Bool) (x : Transfer) (kept : Kept 
             | inl b ↦ let w = last v a b in absurd (omega (arith, w, l))
           ]
 
-  pub mid_read : (near : ℕ) → IsNearStream message s x near → (k upto : ℕ) → IsOn message x.sender s k → ((u : ℕ) → IsOn message x.sender s u → u < upto → number_at u ≤ number_at k)
-      → count x.sender < upto + 2 ^ 30 → nearest words 0 near (wire words 0 (origin + number_at k)) ≡ origin + number_at k
-  mid_read near q k upto on last c =
-      let a = not_ahead q.number q.seen k on in
-      let b = not_behind near q k upto on last c in
+  pub mid_read : (near : ℕ) → IsNearStream message base s x near → (k upto w : ℕ) → base false s + w ≡ number_at k → IsOn message x.sender s k → ((u : ℕ) → IsOn message x.sender s u → u < upto → number_at u ≤ number_at k)
+      → count x.sender < upto + 2 ^ 30 → nearest words 0 near (wire words 0 (origin + w)) ≡ origin + w
+  mid_read near q k upto w is on last c =
+      let a = not_ahead (base false s + q.number) q.seen k on in
+      let b = not_behind near q k upto w is on last c in
       let e = q.near_is in
-      words_read 0 near (origin + number_at k) (omega (arith, b, e), omega (arith, a, e)) (omega (arith, e))
+      words_read 0 near (origin + w) (omega (arith, b, e, is), omega (arith, a, e, is)) (omega (arith, e))
 
   -- from a fragment that is not acknowledged no numbered one is far ahead
   pub few_ahead : (k : ℕ) → IsOn message x.sender s k → x.acknowledged ≤ k → (t : ℕ) → IsOn message x.sender s t → number_at t < number_at k + 2 ^ 30
@@ -159,33 +159,36 @@ module _ (message : ℕ → Message) (mixed : Bool) (x : Transfer) (kept : Kept 
         | inr g ↦ let w = rising message x.sender kept.outgoing s t k b on g in omega (arith, w)
       ]
 
-module _ (message : ℕ → Message) (mixed : Bool) (x : Transfer) (kept : Kept message mixed x) (windows : Windows message x) (r : Reassembly) (near : AreNearStreams message x r) where
+module _ (message : ℕ → Message) (mixed : Bool) (base : Bool → ℕ → ℕ) (x : Transfer) (kept : Kept message mixed x) (windows : IsInWindow x) (r : Reassembly) (near : AreNearStreams message base x r) where
   -- a fragment that is not acknowledged
-  pub fragment_mid : (k : ℕ) → x.acknowledged ≤ k → (s : ℕ) → IsOn message x.sender s k
-      → nearest words 0 (unordered_at r.streams s).near (wire words 0 (origin + x.sender.number (place_of x.sender k))) ≡ origin + x.sender.number (place_of x.sender k)
-  fragment_mid k a s on =
+  pub fragment_mid : (k : ℕ) → x.acknowledged ≤ k → (s : ℕ) → IsOn message x.sender s k → base false s + x.sender.written (place_of x.sender k) ≡ x.sender.number (place_of x.sender k)
+      → nearest words 0 (unordered_at r.streams s).near (wire words 0 (origin + x.sender.written (place_of x.sender k))) ≡ origin + x.sender.written (place_of x.sender k)
+  fragment_mid k a s on is =
       let c = counted_from message mixed x kept windows k a on.numbered in
-      mid_read message mixed x kept windows s (unordered_at r.streams s).near (near.streams s) k (suc k) on
+      mid_read message mixed base x kept windows s (unordered_at r.streams s).near (near.streams s) k (suc k) (x.sender.written (place_of x.sender k)) is on
       (λ u b l. rising message x.sender kept.outgoing s u k b on (omega (arith, l))) (omega (arith, c))
 
   -- an entry of a forward point that is ahead
   pub entry_mid : (f : ForwardPoint) → IsAmong f x.forward_points → x.acknowledged < f.upto → AreApart f.entries → (e : Entry) → IsAmong e f.entries → e.ordered ≡ false
-      → nearest words 0 (unordered_at r.streams e.stream).near (wire words 0 (origin + e.number)) ≡ origin + e.number
-  entry_mid f sent ahead apart e a u =
+      → base e.ordered e.stream + e.written ≡ e.number → nearest words 0 (unordered_at r.streams e.stream).near (wire words 0 (origin + e.written)) ≡ origin + e.written
+  entry_mid f sent ahead apart e a u now =
       let named = near.points f sent in
       let z = named.last e.stream e.number (subst (λ z. covers f.entries z e.stream e.number ≡ true) u (among_covers e f.entries a)) in
       let on = z.1 in
       let lo = z.4 in
       let hi = greatest f.entries apart e a (x.sender.number (place_of x.sender z.0)) (subst (λ b. covers f.entries b e.stream (x.sender.number (place_of x.sender z.0)) ≡ true) (sym u) z.5) in
       let within = (kept.forwards_true f sent).within in
-      let c = windows.items (omega (arith, ahead, within)) in
+      let c = windows (omega (arith, ahead, within)) in
+      let own : base false e.stream + e.written ≡ e.number = subst (λ b. base b e.stream + e.written ≡ e.number) u now in
       let n : x.sender.number (place_of x.sender z.0) ≡ e.number = omega (arith, lo, hi) in
-      subst (λ b. nearest words 0 (unordered_at r.streams e.stream).near (wire words 0 (origin + b)) ≡ origin + b) n
-      (mid_read message mixed x kept windows e.stream (unordered_at r.streams e.stream).near (near.streams e.stream) z.0 f.upto on z.3 (omega (arith, c, ahead)))
+      mid_read message mixed base x kept windows e.stream (unordered_at r.streams e.stream).near (near.streams e.stream) z.0 f.upto e.written (own ∙ sym n) on z.3 (omega (arith, c, ahead))
 
   -- as the queue reads it
-  pub fragment_number : (k : ℕ) (f : FragmentTree) → Carries message mixed x.sender k f → IsWritten message mixed x.sender k f → x.acknowledged ≤ k → mixed ≡ true → r.streams.is_interleaved ≡ mixed → f.is_unordered ≡ true
-      → number_read true f r.streams ≡ origin + x.sender.number (place_of x.sender k)
-  fragment_number k f carries written a is_mixed mode e =
+  pub fragment_number : (k : ℕ) (f : FragmentTree) → Carries message mixed x.sender k f → IsWritten message mixed x.sender k f → x.acknowledged ≤ k → IsNow base message x.sender k → mixed ≡ true → r.streams.is_interleaved ≡ mixed → f.is_unordered ≡ true
+      → number_read true f r.streams ≡ origin + x.sender.written (place_of x.sender k)
+  fragment_number k f carries written a now is_mixed mode e =
       let on : IsOn message x.sender f.stream_id k = record { numbered = carries.numbered; unordered = sym (twice_not f.is_unordered (ordered_of message (place_of x.sender k)) carries.kind) ∙ ap not e; stream = sym carries.stream } in
-      ap (λ z. unordered_number z f (unordered_at r.streams f.stream_id)) (mode ∙ is_mixed) ∙ (ap (λ z. nearest words 0 (unordered_at r.streams f.stream_id).near z) (written.mid is_mixed) ∙ fragment_mid k a f.stream_id on)
+      let is : base false f.stream_id + x.sender.written (place_of x.sender k) ≡ x.sender.number (place_of x.sender k) =
+      subst (λ z. base false z + x.sender.written (place_of x.sender k) ≡ x.sender.number (place_of x.sender k)) on.stream
+      (subst (λ z. base z (stream_of message (place_of x.sender k)) + x.sender.written (place_of x.sender k) ≡ x.sender.number (place_of x.sender k)) on.unordered now) in
+      ap (λ z. unordered_number z f (unordered_at r.streams f.stream_id)) (mode ∙ is_mixed) ∙ (ap (λ z. nearest words 0 (unordered_at r.streams f.stream_id).near z) (written.mid is_mixed) ∙ fragment_mid k a f.stream_id on is)

@@ -1,5 +1,5 @@
 -- SSNs and MIDs of ordered messages are near their stream's next one, and none is out of bounds.
-use Rattle.std.proofs.Common.{◌≡◌, ℕ, zero, suc, ◌+◌, ◌^◌, ◌<◌, ◌≤◌, Bool, true, false, cond, inl, inr, List, [], ◌∷◌, length, refl, sym, ap, ◌∙◌, subst, arith, eqb, leb}
+use Rattle.std.proofs.Common.{◌≡◌, ℕ, zero, suc, ◌+◌, ◌^◌, ◌<◌, ◌≤◌, Bool, true, false, cond, inl, inr, List, [], ◌∷◌, length, map, refl, sym, ap, ◌∙◌, subst, arith, eqb, leb}
 use Rattle.std.specs.Prelude.{◌||◌, ◌&&◌, not}
 use Rattle.std.proofs.lemmas.Bool.{cond-true, cond-false, or_cases, or_left, or_right, and_parts, and_from, leb-true, le-leb, eqb-true, eq-eqb}
 use Rattle.sctp_serial.specs.Messages as messages
@@ -13,17 +13,16 @@ use Rattle.sctp_rx.specs.Tracker.{Tracker}
 use Rattle.sctp_rx.specs.ReassemblyQueue.{Reassembly}
 use Rattle.sctp_rules.specs.State.{Message, Fragment, Entry, ForwardPoint, Sender, Transfer, IsAmong, fragment, place_of, count, parts, ordered_of, stream_of}
 use Rattle.sctp_rules.specs.Rules.{same, covers}
-use Rattle.sctp_rules.specs.Windows.{Windows}
 use Rattle.sctp_rules.specs.Kept.{Kept, Outgoing}
-use Rattle.sctp_rules.specs.Reassembly.{chunk_of}
+use Rattle.sctp_rules.specs.Lifted.{as_written, wire_chunk, wire_point, IsNow, AreEntriesNow}
 use Rattle.sctp_rules.proofs.ToolsLemmas.{same_is, same_self}
 use Rattle.sctp_rules.proofs.DeliverLemmas.{lower_place}
-use Rattle.sctp_rules.proofs.WindowsLemmas.{number_window, named_window, words_read, halves_read}
+use Rattle.sctp_rules.proofs.WindowsLemmas.{words_read, halves_read}
 use Rattle.sctp_rx_rules.specs.View.{ordered_at, unordered_at}
 use Rattle.sctp_rx_rules.specs.Read.{Carries, StandsFor, StandForAll, number_read}
 use Rattle.sctp_rules.specs.Points.{AreApart}
 use Rattle.sctp_rx_rules.specs.Receives.{Receives}
-use Rattle.sctp_rx_rules.specs.Near.{IsWritten, IsEntry, AreEntries, AreFew}
+use Rattle.sctp_rx_rules.specs.Near.{IsWritten, IsEntry, AreEntries, AreFew, IsNearNext, AreNearNext}
 use Rattle.sctp_rx_rules.proofs.KeyLemmas.{twice_not}
 
 -- ---- bounds
@@ -97,108 +96,119 @@ greatest es apart e a m h =
     let n = ap (λ z. z.number) same_one in
     omega (arith, l, n)
 
-module _ (message : ℕ → Message) (mixed : Bool) (shift : ℕ) (x : Transfer) (kept : Kept message mixed x) (windows : Windows message x) (handed : List messages.Message) (t : Tracker) (r : Reassembly) (shown : Receives message mixed shift x handed t r) where
-  next_is : (s : ℕ) → (ordered_at r.streams s).next ≡ origin + x.receiver.next s
-  next_is s = shown.seen_as.next s ∙ ap (λ z. origin + z) (shown.shows.next_is s)
-
-  -- a number of this mode near a stream's next one
-  ordered_read : (s n : ℕ) → n < x.receiver.next s + 32001 → x.receiver.next s < n + 32002
-      → (nearest halves 0 (ordered_at r.streams s).next (wire halves 0 (origin + n)) ≡ origin + n) × (nearest words 0 (ordered_at r.streams s).next (wire words 0 (origin + n)) ≡ origin + n)
-  ordered_read s n a b =
-      let e = next_is s in (
-        halves_read 0 (ordered_at r.streams s).next (origin + n) (omega (arith, b, e), omega (arith, a, e)) (omega (arith, e)),
-        words_read 0 (ordered_at r.streams s).next (origin + n) (omega (arith, b, e), omega (arith, a, e)) (omega (arith, e)),
+module _ (message : ℕ → Message) (mixed : Bool) (base : Bool → ℕ → ℕ) (shift : ℕ) (x : Transfer) (kept : Kept message mixed x) (handed : List messages.Message) (t : Tracker) (r : Reassembly)
+    (shown : Receives message mixed base shift x handed t r) where
+  -- number n, which is w on the wire, near a stream's next one, in either mode
+  ordered_read : (s w n : ℕ) → base true s + w ≡ n → n < x.receiver.next s + 32001 → x.receiver.next s < n + 32002
+      → (nearest halves 0 (ordered_at r.streams s).next (wire halves 0 (origin + w)) ≡ origin + w) × (nearest words 0 (ordered_at r.streams s).next (wire words 0 (origin + w)) ≡ origin + w)
+  ordered_read s w n is a b =
+      let e = shown.seen_as.next s in
+      let v = shown.shows.next_is s in (
+        halves_read 0 (ordered_at r.streams s).next (origin + w) (omega (arith, b, e, v, is), omega (arith, a, e, v, is)) (omega (arith, e)),
+        words_read 0 (ordered_at r.streams s).next (origin + w) (omega (arith, b, e, v, is), omega (arith, a, e, v, is)) (omega (arith, e)),
       )
 
   -- ---- a fragment
 
-  module _ (k : ℕ) (f : FragmentTree) (carries : Carries message mixed x.sender k f) (written : IsWritten message mixed x.sender k f) (kept_yet : x.acknowledged ≤ k)
-      (unordered : mixed ≡ true → f.is_unordered ≡ true → number_read true f r.streams ≡ origin + x.sender.number (place_of x.sender k)) where
+  module _ (k : ℕ) (f : FragmentTree) (carries : Carries message mixed x.sender k f) (written : IsWritten message mixed x.sender k f) (is_now : IsNow base message x.sender k) (near : IsNearNext message x k)
+      (unordered : mixed ≡ true → f.is_unordered ≡ true → number_read true f r.streams ≡ origin + x.sender.written (place_of x.sender k)) where
     abbrev place : ℕ
     place = place_of x.sender k
 
     abbrev number : ℕ
     number = x.sender.number place
 
-    in_order : ordered_of message place ≡ true → number_read false f r.streams ≡ origin + number
+    -- as it is on the wire
+    abbrev own : ℕ
+    own = x.sender.written place
+
+    in_order : ordered_of message place ≡ true → number_read false f r.streams ≡ origin + own
     in_order o = ap (λ z. ordered_number z f (ordered_at r.streams f.stream_id)) shown.mode ∙ go mixed refl
       where
-        near : (number < x.receiver.next f.stream_id + 32001) × (x.receiver.next f.stream_id < number + 32002)
-        near =
-            let w = number_window message mixed x kept windows k kept_yet carries.numbered o in
+        window : (number < x.receiver.next f.stream_id + 32001) × (x.receiver.next f.stream_id < number + 32002)
+        window =
+            let w = near o in
             let a = w.0 in
             let b = w.1 in
             let s = ap x.receiver.next carries.stream in
             (omega (arith, b, s), omega (arith, a, s))
 
-        go : (m : Bool) → mixed ≡ m → ordered_number m f (ordered_at r.streams f.stream_id) ≡ origin + number
-        go false m = ap (λ z. nearest halves 0 (ordered_at r.streams f.stream_id).next z) (written.ssn m o) ∙ (ordered_read f.stream_id number near.0 near.1).0
-        go true m = ap (λ z. nearest words 0 (ordered_at r.streams f.stream_id).next z) (written.mid m) ∙ (ordered_read f.stream_id number near.0 near.1).1
+        is : base true f.stream_id + own ≡ number
+        is = subst (λ z. base true z + own ≡ number) (sym carries.stream) (subst (λ z. base z (stream_of message place) + own ≡ number) o is_now)
 
-    own_is : (ordered_of message place || mixed) ≡ true → (chunk_of message mixed x.sender k).number ≡ number
-    own_is h = cond-true (ordered_of message place || mixed) number 0 h
+        go : (m : Bool) → mixed ≡ m → ordered_number m f (ordered_at r.streams f.stream_id) ≡ origin + own
+        go false m = ap (λ z. nearest halves 0 (ordered_at r.streams f.stream_id).next z) (written.ssn m o) ∙ (ordered_read f.stream_id own number is window.0 window.1).0
+        go true m = ap (λ z. nearest words 0 (ordered_at r.streams f.stream_id).next z) (written.mid m) ∙ (ordered_read f.stream_id own number is window.0 window.1).1
 
-    pub number_is_read : number_read f.is_unordered f r.streams ≡ origin + (chunk_of message mixed x.sender k).number
+    own_is : (ordered_of message place || mixed) ≡ true → (wire_chunk message mixed x.sender k).number ≡ own
+    own_is h = cond-true (ordered_of message place || mixed) own 0 h
+
+    pub number_is_read : number_read f.is_unordered f r.streams ≡ origin + (wire_chunk message mixed x.sender k).number
     number_is_read = go f.is_unordered refl
       where
         kind : (b : Bool) → f.is_unordered ≡ b → ordered_of message place ≡ not b
         kind b e = sym (twice_not f.is_unordered (ordered_of message place) carries.kind) ∙ ap not e
 
-        go : (b : Bool) → f.is_unordered ≡ b → number_read b f r.streams ≡ origin + (chunk_of message mixed x.sender k).number
+        go : (b : Bool) → f.is_unordered ≡ b → number_read b f r.streams ≡ origin + (wire_chunk message mixed x.sender k).number
         go false e = let o = kind false e in in_order o ∙ ap (λ z. origin + z) (sym (own_is (or_left (ordered_of message place) mixed o)))
         go true e = by mixed refl
           where
-            by : (m : Bool) → mixed ≡ m → number_read true f r.streams ≡ origin + (chunk_of message mixed x.sender k).number
+            by : (m : Bool) → mixed ≡ m → number_read true f r.streams ≡ origin + (wire_chunk message mixed x.sender k).number
             by true m = unordered m e ∙ ap (λ z. origin + z) (sym (own_is (or_right (ordered_of message place) mixed m)))
             by false m =
                 ap (λ z. unordered_number z f (unordered_at r.streams f.stream_id)) (shown.mode ∙ m)
-                ∙ ap (λ z. origin + z) (sym (cond-false (ordered_of message place || mixed) number 0 (ap (λ z. z || mixed) (kind true e) ∙ m)))
+                ∙ ap (λ z. origin + z) (sym (cond-false (ordered_of message place || mixed) own 0 (ap (λ z. z || mixed) (kind true e) ∙ m)))
 
-    pub number_is_below : AreFew x.sender → (chunk_of message mixed x.sender k).number < 2 ^ 62
+    pub number_is_below : AreFew x.sender → (wire_chunk message mixed x.sender k).number < 2 ^ 62
     number_is_below few =
-        let l = number_below message x.sender kept.outgoing few place (kept.outgoing.place_begun k carries.numbered) in
-        elim (ordered_of message place || mixed) as (λ b. cond b number 0 < 2 ^ 62) [ true ↦ l | false ↦ omega arith ]
+        let a = number_below message x.sender kept.outgoing few place (kept.outgoing.place_begun k carries.numbered) in
+        let l : own < 2 ^ 62 = omega (arith, a, is_now) in
+        elim (ordered_of message place || mixed) as (λ b. cond b own 0 < 2 ^ 62) [ true ↦ l | false ↦ omega arith ]
 
   -- ---- entries
 
-  module _ (few : AreFew x.sender) (f : ForwardPoint) (sent : IsAmong f x.forward_points) (ahead : x.acknowledged < f.upto) (apart : AreApart f.entries)
-      (unordered : mixed ≡ true → (e : Entry) → IsAmong e f.entries → e.ordered ≡ false → nearest words 0 (unordered_at r.streams e.stream).near (wire words 0 (origin + e.number)) ≡ origin + e.number) where
-    named_below : (e : Entry) → IsAmong e f.entries → e.number < 2 ^ 62
+  module _ (few : AreFew x.sender) (f : ForwardPoint) (sent : IsAmong f x.forward_points) (are_now : AreEntriesNow base f) (near : AreNearNext x f)
+      (unordered : mixed ≡ true → (e : Entry) → IsAmong e f.entries → e.ordered ≡ false → nearest words 0 (unordered_at r.streams e.stream).near (wire words 0 (origin + e.written)) ≡ origin + e.written) where
+    named_below : (e : Entry) → IsAmong e f.entries → e.written < 2 ^ 62
     named_below e a =
         let c = (kept.forwards_true f sent).named_counts e.ordered e.stream e.number (among_covers e f.entries a) in
         let d = kept.outgoing.dense e.ordered e.stream e.number c in
         let l = number_below message x.sender kept.outgoing few d.0 d.1 in
         let n = d.4 in
-        omega (arith, l, n)
+        let is = are_now e a in
+        omega (arith, l, n, is)
 
     named_near : (e : Entry) → IsAmong e f.entries → e.ordered ≡ true → (e.number < x.receiver.next e.stream + 32001) × (x.receiver.next e.stream < e.number + 32002)
     named_near e a o =
-        let w = named_window message mixed x kept windows f sent ahead e.stream e.number (subst (λ z. covers f.entries z e.stream e.number ≡ true) o (among_covers e f.entries a))
-        (λ m h. greatest f.entries apart e a m (subst (λ z. covers f.entries z e.stream m ≡ true) (sym o) h)) in
+        let w = near e a o in
         let b = w.0 in
         let c = w.1 in
         (omega (arith, b), omega (arith, c))
 
-    entry_read : (m : Bool) → mixed ≡ m → (y : SkippedStream) (e : Entry) → IsAmong e f.entries → IsEntry m y e → StandsFor m r.streams y e
+    -- its number is the one on the wire with the base
+    named_is : (e : Entry) → IsAmong e f.entries → e.ordered ≡ true → base true e.stream + e.written ≡ e.number
+    named_is e a o = subst (λ z. base z e.stream + e.written ≡ e.number) o (are_now e a)
+
+    entry_read : (m : Bool) → mixed ≡ m → (y : SkippedStream) (e : Entry) → IsAmong e f.entries → IsEntry m y e → StandsFor m r.streams y (as_written e)
     entry_read false m (ForwardTsn id ssn) e a h =
-        let near = named_near e a h.0 in
+        let window = named_near e a h.0 in
         let s = h.1 in
-        (h.0, h.1, ap (λ z. nearest halves 0 z ssn.0) (ap (λ z. (ordered_at r.streams z).next) (sym s)) ∙ (ap (λ z. nearest halves 0 (ordered_at r.streams e.stream).next z) h.2 ∙ (ordered_read e.stream e.number near.0 near.1).0), named_below e a)
+        (h.0, h.1, ap (λ z. nearest halves 0 z ssn.0) (ap (λ z. (ordered_at r.streams z).next) (sym s)) ∙ (ap (λ z. nearest halves 0 (ordered_at r.streams e.stream).next z) h.2 ∙ (ordered_read e.stream e.written e.number (named_is e a h.0) window.0 window.1).0), named_below e a)
     entry_read false m (IForwardTsn key mid) e a h = absurd h
     entry_read true m (ForwardTsn id ssn) e a h = absurd h
     entry_read true m (IForwardTsn (Ordered id) mid) e a h =
-        let near = named_near e a h.0 in
+        let window = named_near e a h.0 in
         let s = h.1 in
-        (h.0, h.1, ap (λ z. nearest words 0 z mid.0) (ap (λ z. (ordered_at r.streams z).next) (sym s)) ∙ (ap (λ z. nearest words 0 (ordered_at r.streams e.stream).next z) h.2 ∙ (ordered_read e.stream e.number near.0 near.1).1), named_below e a)
+        (h.0, h.1, ap (λ z. nearest words 0 z mid.0) (ap (λ z. (ordered_at r.streams z).next) (sym s)) ∙ (ap (λ z. nearest words 0 (ordered_at r.streams e.stream).next z) h.2 ∙ (ordered_read e.stream e.written e.number (named_is e a h.0) window.0 window.1).1), named_below e a)
     entry_read true m (IForwardTsn (Unordered id) mid) e a h =
         let s = h.1 in
         (h.0, h.1, ap (λ z. nearest words 0 z mid.0) (ap (λ z. (unordered_at r.streams z).near) (sym s)) ∙ (ap (λ z. nearest words 0 (unordered_at r.streams e.stream).near z) h.2 ∙ unordered m e a h.0), named_below e a)
 
-    each_read : (ys : List SkippedStream) (es : List Entry) → ((e : Entry) → IsAmong e es → IsAmong e f.entries) → AreEntries mixed ys es → StandForAll mixed r.streams ys es
+    each_read : (ys : List SkippedStream) (es : List Entry) → ((e : Entry) → IsAmong e es → IsAmong e f.entries) → AreEntries mixed ys es → StandForAll mixed r.streams ys (map as_written es)
     each_read [] [] all h = tt
     each_read [] (e ∷ es) all h = absurd h
     each_read (y ∷ ys) [] all h = absurd h
     each_read (y ∷ ys) (e ∷ es) all h = (entry_read mixed refl y e (all e (inl refl)) h.0, each_read ys es (λ d a. all d (inr a)) h.1)
 
-    pub entries_are_read : (ys : List SkippedStream) → AreEntries mixed ys f.entries → StandForAll mixed r.streams ys f.entries
+    pub entries_are_read : (ys : List SkippedStream) → AreEntries mixed ys f.entries → StandForAll mixed r.streams ys (wire_point f).entries
     entries_are_read ys h = each_read ys f.entries (λ e a. a) h

@@ -8,14 +8,14 @@ use Rattle.sctp_rx.specs.Tracker.{Tracker, IsTracker, moves_on}
 use Rattle.sctp_rx.specs.ReassemblyQueue.{Reassembly, number_of, add, forward, reassembly}
 use Rattle.sctp_rules.specs.State.{Message, ForwardPoint, Transfer, IsAmong, place_of, count, start}
 use Rattle.sctp_rules.specs.Rules.{Event, IsAllowed, after, run}
-use Rattle.sctp_rules.specs.Windows.{Windows}
+use Rattle.sctp_rules.specs.Lifted.{wire_point, IsNow, AreEntriesNow}
 use Rattle.sctp_rules.specs.Kept.{Kept}
 use Rattle.sctp_rules.proofs.StepLemmas.{later}
 use Rattle.sctp_rx_rules.specs.View.{was_seen}
 use Rattle.sctp_rx_rules.specs.Read.{Carries, IsRead, StandForAll, number_read, shift_after}
 use Rattle.sctp_rules.specs.Points.{AreApart}
 use Rattle.sctp_rx_rules.specs.Receives.{Receives, Goes}
-use Rattle.sctp_rx_rules.specs.Near.{IsWritten, AreFew, IsNearQueue}
+use Rattle.sctp_rx_rules.specs.Near.{IsWritten, AreFew, IsNearQueue, IsInWindow, IsNearNext}
 use Rattle.sctp_rx_rules.proofs.FragmentLemmas.{added_now}
 use Rattle.sctp_rx_rules.proofs.ForwardRowLemmas.{call_is}
 use Rattle.sctp_rx_rules.proofs.NearTsnLemmas.{not_acknowledged, tsn_is_read, near_after, above_front}
@@ -28,11 +28,12 @@ point_numbered message mixed x kept k f sent last = let w = (kept.forwards_true 
 pub point_below : (message : ℕ → Message) (mixed : Bool) (x : Transfer) → Kept message mixed x → AreFew x.sender → (k : ℕ) (f : ForwardPoint) → IsAmong f x.forward_points → f.upto ≡ suc k → k < 2 ^ 62
 point_below message mixed x kept few k f sent last = let a = point_numbered message mixed x kept k f sent last in let b = few.fragments in omega (arith, a, b)
 
-pub is_ahead : (message : ℕ → Message) (mixed : Bool) (shift : ℕ) (x : Transfer) (kept : Kept message mixed x) (handed : List messages.Message) (t : Tracker) (r : Reassembly) (shown : Receives message mixed shift x handed t r) → IsTracker t
+pub is_ahead : (message : ℕ → Message) (mixed : Bool) (base : Bool → ℕ → ℕ) (shift : ℕ) (x : Transfer) (kept : Kept message mixed x) (handed : List messages.Message) (t : Tracker) (r : Reassembly) (shown : Receives message mixed base shift x handed t r) → IsTracker t
     → (k : ℕ) (f : ForwardPoint) → f.upto ≡ suc k → moves_on (origin + k) t ≡ true → x.acknowledged < f.upto
-is_ahead message mixed shift x kept handed t r shown is_tracker k f last moves = let a = above_front message mixed shift x kept handed t r shown is_tracker k moves in omega (arith, a, last)
+is_ahead message mixed base shift x kept handed t r shown is_tracker k f last moves = let a = above_front message mixed base shift x kept handed t r shown is_tracker k moves in omega (arith, a, last)
 
-module _ (message : ℕ → Message) (mixed : Bool) (first shift : ℕ) (x : Transfer) (kept : Kept message mixed x) (windows : Windows message x) (handed : List messages.Message) (t : Tracker) (r : Reassembly) (shown : Receives message mixed shift x handed t r)
+module _ (message : ℕ → Message) (mixed : Bool) (base : Bool → ℕ → ℕ) (first shift : ℕ) (x : Transfer) (kept : Kept message mixed x) (windows : IsInWindow x) (handed : List messages.Message) (t : Tracker) (r : Reassembly)
+    (shown : Receives message mixed base shift x handed t r)
     (near : IsNearQueue first shift x r) where
   -- ---- a fragment
 
@@ -40,17 +41,18 @@ module _ (message : ℕ → Message) (mixed : Bool) (first shift : ℕ) (x : Tra
     pub kept_yet : x.acknowledged ≤ k
     kept_yet = not_acknowledged message mixed x kept k (sym (shown.seen k) ∙ unseen)
 
-    pub fragment_is_read : AreFew x.sender → IsWritten message mixed x.sender k f → (mixed ≡ true → f.is_unordered ≡ true → number_read true f r.streams ≡ origin + x.sender.number (place_of x.sender k))
+    pub fragment_is_read : AreFew x.sender → IsWritten message mixed x.sender k f → IsNow base message x.sender k → IsNearNext message x k
+        → (mixed ≡ true → f.is_unordered ≡ true → number_read true f r.streams ≡ origin + x.sender.written (place_of x.sender k))
         → IsRead message mixed (shift_after r.first shift k) x.sender r k tsn f
-    fragment_is_read few written unordered = record {
+    fragment_is_read few written now ordered unordered = record {
       tsn_is = tsn_is_read message mixed x kept windows first shift r near k tsn tsn_is kept_yet carries.numbered;
       tsn_below = let a = carries.numbered in let b = few.fragments in omega (arith, a, b);
-      number_is = number_is_read message mixed shift x kept windows handed t r shown k f carries written kept_yet unordered;
-      number_below = number_is_below message mixed shift x kept windows handed t r shown k f carries written kept_yet unordered few;
+      number_is = number_is_read message mixed base shift x kept handed t r shown k f carries written now ordered unordered;
+      number_below = number_is_below message mixed base shift x kept handed t r shown k f carries written now ordered unordered few;
       index_below = index_below message mixed x kept few k carries.numbered;
     }
 
-    pub fragment_keeps : r.deferred ≡ None → IsRead message mixed (shift_after r.first shift k) x.sender r k tsn f → (es : List Event) (u : Tracker) → Goes message mixed (shift_after r.first shift k) x es handed u (add tsn f r)
+    pub fragment_keeps : r.deferred ≡ None → IsRead message mixed (shift_after r.first shift k) x.sender r k tsn f → (es : List Event) (u : Tracker) → Goes message mixed base (shift_after r.first shift k) x es handed u (add tsn f r)
         → IsNearQueue first (shift_after r.first shift k) (run message mixed x es) (add tsn f r)
     fragment_keeps none read es u goes =
         subst (λ z. IsNearQueue first (shift_after r.first shift k) (run message mixed x es) z) (sym (added_now message mixed (shift_after r.first shift k) x.sender r k tsn f carries read shown.mode none))
@@ -60,17 +62,17 @@ module _ (message : ℕ → Message) (mixed : Bool) (first shift : ℕ) (x : Tra
 
   module _ (is_tracker : IsTracker t) (k tsn : ℕ) (f : ForwardPoint) (sent : IsAmong f x.forward_points) (last : f.upto ≡ suc k) (moves : moves_on (origin + k) t ≡ true) (tsn_is : tsn ≡ wire words first (origin + k)) where
     unpassed : x.acknowledged ≤ k
-    unpassed = above_front message mixed shift x kept handed t r shown is_tracker k moves
+    unpassed = above_front message mixed base shift x kept handed t r shown is_tracker k moves
 
     pub point_is_read : number_of r tsn + shift_after r.first shift k ≡ origin + k
     point_is_read = tsn_is_read message mixed x kept windows first shift r near k tsn tsn_is unpassed (point_numbered message mixed x kept k f sent last)
 
-    pub point_keeps : r.deferred ≡ None → AreFew x.sender → (entries : List SkippedStream) → StandForAll mixed r.streams entries f.entries → AreApart f.entries
-        → (es : List Event) (u : Tracker) → Goes message mixed (shift_after r.first shift k) x es handed u (forward tsn entries r)
+    pub point_keeps : r.deferred ≡ None → AreFew x.sender → (entries : List SkippedStream) → StandForAll mixed r.streams entries (wire_point f).entries → AreApart f.entries → AreEntriesNow base f
+        → (es : List Event) (u : Tracker) → Goes message mixed base (shift_after r.first shift k) x es handed u (forward tsn entries r)
         → IsNearQueue first (shift_after r.first shift k) (run message mixed x es) (forward tsn entries r)
-    point_keeps none few entries stand apart es u goes =
+    point_keeps none few entries stand apart now es u goes =
         subst (λ z. IsNearQueue first (shift_after r.first shift k) (run message mixed x es) z)
-        (sym (call_is message mixed shift x kept handed t r shown none k tsn entries f sent last point_is_read (point_below message mixed x kept few k f sent last) stand apart))
+        (sym (call_is message mixed base shift x kept handed t r shown none k tsn entries f sent last point_is_read (point_below message mixed x kept few k f sent last) stand apart now))
         (near_after message mixed x kept windows first shift r near k tsn tsn_is unpassed (point_numbered message mixed x kept k f sent last) (run message mixed x es) goes.kept (ap (λ z. z.sender) goes.rest_stays))
 
 -- ---- the rest

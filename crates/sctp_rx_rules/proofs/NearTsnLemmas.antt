@@ -11,14 +11,14 @@ use Rattle.sctp_rx.specs.Tracker.{DataTracker, Tracker, IsTracker, moves_on}
 use Rattle.sctp_rx.specs.ReassemblyQueue.{Reassembly, near_first, number_of, came}
 use Rattle.sctp_tracker.proofs.SeenRunsLemmas.{next_is_new}
 use Rattle.sctp_rules.specs.State.{Message, Transfer, count}
-use Rattle.sctp_rules.specs.Windows.{Windows, IsNear, IsTimely}
+use Rattle.sctp_rules.specs.Windows.{IsNear, IsTimely}
 use Rattle.sctp_rules.specs.Kept.{Kept}
 use Rattle.sctp_rules.proofs.ToolsLemmas.{not_both}
 use Rattle.sctp_rules.proofs.WindowsLemmas.{front_window, words_read}
 use Rattle.sctp_rx_rules.specs.View.{was_seen}
 use Rattle.sctp_rx_rules.specs.Read.{shift_after}
 use Rattle.sctp_rx_rules.specs.Receives.{Receives}
-use Rattle.sctp_rx_rules.specs.Near.{IsNearLast, IsNearQueue}
+use Rattle.sctp_rx_rules.specs.Near.{IsNearLast, IsNearQueue, IsInWindow}
 
 -- a number less than half its space away is read as it was meant, also from just below `origin`
 words_near : (first near n : ℕ) → IsNear (2 ^ 31) near n → 2 ^ 31 ≤ near → nearest (2 ^ 32) first near (wire (2 ^ 32) first n) ≡ n
@@ -40,9 +40,9 @@ module _ (message : ℕ → Message) (mixed : Bool) (x : Transfer) (kept : Kept 
   pub not_acknowledged : (k : ℕ) → x.receiver.seen k ≡ false → x.acknowledged ≤ k
   not_acknowledged k unseen = elim (cases_lt k x.acknowledged) [ inl l ↦ absurd (not_both (kept.acknowledged_true.all_seen k l) unseen) | inr g ↦ g ]
 
-  module _ (windows : Windows message x) where
+  module _ (windows : IsInWindow x) where
     pub counted_from : (k : ℕ) → x.acknowledged ≤ k → k < count x.sender → count x.sender ≤ k + 2 ^ 30
-    counted_from k a b = let i = windows.items (omega (arith, a, b)) in omega (arith, a, i)
+    counted_from k a b = let i = windows (omega (arith, a, b)) in omega (arith, a, i)
 
     near_last : (first shift near w : ℕ) (q : IsNearLast first shift x near w) (k : ℕ) → x.acknowledged ≤ k → k < count x.sender → IsNear (2 ^ 31) q.last k
     near_last first shift near w q k a b =
@@ -119,7 +119,8 @@ module _ (message : ℕ → Message) (mixed : Bool) (x : Transfer) (kept : Kept 
 
 -- ---- the tracker
 
-module _ (message : ℕ → Message) (mixed : Bool) (shift : ℕ) (x : Transfer) (kept : Kept message mixed x) (handed : List messages.Message) (t : Tracker) (r : Reassembly) (shown : Receives message mixed shift x handed t r) (is_tracker : IsTracker t) where
+module _ (message : ℕ → Message) (mixed : Bool) (base : Bool → ℕ → ℕ) (shift : ℕ) (x : Transfer) (kept : Kept message mixed x) (handed : List messages.Message) (t : Tracker) (r : Reassembly)
+    (shown : Receives message mixed base shift x handed t r) (is_tracker : IsTracker t) where
   -- the fragment above its front is the first that is not seen
   front_is : (f : ℕ) → origin + f ≡ suc t.seen.front → (x.acknowledged ≤ f) × (f ≤ count x.sender)
   front_is f e = front_window message mixed x kept f (sym (shown.seen f) ∙ unseen (was_seen t f) (next_is_new t.seen.front (origin + f) t.seen.runs is_tracker.runs (omega (arith, e)))) (λ n l. sym (shown.seen n) ∙ below n l)
@@ -148,19 +149,19 @@ module _ (message : ℕ → Message) (mixed : Bool) (shift : ℕ) (x : Transfer)
       by a f m e w = grind (arith, nat_tests)
 
 -- a TSN that was emitted when n fragments were numbered, and its own or those above it were kept
-pub tracker_reads : (message : ℕ → Message) (mixed : Bool) (shift : ℕ) (x : Transfer) (handed : List messages.Message) (d : DataTracker) (r : Reassembly) (k n : ℕ) → Kept message mixed x → Windows message x → Receives message mixed shift x handed d.tracker r → IsTracker d.tracker
+pub tracker_reads : (message : ℕ → Message) (mixed : Bool) (base : Bool → ℕ → ℕ) (shift : ℕ) (x : Transfer) (handed : List messages.Message) (d : DataTracker) (r : Reassembly) (k n : ℕ) → Kept message mixed x → IsInWindow x → Receives message mixed base shift x handed d.tracker r → IsTracker d.tracker
     → k < n → n ≤ k + 2 ^ 30 → IsTimely x n → tracker.number_of d (wire words d.first (origin + k)) ≡ origin + k
-tracker_reads message mixed shift x handed d r k n kept windows shown is_tracker below near timely =
-    let e = at message mixed shift x kept handed d.tracker r shown is_tracker in
-    let f = front message mixed shift x kept handed d.tracker r shown is_tracker in
-    let w = front_is message mixed shift x kept handed d.tracker r shown is_tracker f e in
+tracker_reads message mixed base shift x handed d r k n kept windows shown is_tracker below near timely =
+    let e = at message mixed base shift x kept handed d.tracker r shown is_tracker in
+    let f = front message mixed base shift x kept handed d.tracker r shown is_tracker in
+    let w = front_is message mixed base shift x kept handed d.tracker r shown is_tracker f e in
     let lo = w.0 in
     let hi = w.1 in
     let c = timely.0 in
     let g = timely.1 in
     let ahead : k < f + 2 ^ 30 =
     elim (cases_lt x.acknowledged (count x.sender)) [
-      | inl l ↦ let i = windows.items l in omega (arith, below, c, lo, i)
+      | inl l ↦ let i = windows l in omega (arith, below, c, lo, i)
       | inr h ↦ omega (arith, below, c, lo, h)
     ] in
     words_near d.first d.tracker.seen.front (origin + k) (omega (arith, e, hi, g, near), omega (arith, e, ahead)) (omega (arith, e))

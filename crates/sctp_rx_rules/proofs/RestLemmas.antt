@@ -9,6 +9,8 @@ use Rattle.sctp_rx.specs.Held.{Held, rank_of, goes_on, begins, ends, intervals_o
 use Rattle.sctp_rx.specs.Settled.{AreInOrder}
 use Rattle.sctp_rules.specs.State.{Message, Sender, IsAmong, fragment, place_of, count}
 use Rattle.sctp_rules.specs.Reassembly.{Chunk, MessageKey, Queue, KeyOf, next_of, key_of, below_of, chunk_of, nth, ReadyRun, KeyLaws}
+use Rattle.sctp_rules.specs.Lifted.{up_key, up_chunk}
+use Rattle.sctp_rules.proofs.LiftedLemmas.{up_next}
 use Rattle.sctp_rules.proofs.ToolsLemmas.{not_both}
 use Rattle.sctp_rx_rules.specs.View.{View, IsFiled, IsSeenAs, chunk_of_held, key_of_held}
 use Rattle.sctp_rx_rules.proofs.IntervalLemmas.{none_held}
@@ -20,19 +22,31 @@ pub record IsAtRest (v : View) : Type 0 where
   pub in_turn : (s : ℕ) → NoneInTurn (v.next s) (intervals_of (v.held true s))
   pub complete : (s : ℕ) → NoneComplete (intervals_of (v.held false s))
 
--- each chunk carries a fragment of the sender
-abbrev pub AreSent : (ℕ → Message) → (mixed : Bool) → Sender → Queue (KeyOf mixed) (next_of mixed) → Type 0
-AreSent message mixed o q = (κ : KeyOf mixed) (w : Chunk) → q.chunks κ ≡ Some w → (t : ℕ) × (t < count o) × (key_of mixed message o t ≡ κ) × (w ≡ chunk_of message mixed o t)
+-- each chunk carries a fragment of the sender, once the base is added to its number
+abbrev pub AreSent : (ℕ → Message) → (mixed : Bool) → (base : Bool → ℕ → ℕ) → Sender → Queue (KeyOf mixed) (next_of mixed) → Type 0
+AreSent message mixed base o q =
+    (κ : KeyOf mixed) (w : Chunk) → q.chunks κ ≡ Some w
+    → (t : ℕ) × (t < count o) × (key_of mixed message o t ≡ up_key base mixed κ) × (up_chunk base mixed w ≡ chunk_of message mixed o t)
+
+-- of one kind and stream, equal numbers with the base are equal without
+number_back : (base : Bool → ℕ → ℕ) (mixed : Bool) (v w : Chunk) → v.ordered ≡ w.ordered → v.stream ≡ w.stream → (up_chunk base mixed v).number ≡ (up_chunk base mixed w).number → v.number ≡ w.number
+number_back base mixed v w k s e =
+    by (w.ordered || mixed) (base w.ordered w.stream) v.number w.number
+    (sym (ap (λ z. cond (z || mixed) (base z w.stream + v.number) v.number) k) ∙ (sym (ap (λ z. cond (v.ordered || mixed) (base v.ordered z + v.number) v.number) s) ∙ e))
+  where
+    by : (b : Bool) (c m n : ℕ) → cond b (c + m) m ≡ cond b (c + n) n → m ≡ n
+    by true c m n h = omega (arith, h)
+    by false c m n h = h
 
 index_next : (mixed : Bool) (shift : ℕ) (g h : Held) (κ : KeyOf mixed) → (mixed ≡ false → origin ≤ g.index + shift) → (mixed ≡ false → origin ≤ h.index + shift) → key_of_held mixed shift g ≡ κ → key_of_held mixed shift h ≡ next_of mixed κ → h.index ≡ suc g.index
 index_next false shift g h κ a b p q = let c = a refl in let d = b refl in omega (arith, p, q, c, d)
 index_next true shift g h κ a b p q = ap (λ (z : MessageKey). z.index) q ∙ ap (λ (z : MessageKey). suc z.index) (sym p)
 
-module _ (message : ℕ → Message) (mixed : Bool) (shift : ℕ) (o : Sender) (laws : KeyLaws (KeyOf mixed) (next_of mixed) mixed o (key_of mixed message o) (below_of mixed))
-    (v : View) (q : Queue (KeyOf mixed) (next_of mixed)) (p : IsSeenAs mixed shift v q) (sent : AreSent message mixed o q) (rest : IsAtRest v)
+module _ (message : ℕ → Message) (mixed : Bool) (base : Bool → ℕ → ℕ) (shift : ℕ) (o : Sender) (laws : KeyLaws (KeyOf mixed) (next_of mixed) mixed o (key_of mixed message o) (below_of mixed))
+    (v : View) (q : Queue (KeyOf mixed) (next_of mixed)) (p : IsSeenAs mixed shift v q) (sent : AreSent message mixed base o q) (rest : IsAtRest v)
     (κ : KeyOf mixed) (n : ℕ) (w : ℕ → Chunk) (y : ReadyRun (KeyOf mixed) (next_of mixed) q κ n w) where
   -- the fragments of the run. Past its end, any
-  fragment_at : (j : ℕ) → (t : ℕ) × (j ≤ n → (t < count o) × (key_of mixed message o t ≡ nth (KeyOf mixed) (next_of mixed) κ j) × (w j ≡ chunk_of message mixed o t))
+  fragment_at : (j : ℕ) → (t : ℕ) × (j ≤ n → (t < count o) × (key_of mixed message o t ≡ up_key base mixed (nth (KeyOf mixed) (next_of mixed) κ j)) × (up_chunk base mixed (w j) ≡ chunk_of message mixed o t))
   fragment_at j =
       elim (cases_lt n j) [
         | inl l ↦ (0, λ h. absurd (omega (arith, l, h)))
@@ -42,7 +56,7 @@ module _ (message : ℕ → Message) (mixed : Bool) (shift : ℕ) (o : Sender) (
   abbrev ts : ℕ → ℕ
   ts j = (fragment_at j).0
 
-  chunk_is : (j : ℕ) → j ≤ n → w j ≡ chunk_of message mixed o (ts j)
+  chunk_is : (j : ℕ) → j ≤ n → up_chunk base mixed (w j) ≡ chunk_of message mixed o (ts j)
   chunk_is j h = ((fragment_at j).1 h).2
 
   -- they are of one message
@@ -54,7 +68,7 @@ module _ (message : ℕ → Message) (mixed : Bool) (shift : ℕ) (o : Sender) (
       let a = (fragment_at j).1 le in
       let b = (fragment_at (suc j)).1 h in
       let l = sym (ap (λ z. z.is_end) (chunk_is j le)) ∙ y.inner j h in
-      let f = laws.follows (ts j) (ts (suc j)) a.0 b.0 l (b.1 ∙ ap (next_of mixed) (sym a.1)) in
+      let f = laws.follows (ts j) (ts (suc j)) a.0 b.0 l (b.1 ∙ (up_next base mixed (nth (KeyOf mixed) (next_of mixed) κ j) ∙ ap (next_of mixed) (sym a.1))) in
       (f.0 ∙ ih.0, f.1 ∙ ap suc ih.1)
 
   abbrev kind : Bool
@@ -63,7 +77,7 @@ module _ (message : ℕ → Message) (mixed : Bool) (shift : ℕ) (o : Sender) (
   abbrev stream : ℕ
   stream = (w 0).stream
 
-  first : w 0 ≡ chunk_of message mixed o (ts 0)
+  first : up_chunk base mixed (w 0) ≡ chunk_of message mixed o (ts 0)
   first = chunk_is 0 (omega arith)
 
   one_kind : (j : ℕ) → j ≤ n → (w j).ordered ≡ kind
@@ -74,8 +88,9 @@ module _ (message : ℕ → Message) (mixed : Bool) (shift : ℕ) (o : Sender) (
 
   one_number : (j : ℕ) → j ≤ n → (w j).number ≡ (w 0).number
   one_number j h =
-      ap (λ z. z.number) (chunk_is j h)
-      ∙ (ap (λ z. let c : ℕ = cond ((message z).ordered || mixed) (o.number z) 0 in c) (place_at j h).0 ∙ sym (ap (λ z. z.number) first))
+      number_back base mixed (w j) (w 0) (one_kind j h) (one_stream j h)
+      (ap (λ z. z.number) (chunk_is j h)
+      ∙ (ap (λ z. let c : ℕ = cond ((message z).ordered || mixed) (o.number z) 0 in c) (place_at j h).0 ∙ sym (ap (λ z. z.number) first)))
 
   no_beginning : (j : ℕ) → suc j ≤ n → (w (suc j)).is_beginning ≡ false
   no_beginning j h = ap (λ z. z.is_beginning) (chunk_is (suc j) h) ∙ (ap (λ z. z == 0) (place_at (suc j) h).1 ∙ ne_eqb (suc j) 0 (λ e. omega (arith, e)))

@@ -15,8 +15,11 @@ use Rattle.sctp_reassembly.proofs.SettledQueueLemmas.{settled_new}
 use Rattle.sctp_rules.specs.State.{Message, Transfer, IsAmong, start, put}
 use Rattle.sctp_rules.specs.Rules.{Event, IsAllowed, after, send_sack}
 use Rattle.sctp_rules.specs.Kept.{Kept}
-use Rattle.sctp_rules.specs.Reassembly.{Queue, KeyOf, next_of, key_of, below_of}
-use Rattle.sctp_rules.proofs.ReceiverRowLemmas.{key_laws, sack_made, still_sees}
+use Rattle.sctp_rules.specs.Reassembly.{Queue, KeyOf, next_of}
+use Rattle.sctp_rules.specs.Lifted.{lifted, no_base}
+use Rattle.sctp_rules.proofs.ReceiverRowLemmas.{still_sees}
+use Rattle.sctp_rules.proofs.LiftedLemmas.{lift_some}
+use Rattle.sctp_rules.proofs.WireResetLemmas.{wire_sack_row}
 use Rattle.sctp_rx_rules.specs.View.{IsSeenAs, was_seen, held_on, view_of}
 use Rattle.sctp_rx_rules.specs.Receives.{Receives}
 use Rattle.sctp_rx_rules.proofs.KeyLemmas.{none_some}
@@ -44,12 +47,13 @@ module _ (message : ℕ → Message) (mixed : Bool) (shift : ℕ) where
     ready = refl;
   }
 
-  pub first_receives : (options : Options) (max_size : ℕ) → Receives message mixed shift start [] (tracker options origin) (reassembly max_size mixed)
+  -- at first no stream was reset
+  pub first_receives : (options : Options) (max_size : ℕ) → Receives message mixed no_base shift start [] (tracker options origin) (reassembly max_size mixed)
   first_receives options max_size = record {
     queue = first_queue;
     shows = record {
       holds = λ t h. cc;
-      held = λ κ w e. absurd (none_some w e);
+      held = λ κ w e. absurd (let z = lift_some no_base mixed first_queue κ w e in none_some z.0 z.2);
       next_is = λ s. refl;
       passed_is = λ m s. refl;
       ready_is = refl;
@@ -64,14 +68,14 @@ module _ (message : ℕ → Message) (mixed : Bool) (shift : ℕ) where
       above : (n : ℕ) → (nat_le (origin + n) (origin - 1) || false) ≡ false
       above n = grind (arith, nat_tests)
 
-  module _ (x : Transfer) (handed : List messages.Message) (t : Tracker) (r : Reassembly) (shown : Receives message mixed shift x handed t r) where
+  module _ (base : Bool → ℕ → ℕ) (x : Transfer) (handed : List messages.Message) (t : Tracker) (r : Reassembly) (shown : Receives message mixed base shift x handed t r) where
     -- with another tracker that has seen the same
-    same_seen : (u : Tracker) → ((n : ℕ) → was_seen u n ≡ was_seen t n) → Receives message mixed shift x handed u r
+    same_seen : (u : Tracker) → ((n : ℕ) → was_seen u n ≡ was_seen t n) → Receives message mixed base shift x handed u r
     same_seen u same = record { queue = shown.queue; shows = shown.shows; seen_as = shown.seen_as; seen = λ n. same n ∙ shown.seen n; mode = shown.mode; settled = shown.settled; fresh = shown.fresh }
 
     -- ---- nothing new
 
-    pub old_point : (last : ℕ) → moves_on last t ≡ false → Receives message mixed shift x handed (forward last t) r
+    pub old_point : (last : ℕ) → moves_on last t ≡ false → Receives message mixed base shift x handed (forward last t) r
     old_point last old = same_seen (forward last t) (λ n. contains-up_to last (origin + n) t.seen ∙ below n)
       where
         below : (n : ℕ) → (leb (origin + n) last || (leb (origin + n) t.seen.front || in_runs t.seen.runs (origin + n))) ≡ (leb (origin + n) t.seen.front || in_runs t.seen.runs (origin + n))
@@ -80,7 +84,7 @@ module _ (message : ℕ → Message) (mixed : Bool) (shift : ℕ) where
             by : (b : Bool) (c : ℕ) → nat_lt c last ≡ false → (leb (origin + n) last || (leb (origin + n) c || b)) ≡ (leb (origin + n) c || b)
             by b c e = grind (arith, nat_tests)
 
-    pub again : (k : ℕ) (now : Bool) → IsTracker t → was_seen t k ≡ true → Receives message mixed shift x handed (observe (origin + k) now t) r
+    pub again : (k : ℕ) (now : Bool) → IsTracker t → was_seen t k ≡ true → Receives message mixed base shift x handed (observe (origin + k) now t) r
     again k now i seen = same_seen (observe (origin + k) now t) (λ n. observed_seen t i (was_seen t) (λ m. refl) k n now ∙ there n)
       where
         there : (n : ℕ) → put (was_seen t) k true n ≡ was_seen t n
@@ -94,8 +98,7 @@ module _ (message : ℕ → Message) (mixed : Bool) (shift : ℕ) where
 
     pub sack_allowed : Kept message mixed x → (c : ℕ) → origin + c ≡ suc t.seen.front → IsAllowed message mixed x (send_sack c)
     sack_allowed kept c at =
-        sack_made (KeyOf mixed) (next_of mixed) message mixed x kept (key_of mixed message x.sender) (below_of mixed) (key_laws message mixed x kept) shown.queue shown.shows c
-        (λ n l. sym (shown.seen n) ∙ below n l) (none_ready message mixed shift x kept handed t r shown)
+        wire_sack_row message mixed base x shown.queue c kept shown.shows (λ n l. sym (shown.seen n) ∙ below n l) (none_ready message mixed base shift x kept handed t r shown)
       where
         below : (n : ℕ) → n < c → was_seen t n ≡ true
         below n l = by (in_runs t.seen.runs (origin + n)) t.seen.front at l
@@ -105,10 +108,10 @@ module _ (message : ℕ → Message) (mixed : Bool) (shift : ℕ) where
 
     -- ---- the sender goes on
 
-    pub sender_goes : (e : Event) → Kept message mixed x → IsAllowed message mixed x e → (after message mixed x e).receiver ≡ x.receiver → Receives message mixed shift (after message mixed x e) handed t r
+    pub sender_goes : (e : Event) → Kept message mixed x → IsAllowed message mixed x e → (after message mixed x e).receiver ≡ x.receiver → Receives message mixed base shift (after message mixed x e) handed t r
     sender_goes e kept may same = record {
       queue = shown.queue;
-      shows = still_sees message mixed x e kept may same shown.queue shown.shows;
+      shows = still_sees message mixed x e kept may same (lifted base mixed shown.queue) shown.shows;
       seen_as = shown.seen_as;
       seen = λ n. shown.seen n ∙ ap (λ z. z.seen n) (sym same);
       mode = shown.mode;

@@ -3,3 +3,4 @@ pub mod Read
 pub mod Receives
 pub mod Runs
 pub mod Near
+pub mod Resets

@@ -10,6 +10,7 @@ use Rattle.sctp_rx.specs.Tracker.{Tracker}
 use Rattle.sctp_rx.specs.ReassemblyQueue.{Reassembly}
 use Rattle.sctp_rules.specs.State.{Message, Entry, ForwardPoint, Sender, Transfer, IsAmong, place_of, count, ordered_of, stream_of}
 use Rattle.sctp_rules.specs.Rules.{Event, covers, run}
+use Rattle.sctp_rules.specs.Windows.{IsNear}
 use Rattle.sctp_rx_rules.specs.View.{unordered_at}
 use Rattle.sctp_rx_rules.specs.Receives.{Goes}
 
@@ -17,16 +18,16 @@ use Rattle.sctp_rx_rules.specs.Receives.{Goes}
 
 -- an ordered message's number as DATA carries it (SSN) and as I-DATA does (MID). Unordered I-DATA has a MID too
 pub record IsWritten (message : ℕ → Message) (mixed : Bool) (o : Sender) (k : ℕ) (f : FragmentTree) : Type 0 where
-  pub ssn : mixed ≡ false → ordered_of message (place_of o k) ≡ true → f.ssn ≡ wire halves 0 (origin + o.number (place_of o k))
-  pub mid : mixed ≡ true → f.mid ≡ wire words 0 (origin + o.number (place_of o k))
+  pub ssn : mixed ≡ false → ordered_of message (place_of o k) ≡ true → f.ssn ≡ wire halves 0 (origin + o.written (place_of o k))
+  pub mid : mixed ≡ true → f.mid ≡ wire words 0 (origin + o.written (place_of o k))
 
 -- an entry of a forward point
 abbrev pub IsEntry : Bool → SkippedStream → Entry → Type 0
-IsEntry false (ForwardTsn id ssn) e = (e.ordered ≡ true) × (e.stream ≡ id.0) × (ssn.0 ≡ wire halves 0 (origin + e.number))
+IsEntry false (ForwardTsn id ssn) e = (e.ordered ≡ true) × (e.stream ≡ id.0) × (ssn.0 ≡ wire halves 0 (origin + e.written))
 IsEntry false (IForwardTsn key mid) e = ⊥
 IsEntry true (ForwardTsn id ssn) e = ⊥
-IsEntry true (IForwardTsn (Ordered id) mid) e = (e.ordered ≡ true) × (e.stream ≡ id.0) × (mid.0 ≡ wire words 0 (origin + e.number))
-IsEntry true (IForwardTsn (Unordered id) mid) e = (e.ordered ≡ false) × (e.stream ≡ id.0) × (mid.0 ≡ wire words 0 (origin + e.number))
+IsEntry true (IForwardTsn (Ordered id) mid) e = (e.ordered ≡ true) × (e.stream ≡ id.0) × (mid.0 ≡ wire words 0 (origin + e.written))
+IsEntry true (IForwardTsn (Unordered id) mid) e = (e.ordered ≡ false) × (e.stream ≡ id.0) × (mid.0 ≡ wire words 0 (origin + e.written))
 
 -- one by one
 abbrev pub AreEntries : Bool → List SkippedStream → List Entry → Type 0
@@ -39,6 +40,21 @@ AreEntries mixed (x ∷ xs) (e ∷ es) = IsEntry mixed x e × AreEntries mixed x
 pub record AreFew (o : Sender) : Type 0 where
   pub fragments : count o < 2 ^ 62
   pub messages : o.accepted < 2 ^ 62
+
+-- ---- premises: what the sender's windows say
+
+-- no fragment is kept while 2^30 later ones are numbered
+abbrev pub IsInWindow : Transfer → Type 0
+IsInWindow x = x.acknowledged < count x.sender → count x.sender ≤ x.acknowledged + 2 ^ 30
+
+-- the number of an ordered fragment is near its stream's next one
+abbrev pub IsNearNext : (ℕ → Message) → Transfer → ℕ → Type 0
+IsNearNext message x k = ordered_of message (place_of x.sender k) ≡ true
+    → IsNear 32000 (x.receiver.next (stream_of message (place_of x.sender k))) (x.sender.number (place_of x.sender k))
+
+-- and so are those that a forward point names
+abbrev pub AreNearNext : Transfer → ForwardPoint → Type 0
+AreNearNext x f = (e : Entry) → IsAmong e f.entries → e.ordered ≡ true → (e.number < x.receiver.next e.stream + 32000) × (x.receiver.next e.stream ≤ e.number + 32001)
 
 -- ---- near
 
@@ -72,13 +88,13 @@ pub record IsOf (message : ℕ → Message) (o : Sender) (s n t : ℕ) : Type 0 
   pub on : IsOn message o s t
   pub number : o.number (place_of o t) ≡ n
 
--- the stream reads MIDs near message n: the first, or one that was met. Each of which a fragment was seen is less than
--- 2^30 above it
-pub record IsNearStream (message : ℕ → Message) (s : ℕ) (x : Transfer) (near : ℕ) : Type 0 where
+-- the stream reads MIDs near message n, as it is on the wire: the first since the last reset, or one that was met. Each of which a
+-- fragment was seen is less than 2^30 above it
+pub record IsNearStream (message : ℕ → Message) (base : Bool → ℕ → ℕ) (s : ℕ) (x : Transfer) (near : ℕ) : Type 0 where
   pub number : ℕ
   pub near_is : near ≡ origin + number
-  pub met : (number ≡ 0) ⊎ ((t : ℕ) × IsOf message x.sender s number t)
-  pub seen : (t : ℕ) → x.receiver.seen t ≡ true → IsOn message x.sender s t → x.sender.number (place_of x.sender t) < number + 2 ^ 30
+  pub met : (number ≡ 0) ⊎ ((t : ℕ) × IsOf message x.sender s (base false s + number) t)
+  pub seen : (t : ℕ) → x.receiver.seen t ≡ true → IsOn message x.sender s t → x.sender.number (place_of x.sender t) < base false s + number + 2 ^ 30
 
 -- what a forward point says of unordered messages: it names those of which it passes a fragment that is not seen; and
 -- where it names a number, then that of a fragment that it passes, and none of a greater number on this stream
@@ -88,17 +104,17 @@ pub record IsNamed (message : ℕ → Message) (x : Transfer) (f : ForwardPoint)
       × ((u : ℕ) → IsOn message x.sender s u → u < f.upto → x.sender.number (place_of x.sender u) ≤ x.sender.number (place_of x.sender t))
       × (n ≤ x.sender.number (place_of x.sender t)) × (covers f.entries false s (x.sender.number (place_of x.sender t)) ≡ true)
 
-pub record AreNearStreams (message : ℕ → Message) (x : Transfer) (r : Reassembly) : Type 0 where
-  pub streams : (s : ℕ) → IsNearStream message s x (unordered_at r.streams s).near
+pub record AreNearStreams (message : ℕ → Message) (base : Bool → ℕ → ℕ) (x : Transfer) (r : Reassembly) : Type 0 where
+  pub streams : (s : ℕ) → IsNearStream message base s x (unordered_at r.streams s).near
   pub points : (f : ForwardPoint) → IsAmong f x.forward_points → IsNamed message x f
 
 -- what comes is read as it was meant: TSNs, and with I-DATA the MIDs of unordered messages. Numbers of ordered ones are
 -- read near their stream's next number, which the rules know
-pub record ReadsNear (message : ℕ → Message) (mixed : Bool) (first shift : ℕ) (x : Transfer) (r : Reassembly) : Type 0 where
+pub record ReadsNear (message : ℕ → Message) (mixed : Bool) (base : Bool → ℕ → ℕ) (first shift : ℕ) (x : Transfer) (r : Reassembly) : Type 0 where
   pub tsns : IsNearQueue first shift x r
-  pub mids : mixed ≡ true → AreNearStreams message x r
+  pub mids : mixed ≡ true → AreNearStreams message base x r
 
 -- these events lead to these values, and what comes next is read as it was meant too
-pub record GoesNear (message : ℕ → Message) (mixed : Bool) (first shift : ℕ) (x : Transfer) (es : List Event) (handed : List messages.Message) (t : Tracker) (r : Reassembly) : Type 0 where
-  pub goes : Goes message mixed shift x es handed t r
-  pub near : ReadsNear message mixed first shift (run message mixed x es) r
+pub record GoesNear (message : ℕ → Message) (mixed : Bool) (base : Bool → ℕ → ℕ) (first shift : ℕ) (x : Transfer) (es : List Event) (handed : List messages.Message) (t : Tracker) (r : Reassembly) : Type 0 where
+  pub goes : Goes message mixed base shift x es handed t r
+  pub near : ReadsNear message mixed base first shift (run message mixed x es) r

@@ -9,7 +9,7 @@ use Rattle.sctp_rx.specs.Streams.{Streams, ordered_number, unordered_number}
 use Rattle.sctp_rx.specs.ReassemblyQueue.{Reassembly, number_of}
 use Rattle.sctp_rules.specs.State.{Message, Entry, Sender, Receiver, fragment, place_of, count, ordered_of, stream_of}
 use Rattle.sctp_rules.specs.Rules.{floor}
-use Rattle.sctp_rules.specs.Reassembly.{chunk_of}
+use Rattle.sctp_rules.specs.Lifted.{wire_chunk}
 use Rattle.sctp_rx_rules.specs.View.{ordered_at, unordered_at}
 
 -- ---- a fragment
@@ -20,7 +20,7 @@ pub record Carries (message : ℕ → Message) (mixed : Bool) (o : Sender) (k : 
   pub real : (fragment o k).placeholder ≡ false
   pub kind : f.is_unordered ≡ not (ordered_of message (place_of o k))
   pub stream : f.stream_id ≡ stream_of message (place_of o k)
-  pub protocol_id : f.is_beginning ≡ true → f.ppid ≡ (chunk_of message mixed o k).protocol_id
+  pub protocol_id : f.is_beginning ≡ true → f.ppid ≡ (wire_chunk message mixed o k).protocol_id
   pub payload : f.payload ≡ (fragment o k).payload
   pub begins : f.is_beginning ≡ ((fragment o k).index == 0)
   pub ends : f.is_end ≡ (fragment o k).is_end
@@ -40,8 +40,8 @@ shift_after (Some first) shift k = shift
 pub record IsRead (message : ℕ → Message) (mixed : Bool) (shift : ℕ) (o : Sender) (r : Reassembly) (k tsn : ℕ) (f : FragmentTree) : Type 0 where
   pub tsn_is : number_of r tsn + shift ≡ origin + k
   pub tsn_below : k < 2 ^ 62
-  pub number_is : number_read f.is_unordered f r.streams ≡ origin + (chunk_of message mixed o k).number
-  pub number_below : (chunk_of message mixed o k).number < 2 ^ 62
+  pub number_is : number_read f.is_unordered f r.streams ≡ origin + (wire_chunk message mixed o k).number
+  pub number_below : (wire_chunk message mixed o k).number < 2 ^ 62
   pub index_below : (fragment o k).index < 2 ^ 62
 
 -- whether the fragment's message can't become ready any more, as the receiver knows it: its number is below its

@@ -3,7 +3,8 @@
 //! Each law takes a state of the rules that meets the invariant, and values of a tracker and of a reassembly queue that
 //! are its receiver (`Receives`). A call leads to values that are the receiver again after the events that the law names.
 //! `handed` is what was handed out of the queue before, and `shift` the fragment that the queue counts TSNs from: the first
-//! that came. No reset is deferred.
+//! that came. `base` is how many messages of each kind and stream were numbered before the stream's last reset; what comes is of
+//! the time since then (`IsNow`, `AreEntriesNow`). No reset is deferred.
 #![tactic(auto)]
 
 ghost use Rattle.std.specs.Prelude.{◌≡◌, ◌+◌, ◌++◌, ◌^◌, ◌<◌, Bool, List, None, Some, [], ◌∷◌, false, map, suc, true, unwrap_or, ℕ};
@@ -18,6 +19,7 @@ ghost use Rattle.sctp_tracker.specs.declared.data_tracker.AckState.{AckState};
 ghost use Rattle.sctp_rx.specs.Sack.{reported};
 ghost use Rattle.sctp_rx.specs.ReassemblyQueue.{Reassembly, add, forward, number_of, reassembly};
 ghost use Rattle.sctp_rules.specs.Kept.{Kept};
+ghost use Rattle.sctp_rules.specs.Lifted.{AreEntriesNow, IsNow, no_base, wire_point};
 ghost use Rattle.sctp_rules.specs.Reassembly.{NoneReady};
 ghost use Rattle.sctp_rules.specs.Rules.{Event, IsAllowed, after, data_comes, deliver, forward_comes, late_comes, send_sack, no_stream};
 ghost use Rattle.sctp_rules.specs.State.{ForwardPoint, IsAmong, Message, Transfer, start};
@@ -27,30 +29,31 @@ ghost use Rattle.sctp_rx_rules.specs.Receives.{Goes, Receives};
 ghost use Rattle.sctp_rx_rules.specs.View.{was_seen};
 
 pub mod near;
+pub mod resets;
 pub mod runs;
 
 /// A new tracker and a new queue are the receiver at the start, with nothing handed out.
 pub fn new_values_are_the_start()
     ensures receives { (message : ℕ → Message) (mixed : Bool) (shift : ℕ) (options : Options) (max_size : ℕ) →
-        Receives message mixed shift start [] (tracker options origin) (reassembly max_size mixed) }
+        Receives message mixed no_base shift start [] (tracker options origin) (reassembly max_size mixed) }
 {}
 
 /// A fragment comes that was not seen. It is held, and then message after message becomes ready (`held`); or its message
 /// can't become ready any more, and it is only seen (`late`). Where no TSN came before, TSNs are counted from it (`first`).
 pub fn fragment_comes()
-    ensures held { (message : ℕ → Message) (mixed : Bool) (shift : ℕ) (x : Transfer) (handed : List messages.Message) (t : Tracker) (r : Reassembly) (k tsn : ℕ) (f : FragmentTree) (now : Bool) →
-        Kept message mixed x → Receives message mixed shift x handed t r → IsTracker t → r.deferred ≡ None →
-        Carries message mixed x.sender k f → IsRead message mixed (shift_after r.first shift k) x.sender r k tsn f → was_seen t k ≡ false →
+    ensures held { (message : ℕ → Message) (mixed : Bool) (base : Bool → ℕ → ℕ) (shift : ℕ) (x : Transfer) (handed : List messages.Message) (t : Tracker) (r : Reassembly) (k tsn : ℕ) (f : FragmentTree) (now : Bool) →
+        Kept message mixed x → Receives message mixed base shift x handed t r → IsTracker t → r.deferred ≡ None →
+        Carries message mixed x.sender k f → IsRead message mixed (shift_after r.first shift k) x.sender r k tsn f → was_seen t k ≡ false → IsNow base message x.sender k →
         is_behind message mixed x.sender x.receiver k ≡ false →
-        (ps : List ℕ) × Goes message mixed (shift_after r.first shift k) x (data_comes k ∷ map deliver ps) handed (observe (origin + k) now t) (add tsn f r) }
-    ensures late { (message : ℕ → Message) (mixed : Bool) (shift : ℕ) (x : Transfer) (handed : List messages.Message) (t : Tracker) (r : Reassembly) (k tsn : ℕ) (f : FragmentTree) (now : Bool) →
-        Kept message mixed x → Receives message mixed shift x handed t r → IsTracker t → r.deferred ≡ None →
-        Carries message mixed x.sender k f → IsRead message mixed (shift_after r.first shift k) x.sender r k tsn f → was_seen t k ≡ false →
+        (ps : List ℕ) × Goes message mixed base (shift_after r.first shift k) x (data_comes k ∷ map deliver ps) handed (observe (origin + k) now t) (add tsn f r) }
+    ensures late { (message : ℕ → Message) (mixed : Bool) (base : Bool → ℕ → ℕ) (shift : ℕ) (x : Transfer) (handed : List messages.Message) (t : Tracker) (r : Reassembly) (k tsn : ℕ) (f : FragmentTree) (now : Bool) →
+        Kept message mixed x → Receives message mixed base shift x handed t r → IsTracker t → r.deferred ≡ None →
+        Carries message mixed x.sender k f → IsRead message mixed (shift_after r.first shift k) x.sender r k tsn f → was_seen t k ≡ false → IsNow base message x.sender k →
         is_behind message mixed x.sender x.receiver k ≡ true →
-        Goes message mixed (shift_after r.first shift k) x (late_comes k ∷ []) handed (observe (origin + k) now t) (add tsn f r) }
-    ensures first { (message : ℕ → Message) (mixed : Bool) (shift : ℕ) (x : Transfer) (handed : List messages.Message) (t : Tracker) (r : Reassembly) (k tsn : ℕ) (f : FragmentTree) →
-        Kept message mixed x → Receives message mixed shift x handed t r → IsTracker t → r.deferred ≡ None →
-        Carries message mixed x.sender k f → IsRead message mixed (shift_after r.first shift k) x.sender r k tsn f → was_seen t k ≡ false →
+        Goes message mixed base (shift_after r.first shift k) x (late_comes k ∷ []) handed (observe (origin + k) now t) (add tsn f r) }
+    ensures first { (message : ℕ → Message) (mixed : Bool) (base : Bool → ℕ → ℕ) (shift : ℕ) (x : Transfer) (handed : List messages.Message) (t : Tracker) (r : Reassembly) (k tsn : ℕ) (f : FragmentTree) →
+        Kept message mixed x → Receives message mixed base shift x handed t r → IsTracker t → r.deferred ≡ None →
+        Carries message mixed x.sender k f → IsRead message mixed (shift_after r.first shift k) x.sender r k tsn f → was_seen t k ≡ false → IsNow base message x.sender k →
         (add tsn f r).first ≡ Some (unwrap_or r.first tsn) }
 {}
 
@@ -58,60 +61,60 @@ pub fn fragment_comes()
 /// the next numbers move behind them, and message after message becomes ready. No two entries name one stream and kind. The last
 /// fragment that it passes is `k`.
 pub fn forward_point_comes()
-    ensures goes { (message : ℕ → Message) (mixed : Bool) (shift : ℕ) (x : Transfer) (handed : List messages.Message) (t : Tracker) (r : Reassembly) (k tsn : ℕ) (entries : List SkippedStream) (f : ForwardPoint) →
-        Kept message mixed x → Receives message mixed shift x handed t r → r.deferred ≡ None →
+    ensures goes { (message : ℕ → Message) (mixed : Bool) (base : Bool → ℕ → ℕ) (shift : ℕ) (x : Transfer) (handed : List messages.Message) (t : Tracker) (r : Reassembly) (k tsn : ℕ) (entries : List SkippedStream) (f : ForwardPoint) →
+        Kept message mixed x → Receives message mixed base shift x handed t r → r.deferred ≡ None →
         IsAmong f x.forward_points → f.upto ≡ suc k → number_of r tsn + shift_after r.first shift k ≡ origin + k → k < 2 ^ 62 →
-        StandForAll mixed r.streams entries f.entries → AreApart f.entries →
-        (ps : List ℕ) × Goes message mixed (shift_after r.first shift k) x (forward_comes f no_stream ∷ map deliver ps) handed (tracker.forward (origin + k) t) (forward tsn entries r) }
-    ensures first { (message : ℕ → Message) (mixed : Bool) (shift : ℕ) (x : Transfer) (handed : List messages.Message) (t : Tracker) (r : Reassembly) (k tsn : ℕ) (entries : List SkippedStream) (f : ForwardPoint) →
-        Kept message mixed x → Receives message mixed shift x handed t r → r.deferred ≡ None →
+        StandForAll mixed r.streams entries (wire_point f).entries → AreApart f.entries → AreEntriesNow base f →
+        (ps : List ℕ) × Goes message mixed base (shift_after r.first shift k) x (forward_comes f no_stream ∷ map deliver ps) handed (tracker.forward (origin + k) t) (forward tsn entries r) }
+    ensures first { (message : ℕ → Message) (mixed : Bool) (base : Bool → ℕ → ℕ) (shift : ℕ) (x : Transfer) (handed : List messages.Message) (t : Tracker) (r : Reassembly) (k tsn : ℕ) (entries : List SkippedStream) (f : ForwardPoint) →
+        Kept message mixed x → Receives message mixed base shift x handed t r → r.deferred ≡ None →
         IsAmong f x.forward_points → f.upto ≡ suc k → number_of r tsn + shift_after r.first shift k ≡ origin + k → k < 2 ^ 62 →
-        StandForAll mixed r.streams entries f.entries → AreApart f.entries →
+        StandForAll mixed r.streams entries (wire_point f).entries → AreApart f.entries → AreEntriesNow base f →
         (forward tsn entries r).first ≡ Some (unwrap_or r.first tsn) }
 {}
 
 /// A forward point that doesn't move the tracker's front, or a fragment that was seen before, changes nothing.
 pub fn nothing_new_comes()
-    ensures forward_point { (message : ℕ → Message) (mixed : Bool) (shift : ℕ) (x : Transfer) (handed : List messages.Message) (t : Tracker) (r : Reassembly) (last : ℕ) →
-        Receives message mixed shift x handed t r → moves_on last t ≡ false → Receives message mixed shift x handed (tracker.forward last t) r }
-    ensures fragment { (message : ℕ → Message) (mixed : Bool) (shift : ℕ) (x : Transfer) (handed : List messages.Message) (t : Tracker) (r : Reassembly) (k : ℕ) (now : Bool) →
-        Receives message mixed shift x handed t r → IsTracker t → was_seen t k ≡ true → Receives message mixed shift x handed (observe (origin + k) now t) r }
+    ensures forward_point { (message : ℕ → Message) (mixed : Bool) (base : Bool → ℕ → ℕ) (shift : ℕ) (x : Transfer) (handed : List messages.Message) (t : Tracker) (r : Reassembly) (last : ℕ) →
+        Receives message mixed base shift x handed t r → moves_on last t ≡ false → Receives message mixed base shift x handed (tracker.forward last t) r }
+    ensures fragment { (message : ℕ → Message) (mixed : Bool) (base : Bool → ℕ → ℕ) (shift : ℕ) (x : Transfer) (handed : List messages.Message) (t : Tracker) (r : Reassembly) (k : ℕ) (now : Bool) →
+        Receives message mixed base shift x handed t r → IsTracker t → was_seen t k ≡ true → Receives message mixed base shift x handed (observe (origin + k) now t) r }
 {}
 
 /// The cumulative point of a SACK that is made now, the tracker's front, may be sent: all below it was seen (`allowed`),
 /// and nothing complete and in turn is left in the queue (`none_ready`).
 pub fn sack_is_made()
-    ensures allowed { (message : ℕ → Message) (mixed : Bool) (shift : ℕ) (x : Transfer) (handed : List messages.Message) (t : Tracker) (r : Reassembly) (c : ℕ) →
-        Kept message mixed x → Receives message mixed shift x handed t r → origin + c ≡ suc t.seen.front → IsAllowed message mixed x (send_sack c) }
-    ensures none_ready { (message : ℕ → Message) (mixed : Bool) (shift : ℕ) (x : Transfer) (handed : List messages.Message) (t : Tracker) (r : Reassembly) →
-        Kept message mixed x → (shown : Receives message mixed shift x handed t r) → NoneReady mixed shown.queue }
+    ensures allowed { (message : ℕ → Message) (mixed : Bool) (base : Bool → ℕ → ℕ) (shift : ℕ) (x : Transfer) (handed : List messages.Message) (t : Tracker) (r : Reassembly) (c : ℕ) →
+        Kept message mixed x → Receives message mixed base shift x handed t r → origin + c ≡ suc t.seen.front → IsAllowed message mixed x (send_sack c) }
+    ensures none_ready { (message : ℕ → Message) (mixed : Bool) (base : Bool → ℕ → ℕ) (shift : ℕ) (x : Transfer) (handed : List messages.Message) (t : Tracker) (r : Reassembly) →
+        Kept message mixed x → (shown : Receives message mixed base shift x handed t r) → NoneReady mixed shown.queue }
 {}
 
 /// When acknowledgements are sent is no matter of the rules.
 pub fn acknowledging_changes_nothing()
-    ensures rto { (message : ℕ → Message) (mixed : Bool) (shift : ℕ) (x : Transfer) (handed : List messages.Message) (t : Tracker) (r : Reassembly) (rto : ℕ) →
-        Receives message mixed shift x handed t r → Receives message mixed shift x handed (update_rto rto t) r }
-    ensures state { (message : ℕ → Message) (mixed : Bool) (shift : ℕ) (x : Transfer) (handed : List messages.Message) (t : Tracker) (r : Reassembly) (a : AckState) →
-        Receives message mixed shift x handed t r → Receives message mixed shift x handed (acking a t) r }
-    ensures taken { (message : ℕ → Message) (mixed : Bool) (shift : ℕ) (x : Transfer) (handed : List messages.Message) (t : Tracker) (r : Reassembly) (also_if_delayed : Bool) →
-        Receives message mixed shift x handed t r → Receives message mixed shift x handed (take_ack also_if_delayed t) r }
-    ensures packet { (message : ℕ → Message) (mixed : Bool) (shift : ℕ) (x : Transfer) (handed : List messages.Message) (t : Tracker) (r : Reassembly) (now : ℕ) →
-        Receives message mixed shift x handed t r → Receives message mixed shift x handed (packet_end now t) r }
-    ensures timeout { (message : ℕ → Message) (mixed : Bool) (shift : ℕ) (x : Transfer) (handed : List messages.Message) (t : Tracker) (r : Reassembly) (now : ℕ) →
-        Receives message mixed shift x handed t r → Receives message mixed shift x handed (ack_timeout now t) r }
-    ensures told { (message : ℕ → Message) (mixed : Bool) (shift : ℕ) (x : Transfer) (handed : List messages.Message) (t : Tracker) (r : Reassembly) →
-        Receives message mixed shift x handed t r → Receives message mixed shift x handed (reported t) r }
+    ensures rto { (message : ℕ → Message) (mixed : Bool) (base : Bool → ℕ → ℕ) (shift : ℕ) (x : Transfer) (handed : List messages.Message) (t : Tracker) (r : Reassembly) (rto : ℕ) →
+        Receives message mixed base shift x handed t r → Receives message mixed base shift x handed (update_rto rto t) r }
+    ensures state { (message : ℕ → Message) (mixed : Bool) (base : Bool → ℕ → ℕ) (shift : ℕ) (x : Transfer) (handed : List messages.Message) (t : Tracker) (r : Reassembly) (a : AckState) →
+        Receives message mixed base shift x handed t r → Receives message mixed base shift x handed (acking a t) r }
+    ensures taken { (message : ℕ → Message) (mixed : Bool) (base : Bool → ℕ → ℕ) (shift : ℕ) (x : Transfer) (handed : List messages.Message) (t : Tracker) (r : Reassembly) (also_if_delayed : Bool) →
+        Receives message mixed base shift x handed t r → Receives message mixed base shift x handed (take_ack also_if_delayed t) r }
+    ensures packet { (message : ℕ → Message) (mixed : Bool) (base : Bool → ℕ → ℕ) (shift : ℕ) (x : Transfer) (handed : List messages.Message) (t : Tracker) (r : Reassembly) (now : ℕ) →
+        Receives message mixed base shift x handed t r → Receives message mixed base shift x handed (packet_end now t) r }
+    ensures timeout { (message : ℕ → Message) (mixed : Bool) (base : Bool → ℕ → ℕ) (shift : ℕ) (x : Transfer) (handed : List messages.Message) (t : Tracker) (r : Reassembly) (now : ℕ) →
+        Receives message mixed base shift x handed t r → Receives message mixed base shift x handed (ack_timeout now t) r }
+    ensures told { (message : ℕ → Message) (mixed : Bool) (base : Bool → ℕ → ℕ) (shift : ℕ) (x : Transfer) (handed : List messages.Message) (t : Tracker) (r : Reassembly) →
+        Receives message mixed base shift x handed t r → Receives message mixed base shift x handed (reported t) r }
 {}
 
 /// A message that is handed out was ready, and stays so in the rules.
 pub fn message_is_taken()
-    ensures receives { (message : ℕ → Message) (mixed : Bool) (shift : ℕ) (x : Transfer) (handed : List messages.Message) (t : Tracker) (r : Reassembly) (m : messages.Message) (ms : List messages.Message) →
-        Receives message mixed shift x handed t r → r.ready ≡ m ∷ ms → Receives message mixed shift x (handed ++ m ∷ []) t (record r { ready = ms }) }
+    ensures receives { (message : ℕ → Message) (mixed : Bool) (base : Bool → ℕ → ℕ) (shift : ℕ) (x : Transfer) (handed : List messages.Message) (t : Tracker) (r : Reassembly) (m : messages.Message) (ms : List messages.Message) →
+        Receives message mixed base shift x handed t r → r.ready ≡ m ∷ ms → Receives message mixed base shift x (handed ++ m ∷ []) t (record r { ready = ms }) }
 {}
 
 /// While the sender goes on, the values stay the receiver.
 pub fn sender_goes_on()
-    ensures receives { (message : ℕ → Message) (mixed : Bool) (shift : ℕ) (x : Transfer) (e : Event) (handed : List messages.Message) (t : Tracker) (r : Reassembly) →
+    ensures receives { (message : ℕ → Message) (mixed : Bool) (base : Bool → ℕ → ℕ) (shift : ℕ) (x : Transfer) (e : Event) (handed : List messages.Message) (t : Tracker) (r : Reassembly) →
         Kept message mixed x → IsAllowed message mixed x e → (after message mixed x e).receiver ≡ x.receiver →
-        Receives message mixed shift x handed t r → Receives message mixed shift (after message mixed x e) handed t r }
+        Receives message mixed base shift x handed t r → Receives message mixed base shift (after message mixed x e) handed t r }
 {}

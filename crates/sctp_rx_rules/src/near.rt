@@ -1,6 +1,6 @@
-//! Wire numbers are read as they were meant where the sender's windows hold. What the other laws ask of them (`IsRead`,
-//! `StandForAll`) follows from how the sender writes them, and from a queue that is near (`ReadsNear`): a new one is, and
-//! each step of the laws keeps it so. A step that leaves the queue and the state as they are keeps it too.
+//! Wire numbers are read as they were meant where the sender's windows hold (`IsInWindow`; of ordered numbers `IsNearNext`, `AreNearNext`).
+//! What the other laws ask of them (`IsRead`, `StandForAll`) follows from how the sender writes them, and from a queue that is near
+//! (`ReadsNear`): a new one is, and each step of the laws keeps it so. A step that leaves the queue and the state as they are keeps it too.
 
 ghost use Rattle.std.specs.Prelude.{◌≡◌, ◌+◌, ◌^◌, ◌<◌, ◌≤◌, Bool, List, None, [], ◌∷◌, false, map, suc, true, ℕ};
 ghost use Rattle.sctp_serial.specs.Messages as messages;
@@ -11,10 +11,11 @@ ghost use Rattle.sctp_rx.specs.ReassemblyQueue.{Reassembly, add, forward, number
 ghost use Rattle.sctp_rx.specs.Tracker as tracker;
 ghost use Rattle.sctp_rx.specs.Tracker.{DataTracker, IsTracker, Tracker, moves_on, observe};
 ghost use Rattle.sctp_rules.specs.Kept.{Kept};
+ghost use Rattle.sctp_rules.specs.Lifted.{AreEntriesNow, IsNow, no_base, wire_point};
 ghost use Rattle.sctp_rules.specs.Rules.{Event, IsAllowed, after, data_comes, deliver, forward_comes, late_comes, run, no_stream};
 ghost use Rattle.sctp_rules.specs.State.{ForwardPoint, IsAmong, Message, Transfer, start};
-ghost use Rattle.sctp_rules.specs.Windows.{IsTimely, Windows};
-ghost use Rattle.sctp_rx_rules.specs.Near.{AreEntries, AreFew, GoesNear, IsWritten, ReadsNear};
+ghost use Rattle.sctp_rules.specs.Windows.{IsTimely};
+ghost use Rattle.sctp_rx_rules.specs.Near.{AreEntries, AreFew, AreNearNext, GoesNear, IsInWindow, IsNearNext, IsWritten, ReadsNear};
 ghost use Rattle.sctp_rx_rules.specs.Read.{Carries, IsRead, StandForAll, is_behind, shift_after};
 ghost use Rattle.sctp_rules.specs.Points.{AreApart};
 ghost use Rattle.sctp_rx_rules.specs.Receives.{Goes, Receives};
@@ -23,75 +24,75 @@ ghost use Rattle.sctp_rx_rules.specs.View.{was_seen};
 /// The tracker reads the TSN of fragment k, in DATA or as the last one of a forward point, where its packet was emitted
 /// when n fragments were numbered, of which the first kept one was at most k.
 pub fn tracker_reads()
-    ensures read { (message : ℕ → Message) (mixed : Bool) (shift : ℕ) (x : Transfer) (handed : List messages.Message) (d : DataTracker) (r : Reassembly) (k n : ℕ) →
-        Kept message mixed x → Windows message x → Receives message mixed shift x handed d.tracker r → IsTracker d.tracker →
+    ensures read { (message : ℕ → Message) (mixed : Bool) (base : Bool → ℕ → ℕ) (shift : ℕ) (x : Transfer) (handed : List messages.Message) (d : DataTracker) (r : Reassembly) (k n : ℕ) →
+        Kept message mixed x → IsInWindow x → Receives message mixed base shift x handed d.tracker r → IsTracker d.tracker →
         k < n → n ≤ k + 2 ^ 30 → IsTimely x n → tracker.number_of d (wire words d.first (origin + k)) ≡ origin + k }
 {}
 
 /// A fragment that comes and was not seen is read as the sender numbered it.
 pub fn fragments_are_read()
-    ensures read { (message : ℕ → Message) (mixed : Bool) (first shift : ℕ) (x : Transfer) (handed : List messages.Message) (t : Tracker) (r : Reassembly) (k tsn : ℕ) (f : FragmentTree) →
-        Kept message mixed x → Windows message x → AreFew x.sender → Receives message mixed shift x handed t r → ReadsNear message mixed first shift x r →
-        tsn ≡ wire words first (origin + k) → Carries message mixed x.sender k f → IsWritten message mixed x.sender k f → was_seen t k ≡ false →
+    ensures read { (message : ℕ → Message) (mixed : Bool) (base : Bool → ℕ → ℕ) (first shift : ℕ) (x : Transfer) (handed : List messages.Message) (t : Tracker) (r : Reassembly) (k tsn : ℕ) (f : FragmentTree) →
+        Kept message mixed x → IsInWindow x → AreFew x.sender → Receives message mixed base shift x handed t r → ReadsNear message mixed base first shift x r →
+        tsn ≡ wire words first (origin + k) → Carries message mixed x.sender k f → IsWritten message mixed x.sender k f → was_seen t k ≡ false → IsNow base message x.sender k → IsNearNext message x k →
         IsRead message mixed (shift_after r.first shift k) x.sender r k tsn f }
 {}
 
 /// A forward point that moves the tracker's front is read as it was sent: its TSN (`tsn`, `below`), and its entries.
 pub fn points_are_read()
-    ensures tsn { (message : ℕ → Message) (mixed : Bool) (first shift : ℕ) (x : Transfer) (handed : List messages.Message) (t : Tracker) (r : Reassembly) (k tsn : ℕ) (f : ForwardPoint) →
-        Kept message mixed x → Windows message x → Receives message mixed shift x handed t r → ReadsNear message mixed first shift x r → IsTracker t →
+    ensures tsn { (message : ℕ → Message) (mixed : Bool) (base : Bool → ℕ → ℕ) (first shift : ℕ) (x : Transfer) (handed : List messages.Message) (t : Tracker) (r : Reassembly) (k tsn : ℕ) (f : ForwardPoint) →
+        Kept message mixed x → IsInWindow x → Receives message mixed base shift x handed t r → ReadsNear message mixed base first shift x r → IsTracker t →
         IsAmong f x.forward_points → f.upto ≡ suc k → moves_on (origin + k) t ≡ true → tsn ≡ wire words first (origin + k) →
         number_of r tsn + shift_after r.first shift k ≡ origin + k }
     ensures below { (message : ℕ → Message) (mixed : Bool) (x : Transfer) (k : ℕ) (f : ForwardPoint) →
         Kept message mixed x → AreFew x.sender → IsAmong f x.forward_points → f.upto ≡ suc k → k < 2 ^ 62 }
-    ensures entries { (message : ℕ → Message) (mixed : Bool) (first shift : ℕ) (x : Transfer) (handed : List messages.Message) (t : Tracker) (r : Reassembly) (k : ℕ) (f : ForwardPoint) (entries : List SkippedStream) →
-        Kept message mixed x → Windows message x → AreFew x.sender → Receives message mixed shift x handed t r → ReadsNear message mixed first shift x r → IsTracker t →
-        IsAmong f x.forward_points → f.upto ≡ suc k → moves_on (origin + k) t ≡ true → AreApart f.entries → AreEntries mixed entries f.entries →
-        StandForAll mixed r.streams entries f.entries }
+    ensures entries { (message : ℕ → Message) (mixed : Bool) (base : Bool → ℕ → ℕ) (first shift : ℕ) (x : Transfer) (handed : List messages.Message) (t : Tracker) (r : Reassembly) (k : ℕ) (f : ForwardPoint) (entries : List SkippedStream) →
+        Kept message mixed x → IsInWindow x → AreFew x.sender → Receives message mixed base shift x handed t r → ReadsNear message mixed base first shift x r → IsTracker t →
+        IsAmong f x.forward_points → f.upto ≡ suc k → moves_on (origin + k) t ≡ true → AreApart f.entries → AreEntries mixed entries f.entries → AreEntriesNow base f → AreNearNext x f →
+        StandForAll mixed r.streams entries (wire_point f).entries }
 {}
 
 /// A new queue is near, and it stays so: when a fragment comes, or a forward point that moves the tracker's front, when a
 /// message is taken, and while the sender goes on, with no premise of its windows.
 pub fn nearness_is_kept()
-    ensures new_queue { (message : ℕ → Message) (mixed : Bool) (first shift max_size : ℕ) → ReadsNear message mixed first shift start (reassembly max_size mixed) }
-    ensures fragment { (message : ℕ → Message) (mixed : Bool) (first shift : ℕ) (x : Transfer) (handed : List messages.Message) (t : Tracker) (r : Reassembly) (k tsn : ℕ) (f : FragmentTree) (now : Bool) (es : List Event) →
-        Kept message mixed x → Windows message x → Receives message mixed shift x handed t r → ReadsNear message mixed first shift x r → IsTracker t → r.deferred ≡ None →
-        tsn ≡ wire words first (origin + k) → Carries message mixed x.sender k f → IsRead message mixed (shift_after r.first shift k) x.sender r k tsn f → was_seen t k ≡ false →
-        Goes message mixed (shift_after r.first shift k) x es handed (observe (origin + k) now t) (add tsn f r) →
-        ReadsNear message mixed first (shift_after r.first shift k) (run message mixed x es) (add tsn f r) }
-    ensures forward_point { (message : ℕ → Message) (mixed : Bool) (first shift : ℕ) (x : Transfer) (handed : List messages.Message) (t : Tracker) (r : Reassembly) (k tsn : ℕ) (f : ForwardPoint) (entries : List SkippedStream) (es : List Event) →
-        Kept message mixed x → Windows message x → AreFew x.sender → Receives message mixed shift x handed t r → ReadsNear message mixed first shift x r → IsTracker t → r.deferred ≡ None →
+    ensures new_queue { (message : ℕ → Message) (mixed : Bool) (first shift max_size : ℕ) → ReadsNear message mixed no_base first shift start (reassembly max_size mixed) }
+    ensures fragment { (message : ℕ → Message) (mixed : Bool) (base : Bool → ℕ → ℕ) (first shift : ℕ) (x : Transfer) (handed : List messages.Message) (t : Tracker) (r : Reassembly) (k tsn : ℕ) (f : FragmentTree) (now : Bool) (es : List Event) →
+        Kept message mixed x → IsInWindow x → Receives message mixed base shift x handed t r → ReadsNear message mixed base first shift x r → IsTracker t → r.deferred ≡ None →
+        tsn ≡ wire words first (origin + k) → Carries message mixed x.sender k f → IsRead message mixed (shift_after r.first shift k) x.sender r k tsn f → was_seen t k ≡ false → IsNow base message x.sender k →
+        Goes message mixed base (shift_after r.first shift k) x es handed (observe (origin + k) now t) (add tsn f r) →
+        ReadsNear message mixed base first (shift_after r.first shift k) (run message mixed x es) (add tsn f r) }
+    ensures forward_point { (message : ℕ → Message) (mixed : Bool) (base : Bool → ℕ → ℕ) (first shift : ℕ) (x : Transfer) (handed : List messages.Message) (t : Tracker) (r : Reassembly) (k tsn : ℕ) (f : ForwardPoint) (entries : List SkippedStream) (es : List Event) →
+        Kept message mixed x → IsInWindow x → AreFew x.sender → Receives message mixed base shift x handed t r → ReadsNear message mixed base first shift x r → IsTracker t → r.deferred ≡ None →
         IsAmong f x.forward_points → f.upto ≡ suc k → moves_on (origin + k) t ≡ true → tsn ≡ wire words first (origin + k) →
-        StandForAll mixed r.streams entries f.entries → AreApart f.entries →
-        Goes message mixed (shift_after r.first shift k) x es handed (tracker.forward (origin + k) t) (forward tsn entries r) →
-        ReadsNear message mixed first (shift_after r.first shift k) (run message mixed x es) (forward tsn entries r) }
-    ensures message_is_taken { (message : ℕ → Message) (mixed : Bool) (first shift : ℕ) (x : Transfer) (r : Reassembly) (ms : List messages.Message) →
-        ReadsNear message mixed first shift x r → ReadsNear message mixed first shift x (record r { ready = ms }) }
-    ensures sender_goes_on { (message : ℕ → Message) (mixed : Bool) (first shift : ℕ) (x : Transfer) (e : Event) (r : Reassembly) →
+        StandForAll mixed r.streams entries (wire_point f).entries → AreApart f.entries → AreEntriesNow base f →
+        Goes message mixed base (shift_after r.first shift k) x es handed (tracker.forward (origin + k) t) (forward tsn entries r) →
+        ReadsNear message mixed base first (shift_after r.first shift k) (run message mixed x es) (forward tsn entries r) }
+    ensures message_is_taken { (message : ℕ → Message) (mixed : Bool) (base : Bool → ℕ → ℕ) (first shift : ℕ) (x : Transfer) (r : Reassembly) (ms : List messages.Message) →
+        ReadsNear message mixed base first shift x r → ReadsNear message mixed base first shift x (record r { ready = ms }) }
+    ensures sender_goes_on { (message : ℕ → Message) (mixed : Bool) (base : Bool → ℕ → ℕ) (first shift : ℕ) (x : Transfer) (e : Event) (r : Reassembly) →
         Kept message mixed x → IsAllowed message mixed x e → (after message mixed x e).receiver ≡ x.receiver →
-        ReadsNear message mixed first shift x r → ReadsNear message mixed first shift (after message mixed x e) r }
+        ReadsNear message mixed base first shift x r → ReadsNear message mixed base first shift (after message mixed x e) r }
 {}
 
 /// So a fragment that comes as it was written, and was not seen, is a few of the rules. It is held, and message after
 /// message becomes ready (`held`); or its message can't become ready any more, and it is only seen (`late`).
 pub fn written_fragment_comes()
-    ensures held { (message : ℕ → Message) (mixed : Bool) (first shift : ℕ) (x : Transfer) (handed : List messages.Message) (t : Tracker) (r : Reassembly) (k tsn : ℕ) (f : FragmentTree) (now : Bool) →
-        Kept message mixed x → Windows message x → AreFew x.sender → Receives message mixed shift x handed t r → ReadsNear message mixed first shift x r → IsTracker t → r.deferred ≡ None →
-        tsn ≡ wire words first (origin + k) → Carries message mixed x.sender k f → IsWritten message mixed x.sender k f → was_seen t k ≡ false →
+    ensures held { (message : ℕ → Message) (mixed : Bool) (base : Bool → ℕ → ℕ) (first shift : ℕ) (x : Transfer) (handed : List messages.Message) (t : Tracker) (r : Reassembly) (k tsn : ℕ) (f : FragmentTree) (now : Bool) →
+        Kept message mixed x → IsInWindow x → AreFew x.sender → Receives message mixed base shift x handed t r → ReadsNear message mixed base first shift x r → IsTracker t → r.deferred ≡ None →
+        tsn ≡ wire words first (origin + k) → Carries message mixed x.sender k f → IsWritten message mixed x.sender k f → was_seen t k ≡ false → IsNow base message x.sender k → IsNearNext message x k →
         is_behind message mixed x.sender x.receiver k ≡ false →
-        (ps : List ℕ) × GoesNear message mixed first (shift_after r.first shift k) x (data_comes k ∷ map deliver ps) handed (observe (origin + k) now t) (add tsn f r) }
-    ensures late { (message : ℕ → Message) (mixed : Bool) (first shift : ℕ) (x : Transfer) (handed : List messages.Message) (t : Tracker) (r : Reassembly) (k tsn : ℕ) (f : FragmentTree) (now : Bool) →
-        Kept message mixed x → Windows message x → AreFew x.sender → Receives message mixed shift x handed t r → ReadsNear message mixed first shift x r → IsTracker t → r.deferred ≡ None →
-        tsn ≡ wire words first (origin + k) → Carries message mixed x.sender k f → IsWritten message mixed x.sender k f → was_seen t k ≡ false →
+        (ps : List ℕ) × GoesNear message mixed base first (shift_after r.first shift k) x (data_comes k ∷ map deliver ps) handed (observe (origin + k) now t) (add tsn f r) }
+    ensures late { (message : ℕ → Message) (mixed : Bool) (base : Bool → ℕ → ℕ) (first shift : ℕ) (x : Transfer) (handed : List messages.Message) (t : Tracker) (r : Reassembly) (k tsn : ℕ) (f : FragmentTree) (now : Bool) →
+        Kept message mixed x → IsInWindow x → AreFew x.sender → Receives message mixed base shift x handed t r → ReadsNear message mixed base first shift x r → IsTracker t → r.deferred ≡ None →
+        tsn ≡ wire words first (origin + k) → Carries message mixed x.sender k f → IsWritten message mixed x.sender k f → was_seen t k ≡ false → IsNow base message x.sender k → IsNearNext message x k →
         is_behind message mixed x.sender x.receiver k ≡ true →
-        GoesNear message mixed first (shift_after r.first shift k) x (late_comes k ∷ []) handed (observe (origin + k) now t) (add tsn f r) }
+        GoesNear message mixed base first (shift_after r.first shift k) x (late_comes k ∷ []) handed (observe (origin + k) now t) (add tsn f r) }
 {}
 
 /// And so is a forward point that moves the tracker's front. The last fragment that it passes is k.
 pub fn written_point_comes()
-    ensures goes { (message : ℕ → Message) (mixed : Bool) (first shift : ℕ) (x : Transfer) (handed : List messages.Message) (t : Tracker) (r : Reassembly) (k tsn : ℕ) (f : ForwardPoint) (entries : List SkippedStream) →
-        Kept message mixed x → Windows message x → AreFew x.sender → Receives message mixed shift x handed t r → ReadsNear message mixed first shift x r → IsTracker t → r.deferred ≡ None →
+    ensures goes { (message : ℕ → Message) (mixed : Bool) (base : Bool → ℕ → ℕ) (first shift : ℕ) (x : Transfer) (handed : List messages.Message) (t : Tracker) (r : Reassembly) (k tsn : ℕ) (f : ForwardPoint) (entries : List SkippedStream) →
+        Kept message mixed x → IsInWindow x → AreFew x.sender → Receives message mixed base shift x handed t r → ReadsNear message mixed base first shift x r → IsTracker t → r.deferred ≡ None →
         IsAmong f x.forward_points → f.upto ≡ suc k → moves_on (origin + k) t ≡ true → tsn ≡ wire words first (origin + k) →
-        AreApart f.entries → AreEntries mixed entries f.entries →
-        (ps : List ℕ) × GoesNear message mixed first (shift_after r.first shift k) x (forward_comes f no_stream ∷ map deliver ps) handed (tracker.forward (origin + k) t) (forward tsn entries r) }
+        AreApart f.entries → AreEntries mixed entries f.entries → AreEntriesNow base f → AreNearNext x f →
+        (ps : List ℕ) × GoesNear message mixed base first (shift_after r.first shift k) x (forward_comes f no_stream ∷ map deliver ps) handed (tracker.forward (origin + k) t) (forward tsn entries r) }
 {}

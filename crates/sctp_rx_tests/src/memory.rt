@@ -66,7 +66,7 @@ fn give_part(
     fsn: u32,
     byte: u8,
 ) -> Result<(), AllocError> {
-    let key = StreamKey::Unordered(StreamId(2));
+    let key = StreamKey::Unordered(StreamId(3));
     let fragment = piece(alloc, key, 0, fsn, byte, (fsn == 0, fsn != 0))?;
     add(queue, tsn, fragment)
 }
@@ -88,7 +88,7 @@ fn hands_over(alloc: Global, queue: &ReassemblyQueue) -> Result<(), AllocError> 
     outcome
 }
 
-const STEPS: u32 = 11;
+const STEPS: u32 = 13;
 
 fn step(alloc: Global, queue: &mut ReassemblyQueue, i: u32) -> Result<(), AllocError> {
     match i {
@@ -96,12 +96,14 @@ fn step(alloc: Global, queue: &mut ReassemblyQueue, i: u32) -> Result<(), AllocE
         1 => give_part(alloc, queue, 12, 0, 99),
         2 => queue.enter_deferred_reset(Tsn(13), &[StreamId(3)]),
         3 => give(alloc, queue, 14, 3, 0, 101),
-        4 => pass(queue, 15, 1, 5),
-        5 => give(alloc, queue, 10, 1, 0, 97),
-        6 => give_part(alloc, queue, 13, 1, 100),
-        7 => queue.reset_streams_and_leave_deferred_reset(&[StreamId(3)]),
-        8 => give(alloc, queue, 21, 4, 1, 102),
-        9 => pass(queue, 20, 4, 0),
+        4 => give(alloc, queue, 17, 5, 1, 103),
+        5 => pass(queue, 16, 5, 0),
+        6 => pass(queue, 18, 3, 5),
+        7 => give(alloc, queue, 10, 1, 0, 97),
+        8 => give_part(alloc, queue, 13, 1, 100),
+        9 => queue.reset_streams_and_leave_deferred_reset(&[StreamId(3)]),
+        10 => give(alloc, queue, 21, 4, 1, 102),
+        11 => pass(queue, 20, 4, 0),
         _ => hands_over(alloc, queue),
     }
 }
@@ -124,6 +126,7 @@ fn is_next(queue: &mut ReassemblyQueue, payload: &[u8]) -> Option<bool> {
 // Whether these are ready, in order, and no other; or, where steps are left out, a beginning of them.
 fn are_ready(queue: &mut ReassemblyQueue, is_whole: bool) -> bool {
     let payloads = [
+        b"g".as_slice(),
         b"a".as_slice(),
         b"b".as_slice(),
         b"cd".as_slice(),

@@ -1,7 +1,8 @@
 -- Outgoing streams that are reset (RFC 6525 section 5.1.2).
 use Rattle.std.specs.Prelude.{ℕ, ◌==◌, nat_lt, Bool, true, false, if◌then◌else◌, List, [], ◌∷◌, length, take, filter}
 use Rattle.sctp_serial.specs.Unwrapped.{origin}
-use Rattle.sctp_state.specs.Events.{Told, tell_all, expiry}
+use Rattle.sctp_state.specs.Events.{Told, tell_all, give_up, expiry}
+use Rattle.sctp_state.specs.declared.api.GivenUpCause.TheVariants.{Reset}
 use Rattle.sctp_send_queue.specs.declared.send_queue.stream.PauseState.{PauseState}
 use Rattle.sctp_send_queue.specs.declared.send_queue.stream.PauseState.TheVariants.{NotPaused, Pending, Paused, Resetting}
 use Rattle.sctp_send_queue.specs.declared.send_queue.stream.ResetStep.{ResetStep}
@@ -14,10 +15,10 @@ use Rattle.sctp_send_queue.specs.Settings.{Changed}
 abbrev pub is_partly : Queued → Bool
 is_partly m = nat_lt 0 m.offset
 
--- what is told of the messages of which nothing is sent: they are dropped
+-- what is told of the messages of which nothing is sent: each is given up
 abbrev pub told_waiting : {P : Type 0} → List Queued → Told P → Told P
 told_waiting [] told = told
-told_waiting (m ∷ rest) told = told_waiting rest (if is_partly m then told else tell_all (expiry m.lifecycle) told)
+told_waiting (m ∷ rest) told = told_waiting rest (if is_partly m then told else tell_all (expiry m.lifecycle) (give_up m.number Reset told))
 
 -- a stream that flows waits for the end of its partly sent message, if it has one
 abbrev pub waiting : Bool → PauseState → PauseState

@@ -457,9 +457,9 @@ impl SendQueue {
         Ok(())
     }
 
-    /// Prepares the reset of a stream: its messages of which nothing is sent are dropped, with the end of their
-    /// lifecycles. The stream can be reset once its partly sent message has ended, and sends no other one until the
-    /// reset is answered.
+    /// Prepares the reset of a stream: its messages of which nothing is sent are given up, and their lifecycles end.
+    /// The stream can be reset once its partly sent message has ended, and sends no other one until the reset is
+    /// answered.
     pub fn prepare_reset_stream(
         &mut self,
         id: StreamId,

@@ -109,6 +109,8 @@ pub enum GivenUpCause {
     Lifetime,
     /// A fragment of it was sent again as often as allowed, here so often.
     Retransmissions(u32),
+    /// Its stream was to be reset, and nothing of it had been sent.
+    Reset,
 }
 
 /// The record of a message that was given up (RFC 3758 section 3.5).

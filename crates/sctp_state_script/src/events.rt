@@ -86,8 +86,8 @@ fn waiting(events: &Events, output: &mut String) -> Result<Answer, AllocError> {
     tell_all(output, &values)
 }
 
-/// `given-up MESSAGE`: its lifetime passed; `sent-again MESSAGE COUNT`; `connected`; `low STREAM`; `end MESSAGE`; and what
-/// `happen_long` says.
+/// `given-up MESSAGE`: its lifetime passed; `sent-again MESSAGE COUNT`; `dropped-by-reset MESSAGE`; `connected`;
+/// `low STREAM`; `end MESSAGE`; and what `happen_long` says.
 fn happen(alloc: Global, events: &mut Events, line: Line<'_>) -> Result<Answer, AllocError> {
     let [first, second, _, _] = line.numbers;
     match line.name {
@@ -97,6 +97,7 @@ fn happen(alloc: Global, events: &mut Events, line: Line<'_>) -> Result<Answer, 
             first,
             GivenUpCause::Retransmissions(low_word(second)),
         ),
+        "dropped-by-reset" => give_up(events, first, GivenUpCause::Reset),
         "connected" => add(events, SocketEvent::OnConnected()),
         "low" => add(
             events,

@@ -4,7 +4,7 @@ use Rattle.std.specs.Ordering.{nat_cmp, match_ordering}
 use Rattle.std.specs.declared.cmp.Ordering.{Ordering}
 use Rattle.std.specs.Map.{lookup, set_value, keys_of}
 use Rattle.std.specs.BTreeMap.{is_at, insert_entry}
-use Rattle.sctp_state.specs.declared.api.GivenUpCause.TheVariants.{Lifetime}
+use Rattle.sctp_state.specs.declared.api.GivenUpCause.TheVariants.{Lifetime, Reset}
 use Rattle.sctp_state.specs.Thresholds.{crosses}
 use Rattle.sctp_state.specs.Events.{OnBufferedAmountLow, Told, tell_all, give_up, expiry}
 use Rattle.sctp_outstanding.specs.Items.{Discard}
@@ -180,8 +180,11 @@ module _ (l : ℕ) where
     drops_waiting [] t = spends_nothing l t 0 0 (omega arith)
     drops_waiting (m ∷ ms) t = go (is_partly m) (drops_waiting ms)
       where
+        gone : Told P
+        gone = give_up m.number Reset t
+
         said : Told P
-        said = tell_all (expiry m.lifecycle) t
+        said = tell_all (expiry m.lifecycle) gone
 
         go : (b : Bool) → ((u : Told P) → Spends l u (told_waiting ms u) (waiting l ms) (waiting l (filter is_partly ms)))
             → Spends l t (told_waiting ms (cond b t said)) (named l m.lifecycle + waiting l ms) (waiting l (cond b (m ∷ filter is_partly ms) (filter is_partly ms)))
@@ -189,8 +192,10 @@ module _ (l : ℕ) where
             spends_within l t (told_waiting ms t) (waiting l ms) (waiting l (filter is_partly ms)) (named l m.lifecycle + waiting l ms)
             (waiting l (m ∷ filter is_partly ms)) (ih t) (omega arith)
         go false ih =
-            spends_then l t said (told_waiting ms said) (named l m.lifecycle + waiting l ms) (waiting l ms) (waiting l (filter is_partly ms))
-            (spends_all l (expiry m.lifecycle) t (named l m.lifecycle + waiting l ms) (waiting l ms) (omega (arith, ends_expiry P l m.lifecycle))) (ih said)
+            let x : ℕ = named l m.lifecycle + waiting l ms in
+            spends_then l t gone (told_waiting ms said) x x (waiting l (filter is_partly ms)) (spends_given_up l m.number Reset t x x (omega arith))
+            (spends_then l gone said (told_waiting ms said) x (waiting l ms) (waiting l (filter is_partly ms))
+            (spends_all l (expiry m.lifecycle) gone x (waiting l ms) (omega (arith, ends_expiry P l m.lifecycle))) (ih said))
 
     pub spends_prepared : (id : ℕ) (q : Queue) (t : Told P) → Spends l t (prepare_reset id q t).told (in_queue q) (in_queue (prepare_reset id q t).queue)
     spends_prepared id q t =

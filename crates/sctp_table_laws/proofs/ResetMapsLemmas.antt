@@ -5,7 +5,8 @@ use Rattle.sctp_wire.specs.Parameter.{ParameterTree, outgoing_reset_request, inc
 use Rattle.sctp_packet.specs.Chunk.{re_config_chunk}
 use Rattle.sctp_state.specs.declared.api.ErrorKind.TheVariants.{ProtocolViolation}
 use Rattle.sctp_state.specs.declared.api.errors.ResetStreamsError.{ResetStreamsError}
-use Rattle.sctp_state.specs.Events.{OnIncomingStreamReset, OnStreamsResetPerformed, OnStreamsResetFailed, Told, tell_all, expiry, numbers_of}
+use Rattle.sctp_state.specs.Events.{OnIncomingStreamReset, OnStreamsResetPerformed, OnStreamsResetFailed, Told, tell_all, give_up, expiry, numbers_of}
+use Rattle.sctp_state.specs.declared.api.GivenUpCause.TheVariants.{Reset}
 use Rattle.sctp_send_queue.specs.Queue.{Queued, Queue, stream}
 use Rattle.sctp_send_queue.specs.Settings.{Changed}
 use Rattle.sctp_send_queue.specs.Resets.{is_partly, told_waiting, prepare_reset, commit_resets, roll_back_resets}
@@ -44,10 +45,11 @@ module _ {P Q : Type 0} (f : Mapping P Q) where
   maps_waiting : (ms : List Queued) (t : Told P) → told_waiting ms (map_told f t) ≡ map_told f (told_waiting ms t)
   maps_waiting [] t = refl
   maps_waiting (m ∷ ms) t =
-      let said : Told P = tell_all (expiry m.lifecycle) t in
+      let gone : Told P = give_up m.number Reset t in
+      let said : Told P = tell_all (expiry m.lifecycle) gone in
       ap (λ (u : Told Q). told_waiting ms u)
-      (maps_cond (map_told f) (is_partly m) t said (map_told f t) (tell_all (expiry m.lifecycle) (map_told f t)) refl
-      (maps_tell_all f (expiry m.lifecycle) (expiry m.lifecycle) t (maps_expiry f m.lifecycle)))
+      (maps_cond (map_told f) (is_partly m) t said (map_told f t) (tell_all (expiry m.lifecycle) (map_told f gone)) refl
+      (maps_tell_all f (expiry m.lifecycle) (expiry m.lifecycle) gone (maps_expiry f m.lifecycle)))
       ∙ maps_waiting ms (cond (is_partly m) t said)
 
   maps_prepare_reset : (id : ℕ) (q : Queue) (t : Told P) → prepare_reset id q (map_told f t) ≡ map_changed f (prepare_reset id q t)

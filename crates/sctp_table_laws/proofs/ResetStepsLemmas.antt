@@ -5,7 +5,8 @@ use Rattle.sctp_wire.specs.Parameter.{ParameterTree, outgoing_reset_request, inc
 use Rattle.sctp_packet.specs.Chunk.{re_config_chunk}
 use Rattle.sctp_state.specs.declared.api.ErrorKind.TheVariants.{ProtocolViolation}
 use Rattle.sctp_state.specs.declared.api.errors.ResetStreamsError.{ResetStreamsError}
-use Rattle.sctp_state.specs.Events.{OnIncomingStreamReset, OnStreamsResetPerformed, OnStreamsResetFailed, Told, tell_all, expiry, numbers_of}
+use Rattle.sctp_state.specs.Events.{OnIncomingStreamReset, OnStreamsResetPerformed, OnStreamsResetFailed, Told, tell_all, give_up, expiry, numbers_of}
+use Rattle.sctp_state.specs.declared.api.GivenUpCause.TheVariants.{Reset}
 use Rattle.sctp_send_queue.specs.Queue.{Queued, Queue, stream}
 use Rattle.sctp_send_queue.specs.Resets.{is_partly, told_waiting, prepare_reset}
 use Rattle.sctp_table.specs.Association.{Tcb, Phase, Open, Context, Standing, with_context, Packing}
@@ -13,7 +14,7 @@ use Rattle.sctp_table.specs.Requests.{is_final, Outcome, Unsettled, Done, Denied
 use Rattle.sctp_table.specs.Sending.{is_alone, send_in}
 use Rattle.sctp_table.specs.Resets.{Handling, handling, performs, is_ahead, resets_if, resets, outgoing_by, incoming_if, on_outcome, is_outgoing, on_parameter, Handled, handle_next, handle_all, send_responses, finished_if, on_reconfig, reset_refusal, prepared, prepare_all, reset_if, reset_streams}
 use Rattle.sctp_table_laws.proofs.StepsLemmas.{Tells, most_bytes, Goes, Steps}
-use Rattle.sctp_table_laws.proofs.TellsLemmas.{quiet_expiry, tells_nothing, tells_all, tells_then}
+use Rattle.sctp_table_laws.proofs.TellsLemmas.{quiet_expiry, tells_nothing, tells_given_up, tells_all, tells_then}
 use Rattle.sctp_table_laws.proofs.GoesLemmas.{goes_by, goes_same, goes_then, goes_said, goes_complained, goes_emit_chunk}
 use Rattle.sctp_table_laws.proofs.SendingStepsLemmas.{goes_send_buffered}
 use Rattle.sctp_table_laws.proofs.RowStepsLemmas.{StepsFrom, OpenSteps, steps_same, steps_where_open}
@@ -29,9 +30,11 @@ module _ {P : Type 0} (pack : Packing P) (most : ℕ) where
   drops : (ms : List Queued) (t : Told P) → Tells pack most 0 t (told_waiting ms t)
   drops [] t = tells_nothing pack most t
   drops (m ∷ ms) t =
-      let said : Told P = tell_all (expiry m.lifecycle) t in
+      let gone : Told P = give_up m.number Reset t in
+      let said : Told P = tell_all (expiry m.lifecycle) gone in
       let u : Told P = cond (is_partly m) t said in
-      tells_then pack most t u (told_waiting ms u) (drops_if (is_partly m) t said (tells_all pack most (expiry m.lifecycle) t (quiet_expiry P m.lifecycle)))
+      tells_then pack most t u (told_waiting ms u)
+      (drops_if (is_partly m) t said (tells_then pack most t gone said (tells_given_up pack most m.number Reset t) (tells_all pack most (expiry m.lifecycle) gone (quiet_expiry P m.lifecycle))))
       (drops ms u)
 
   tells_prepared : (id : ℕ) (q : Queue) (t : Told P) → Tells pack most 0 t (prepare_reset id q t).told

@@ -13,7 +13,8 @@ use Rattle.sctp_state.specs.declared.api.handover.HandoverSocketState.TheVariant
 use Rattle.sctp_state.specs.Options.{Options}
 use Rattle.sctp_state.specs.Rtt.{rto}
 use Rattle.sctp_state.specs.Handover.{HandoverState}
-use Rattle.sctp_state.specs.Events.{OnIncomingStreamReset, OnStreamsResetPerformed, OnStreamsResetFailed, OnConnected, OnClosed, Told, tell_all, expiry, numbers_of}
+use Rattle.sctp_state.specs.Events.{OnIncomingStreamReset, OnStreamsResetPerformed, OnStreamsResetFailed, OnConnected, OnClosed, Told, tell_all, give_up, expiry, numbers_of}
+use Rattle.sctp_state.specs.declared.api.GivenUpCause.TheVariants.{Reset}
 use Rattle.sctp_rx.specs.ReassemblyQueue as reassembly
 use Rattle.sctp_send_queue.specs.declared.send_queue.stream.ResetStep.TheVariants.{Performed, Refused}
 use Rattle.sctp_send_queue.specs.Queue.{Queued, stream}
@@ -26,7 +27,7 @@ use Rattle.sctp_table.specs.Sending.{is_alone, send_buffered, send_in}
 use Rattle.sctp_table.specs.Resets.{Handling, handling, respond, process, defers, performs, is_ahead, resets_if, outgoing_by, incoming_if, on_outcome, is_outgoing, on_parameter, Handled, handle_next, handle_all, send_responses, finished_if, on_reconfig, reset_refusal, prepared, prepare_all, reset_if, reset_streams}
 use Rattle.sctp_table.specs.Handover.{readiness, left_in, left_if, hand_over, identity_from, capabilities_from, tcb_from, queue_taken, take_up, refusal_in, taken_as, restored_unless, restore}
 use Rattle.sctp_table_laws.proofs.StepsLemmas.{Tells}
-use Rattle.sctp_table_laws.proofs.TellsLemmas.{quiet_expiry, tells_nothing, tells_all, tells_then}
+use Rattle.sctp_table_laws.proofs.TellsLemmas.{quiet_expiry, tells_nothing, tells_given_up, tells_all, tells_then}
 use Rattle.sctp_table_laws.specs.Sound.{OptionsFit, FitsRequest, FitsRequests, FitsTcb, FitsPhase, FitsState, FitsRecord}
 use Rattle.sctp_table_laws.proofs.FairLemmas.{IsFairParameter}
 use Rattle.sctp_table_laws.proofs.HeardLemmas.{each_push}
@@ -208,9 +209,11 @@ module _ {P : Type 0} where
   drops : (pack : Packing P) (ms : List Queued) (t : Told P) → Tells pack 0 0 t (told_waiting ms t)
   drops pack [] t = tells_nothing pack 0 t
   drops pack (m ∷ ms) t =
-      let said : Told P = tell_all (expiry m.lifecycle) t in
+      let gone : Told P = give_up m.number Reset t in
+      let said : Told P = tell_all (expiry m.lifecycle) gone in
       let u : Told P = cond (is_partly m) t said in
-      tells_then pack 0 t u (told_waiting ms u) (drops_if pack (is_partly m) t said (tells_all pack 0 (expiry m.lifecycle) t (quiet_expiry P m.lifecycle)))
+      tells_then pack 0 t u (told_waiting ms u)
+      (drops_if pack (is_partly m) t said (tells_then pack 0 t gone said (tells_given_up pack 0 m.number Reset t) (tells_all pack 0 (expiry m.lifecycle) gone (quiet_expiry P m.lifecycle))))
       (drops pack ms u)
 
   stays_prepare_all : (ids : List ℕ) (c : Context P) → Each (λ (id : ℕ). id < 2 ^ 16) ids → HoldsSound c → Stays c (prepare_all ids c)

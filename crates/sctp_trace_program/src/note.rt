@@ -44,6 +44,7 @@ fn given_up_text(alloc: Global, given_up: &GivenUp) -> Result<String, AllocError
         GivenUpCause::Retransmissions(limit) => {
             format!(in alloc; "given up {number}: {limit} retransmissions")
         }
+        GivenUpCause::Reset => format!(in alloc; "given up {number}: reset"),
     }
 }
 

@@ -35,10 +35,10 @@ module _ {P : Type 0} (message : ℕ → Message) (lifecycle : ℕ → Option �
   streams_are : after.streams ≡ queue.put id (dropped s0) q.streams
   streams_are = discard_streams id (streams_discarded id number q.streams) (front_discarded number s0.messages) q told
 
-  there : stream id after.streams ≡ dropped s0
+  pub there : stream id after.streams ≡ dropped s0
   there = ap (λ (z : Streams). stream id z) streams_are ∙ stream_changed id dropped q.streams refl
 
-  elsewhere : (j : ℕ) → j ≢ id → stream j after.streams ≡ stream j q.streams
+  pub elsewhere : (j : ℕ) → j ≢ id → stream j after.streams ≡ stream j q.streams
   elsewhere j d = ap (λ (z : Streams). stream j z) streams_are ∙ put_elsewhere j id (dropped s0) q.streams (is_other j id d)
 
   mode_stays : after.scheduler.is_interleaved ≡ q.scheduler.is_interleaved

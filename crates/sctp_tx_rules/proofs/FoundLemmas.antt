@@ -58,6 +58,20 @@ first_least p least most m rest h l =
     let r = rises least most m rest h in
     found_off p m rest (λ e. absurd (omega (arith, e, l))) ∙ none_below p (m.number + 1) most rest (omega (arith, l)) r.behind
 
+-- ---- behind others
+
+pub found_behind : (p : ℕ) (front back : List Queued) → found p front ≡ None → found p (front ++ back) ≡ found p back
+found_behind p [] back n = refl
+found_behind p (a ∷ rest) back n =
+    elim (cases_eq a.number p) [
+      | inl s ↦ absurd (none_some (found p (a ∷ rest)) a (found_at p a rest s) n)
+      | inr d ↦ found_off p a (rest ++ back) d ∙ found_behind p rest back (sym (found_off p a rest d) ∙ n)
+    ]
+
+pub found_alike : (p : ℕ) (front one other : List Queued) → found p one ≡ found p other → found p (front ++ one) ≡ found p (front ++ other)
+found_alike p [] one other h = h
+found_alike p (a ∷ rest) one other h = ap (λ z. cond (eqb a.number p) (Some a) z) (found_alike p rest one other h)
+
 -- ---- one more message
 
 pub found_push_off : (p : ℕ) (ms : List Queued) (m : Queued) → m.number ≢ p → found p (ms ++ m ∷ []) ≡ found p ms

@@ -11,13 +11,13 @@ use Rattle.sctp_send_queue.specs.Produced.{is_stale, is_due, fresh, dropped}
 use Rattle.sctp_send_queue.specs.InOrder.{are_rising}
 use Rattle.sctp_outstanding.specs.Items.{Items}
 use Rattle.sctp_rules.specs.State.{Message, Sender, Transfer, place_of, put, stream_of}
-use Rattle.sctp_rules.specs.Rules.{Waits, give_up, after, gives_up}
+use Rattle.sctp_rules.specs.Rules.{Waits, give_up, IsAllowed, after, gives_up}
 use Rattle.sctp_rules.specs.Kept.{Kept}
 use Rattle.sctp_rules.proofs.ToolsLemmas.{put_at, put_off, put_keeps, not_both}
 use Rattle.sctp_rules.proofs.SenderRowLemmas.{unsent_dropped}
 use Rattle.sctp_tx_rules.specs.Shown.{found, waiting_of, queue_of, IsEntry, AreKept, AreQueued, AreDiscards}
 use Rattle.sctp_tx_rules.specs.Led.{recorded, Leads}
-use Rattle.sctp_tx_rules.proofs.FoundLemmas.{funext, none_some, found_at, found_off, rises, once}
+use Rattle.sctp_tx_rules.proofs.FoundLemmas.{funext, none_some, found_at, found_off, found_behind, found_alike, rises, once}
 use Rattle.sctp_tx_rules.proofs.QueuedLemmas.{Frame, queue_some, queue_given, change, change_discards}
 use Rattle.sctp_tx_rules.proofs.ItemsLemmas.{kept_moves}
 use Rattle.sctp_tx_rules.proofs.LedLemmas.{leads_none, leads_on}
@@ -47,72 +47,103 @@ put_elsewhere ms id m rest new h same k r d =
       | inr n ↦ ap (found r) (put_off ms id new k n)
     ]
 
+-- without one message the others are found as before
+put_without : (ms : ℕ → List Queued) (id : ℕ) (front : List Queued) (m : Queued) (rest : List Queued) → ms id ≡ front ++ m ∷ rest
+    → (k r : ℕ) → r ≢ m.number → found r (put ms id (front ++ rest) k) ≡ found r (ms k)
+put_without ms id front m rest h k r d =
+    elim (cases_eq k id) [
+      | inl e ↦
+          ap (found r) (put_at ms id (front ++ rest) k e)
+          ∙ (found_alike r front rest (m ∷ rest) (sym (found_off r m rest (λ c. d (sym c)))) ∙ ap (found r) (sym (ap ms e ∙ h)))
+      | inr n ↦ ap (found r) (put_off ms id (front ++ rest) k n)
+    ]
+
 module _ (message : ℕ → Message) (lifecycle : ℕ → Option ℕ) where
-  -- the first message of a stream, as the rules see it
-  module _ (o : Sender) (ms : ℕ → List Queued) (a : AreQueued message lifecycle o ms) (id : ℕ) (m : Queued) (rest : List Queued) (h : ms id ≡ m ∷ rest) where
-    pub first_found : found m.number (ms id) ≡ Some m
-    first_found = ap (found m.number) h ∙ found_at m.number m rest refl
+  -- a message behind others of its stream, as the rules see it
+  module _ (o : Sender) (ms : ℕ → List Queued) (a : AreQueued message lifecycle o ms) (id : ℕ) (front : List Queued) (m : Queued) (rest : List Queued)
+      (h : ms id ≡ front ++ m ∷ rest) (before : found m.number front ≡ None) where
+    behind_found : found m.number (ms id) ≡ Some m
+    behind_found = ap (found m.number) h ∙ (found_behind m.number front (m ∷ rest) before ∙ found_at m.number m rest refl)
 
-    pub first_entry : IsEntry message lifecycle o id m.number m
-    first_entry = a.entries id m.number m first_found
+    behind_entry : IsEntry message lifecycle o id m.number m
+    behind_entry = a.entries id m.number m behind_found
 
-    pub first_own : found m.number (ms (stream_of message m.number)) ≡ Some m
-    first_own = ap (λ z. found m.number (ms z)) first_entry.on_stream ∙ first_found
+    behind_own : found m.number (ms (stream_of message m.number)) ≡ Some m
+    behind_own = ap (λ z. found m.number (ms z)) behind_entry.on_stream ∙ behind_found
 
     -- it is on no other stream
-    pub first_there : (new : List Queued) (k : ℕ) (n : Queued) → found m.number (put ms id new k) ≡ Some n → k ≡ id
-    first_there new k n f =
+    behind_there : (new : List Queued) (k : ℕ) (n : Queued) → found m.number (put ms id new k) ≡ Some n → k ≡ id
+    behind_there new k n f =
         elim (cases_eq k id) [
           | inl e ↦ e
-          | inr d ↦ let e = a.entries k m.number n (sym (ap (found m.number) (put_off ms id new k d)) ∙ f) in absurd (d (sym e.on_stream ∙ first_entry.on_stream))
+          | inr d ↦ let e = a.entries k m.number n (sym (ap (found m.number) (put_off ms id new k d)) ∙ f) in absurd (d (sym e.on_stream ∙ behind_entry.on_stream))
         ]
+
+  -- the first message of a stream
+  module _ (o : Sender) (ms : ℕ → List Queued) (a : AreQueued message lifecycle o ms) (id : ℕ) (m : Queued) (rest : List Queued) (h : ms id ≡ m ∷ rest) where
+    pub first_found : found m.number (ms id) ≡ Some m
+    first_found = behind_found o ms a id [] m rest h refl
+
+    pub first_entry : IsEntry message lifecycle o id m.number m
+    first_entry = behind_entry o ms a id [] m rest h refl
+
+    pub first_own : found m.number (ms (stream_of message m.number)) ≡ Some m
+    first_own = behind_own o ms a id [] m rest h refl
+
+    pub first_there : (new : List Queued) (k : ℕ) (n : Queued) → found m.number (put ms id new k) ≡ Some n → k ≡ id
+    first_there = behind_there o ms a id [] m rest h refl
 
   -- a message of which nothing was sent is dropped
   module _ (mixed : Bool) (x : Transfer) (k : Kept message mixed x) (ms : ℕ → List Queued) (a : AreQueued message lifecycle x.sender ms) (s : Items)
       (kept : AreKept message lifecycle x.sender x.acknowledged s.kept) (discards : AreDiscards x.sender ms s.discards)
-      (id : ℕ) (m : Queued) (rest : List Queued) (h : ms id ≡ m ∷ rest) (none : found m.number rest ≡ None) (unsent : is_some m.numbers ≡ false) where
+      (id : ℕ) (front : List Queued) (m : Queued) (rest : List Queued) (h : ms id ≡ front ++ m ∷ rest) (before : found m.number front ≡ None) (none : found m.number rest ≡ None)
+      (unsent : is_some m.numbers ≡ false) where
     abbrev p : ℕ
     p = m.number
 
     live : x.sender.given_up p ≡ false
-    live = false_from_ne_true (x.sender.given_up p) (λ g. not_both ((first_entry x.sender ms a id m rest h).partly_sent g) unsent)
+    live = false_from_ne_true (x.sender.given_up p) (λ g. not_both ((behind_entry x.sender ms a id front m rest h before).partly_sent g) unsent)
 
     queued_here : queue_of message x.sender ms p ≡ Some (waiting_of m)
-    queued_here = queue_some message x.sender ms p m live (first_own x.sender ms a id m rest h)
+    queued_here = queue_some message x.sender ms p m live (behind_own x.sender ms a id front m rest h before)
 
     waits : Waits x.sender p
     waits = a.queued.waits p (waiting_of m) queued_here unsent
 
     pub record Drops : Type 0 where
+      pub may : IsAllowed message mixed x (give_up p)
       pub leads : Leads message mixed x (after message mixed x (give_up p)) (p ∷ [])
       pub kept_is : Kept message mixed (after message mixed x (give_up p))
-      pub queued : AreQueued message lifecycle (gives_up x.sender p) (put ms id rest)
+      pub queued : AreQueued message lifecycle (gives_up x.sender p) (put ms id (front ++ rest))
       pub items : AreKept message lifecycle (gives_up x.sender p) x.acknowledged s.kept
-      pub discards_are : AreDiscards (gives_up x.sender p) (put ms id rest) s.discards
+      pub discards_are : AreDiscards (gives_up x.sender p) (put ms id (front ++ rest)) s.discards
 
     frame : (r : ℕ) → r ≢ p → Frame x.sender (gives_up x.sender p) r
     frame r d = record { number = refl; given_up = put_off x.sender.given_up p true r d; parts_are = refl }
 
-    elsewhere : (k r : ℕ) → r ≢ p → found r (put ms id rest k) ≡ found r (ms k)
-    elsewhere k r d = put_elsewhere ms id m rest rest h (λ r d. refl) k r d
+    elsewhere : (k r : ℕ) → r ≢ p → found r (put ms id (front ++ rest) k) ≡ found r (ms k)
+    elsewhere = put_without ms id front m rest h
 
-    gone : (k : ℕ) (n : Queued) → found p (put ms id rest k) ≡ Some n → ⊥
-    gone k n f = none_some (found p rest) n (sym (ap (found p) (put_at ms id rest k (first_there x.sender ms a id m rest h rest k n f))) ∙ f) none
+    gone : (k : ℕ) (n : Queued) → found p (put ms id (front ++ rest) k) ≡ Some n → ⊥
+    gone k n f =
+        none_some (found p (front ++ rest)) n (sym (ap (found p) (put_at ms id (front ++ rest) k (behind_there x.sender ms a id front m rest h before (front ++ rest) k n f))) ∙ f)
+        (found_behind p front rest before ∙ none)
 
     pub drops : Drops
     drops =
         let r = unsent_dropped message mixed x k (queue_of message x.sender ms) a.queued p (waiting_of m) queued_here unsent in
         record {
+          may = r.may.0;
           leads = record { events = give_up p ∷ []; may = r.may; leads = refl; sends = refl; given_up = refl; rest_stays = refl };
           kept_is = r.kept;
           queued =
-              change message lifecycle x.sender (gives_up x.sender p) ms (put ms id rest) p elsewhere frame (omega arith) (λ k n f. absurd (gone k n f)) None
-              (queue_given message (gives_up x.sender p) (put ms id rest) p (put_at x.sender.given_up p true p refl)) r.queued a;
+              change message lifecycle x.sender (gives_up x.sender p) ms (put ms id (front ++ rest)) p elsewhere frame (omega arith) (λ k n f. absurd (gone k n f)) None
+              (queue_given message (gives_up x.sender p) (put ms id (front ++ rest)) p (put_at x.sender.given_up p true p refl)) r.queued a;
           items =
               kept_moves message lifecycle x.sender (gives_up x.sender p)
               (record { same = λ t l. refl; number = λ t l. refl; given_up = λ t l. put_off x.sender.given_up p true (place_of x.sender t) (λ e. not_both (sym (ap x.sender.begun e) ∙ k.outgoing.place_begun t l) waits.not_begun) })
               refl x.acknowledged s.kept kept;
-          discards_are = change_discards message lifecycle x.sender (gives_up x.sender p) ms (put ms id rest) p elsewhere frame s.discards discards (λ k n f g. absurd (gone k n f)) (λ r g. put_keeps x.sender.given_up p r g);
+          discards_are = change_discards message lifecycle x.sender (gives_up x.sender p) ms (put ms id (front ++ rest)) p elsewhere frame s.discards discards (λ k n f g. absurd (gone k n f)) (λ r g. put_keeps x.sender.given_up p r g);
         }
 
   -- all that expired at the front of a stream
@@ -186,7 +217,7 @@ module _ (message : ℕ → Message) (lifecycle : ℕ → Option ℕ) where
           )
       go true e ih =
           let unsent = not-true (is_some m.numbers) (and_parts (not (is_some m.numbers)) (is_due now m.expires) e).0 in
-          let one = drops mixed x k ms a s kept d id m rest h (once least most m rest r) unsent in
+          let one = drops mixed x k ms a s kept d id [] m rest h refl (once least most m rest r) unsent in
           let x1 : Transfer = after message mixed x (give_up m.number) in
           let later : Told P = tell_all (expiry m.lifecycle) (events.give_up m.number Lifetime told) in
           let f = ih x1 one.kept_is (put ms id rest) (put_at ms id rest id refl) one.queued one.items one.discards_are later in

@@ -6,6 +6,13 @@ pub mod ItemsLemmas
 pub mod LedLemmas
 pub mod LossLemmas
 pub mod NumberLemmas
+pub mod PrepareLemmas
+pub mod PausedLemmas
+pub mod PauseRowLemmas
+pub mod BegunLemmas
+pub mod LineLemmas
+pub mod LineRowLemmas
+pub mod BreakLemmas
 pub mod ResetLemmas
 pub mod PointLemmas
 pub mod ProduceLemmas

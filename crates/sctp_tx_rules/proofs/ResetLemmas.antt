@@ -25,7 +25,7 @@ use Rattle.sctp_tx_rules.proofs.ItemsLemmas.{kept_moves}
 use Rattle.sctp_tx_rules.proofs.ProduceLemmas.{is_other}
 
 -- the stream has this in its place, or isn't there
-put_cases : (id : ℕ) (t : Stream) (ss : Streams) → (stream id (queue.put id t ss) ≡ t) ⊎ ((stream id (queue.put id t ss) ≡ stream id ss) × (stream id ss ≡ blank ss))
+pub put_cases : (id : ℕ) (t : Stream) (ss : Streams) → (stream id (queue.put id t ss) ≡ t) ⊎ ((stream id (queue.put id t ss) ≡ stream id ss) × (stream id ss ≡ blank ss))
 put_cases id t ss = go (lookup (is_at (nat_cmp id)) ss.entries) refl
   where
     go : (o : Option Stream) → lookup (is_at (nat_cmp id)) ss.entries ≡ o → (stream id (queue.put id t ss) ≡ t) ⊎ ((stream id (queue.put id t ss) ≡ stream id ss) × (stream id ss ≡ blank ss))
@@ -41,7 +41,7 @@ module _ (step : ResetStep) (id : ℕ) (q : Queue) where
   abbrev later : Queue
   later = stepped step id q
 
-  off : (j : ℕ) → j ≢ id → stream j later.streams ≡ stream j q.streams
+  pub off : (j : ℕ) → j ≢ id → stream j later.streams ≡ stream j q.streams
   off j d = put_elsewhere j id (after_step step (stream id q.streams)) q.streams (is_other j id d)
 
   each : (j : ℕ) → messages_of later j ≡ messages_of q j

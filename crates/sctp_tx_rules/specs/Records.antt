@@ -1,5 +1,5 @@
 -- One record a message: those that the user took and those that wait name each message that was given up once, and no other.
-use Rattle.std.specs.Prelude.{◌≡◌, ℕ, ◌+◌, ◌&&◌, not, Bool, true, false, Option, Some, List, [], ◌∷◌, ◌++◌}
+use Rattle.std.specs.Prelude.{◌≡◌, ℕ, ◌&&◌, not, Bool, true, false, Option, Some, List, [], ◌∷◌, ◌++◌}
 use Rattle.std.specs.List.{AllByRecursion}
 use Rattle.sctp_state.specs.Events.{GivenUp, Told}
 use Rattle.sctp_send_queue.specs.Queue.{Queued, Queue}

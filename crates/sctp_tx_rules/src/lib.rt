@@ -3,6 +3,8 @@
 #![tactic(auto)]
 
 ghost use Rattle.sctp_tx_rules.specs.Records.{AcceptingKeepsOne, LeavingKeepsOne, NewHaveNone, SendingKeepsOne, TakingKeepsOne, ValuesHaveOneRecord};
+ghost use Rattle.sctp_tx_rules.specs.Line.{CallsKeepLine, NextFlows, ProducingPauses};
+ghost use Rattle.sctp_tx_rules.specs.Pauses.{AcceptingPauses, AnswerPauses, CommittingPauses, DiscardingPauses, PointsEndAtBreaks, PreparesShow, PreparingPauses, RequestPauses, RequestingPauses, RequestsBreak, SacksPassBreaks, SendingPauses, SettingPauses, TurningPauses, TurnsBegin};
 ghost use Rattle.sctp_tx_rules.specs.Rows.{Accepts, BeginningsShow, CarryingStays, CommitsShow, DiscardsShow, Expires, FastPacketsAreSent, GivesUp, LifetimesEnd, Loses, NewShow, OffersAreQueued, OthersAreNotShown, PacketsAreSent, PointsAreDue, Produces, RecordsAreExact, RequestsShow, ResetsShow, RestIsRest, SacksAreHeard, SettingsShow, TimesOut};
 
 /// A new queue, and no item, show the start. Where messages were accepted and nothing was sent, an association may begin, in
@@ -26,11 +28,45 @@ pub fn messages_are_accepted()
     ensures settings { SettingsShow }
 {}
 
-/// Streams that go into a request of a reset change nothing of what the values show. Once its answer has come, their numbers on the
-/// wire begin again, and nothing else changes.
+/// Where a stream is to be reset, its messages of which nothing was sent are given up. Streams that go into a request change nothing of
+/// what the values show. Once its answer has come, their numbers on the wire begin again, and nothing else changes.
 pub fn streams_are_reset()
+    ensures prepared { PreparesShow }
     ensures requested { RequestsShow }
     ensures committed { CommitsShow }
+{}
+
+/// By the rules with epochs, a stream's pause says whether it is open: so it is still when a message is accepted, when a stream is
+/// prepared for a reset, when one that is ready goes into a request, and when the answer comes to a reset that was performed. Each of these
+/// may happen by the rules then.
+pub fn pauses_follow_epochs()
+    ensures accepting { AcceptingPauses }
+    ensures preparing { PreparingPauses }
+    ensures requesting { RequestingPauses }
+    ensures committing { CommittingPauses }
+    ensures requests { RequestPauses }
+    ensures answers { AnswerPauses }
+    ensures settings { SettingPauses }
+    ensures discarding { DiscardingPauses }
+    ensures turning { TurningPauses }
+    ensures beginning { TurnsBegin }
+    ensures sending { SendingPauses }
+{}
+
+/// The scheduler has no stream in line that is stopped, from the first call on. So none that is stopped gives a fragment, and pauses agree
+/// with the epochs after the next fragment.
+pub fn stopped_streams_wait()
+    ensures line { CallsKeepLine }
+    ensures next { NextFlows }
+    ensures produces { ProducingPauses }
+{}
+
+/// A forward point goes on over no request of a reset before all below that is acknowledged: a request makes a breakpoint of what is
+/// numbered next, which stays until it is passed.
+pub fn points_end_at_requests()
+    ensures requests { RequestsBreak }
+    ensures sacks { SacksPassBreaks }
+    ensures points { PointsEndAtBreaks }
 {}
 
 /// Where nothing waits to be discarded, `produce` gives up the messages that expired before their first fragment, each with

@@ -81,6 +81,8 @@ fn resets(alloc: Global) -> bool {
         AcceptNamed(1, 5, 8),
         Gives(0, 3, (1, 0, 0, 0, 0, 3)),
         Prepare(1),
+        Dropped(1),
+        NoneGivenUp,
         Hears(Heard::Expired(8)),
         Hears(Heard::End(8)),
         Accept(1, 5),

@@ -50,6 +50,8 @@ pub enum Step {
     Hears(Heard),
     /// The next record says that the lifetime of this message passed.
     GivenUp(u32),
+    /// It says that the reset of its stream dropped this message.
+    Dropped(u32),
     NoneGivenUp,
     Amount(u16, usize),
     Total(usize),
@@ -247,6 +249,7 @@ pub fn holds(
         }
         Step::Hears(want) => Ok(next_heard(events) == want),
         Step::GivenUp(message) => Ok(is_given_up(events, message, GivenUpCause::Lifetime)),
+        Step::Dropped(message) => Ok(is_given_up(events, message, GivenUpCause::Reset)),
         Step::NoneGivenUp => Ok(events.next_given_up().is_none()),
         _ => settles(alloc, queue, step),
     }

@@ -90,6 +90,7 @@ event_words (OnLifecycleEnd id) = number_word id
 abbrev pub cause_words : GivenUpCause → List ℕ
 cause_words causes.Lifetime = codes "lifetime"
 cause_words (causes.Retransmissions count) = codes "retransmissions " ++ decimal count
+cause_words causes.Reset = codes "reset"
 
 -- ---- lines
 

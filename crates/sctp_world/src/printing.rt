@@ -137,6 +137,7 @@ fn given_up_text(alloc: Global, end: End, given_up: GivenUp) -> Result<String, A
         GivenUpCause::Retransmissions(count) => {
             format!(in alloc; "{end} given-up {number} retransmissions {count}\n")
         }
+        GivenUpCause::Reset => format!(in alloc; "{end} given-up {number} reset\n"),
     }
 }
 

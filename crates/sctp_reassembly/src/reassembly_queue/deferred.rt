@@ -1,11 +1,12 @@
 //! A reset that is deferred.
 
-ghost use Rattle.std.specs.Prelude.{◌≡◌, ◌+◌, ◌<◌, ◌^◌, ◌++◌, ◌∷◌, ◌&&◌, [], nat_lt, option_map, IfOk, IfSome, IfNone, OnOk, OnErr};
+ghost use Rattle.std.specs.Prelude.{◌≡◌, ◌==◌, ◌+◌, ◌<◌, ◌^◌, ◌++◌, ◌∷◌, ◌&&◌, [], nat_lt, length, option_map, IfOk, IfSome, IfNone, OnOk, OnErr};
 ghost use Rattle.std.specs.List.{sum_by};
 ghost use Rattle.std.specs.Option.{option_to_list};
 ghost use Rattle.sctp_reassembly.specs.Streams.{is_named};
 ghost use Rattle.sctp_reassembly.specs.WaitingViews.{waiting_of};
 
+use crate::ordered_streams::is_named;
 use crate::reassembly_queue::waiting::Waiting;
 use sctp_serial::StreamId;
 use std::alloc::{AllocError, Global};
@@ -62,6 +63,20 @@ impl Deferred {
         is_named(&self.streams, id.0)
     }
 
+    /// The streams that are to be reset; all are where none is named.
+    pub fn streams(&self) -> &[StreamId]
+        ensures { result.now ≡ self.now.streams }
+    {
+        &self.streams
+    }
+
+    /// Whether nothing waits.
+    pub fn is_empty(&self) -> bool
+        ensures { result ≡ (length self.now.waiting == 0) }
+    {
+        self.waiting.is_empty()
+    }
+
     /// How many bytes of payload wait.
     pub fn total_bytes(&self) -> usize
         ensures { result ≡ sum_by waiting_bytes self.now.waiting }
@@ -95,21 +110,26 @@ impl Deferred {
     }
 }
 
-ghost use Rattle.std.specs.Prelude.{◌==◌};
-ghost use Rattle.std.specs.List.{list_any};
-ghost use Rattle.sctp_reassembly.specs.ReassemblyQueue.{waiting_bytes};
+ghost use Rattle.sctp_reassembly.specs.ReassemblyQueue.{resetting, waiting_in, waiting_bytes};
 
-fn names(ids: &[StreamId], id: u16) -> bool
-    ensures { result ≡ list_any (λ i. i.0 == id) ids.now }
+/// The streams that are to be reset, if a reset is deferred.
+pub(crate) fn resetting(deferred: &Option<Deferred>) -> &[StreamId]
+    ensures { result.now ≡ resetting deferred.now }
 {
-    ids.iter().any(|named| named.0 == id)
+    match deferred {
+        Some(deferred) => deferred.streams(),
+        None => &[],
+    }
 }
 
-// Whether a stream is named; where none is, each is.
-fn is_named(ids: &[StreamId], id: u16) -> bool
-    ensures { result ≡ is_named ids.now id }
+/// Whether nothing waits for a reset.
+pub(crate) fn none_waits(deferred: &Option<Deferred>) -> bool
+    ensures { result ≡ (length (waiting_in deferred.now) == 0) }
 {
-    ids.is_empty() || names(ids, id)
+    match deferred {
+        Some(deferred) => deferred.is_empty(),
+        None => true,
+    }
 }
 
 fn bytes_of(waiting: &Waiting) -> usize

@@ -60,6 +60,13 @@ impl ReassemblyStreams for Form {
         }
     }
 
+    fn drop_in(&mut self, named: bool, ids: &[StreamId], tsn: u64) {
+        match self {
+            Form::Traditional(streams) => streams.drop_in(named, ids, tsn),
+            Form::Interleaved(streams) => streams.drop_in(named, ids, tsn),
+        }
+    }
+
     fn reset_streams(&mut self, ids: &[StreamId]) {
         match self {
             Form::Traditional(streams) => streams.reset_streams(ids),

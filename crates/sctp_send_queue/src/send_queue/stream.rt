@@ -16,10 +16,10 @@ ghost use Rattle.sctp_send_queue.specs.Views.{produced_of};
 
 use crate::data_to_send::DataToSend;
 use crate::send_queue::message::{MessageNumbers, QueuedMessage};
-use crate::send_queue::telling::{tell_expired, tell_stale};
+use crate::send_queue::telling::tell_dropped;
 use sctp_serial::{LifecycleId, Mid, OutgoingMessageId, SerialNumber, SocketTime, Ssn, StreamId};
 use sctp_state::api::handover::{HandoverOutgoingStream, HandoverStreamMessage};
-use sctp_state::{Events, ThresholdWatcher};
+use sctp_state::{Events, GivenUpCause, ThresholdWatcher};
 use std::alloc::{AllocError, Global};
 use std::collections::VecDeque;
 use std::marker::Model;
@@ -99,7 +99,8 @@ fn tell_stale_front(
         if !message.is_stale(now) {
             return Ok(());
         }
-        tell_stale(events, message.message_id(), message.lifecycle_id())?;
+        let stale = GivenUpCause::Lifetime;
+        tell_dropped(events, message.message_id(), stale, message.lifecycle_id())?;
     }
     Ok(())
 }
@@ -150,14 +151,15 @@ fn pop_front(messages: &mut VecDeque<QueuedMessage>, buffered: &mut ThresholdWat
     }
 }
 
-// Tells of the messages of which nothing is sent that they are dropped.
+// Tells of the messages of which nothing is sent that they are given up.
 fn tell_waiting(messages: &VecDeque<QueuedMessage>, events: &mut Events) -> Result<(), AllocError>
     ensures ok { OnOk result (events.new ≡ told_waiting messages.now.items events.old) }
     ensures err { OnErr result (Grown events.old events.new) }
 {
     for message in messages.iter() {
         if !message.is_partly_sent() {
-            tell_expired(events, message.lifecycle_id())?;
+            let reset = GivenUpCause::Reset;
+            tell_dropped(events, message.message_id(), reset, message.lifecycle_id())?;
         }
     }
     Ok(())
@@ -655,7 +657,7 @@ impl Stream {
         }
     }
 
-    /// Tells of the messages of which nothing is sent that they are dropped.
+    /// Tells of the messages of which nothing is sent that they are given up.
     pub fn tell_waiting(&self, events: &mut Events) -> Result<(), AllocError>
         ensures ok { OnOk result (events.new ≡ told_waiting self.now.messages events.old) }
         ensures err { OnErr result (Grown events.old events.new) }

@@ -396,7 +396,7 @@ impl Streams {
         self.total.decrease(before - stream.amount());
     }
 
-    /// Tells of the messages of a stream of which nothing is sent that they are dropped.
+    /// Tells of the messages of a stream of which nothing is sent that they are given up.
     pub fn tell_waiting(&self, id: StreamId, events: &mut Events) -> Result<(), AllocError>
         ensures ok { OnOk result (events.new ≡ told_waiting (stream id.0 self.now).messages events.old) }
         ensures err { OnErr result (Grown events.old events.new) }

@@ -2,7 +2,6 @@
 
 ghost use Rattle.std.specs.Prelude.{◌≡◌, Bool, [], ◌∷◌, ◌++◌, OnOk, OnErr, option_map};
 ghost use Rattle.sctp_state.specs.Events.{event_of, expiry, give_up, tell_all, Grown};
-ghost use Rattle.sctp_state.specs.declared.api.GivenUpCause.TheVariants.{Lifetime};
 ghost use Rattle.sctp_send_queue.specs.Produced.{when, fully_sent, production, told_made};
 ghost use Rattle.sctp_send_queue.specs.Views.{produced_of};
 
@@ -27,19 +26,17 @@ pub(crate) fn tell_expired(
     Ok(())
 }
 
-// A message's lifetime passed before a fragment of it was sent.
-pub(crate) fn tell_stale(
+// A message was given up before a fragment of it was sent.
+pub(crate) fn tell_dropped(
     events: &mut Events,
     number: OutgoingMessageId,
+    cause: GivenUpCause,
     lifecycle_id: Option<LifecycleId>,
 ) -> Result<(), AllocError>
-    ensures ok { OnOk result (events.new ≡ tell_all (expiry lifecycle_id) (give_up number.0 Lifetime events.old)) }
+    ensures ok { OnOk result (events.new ≡ tell_all (expiry lifecycle_id) (give_up number.0 cause events.old)) }
     ensures err { OnErr result (Grown events.old events.new) }
 {
-    events.add_given_up(GivenUp {
-        number,
-        cause: GivenUpCause::Lifetime,
-    })?;
+    events.add_given_up(GivenUp { number, cause })?;
     tell_expired(events, lifecycle_id)?;
     Ok(())
 }

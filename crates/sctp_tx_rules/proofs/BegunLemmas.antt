@@ -1,0 +1,240 @@
+-- What a stream begins is of the epoch in which it is open.
+use Rattle.std.proofs.Common.{◌≡◌, ◌≢◌, ℕ, suc, ◌<◌, ◌≤◌, Bool, true, false, cond, inl, inr, Option, Some, None, List, [], ◌∷◌, length, map, refl, sym, ap, ◌∙◌, subst, arith}
+use Rattle.std.specs.Prelude.{is_some}
+use Rattle.std.specs.List.{list_all}
+use Rattle.std.proofs.lemmas.Bool.{cases_eq, and_parts, false_from_ne_true}
+use Rattle.sctp_state.specs.Events.{Told}
+use Rattle.sctp_send_queue.specs.declared.send_queue.stream.PauseState.{PauseState}
+use Rattle.sctp_send_queue.specs.declared.send_queue.stream.PauseState.TheVariants.{NotPaused, Pending, Paused, Resetting}
+use Rattle.sctp_send_queue.specs.Queue.{Queued, Queue, Stream, stream, is_stopped}
+use Rattle.sctp_send_queue.specs.Produced.{numbers_of, moved, ends, advanced, turn}
+use Rattle.sctp_send_queue.specs.InOrder.{is_first_begun}
+use Rattle.sctp_outstanding.specs.Items.{Items}
+use Rattle.sctp_rules.specs.State.{Message, Sender, Transfer, stream_of}
+use Rattle.sctp_rules.specs.Rules.{Event, accept, begin, number, close, give_up, data_comes, late_comes, deliver, send_sack, leave, send_forward, forward_comes, forget, IsAllowed, Happens, after, run}
+use Rattle.sctp_rules.specs.Kept.{Kept}
+use Rattle.sctp_rules.specs.Sending.{Waiting}
+use Rattle.sctp_rules.specs.Resets.{Epochs, transfers, InEpoch, goes, MayAll}
+use Rattle.sctp_rules.proofs.ToolsLemmas.{put_at, put_off, not_both}
+use Rattle.sctp_rules.proofs.KeepsLemmas.{keeps}
+use Rattle.sctp_rules.proofs.StepLemmas.{later}
+use Rattle.sctp_tx_rules.specs.Shown.{found, messages_of, waiting_of, queue_of, Shows}
+use Rattle.sctp_tx_rules.specs.Led.{is_sending}
+use Rattle.sctp_tx_rules.specs.Pauses.{ArePausedAs}
+use Rattle.sctp_tx_rules.proofs.FoundLemmas.{one_value, found_at, found_off}
+use Rattle.sctp_tx_rules.proofs.QueuedLemmas.{queue_some, queued_is}
+use Rattle.sctp_tx_rules.proofs.PausedLemmas.{unnumbered}
+use Rattle.sctp_tx_rules.proofs.PauseRowLemmas.{same_epochs, freshened, there, elsewhere}
+
+-- ---- the rules of a sender
+
+module _ (message : ℕ → Message) (mixed : Bool) where
+  -- what is given up isn't begun any more
+  still_unbegun : (x : Transfer) (e : Event) → IsAllowed message mixed x e → (p : ℕ) → x.sender.given_up p ≡ true → x.sender.begun p ≡ false → (after message mixed x e).sender.begun p ≡ false
+  still_unbegun x accept a p g n = n
+  still_unbegun x (begin r) a p g n = put_off x.sender.begun r true p (λ e. not_both g (ap x.sender.given_up e ∙ a.0.not_given)) ∙ n
+  still_unbegun x (number r bytes more) a p g n = n
+  still_unbegun x (close r) a p g n = n
+  still_unbegun x (give_up r) a p g n = n
+  still_unbegun x (data_comes t) a p g n = n
+  still_unbegun x (late_comes t) a p g n = n
+  still_unbegun x (deliver r) a p g n = n
+  still_unbegun x (send_sack c) a p g n = n
+  still_unbegun x (leave c) a p g n = n
+  still_unbegun x (send_forward f) a p g n = n
+  still_unbegun x (forward_comes f spared) a p g n = n
+  still_unbegun x (forget s c) a p g n = n
+
+  unbegun : (es : List Event) (x : Transfer) → Kept message mixed x → Happens message mixed x es → (p : ℕ) → x.sender.given_up p ≡ true → x.sender.begun p ≡ false
+      → (run message mixed x es).sender.begun p ≡ false
+  unbegun [] x k h p g n = n
+  unbegun (e ∷ es) x k h p g n =
+      unbegun es (after message mixed x e) (keeps message mixed x k e h.0) h.1 p ((later message mixed x k e h.0).given_stays p g) (still_unbegun x e h.0 p g n)
+
+  begun_later : (es : List Event) (x : Transfer) → Kept message mixed x → Happens message mixed x es → (p : ℕ) → x.sender.begun p ≡ true → (run message mixed x es).sender.begun p ≡ true
+  begun_later [] x k h p b = b
+  begun_later (e ∷ es) x k h p b = begun_later es (after message mixed x e) (keeps message mixed x k e h.0) h.1 p ((later message mixed x k e h.0).begun_stays p b)
+
+  kept_later : (es : List Event) (x : Transfer) → Kept message mixed x → Happens message mixed x es → Kept message mixed (run message mixed x es)
+  kept_later [] x k h = k
+  kept_later (e ∷ es) x k h = kept_later es (after message mixed x e) (keeps message mixed x k e h.0) h.1
+
+  -- nothing is accepted
+  accepted_stays : (x : Transfer) (e : Event) → is_sending e ≡ true → (after message mixed x e).sender.accepted ≡ x.sender.accepted
+  accepted_stays x accept h = cc
+  accepted_stays x (begin r) h = refl
+  accepted_stays x (number r bytes more) h = refl
+  accepted_stays x (close r) h = refl
+  accepted_stays x (give_up r) h = refl
+  accepted_stays x (data_comes t) h = refl
+  accepted_stays x (late_comes t) h = refl
+  accepted_stays x (deliver r) h = refl
+  accepted_stays x (send_sack c) h = refl
+  accepted_stays x (leave c) h = refl
+  accepted_stays x (send_forward f) h = refl
+  accepted_stays x (forward_comes f spared) h = refl
+  accepted_stays x (forget s c) h = refl
+
+  accepted_later : (es : List Event) (x : Transfer) → list_all is_sending es ≡ true → (run message mixed x es).sender.accepted ≡ x.sender.accepted
+  accepted_later [] x h = refl
+  accepted_later (e ∷ es) x h =
+      let a = and_parts (is_sending e) (list_all is_sending es) h in
+      accepted_later es (after message mixed x e) a.1 ∙ accepted_stays x e a.0
+
+  -- forward points that were sent stay
+  points_grow : (x : Transfer) (e : Event) → length x.forward_points ≤ length (after message mixed x e).forward_points
+  points_grow x accept = omega arith
+  points_grow x (begin r) = omega arith
+  points_grow x (number r bytes more) = omega arith
+  points_grow x (close r) = omega arith
+  points_grow x (give_up r) = omega arith
+  points_grow x (data_comes t) = omega arith
+  points_grow x (late_comes t) = omega arith
+  points_grow x (deliver r) = omega arith
+  points_grow x (send_sack c) = omega arith
+  points_grow x (leave c) = omega arith
+  points_grow x (send_forward f) = omega arith
+  points_grow x (forward_comes f spared) = omega arith
+  points_grow x (forget s c) = omega arith
+
+  points_later : (es : List Event) (x : Transfer) → length x.forward_points ≤ length (run message mixed x es).forward_points
+  points_later [] x = omega arith
+  points_later (e ∷ es) x =
+      let a = points_grow x e in
+      let b = points_later es (after message mixed x e) in
+      omega (arith, a, b)
+
+  -- none is sent, and what is begun is of the open epoch
+  abbrev Begins : Epochs → Transfer → Type 0
+  Begins x y = (p : ℕ) → x.transfer.sender.begun p ≡ false → y.sender.begun p ≡ true → x.epoch p ≤ x.opened (stream_of message p)
+
+  in_epoch : (x : Epochs) (e : Event) (es : List Event) → Kept message mixed x.transfer → is_sending e ≡ true → IsAllowed message mixed x.transfer e → Happens message mixed (after message mixed x.transfer e) es
+      → length (run message mixed x.transfer (e ∷ es)).forward_points ≡ length x.transfer.forward_points → Begins x (run message mixed x.transfer (e ∷ es)) → InEpoch message mixed x e
+  in_epoch x accept es k is a h l bound = tt
+  in_epoch x (begin r) es k is a h l bound =
+      bound r a.0.not_begun (begun_later es (after message mixed x.transfer (begin r)) (keeps message mixed x.transfer k (begin r) a) h r (put_at x.transfer.sender.begun r true r refl))
+  in_epoch x (number r bytes more) es k is a h l bound = tt
+  in_epoch x (close r) es k is a h l bound = tt
+  in_epoch x (give_up r) es k is a h l bound = tt
+  in_epoch x (data_comes t) es k is a h l bound = tt
+  in_epoch x (late_comes t) es k is a h l bound = tt
+  in_epoch x (deliver r) es k is a h l bound = tt
+  in_epoch x (send_sack c) es k is a h l bound = tt
+  in_epoch x (leave c) es k is a h l bound = tt
+  in_epoch x (send_forward f) es k is a h l bound =
+      let g : suc (length x.transfer.forward_points) ≤ length (run message mixed x.transfer (send_forward f ∷ es)).forward_points = points_later es (after message mixed x.transfer (send_forward f)) in
+      absurd (omega (arith, g, l))
+  in_epoch x (forward_comes f spared) es k is a h l bound = tt
+  in_epoch x (forget s c) es k is a h l bound = cc
+
+  pub in_epochs : (es : List Event) (x : Epochs) → Kept message mixed x.transfer → list_all is_sending es ≡ true → Happens message mixed x.transfer es
+      → length (run message mixed x.transfer es).forward_points ≡ length x.transfer.forward_points → Begins x (run message mixed x.transfer es) → MayAll message mixed x (map transfers es)
+  in_epochs [] x k all h l bound = tt
+  in_epochs (e ∷ es) x k all h l bound =
+      let a = and_parts (is_sending e) (list_all is_sending es) all in
+      let one = points_grow x.transfer e in
+      let more = points_later es (after message mixed x.transfer e) in
+      let left : length (run message mixed x.transfer (e ∷ es)).forward_points ≡ length (after message mixed x.transfer e).forward_points = omega (arith, l, one, more) in (
+        (h.0, in_epoch x e es k a.0 h.0 h.1 l bound),
+        in_epochs es (goes message mixed x (transfers e)) (keeps message mixed x.transfer k e h.0) a.1 h.1 left
+            (λ p n b.
+            let was = false_from_ne_true (x.transfer.sender.begun p) (λ t. not_both ((later message mixed x.transfer k e h.0).begun_stays p t) n) in
+            let le = bound p was b in
+            let same = ap (λ y. y p) (same_epochs message mixed x e a.0) in
+            omega (arith, le, same)),
+      )
+
+-- ---- a turn of a stream that isn't stopped
+
+module _ {P : Type 0} (message : ℕ → Message) (lifecycle : ℕ → Option ℕ) (mixed : Bool) (x : Epochs) (q : Queue) (s : Items) (k : Kept message mixed x.transfer)
+    (sh : Shows message lifecycle mixed x.transfer q s) (h : ArePausedAs x q) (now id size : ℕ) (told : Told P) (goes_on : is_stopped (stream id q.streams).pause ≡ false)
+    (es : List Event) (may : Happens message mixed x.transfer es) (all : list_all is_sending es ≡ true) (t : Items)
+    (shown : Shows message lifecycle mixed (run message mixed x.transfer es) (turn now id size q told).queue t) where
+  abbrev o : Sender
+  o = x.transfer.sender
+
+  abbrev o' : Sender
+  o' = (run message mixed x.transfer es).sender
+
+  abbrev t0 : Stream
+  t0 = stream id q.streams
+
+  abbrev q' : Queue
+  q' = (turn now id size q told).queue
+
+  -- what waits in the queue afterwards isn't begun
+  after_unbegun : (p : ℕ) (m : Queued) → found p (messages_of q' (stream_of message p)) ≡ Some m → m.numbers ≡ None → o'.begun p ≡ false
+  after_unbegun p m f e = go (o'.given_up p) refl
+    where
+      go : (b : Bool) → o'.given_up p ≡ b → o'.begun p ≡ false
+      go true g = absurd (not_both ((shown.queue.messages.entries (stream_of message p) p m f).partly_sent g) (ap is_some e))
+      go false g = (shown.queue.messages.queued.waits p (waiting_of m) (queue_some message o' (messages_of q') p m g f) (ap is_some e)).not_begun
+
+  -- behind a message that is partly sent, one that waits does so still
+  still_behind : (p : ℕ) (m : Queued) → m.numbers ≡ None → (ms : List Queued) → is_first_begun ms ≡ true → found p ms ≡ Some m
+      → found p (let z : Stream = advanced size (record t0 { messages = ms }) in z).messages ≡ Some m
+  still_behind p m e [] b f = absurd (cc)
+  still_behind p m e (c ∷ rest) b f = by (ends size c)
+    where
+      other : c.number ≢ p
+      other n = not_both b (ap (λ (v : Queued). is_some v.numbers) (one_value (found p (c ∷ rest)) c m (found_at p c rest n) f) ∙ ap is_some e)
+
+      behind : found p rest ≡ Some m
+      behind = sym (found_off p c rest other) ∙ f
+
+      part : Queued
+      part = moved size (numbers_of (record t0 { messages = c ∷ rest }) c) c
+
+      by : (b : Bool) → found p (cond b rest (part ∷ rest)) ≡ Some m
+      by true = behind
+      by false = found_off p part rest other ∙ behind
+
+  still_there : (p : ℕ) (m : Queued) → m.numbers ≡ None → found p t0.messages ≡ Some m → t0.pause ≡ Pending → found p (messages_of q' id) ≡ Some m
+  still_there p m e f pends =
+      let b = (h id).pending pends in
+      ap (λ (z : Stream). found p z.messages) (there x q sh.queue.order sh.queue.rising h now id size told goes_on)
+      ∙ (ap (λ (ms : List Queued). found p (let z : Stream = advanced size (record t0 { messages = ms }) in z).messages) ((freshened x q sh.queue.order sh.queue.rising h now id size told goes_on).begun b)
+      ∙ still_behind p m e t0.messages b f)
+
+  -- a message that waited is of the open epoch, if it is begun
+  module _ (p : ℕ) (b : o'.begun p ≡ true) (m : Queued) (none : m.numbers ≡ None) (f : found p (messages_of q (stream_of message p)) ≡ Some m) where
+    here : (pause : PauseState) → t0.pause ≡ pause → stream_of message p ≡ id → x.epoch p ≤ x.opened (stream_of message p)
+    here NotPaused e c =
+        let new = (h id).newest p m (ap (λ j. found p (messages_of q j)) (sym c) ∙ f) none in
+        let flows = (h id).flows e in
+        let same = ap x.opened c in
+        omega (arith, new, flows, same)
+    here Pending e c =
+        absurd (not_both b (after_unbegun p m (ap (λ j. found p (messages_of q' j)) c ∙ still_there p m none (ap (λ j. found p (messages_of q j)) (sym c) ∙ f) e) none))
+    here Paused e c = absurd (not_both (ap is_stopped e) goes_on)
+    here Resetting e c = absurd (not_both (ap is_stopped e) goes_on)
+
+    waited : x.epoch p ≤ x.opened (stream_of message p)
+    waited =
+        elim (cases_eq (stream_of message p) id) [
+          | inl c ↦ here t0.pause refl c
+          | inr d ↦
+              absurd (not_both b (after_unbegun p m
+              (ap (λ (z : Stream). found p z.messages) (elsewhere x q sh.queue.order sh.queue.rising h now id size told goes_on (stream_of message p) d) ∙ f) none))
+        ]
+
+  newly : (p : ℕ) → o.begun p ≡ false → o'.begun p ≡ true → x.epoch p ≤ x.opened (stream_of message p)
+  newly p n b = go (queue_of message o (messages_of q) p) refl
+    where
+      below : p < o.accepted
+      below = subst (λ c. p < c) (accepted_later message mixed es x.transfer all) ((kept_later message mixed es x.transfer k may).outgoing.begun_below p b)
+
+      go : (w : Option Waiting) → queue_of message o (messages_of q) p ≡ w → x.epoch p ≤ x.opened (stream_of message p)
+      go None e =
+          absurd (elim ((sh.queue.messages.queued.gone p below e).gone) [
+            | inl c ↦ not_both c n
+            | inr g ↦ not_both b (unbegun message mixed es x.transfer k may p g n)
+          ])
+      go (Some w) e =
+          let z = queued_is message o (messages_of q) p w e in
+          let none = unnumbered z.entry.numbers (false_from_ne_true (is_some z.entry.numbers)
+          (λ c. not_both (k.outgoing.partly_begun p (sh.queue.messages.queued.partly p w e (ap (λ (v : Waiting). v.begun) (sym z.is) ∙ c))) n)) in
+          waited p b z.entry none z.found_there
+
+  pub turn_begins : (run message mixed x.transfer es).forward_points ≡ x.transfer.forward_points → MayAll message mixed x (map transfers es)
+  turn_begins points = in_epochs message mixed es x k all may (ap length points) newly
