@@ -1,23 +1,19 @@
--- Chunks that are heard where they lie: which chunk an item carries, and what an end makes of a packet.
-use Rattle.std.proofs.Common.{◌≡◌, ◌⊎◌, inl, inr, ℕ, ◌+◌, ◌<◌, ◌==◌, ◌||◌, Bool, true, false, Option, Some, None, List, length, Result, Ok, Err, OnOk, refl, sym, ap, ◌∙◌, arith}
-use Rattle.rand_core.specs.Stream.{Stream}
+-- Chunks that are heard where they lie: which chunk an item carries.
+use Rattle.std.proofs.Common.{◌≡◌, ◌⊎◌, inl, inr, ℕ, ◌+◌, ◌<◌, ◌==◌, ◌||◌, Bool, true, false, length, refl, sym, ap, ◌∙◌, arith}
 use Rattle.std.proofs.lemmas.Bool.Decides.{nat_tests}
 use Rattle.sctp_wire.specs.Fields.{be16, be32}
 use Rattle.sctp_wire.specs.Item.{Item}
 use Rattle.sctp_wire.proofs.WordLemmas.{clash}
 use Rattle.sctp_chunk.specs.declared.data.DataView.{DataView}
 use Rattle.sctp_packet.specs.Chunk.{ChunkTree, FragmentTree, data_chunk, init_chunk, init_ack_chunk, sack_chunk, heartbeat_request_chunk, heartbeat_ack_chunk, abort_chunk, shutdown_chunk, shutdown_ack_chunk, error_chunk, cookie_echo_chunk, cookie_ack_chunk, shutdown_complete_chunk, idata_chunk, re_config_chunk, forward_tsn_chunk, i_forward_tsn_chunk, unknown_chunk}
-use Rattle.sctp_packet.specs.Written.{chunk_type, is_known_chunk, data_value, idata_value}
+use Rattle.sctp_packet.specs.Written.{is_known_chunk, data_value, idata_value}
 use Rattle.sctp_packet.specs.Grammar.{IsChunk}
-use Rattle.sctp_packet.specs.Views.{viewed_fragment, viewed_data, viewed_idata}
+use Rattle.sctp_packet.specs.Views.{viewed_data, viewed_idata}
 use Rattle.sctp_packet.proofs.OneChunkLemmas.{one_chunk}
-use Rattle.sctp_packet.specs.View.{ViewTree, viewed_packet}
-use Rattle.sctp_state.specs.declared.api.ErrorKind.TheVariants.{ParseFailed}
-use Rattle.sctp_table.specs.Association.{State, Tcb, Context, Standing, Endpoint, where_open}
-use Rattle.sctp_table.specs.Packets.{complain}
-use Rattle.sctp_table.specs.Data.{on_data}
-use Rattle.sctp_table.specs.Input.{misused, violation, breaks, heard_if, hear, refusal, has_data, repeats_if, on_standing, hear_all, ended, handled, counted, counts, taken_if, on_packet}
-use Rattle.sctp_association.specs.Kinds.{carries_data, carrying, data_misused}
+use Rattle.sctp_table.specs.Association.{Tcb}
+use Rattle.sctp_table.specs.Input.{misused}
+use Rattle.sctp_association.specs.Kinds.{carries_data, carrying}
+use Rattle.sctp_closing.specs.MisuseView.{data_misused}
 
 -- ---- DATA and I-DATA
 
@@ -71,50 +67,3 @@ carries_none i (unknown_chunk typ flags value) short long h = neither_by typ (ty
 pub misused_as : (is_interleaved : Bool) (t : Tcb) (v : DataView) → data_misused t.capabilities.message_interleaving is_interleaved ≡ misused t.capabilities (carrying is_interleaved v)
 misused_as true t v = refl
 misused_as false t v = refl
-
-abbrev at : Standing (List ℕ) → Stream → Endpoint (List ℕ)
-at s w = record { standing = s; words = w }
-
-pub data_breaks : (is_interleaved : Bool) (v : DataView) (tag : ℕ) (w : Stream) (first last : Standing (List ℕ)) (reason : List ℕ) → Some reason ≡ violation first.state (carrying is_interleaved v)
-    → last ≡ breaks reason first → record { end = at last w; goes_on = false } ≡ hear tag (carrying is_interleaved v) (at first w)
-data_breaks is_interleaved v tag w first last reason a b =
-    ap (λ (s : Standing (List ℕ)). record { end = at s w; goes_on = false }) b ∙ ap (λ (why : Option (List ℕ)). heard_if why tag (carrying is_interleaved v) (at first w)) a
-
-data_done : (is_interleaved : Bool) (v : DataView) (tag : ℕ) (w : Stream) (first last : Standing (List ℕ)) → last ≡ on_data v.tsn.0 v.immediate_ack (viewed_fragment v) first
-    → record { end = at last w; goes_on = true } ≡ heard_if None tag (carrying is_interleaved v) (at first w)
-data_done true v tag w first last b = ap (λ (s : Standing (List ℕ)). record { end = at s w; goes_on = true }) b
-data_done false v tag w first last b = ap (λ (s : Standing (List ℕ)). record { end = at s w; goes_on = true }) b
-
-pub data_goes : (is_interleaved : Bool) (v : DataView) (tag : ℕ) (w : Stream) (first last : Standing (List ℕ)) → None ≡ violation first.state (carrying is_interleaved v)
-    → last ≡ on_data v.tsn.0 v.immediate_ack (viewed_fragment v) first → record { end = at last w; goes_on = true } ≡ hear tag (carrying is_interleaved v) (at first w)
-data_goes is_interleaved v tag w first last a b =
-    data_done is_interleaved v tag w first last b ∙ ap (λ (why : Option (List ℕ)). heard_if why tag (carrying is_interleaved v) (at first w)) a
-
--- ---- the chunks of a packet, and a packet
-
-abbrev end : State → Context (List ℕ) → Stream → Endpoint (List ℕ)
-end s c w = record { standing = record { state = s; context = c }; words = w }
-
-pub handled_as : {T E : Type 0} (r : Result T E) (tag : ℕ) (chunks : List ChunkTree) (carries : Bool) (first begun heard last : Standing (List ℕ)) (v w : Stream)
-    → carries ≡ has_data chunks → begun ≡ repeats_if carries first → at heard w ≡ hear_all tag chunks (at begun v) → OnOk r (last ≡ where_open ended heard)
-    → OnOk r (at last w ≡ handled tag chunks (at first v))
-handled_as (Ok x) tag chunks carries first begun heard last v w a b c d =
-    ap (λ (s : Standing (List ℕ)). at s w) d
-    ∙ ap (on_standing (where_open ended)) (c ∙ ap (λ (s : Standing (List ℕ)). hear_all tag chunks (at s v)) (b ∙ ap (λ (k : Bool). repeats_if k first) a))
-handled_as (Err x) tag chunks carries first begun heard last v w a b c d = tt
-
-pub packet_taken : {T E : Type 0} (r : Result T E) (view : ViewTree) (chunks : List ChunkTree) (tag : ℕ) (s : State) (c k : Context (List ℕ)) (w : Stream) (n : Endpoint (List ℕ))
-    → tag ≡ view.header.verification_tag → refusal tag chunks s ≡ None → k ≡ counted c → OnOk r (n ≡ handled tag chunks (end s k w))
-    → OnOk r (n ≡ on_packet (viewed_packet view chunks) (end s c w))
-packet_taken (Ok x) view chunks tag s c k w n a b e h =
-    h ∙ ap (λ (m : Context (List ℕ)). handled tag chunks (end s m w)) e ∙ ap (λ (why : Option (List ℕ)). taken_if why tag chunks (counts (end s c w))) (sym b)
-    ∙ ap (λ (t : ℕ). taken_if (refusal t chunks s) t chunks (counts (end s c w))) a
-packet_taken (Err x) view chunks tag s c k w n a b e h = tt
-
-pub packet_refused : {T E : Type 0} (r : Result T E) (view : ViewTree) (chunks : List ChunkTree) (tag : ℕ) (text : List ℕ) (s : State) (c k m : Context (List ℕ)) (w : Stream)
-    → tag ≡ view.header.verification_tag → refusal tag chunks s ≡ Some text → k ≡ counted c → OnOk r (m ≡ complain ParseFailed text k)
-    → OnOk r (end s m w ≡ on_packet (viewed_packet view chunks) (end s c w))
-packet_refused (Ok x) view chunks tag text s c k m w a b e h =
-    ap (λ (n : Context (List ℕ)). end s n w) (h ∙ ap (λ (n : Context (List ℕ)). complain ParseFailed text n) e)
-    ∙ ap (λ (why : Option (List ℕ)). taken_if why tag chunks (counts (end s c w))) (sym b) ∙ ap (λ (t : ℕ). taken_if (refusal t chunks s) t chunks (counts (end s c w))) a
-packet_refused (Err x) view chunks tag text s c k m w a b e h = tt

@@ -1,12 +1,11 @@
 -- The first chunk of a type, and the chunk of a fragment.
-use Rattle.std.specs.Prelude.{◌≡◌, ◌⊎◌, ℕ, ◌==◌, ◌||◌, cond, not, Bool, true, false, Option, List, [], ◌∷◌}
+use Rattle.std.specs.Prelude.{◌≡◌, ◌⊎◌, ℕ, ◌==◌, ◌||◌, cond, Bool, false, List, [], ◌∷◌}
 use Rattle.sctp_wire.specs.Item.{Item}
 use Rattle.sctp_packet.specs.Chunk.{ChunkTree}
 use Rattle.sctp_packet.specs.Written.{chunk_type}
 use Rattle.sctp_packet.specs.Grammar.{IsChunk}
 use Rattle.sctp_packet.specs.Views.{viewed_data, viewed_idata}
 use Rattle.sctp_chunk.specs.declared.data.DataView.{DataView}
-use Rattle.sctp_table.specs.Input.{unless, interleaving_text, no_interleaving_text}
 
 -- no chunk is of this type
 abbrev pub NoneIs : ℕ → List ChunkTree → Type 0
@@ -26,8 +25,3 @@ carries_data t = (chunk_type t == 0) || (chunk_type t == 64)
 -- the chunk that carries the fragment
 abbrev pub carrying : (is_interleaved : Bool) → DataView → ChunkTree
 carrying is_interleaved v = cond is_interleaved (viewed_idata v) (viewed_data v)
-
--- why a fragment is not taken, where messages are to be interleaved or not
-abbrev pub data_misused : (is_negotiated is_interleaved : Bool) → Option (List ℕ)
-data_misused is_negotiated true = unless is_negotiated no_interleaving_text
-data_misused is_negotiated false = unless (not is_negotiated) interleaving_text

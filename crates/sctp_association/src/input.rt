@@ -10,7 +10,7 @@ ghost use Rattle.sctp_packet.specs.Views.{raw_chunk};
 ghost use Rattle.sctp_packet.specs.View.{AreLeft, viewed_packet};
 ghost use Rattle.sctp_chunk.specs.declared.data.DataView.{DataView};
 ghost use Rattle.sctp_closing.specs.MisuseView.{misuse_text};
-ghost use Rattle.sctp_association.specs.Kinds.{carries_data, carrying, data_misused};
+ghost use Rattle.sctp_association.specs.Kinds.{carries_data, carrying};
 ghost use Rattle.sctp_table.specs.Association.{where_open};
 ghost use Rattle.sctp_table.specs.Opening.{on_cookie_ack};
 ghost use Rattle.sctp_table.specs.Packets.{complain};
@@ -22,7 +22,7 @@ ghost use Rattle.sctp_table.specs.Input as table;
 use crate::validation::{Outline, validate_packet};
 use rand_core::Rng;
 use sctp_closing::aborts::{handle_abort, handle_error, handle_misuse};
-use sctp_closing::misuse::{Misuse, handle_unknown, is_passed_over, violation};
+use sctp_closing::misuse::{Misuse, data_misused, handle_unknown, is_passed_over, violation};
 use sctp_closing::shutdown::{
     handle_shutdown_ack, handle_shutdown_chunk, handle_shutdown_complete,
 };
@@ -196,18 +196,6 @@ fn hear<R: Rng, C: Checksum>(
     Ok(goes_on)
 }
 
-/// How DATA, or I-DATA where messages are interleaved in it, breaks whether they are to be.
-fn data_misuse(is_negotiated: bool, is_interleaved: bool) -> Option<Misuse>
-    ensures { option_map misuse_text result ≡ data_misused is_negotiated is_interleaved }
-{
-    match (is_negotiated, is_interleaved) {
-        (true, false) => Some(Misuse::NotInterleaved),
-        (false, true) => Some(Misuse::Interleaved),
-        (true, true) => None,
-        (false, false) => None,
-    }
-}
-
 /// How a fragment breaks what was negotiated, if it does.
 fn data_violation(state: &State, is_interleaved: bool) -> Option<Misuse>
     ensures { (v : DataView) → option_map misuse_text result ≡ table.violation (state_of state.now) (carrying is_interleaved v) }
@@ -216,7 +204,7 @@ fn data_violation(state: &State, is_interleaved: bool) -> Option<Misuse>
         State::Closed => None,
         State::CookieWait(_) => None,
         State::Open(_, tcb) => {
-            data_misuse(tcb.capabilities.message_interleaving, is_interleaved)
+            data_misused(tcb.capabilities.message_interleaving, is_interleaved)
         }
     }
 }

@@ -19,12 +19,7 @@ pub fn nanos_until<R: Rng, C: Checksum>(socket: &Socket<R, C>) -> u64
     ensures due { time.poll_timeout (endpoint R.stream C.word_of socket.now).standing < 2 ^ 64 → result ≡ time.poll_timeout (endpoint R.stream C.word_of socket.now).standing }
     ensures never { 2 ^ 64 ≤ time.poll_timeout (endpoint R.stream C.word_of socket.now).standing → result ≡ 2 ^ 64 - 1 }
 {
-    let nanos = socket.poll_timeout().as_nanos();
-    if nanos < 1 << 64 {
-        nanos as u64
-    } else {
-        u64::MAX
-    }
+    socket.poll_timeout().as_nanos().min(u64::MAX as u128) as u64
 }
 
 fn number_of(state: SocketState) -> u32

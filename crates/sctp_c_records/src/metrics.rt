@@ -32,12 +32,7 @@ pub struct MetricsRecord {
 fn nanos_of(span: Duration) -> u64
     ensures { result ≡ min (as_nanos span) (2 ^ 64 - 1) }
 {
-    let nanos = span.as_nanos();
-    if nanos < 1 << 64 {
-        nanos as u64
-    } else {
-        u64::MAX
-    }
+    span.as_nanos().min(u64::MAX as u128) as u64
 }
 
 fn implementation_number(peer: SctpImplementation) -> u32

@@ -1,6 +1,6 @@
 -- What is told of chunks that aren't taken.
-use Rattle.std.specs.Prelude.{ℕ, List}
-use Rattle.sctp_table.specs.Input.{interleaving_text, no_interleaving_text, no_partial_text}
+use Rattle.std.specs.Prelude.{ℕ, List, Bool, true, false, not, Option}
+use Rattle.sctp_table.specs.Input.{unless, interleaving_text, no_interleaving_text, no_partial_text}
 use Rattle.sctp_closing.specs.declared.misuse.Misuse.{Misuse}
 use Rattle.sctp_closing.specs.declared.misuse.Misuse.TheVariants as misuses
 
@@ -8,3 +8,8 @@ abbrev pub misuse_text : Misuse → List ℕ
 misuse_text misuses.NotInterleaved = interleaving_text
 misuse_text misuses.Interleaved = no_interleaving_text
 misuse_text misuses.Forward = no_partial_text
+
+-- why a fragment is not taken, where messages are to be interleaved or not
+abbrev pub data_misused : (is_negotiated is_interleaved : Bool) → Option (List ℕ)
+data_misused is_negotiated true = unless is_negotiated no_interleaving_text
+data_misused is_negotiated false = unless (not is_negotiated) interleaving_text

@@ -8,7 +8,7 @@ ghost use Rattle.sctp_wire.specs.Item.{item_bytes};
 ghost use Rattle.sctp_packet.specs.Written.{chunk_item};
 ghost use Rattle.sctp_capabilities.specs.Capabilities.{capabilities_of};
 ghost use Rattle.sctp_endpoint.specs.Views.{context_of, standing_of, state_of, tcb_of};
-ghost use Rattle.sctp_closing.specs.MisuseView.{misuse_text};
+ghost use Rattle.sctp_closing.specs.MisuseView.{data_misused, misuse_text};
 ghost use Rattle.sctp_table.specs.Packets.{emit_chunk};
 ghost use Rattle.sctp_table.specs.Input as table;
 
@@ -66,6 +66,17 @@ fn forward_misused(is_of_mode: bool, mode: Misuse, is_partial: bool) -> Option<M
     }
 }
 
+/// How a fragment, in I-DATA where it is interleaved, breaks whether messages are to be.
+pub fn data_misused(is_negotiated: bool, is_interleaved: bool) -> Option<Misuse>
+    ensures { option_map misuse_text result ≡ data_misused is_negotiated is_interleaved }
+{
+    if is_interleaved {
+        unless(is_negotiated, Misuse::Interleaved)
+    } else {
+        unless(!is_negotiated, Misuse::NotInterleaved)
+    }
+}
+
 /// How a chunk breaks what was negotiated, if it does.
 pub fn misused(capabilities: &Capabilities, chunk: &Chunk) -> Option<Misuse>
     ensures { option_map misuse_text result ≡ table.misused (capabilities_of capabilities.now) (chunk_tree chunk.now) }
@@ -73,8 +84,8 @@ pub fn misused(capabilities: &Capabilities, chunk: &Chunk) -> Option<Misuse>
     let is_interleaved = capabilities.message_interleaving;
     let is_partial = capabilities.partial_reliability;
     match chunk {
-        Chunk::Data(_) => unless(!is_interleaved, Misuse::NotInterleaved),
-        Chunk::IData(_) => unless(is_interleaved, Misuse::Interleaved),
+        Chunk::Data(_) => data_misused(is_interleaved, false),
+        Chunk::IData(_) => data_misused(is_interleaved, true),
         Chunk::ForwardTsn(_) => {
             forward_misused(!is_interleaved, Misuse::NotInterleaved, is_partial)
         }

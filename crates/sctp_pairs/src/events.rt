@@ -1,9 +1,9 @@
-//! Events, as lines say them: `connect X`, `shutdown X`, `close X`, `recv X`, `give X N Y`, `time MS X`, `hand-over X`, and `send X` with a stream, a protocol and hex
-//! digits, or with several such triples for one batch. `rtx N` and `id N` may stand behind one message.
+//! Events, as lines say them: those of [`parse_command`], and three beside: `time MS X` of one end, `hand-over X`, and `send-many X` with triples of a stream, a protocol and
+//! hex digits.
 
-use sctp_serial::{LifecycleId, Message, PpId, SocketTime, StreamId};
+use sctp_serial::{Message, PpId, SocketTime, StreamId};
 use sctp_state::SendOptions;
-use sctp_world::{Call, End, Event};
+use sctp_world::{Call, Command, End, Event, parse_command};
 use std::alloc::{AllocError, Global};
 use std::time::Duration;
 
@@ -23,22 +23,6 @@ pub fn end_at(words: &[&str], place: usize) -> End {
     }
 }
 
-fn number_behind(words: &[&str], name: &str) -> Option<u64> {
-    let place = words.iter().position(|word| *word == name)?;
-    Some(number_at(words, place.saturating_add(1)))
-}
-
-fn options_of(words: &[&str]) -> SendOptions {
-    let mut options = SendOptions::default();
-    if let Some(count) = number_behind(words, "rtx") {
-        options.max_retransmissions = u16::try_from(count).ok();
-    }
-    if let Some(number) = number_behind(words, "id") {
-        options.lifecycle_id = LifecycleId::new(number);
-    }
-    options
-}
-
 /// The message of the words from this place on.
 fn message_at(alloc: Global, words: &[&str], place: usize) -> anyhow::Result<Message> {
     let stream = u16::try_from(number_at(words, place)).unwrap_or(u16::MAX);
@@ -48,11 +32,6 @@ fn message_at(alloc: Global, words: &[&str], place: usize) -> anyhow::Result<Mes
         None => Vec::new(alloc),
     };
     Ok(Message::new(StreamId(stream), PpId(ppid), payload))
-}
-
-fn send(alloc: Global, end: End, words: &[&str]) -> anyhow::Result<Event> {
-    let message = message_at(alloc, words, 2)?;
-    Ok(Event::Call(end, Call::Send(message, options_of(words))))
 }
 
 fn send_many(alloc: Global, end: End, words: &[&str]) -> anyhow::Result<Event> {
@@ -67,39 +46,22 @@ fn moment(milliseconds: u64) -> SocketTime {
     SocketTime::zero() + Duration::from_millis(milliseconds)
 }
 
-/// The packet of this number of one end is given to the other.
-fn give(words: &[&str]) -> Event {
-    let number = usize::try_from(number_at(words, 2)).unwrap_or(usize::MAX);
-    Event::Give(number, end_at(words, 3))
-}
-
-fn call_of(name: &str) -> Option<Call> {
-    match name {
-        "connect" => Some(Call::Connect),
-        "shutdown" => Some(Call::Shutdown),
-        "close" => Some(Call::Close),
-        "recv" => Some(Call::Receive),
-        "hand-over" => Some(Call::Handover),
-        _ => None,
+/// One of the three events that no command spells.
+fn event_beside(alloc: Global, words: &[&str]) -> anyhow::Result<Option<Event>> {
+    match words.first() {
+        Some(&"time") => Ok(Some(Event::Time(end_at(words, 2), moment(number_at(words, 1))))),
+        Some(&"hand-over") => Ok(Some(Event::Call(end_at(words, 1), Call::Handover))),
+        Some(&"send-many") => Ok(Some(send_many(alloc, end_at(words, 1), words)?)),
+        _ => Ok(None),
     }
 }
 
-/// The event that a line says, if it says one.
-pub fn event_of(alloc: Global, words: &[&str]) -> anyhow::Result<Option<Event>> {
-    let end = end_at(words, 1);
-    let Some(name) = words.first() else {
-        return Ok(None);
-    };
-    Ok(match *name {
-        "give" => Some(give(words)),
-        "time" => Some(Event::Time(end_at(words, 2), moment(number_at(words, 1)))),
-        "send" => Some(send(alloc, end, words)?),
-        "send-many" => Some(send_many(alloc, end, words)?),
-        name => match call_of(name) {
-            Some(call) => Some(Event::Call(end, call)),
-            None => None,
-        },
-    })
+/// The event that a line of these words says, if it says one.
+pub fn event_of(alloc: Global, line: &str, words: &[&str]) -> anyhow::Result<Option<Event>> {
+    match parse_command(alloc, line.as_bytes())? {
+        Some(Command::Event(event)) => Ok(Some(event)),
+        _ => event_beside(alloc, words),
+    }
 }
 
 /// Half seconds since the beginning.

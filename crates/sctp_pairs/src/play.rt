@@ -109,7 +109,7 @@ fn take<P: Pair>(
     line: &str,
 ) -> anyhow::Result<()> {
     let words: Vec<&str> = line.split(' ').collect(rt.alloc())?;
-    match event_of(rt.alloc(), &words)? {
+    match event_of(rt.alloc(), line, &words)? {
         Some(event) => events.push(event)?,
         None => {
             lead(rt, pair, events)?;

@@ -21,7 +21,7 @@ pub fn note_of(alloc: Global, entry: &Entry) -> Result<String, AllocError> {
         Entry::Association(_, None) => format!(in alloc; "no association"),
         Entry::Event(_, event) => event_text(alloc, event),
         Entry::GivenUp(_, given_up) => given_up_text(alloc, given_up),
-        Entry::Ready(_, message) => ready_text(alloc, message),
+        Entry::Ready(_, message) => message_text(alloc, "ready", message),
         Entry::Packet(_, _) | Entry::Give(_, _, _) => format!(in alloc; "packet"),
     }
 }
@@ -32,9 +32,10 @@ fn time_text(alloc: Global, now: SocketTime) -> Result<String, AllocError> {
     format!(in alloc; "{milliseconds} ms")
 }
 
-fn ready_text(alloc: Global, message: &Message) -> Result<String, AllocError> {
+/// `NAME sSTREAM: SIZE B`
+fn message_text(alloc: Global, name: &str, message: &Message) -> Result<String, AllocError> {
     let (stream, size) = (message.stream_id, message.payload.len());
-    format!(in alloc; "ready s{stream}: {size} B")
+    format!(in alloc; "{name} s{stream}: {size} B")
 }
 
 fn given_up_text(alloc: Global, given_up: &GivenUp) -> Result<String, AllocError> {
@@ -67,15 +68,9 @@ fn call_name(call: &Call) -> &'static str {
 fn call_text(alloc: Global, call: &Call, answer: &Answer) -> Result<String, AllocError> {
     let name = call_name(call);
     match (call, answer) {
-        (Call::Send(message, _), Answer::Sent(None)) => {
-            let (stream, size) = (message.stream_id, message.payload.len());
-            format!(in alloc; "{name} s{stream}: {size} B")
-        }
+        (Call::Send(message, _), Answer::Sent(None)) => message_text(alloc, name, message),
         (_, Answer::Sent(Some(_))) => format!(in alloc; "{name}: refused"),
-        (_, Answer::Received(Some(message))) => {
-            let (stream, size) = (message.stream_id, message.payload.len());
-            format!(in alloc; "{name} s{stream}: {size} B")
-        }
+        (_, Answer::Received(Some(message))) => message_text(alloc, name, message),
         (_, Answer::Received(None)) => format!(in alloc; "{name}: none"),
         (_, Answer::AskedReset(Some(_))) => format!(in alloc; "{name}: refused"),
         (_, Answer::NotReady(_)) => format!(in alloc; "{name}: not ready"),
