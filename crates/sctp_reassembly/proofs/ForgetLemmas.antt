@@ -15,7 +15,7 @@ use Rattle.std.proofs.lemmas.Map.Keys.{sorted_tail, IsDistinct-from_sorted}
 use Rattle.sctp_serial.specs.declared.api.StreamId.{StreamId}
 use Rattle.sctp_reassembly.specs.Streams.{Entries, forgotten}
 
-at-equal : (a b : ℕ) → is_at (nat_cmp a) b ≡ (a == b)
+pub at-equal : (a b : ℕ) → is_at (nat_cmp a) b ≡ (a == b)
 at-equal a b = grind (arith, nat_tests)
 
 module _ {S : Type 0} where

@@ -20,4 +20,5 @@ pub mod WrittenLemmas
 pub mod HeldLemmas
 pub mod ReadyLemmas
 pub mod ForgetLemmas
+pub mod NamedLemmas
 pub mod JoinLemmas

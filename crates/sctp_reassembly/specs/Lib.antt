@@ -1,5 +1,6 @@
 pub mod Delivery
 pub mod Streams
+pub mod NamedStreams
 pub mod ReassemblyQueue
 pub mod Forms
 pub mod WaitingViews

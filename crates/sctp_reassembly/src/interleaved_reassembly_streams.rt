@@ -2,6 +2,7 @@
 
 ghost use Rattle.std.specs.Prelude.{◌≡◌};
 
+use crate::named_streams::NamedStreams;
 use crate::near::mid_near;
 use crate::ordered_stream::OrderedStream as StreamInOrder;
 use crate::ordered_streams::OrderedStreams;
@@ -139,7 +140,7 @@ impl ReassemblyStreams for InterleavedReassemblyStreams {
         let _fields = &self.ordered;
     }
 
-    fn drop_in(&mut self, _named: bool, _ids: &[StreamId], _tsn: u64) {
+    fn drop_in(&mut self, _named: bool, _ids: &NamedStreams, _tsn: u64) {
         let _fields = &self.ordered;
     }
 

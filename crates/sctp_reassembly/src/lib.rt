@@ -4,6 +4,7 @@
 pub mod interleaved_reassembly_streams;
 pub mod interval_laws;
 pub mod interval_list;
+pub mod named_streams;
 mod near;
 mod ordered_stream;
 mod ordered_streams;
@@ -20,6 +21,7 @@ mod unordered_streams;
 pub use interleaved_reassembly_streams::InterleavedReassemblyStreams;
 pub use interval_laws::messages_are_intervals;
 pub use interval_list::IntervalList;
+pub use named_streams::NamedStreams;
 pub use ready_laws::{
     complete_intervals_are_messages, forward_points_make_ready, held_fragments_make_messages,
     ordered_fragments_make_ready, unordered_fragments_make_ready,

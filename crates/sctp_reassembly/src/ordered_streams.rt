@@ -225,7 +225,6 @@ impl<K: ReassemblyKey> OrderedStreams<K> {
 ghost use Rattle.std.specs.Prelude.{◌==◌, not, filter};
 ghost use Rattle.std.specs.List.{list_any};
 ghost use Rattle.sctp_reassembly.specs.Streams.{ordered_bytes};
-ghost use Rattle.sctp_reassembly.specs.Streams.{is_named, is_part};
 
 // Takes out the streams that are named, each by a look-up, and what they held off the bytes.
 fn remove_each<K: ReassemblyKey>(
@@ -242,30 +241,6 @@ fn remove_each<K: ReassemblyKey>(
         if let Some(stream) = streams.remove(&id.0) {
             *bytes -= stream.queued_bytes();
         }
-    }
-}
-
-fn names(ids: &[StreamId], id: u16) -> bool
-    ensures { result ≡ list_any (λ i. i.0 == id) ids.now }
-{
-    ids.iter().any(|named| named.0 == id)
-}
-
-// Whether a stream is named; where none is, each is.
-pub(crate) fn is_named(ids: &[StreamId], id: u16) -> bool
-    ensures { result ≡ is_named ids.now id }
-{
-    ids.is_empty() || names(ids, id)
-}
-
-// Whether a stream is one of those that are named, or of the others.
-pub(crate) fn is_part(named: bool, ids: &[StreamId], id: u16) -> bool
-    ensures { result ≡ is_part named ids.now id }
-{
-    if named {
-        is_named(ids, id)
-    } else {
-        !is_named(ids, id)
     }
 }
 

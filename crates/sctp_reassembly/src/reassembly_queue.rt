@@ -1,6 +1,6 @@
 //! Messages put together of their fragments, and taken one after the other.
 
-ghost use Rattle.std.specs.Prelude.{◌≡◌, [], ℕ, ◌+◌, ◌-◌, ◌<◌, ◌≤◌, ◌^◌, ◌++◌, nat_le, max, true, false, length, option_map, OnOk, OnErr, IsSome, IfSome, IfNone, ◌↔◌, slice_index_or, Some, unwrap_or};
+ghost use Rattle.std.specs.Prelude.{◌≡◌, [], ℕ, ◌+◌, ◌-◌, ◌<◌, ◌≤◌, ◌^◌, ◌++◌, nat_le, max, true, false, is_some, length, option_map, OnOk, OnErr, IsSome, IfSome, IfNone, ◌↔◌, slice_index_or, Some, unwrap_or};
 ghost use Rattle.std.specs.List.{sum_by};
 ghost use Rattle.std.specs.Option.{option_to_list};
 ghost use Rattle.sctp_serial.specs.Messages.{message_of};
@@ -14,11 +14,12 @@ mod deferred;
 mod form;
 mod waiting;
 
+use crate::named_streams::NamedStreams;
 use crate::ordered_stream::FIRST;
 use crate::ready_messages::ReadyMessages;
 use crate::reassembly_streams::ReassemblyStreams;
 use crate::sorted_skips::entries_in;
-use deferred::{Deferred, none_waits, resetting};
+use deferred::{Deferred, none_waits};
 use form::Form;
 use sctp_chunk::{Data, SkippedStream};
 use sctp_serial::{Message, SerialNumber, StreamId, Tsn};
@@ -199,14 +200,18 @@ impl ReassemblyQueue {
 
     // Takes what a forward point says of the streams that are not to be reset.
     fn forward_others(&mut self, number: u64, skipped: &[SkippedStream]) -> Result<(), AllocError>
-        requires { number < 2 ^ 63 }
+        requires small { number < 2 ^ 63 }
+        requires deferred { is_some self.old.deferred ≡ true }
         ensures ok { OnOk result (self.new ≡ forward_in false (resetting self.old.deferred) number skipped.now self.old) }
         ensures kept { Extends self.old.ready self.new.ready }
         ensures counted { IsCounted self.old self.new }
         ensures bytes { queued_bytes self.new ≤ queued_bytes self.old }
     {
         let before = self.ready.len();
-        let ids = resetting(&self.deferred);
+        let Some(deferred) = &self.deferred else {
+            return Ok(());
+        };
+        let ids = deferred.streams();
         let ready = &mut self.ready;
         let passed = self
             .streams
@@ -218,7 +223,7 @@ impl ReassemblyQueue {
     // Takes what a forward point says of the streams that were to be reset.
     fn forward_named(
         &mut self,
-        ids: &[StreamId],
+        ids: &NamedStreams,
         number: u64,
         skipped: &[SkippedStream],
     ) -> Result<(), AllocError>
@@ -249,7 +254,8 @@ impl ReassemblyQueue {
 
     // Whether a part of a forward point does.
     fn point_waits(&self, number: u64) -> bool
-        ensures { result ≡ point_waits number self.now.deferred }
+        ensures value { result ≡ point_waits number self.now.deferred }
+        ensures deferred { result ≡ true → is_some self.now.deferred ≡ true }
     {
         match &self.deferred {
             Some(deferred) => deferred.is_behind(number),
@@ -291,13 +297,17 @@ impl ReassemblyQueue {
     // Takes one part of a forward point, and has the other one wait.
     #[tactic(auto, using(crate::proofs::ExtendsLemmas::extends_none, crate::proofs::ExtendsLemmas::extends_both, crate::proofs::ExtendsLemmas::counted_none, crate::proofs::ExtendsLemmas::counted_both))]
     fn forward_in_parts(&mut self, number: u64, skipped: &[SkippedStream]) -> Result<(), AllocError>
-        requires { number < 2 ^ 63 }
+        requires small { number < 2 ^ 63 }
+        requires deferred { is_some self.old.deferred ≡ true }
         ensures ok { OnOk result (let ids = resetting self.old.deferred in self.new ≡ wait_with number (entries_in true ids skipped.now) (forward_in false ids number skipped.now self.old)) }
         ensures kept { Extends self.old.ready self.new.ready }
         ensures counted { IsCounted self.old self.new }
         ensures bytes { queued_bytes self.new ≤ queued_bytes self.old }
     {
-        let entries = entries_in(self.alloc, true, resetting(&self.deferred), skipped)?;
+        let Some(deferred) = &self.deferred else {
+            return Ok(());
+        };
+        let entries = entries_in(self.alloc, true, deferred.streams(), skipped)?;
         self.forward_others(number, skipped)?;
         self.wait_with(number, entries)
     }
@@ -375,7 +385,7 @@ impl ReassemblyQueue {
     }
 
     // Takes what waited for the reset of these streams.
-    fn apply(&mut self, ids: &[StreamId], waiting: Waiting) -> Result<(), AllocError>
+    fn apply(&mut self, ids: &NamedStreams, waiting: Waiting) -> Result<(), AllocError>
         requires room { queued_bytes self.old + waiting_bytes (waiting_of waiting) < 2 ^ 64 }
         requires small { waiting_number (waiting_of waiting) < 2 ^ 63 }
         ensures ok { OnOk result (self.new ≡ apply ids.now (waiting_of waiting) self.old) }

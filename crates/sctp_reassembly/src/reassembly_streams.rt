@@ -8,6 +8,7 @@ ghost use Rattle.sctp_state.specs.Validity.{is_valid_reception};
 ghost use Rattle.sctp_reassembly.specs.ReassemblyHandover.{streams_readiness, streams_written, streams_restored};
 ghost use Rattle.sctp_reassembly.specs.Streams.{Streams, held_bytes, add, skip, skip_each, dropped_to, dropped_in, forward, forward_in, reset};
 
+use crate::named_streams::NamedStreams;
 use crate::ready_messages::ReadyMessages;
 use crate::sorted_skips::{by_stream, entries_in};
 use sctp_chunk::{Data, SkippedStream};
@@ -69,7 +70,7 @@ pub trait ReassemblyStreams {
     }
 
     /// Drops the same of the streams that are named, or of the others.
-    fn drop_in(&mut self, named: bool, ids: &[StreamId], tsn: u64)
+    fn drop_in(&mut self, named: bool, ids: &NamedStreams, tsn: u64)
         requires { tsn < 2 ^ 63 }
         ensures value { streams self.new ≡ dropped_in named ids.now tsn (streams self.old) }
         ensures bytes { held_bytes (streams self.new) ≤ held_bytes (streams self.old) };
@@ -81,7 +82,7 @@ pub trait ReassemblyStreams {
         tsn: u64,
         skipped: &[SkippedStream],
         named: bool,
-        ids: &[StreamId],
+        ids: &NamedStreams,
         ready: &mut ReadyMessages,
     ) -> Result<(), AllocError>
         requires room { held_bytes (streams self.old) + ready_bytes ready.old < 2 ^ 64 }

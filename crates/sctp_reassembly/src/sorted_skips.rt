@@ -3,9 +3,8 @@
 ghost use Rattle.std.specs.Prelude.{◌≡◌, IfOk};
 ghost use Rattle.sctp_reassembly.specs.Streams.{skipped_id, by_stream, entries_in};
 
-use crate::ordered_streams::is_part;
+use crate::named_streams::NamedStreams;
 use sctp_chunk::SkippedStream;
-use sctp_serial::StreamId;
 use std::alloc::{AllocError, Global};
 
 fn stream_id(entry: SkippedStream) -> u16
@@ -33,12 +32,12 @@ pub(crate) fn by_stream(
 pub(crate) fn entries_in(
     alloc: Global,
     named: bool,
-    ids: &[StreamId],
+    ids: &NamedStreams,
     entries: &[SkippedStream],
 ) -> Result<Vec<SkippedStream>, AllocError>
     ensures { IfOk result (λ part. part.items ≡ entries_in named ids.now entries.now) }
 {
     let mut part = Vec::from_slice(alloc, entries)?;
-    part.retain(|entry| is_part(named, ids, stream_id(*entry)));
+    part.retain(|entry| ids.is_part(named, stream_id(*entry)));
     Ok(part)
 }

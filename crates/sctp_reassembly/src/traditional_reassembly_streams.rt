@@ -2,6 +2,7 @@
 
 ghost use Rattle.std.specs.Prelude.{◌≡◌};
 
+use crate::named_streams::NamedStreams;
 use crate::near::ssn_near;
 use crate::ordered_stream::{FIRST, OrderedStream as StreamInOrder};
 use crate::ordered_streams::OrderedStreams;
@@ -109,7 +110,7 @@ impl ReassemblyStreams for TraditionalReassemblyStreams {
         self.unordered.forward_all(first);
     }
 
-    fn drop_in(&mut self, named: bool, ids: &[StreamId], tsn: u64) {
+    fn drop_in(&mut self, named: bool, ids: &NamedStreams, tsn: u64) {
         let first = TraditionalKey {
             number: FIRST,
             index: tsn + 1,

@@ -8,8 +8,8 @@ ghost use Rattle.sctp_serial.specs.Unwrapped.{origin};
 ghost use Rattle.sctp_state.specs.Validity.{rises_from, unordered_ids};
 ghost use Rattle.sctp_reassembly.specs.ReassemblyHandover.{unordered_is_held, unordered_records, unordered_entries};
 
+use crate::named_streams::NamedStreams;
 use crate::ordered_stream::FIRST;
-use crate::ordered_streams::is_part;
 use crate::ready_messages::ReadyMessages;
 use crate::unordered_stream::UnorderedStream;
 use sctp_chunk::Data;
@@ -222,12 +222,12 @@ impl<K: ReassemblyKey> UnorderedStreams<K> {
     }
 
     /// Drops the fragments before the key, of the streams that are named, or of the others.
-    pub fn forward_part(&mut self, named: bool, ids: &[StreamId], first: K)
+    pub fn forward_part(&mut self, named: bool, ids: &NamedStreams, first: K)
         ensures value { self.new ≡ map (λ e. (e.0, if is_part named ids.now e.0 then held_from (rank_at K.number K.index first) e.1 else e.1)) self.old }
         ensures bytes { unordered_bytes self.new ≤ unordered_bytes self.old }
     {
         self.streams.retain(|id, stream| {
-            forward_if(is_part(named, ids, *id), first, stream);
+            forward_if(ids.is_part(named, *id), first, stream);
             true
         });
         self.bytes = bytes_in(&self.streams);

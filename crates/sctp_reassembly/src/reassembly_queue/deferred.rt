@@ -6,7 +6,7 @@ ghost use Rattle.std.specs.Option.{option_to_list};
 ghost use Rattle.sctp_reassembly.specs.Streams.{is_named};
 ghost use Rattle.sctp_reassembly.specs.WaitingViews.{waiting_of};
 
-use crate::ordered_streams::is_named;
+use crate::named_streams::NamedStreams;
 use crate::reassembly_queue::waiting::Waiting;
 use sctp_serial::StreamId;
 use std::alloc::{AllocError, Global};
@@ -17,7 +17,7 @@ use std::marker::Model;
 #[derive(Drop)]
 pub(crate) struct Deferred {
     last: u64,
-    streams: Vec<StreamId>,
+    streams: NamedStreams,
     waiting: VecDeque<Waiting>,
     bytes: usize,
 }
@@ -29,7 +29,7 @@ impl Model for Deferred {
 
     ghost Value = { Deferred };
 
-    ghost view = { λ d. record { last = d.last; streams = d.streams.items; waiting = map waiting_of d.waiting.items } };
+    ghost view = { λ d. record { last = d.last; streams = d.streams; waiting = map waiting_of d.waiting.items } };
 
     ghost invariant = { λ d. IsDeferred d.bytes (map waiting_of d.waiting.items) };
 }
@@ -43,7 +43,7 @@ impl Deferred {
     {
         Ok(Deferred {
             last,
-            streams: Vec::from_slice(alloc, ids)?,
+            streams: NamedStreams::new(alloc, ids)?,
             waiting: VecDeque::new(alloc),
             bytes: 0,
         })
@@ -60,11 +60,11 @@ impl Deferred {
     pub fn concerns(&self, id: StreamId) -> bool
         ensures { result ≡ is_named self.now.streams id.0 }
     {
-        is_named(&self.streams, id.0)
+        self.streams.is_named(id.0)
     }
 
     /// The streams that are to be reset; all are where none is named.
-    pub fn streams(&self) -> &[StreamId]
+    pub fn streams(&self) -> &NamedStreams
         ensures { result.now ≡ self.now.streams }
     {
         &self.streams
@@ -110,17 +110,7 @@ impl Deferred {
     }
 }
 
-ghost use Rattle.sctp_reassembly.specs.ReassemblyQueue.{resetting, waiting_in, waiting_bytes};
-
-/// The streams that are to be reset, if a reset is deferred.
-pub(crate) fn resetting(deferred: &Option<Deferred>) -> &[StreamId]
-    ensures { result.now ≡ resetting deferred.now }
-{
-    match deferred {
-        Some(deferred) => deferred.streams(),
-        None => &[],
-    }
-}
+ghost use Rattle.sctp_reassembly.specs.ReassemblyQueue.{waiting_in, waiting_bytes};
 
 /// Whether nothing waits for a reset.
 pub(crate) fn none_waits(deferred: &Option<Deferred>) -> bool

@@ -5,6 +5,7 @@ ghost use Rattle.sctp_reassembly.specs.Streams.{no_streams};
 ghost use Rattle.sctp_reassembly.specs.Forms.{streams_of};
 
 use crate::interleaved_reassembly_streams::InterleavedReassemblyStreams;
+use crate::named_streams::NamedStreams;
 use crate::ready_messages::ReadyMessages;
 use crate::reassembly_streams::ReassemblyStreams;
 use crate::traditional_reassembly_streams::TraditionalReassemblyStreams;
@@ -60,7 +61,7 @@ impl ReassemblyStreams for Form {
         }
     }
 
-    fn drop_in(&mut self, named: bool, ids: &[StreamId], tsn: u64) {
+    fn drop_in(&mut self, named: bool, ids: &NamedStreams, tsn: u64) {
         match self {
             Form::Traditional(streams) => streams.drop_in(named, ids, tsn),
             Form::Interleaved(streams) => streams.drop_in(named, ids, tsn),
