@@ -91,13 +91,16 @@ fn seed_at(words: &[&str], place: usize) -> Seed {
     )
 }
 
-/// As eight numbers say them.
+/// As eight numbers behind two words say them; without these numbers the default ones.
 pub fn seeds_of(words: &[&str]) -> Seeds {
+    if words.len() < 10 {
+        return Seeds::default();
+    }
     Seeds {
-        a: seed_at(words, 0),
-        b: seed_at(words, 2),
-        other_a: seed_at(words, 4),
-        other_b: seed_at(words, 6),
+        a: seed_at(words, 2),
+        b: seed_at(words, 4),
+        other_a: seed_at(words, 6),
+        other_b: seed_at(words, 8),
     }
 }
 
