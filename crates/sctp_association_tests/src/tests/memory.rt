@@ -1,5 +1,5 @@
-//! A message crosses, and its end goes on in a new socket, while any allocation may be refused: each call answers as with ample memory, or that
-//! memory lacks, and then its socket fails.
+//! A message crosses, and its sender goes on in a new socket, while any allocation may be refused: each call answers as with
+//! ample memory, or that memory lacks, and then its socket fails.
 
 use crate::tests::Seven;
 use crate::tests::crossing::crosses;
