@@ -1,6 +1,7 @@
 //! Packets that are put together, and control blocks with default options.
 
 mod blocks;
+mod crossing;
 mod memory;
 mod opening;
 

@@ -1,7 +1,8 @@
-//! An idle end goes on in a new socket, while any allocation may be refused: each call answers as with ample memory, or that
-//! memory lacks, and then its socket fails.
+//! A message crosses, and its sender goes on in a new socket, while any allocation may be refused: each call answers as with
+//! ample memory, or that memory lacks, and then its socket fails.
 
 use crate::tests::Seven;
+use crate::tests::crossing::crosses;
 use crate::tests::opening::{Fault, Watched, lacks, opens, right, tells_closed, tells_connected};
 use rand_core::Rng;
 use rand_pcg::Pcg32;
@@ -110,9 +111,10 @@ fn takes_over<S: Watched>(
     tells_connected(new)
 }
 
-/// The new socket takes the place of `a`.
-fn goes_on<S: Watched>(a: &mut S, b: &mut S, new: &mut S) -> Result<(), Fault> {
+/// The new socket takes the place of `a`, whose message has crossed.
+fn goes_on<S: Watched>(alloc: Global, a: &mut S, b: &mut S, new: &mut S) -> Result<(), Fault> {
     opens(a, b)?;
+    crosses(alloc, a, b)?;
     let association = a.joined();
     let mut state = hands_over(a)?;
     let outcome = takes_over(b, new, &mut state);
@@ -129,12 +131,13 @@ fn let_go<S: Watched>(socket: Result<S, CallError>) {
 }
 
 fn three_go_on<S: Watched>(
+    alloc: Global,
     mut a: Result<S, CallError>,
     mut b: Result<S, CallError>,
     mut new: Result<S, CallError>,
 ) -> Result<(), Fault> {
     let outcome = match (&mut a, &mut b, &mut new) {
-        (Ok(a), Ok(b), Ok(new)) => goes_on(a, b, new),
+        (Ok(a), Ok(b), Ok(new)) => goes_on(alloc, a, b, new),
         _ => Err(Fault::Memory),
     };
     let_go(a);
@@ -146,7 +149,7 @@ fn three_go_on<S: Watched>(
 fn is_handed_over(alloc: Global) -> Result<(), Fault> {
     let a = made(alloc, "a", 1);
     let b = made(alloc, "b", 2);
-    three_go_on(a, b, made(alloc, "new", 3))
+    three_go_on(alloc, a, b, made(alloc, "new", 3))
 }
 
 #[test]
