@@ -13,6 +13,7 @@
 //! | `packet HEX`, `sum-0 HEX`, `sum-376 HEX` | what its chunks say, and whether it is written alike: whatever its checksum, and by the default policy where its bytes have the checksum 0 or 376 |
 //! | `in-place HEX` | the chunks of a packet where they lie, whatever its checksum |
 //! | `text HEX`, `word HEX` | a cause's text; a number of eight bytes |
+//! | `crc32c HEX` | the CRC32c of the bytes, and its own bytes as they are written, the lowest first |
 //! | `default WORD FIELD`, `dtls WORD FIELD`, `disabled WORD FIELD` | whether the policy lets the checksum in the field through, where the bytes have the word |
 //! | `header TYPE SIZE` | the headers of a parameter, an item and a chunk |
 //! | `misread TYPE`, `result N` | the faults of readers of other types; what became of a request |
@@ -52,6 +53,7 @@ fn answer_bytes(
         "sum-0" => packets::read(rt, bytes, 0, &Policy::default())?,
         "sum-376" => packets::read(rt, bytes, 376, &Policy::default())?,
         "in-place" => packets::look(rt, bytes, 0, &packets::unchecked())?,
+        "crc32c" => packets::crc32c(rt, bytes)?,
         "add" => building::add(rt, builder, bytes)?,
         _ => return Ok(items::answer(rt, name, bytes)? || chunks::answer(rt, name, bytes)?),
     }

@@ -1,6 +1,7 @@
 //! Packets, read and built again.
 
-use crate::show::refuse;
+use crate::show::{Hex, refuse};
+use sctp_crc32c::crc32c_of;
 use sctp_packet::{Chunk, PacketView, SctpPacket, SctpPacketBuilder, chunk_fits};
 use sctp_wire::Policy;
 use std::alloc::AllocError;
@@ -18,6 +19,12 @@ pub fn unchecked() -> Policy {
         disable_checksum_verification: true,
         ..Policy::default()
     }
+}
+
+/// The CRC32c of the bytes, and its own bytes as they are written.
+pub fn crc32c(rt: &HostRuntime, bytes: &[u8]) -> io::Result<()> {
+    let word = crc32c_of(bytes);
+    println!(rt; "{} {}", Hex(&word.to_be_bytes()), Hex(&word.to_le_bytes()))
 }
 
 /// A packet whose bytes have the checksum `word`.
