@@ -86,11 +86,11 @@ still old new q hs kept has =
 
 pub renewed : (id : ℕ) (old less new : Notes) (es : Entries UnorderedStream) → KeepsOthers id old less → ((note : ℕ × ℕ) → is_noted less note ≡ true → is_noted new note ≡ true)
     → HasNote new id (stream_at fresh_unordered id es).held → OthersAreNoted id old es → AreNoted new es
-renewed id old less new es out in made others q = go (q == id) refl
+renewed id old less new es out more made others q = go (q == id) refl
   where
     go : (b : Bool) → (q == id) ≡ b → HasNote new q (stream_at fresh_unordered q es).held
     go true h = subst (λ i. HasNote new i (stream_at fresh_unordered i es).held) (sym (equal q id h)) made
-    go false h = still old new q (stream_at fresh_unordered q es).held (λ note is there. in note (out note (ap (λ i. i == id) is ∙ h) there)) (others q h)
+    go false h = still old new q (stream_at fresh_unordered q es).held (λ note is there. more note (out note (ap (λ i. i == id) is ∙ h) there)) (others q h)
 
 module _ {S : Type 0} (fresh : S) (q id : ℕ) (other : (q == id) ≡ false) where
   -- past an entry of the one
