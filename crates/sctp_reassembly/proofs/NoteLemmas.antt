@@ -150,11 +150,11 @@ again n (h ∷ hs) = go (nat_lt (rank_of h) n) refl (again n hs)
 
 same_forwarded : (n : ℕ) (test : ℕ → Bool) (w : UnorderedStream) (es : Entries UnorderedStream) → ((v : UnorderedStream) → lookup test es ≡ Some v → held_from n w ≡ held_from n v) → forwarded n (set_value test es w) ≡ forwarded n es
 same_forwarded n test w [] h = refl
-same_forwarded n test w (e ∷ es) h = go (test e.0) refl
+same_forwarded n test w (e ∷ es) h = go (test e.0) refl (same_forwarded n test w es)
   where
-    go : (b : Bool) → test e.0 ≡ b → forwarded n (cond b ((e.0, w) ∷ es) (e ∷ set_value test es w)) ≡ (e.0, held_from n e.1) ∷ forwarded n es
-    go true t = ap (λ (s : UnorderedStream). (e.0, s) ∷ forwarded n es) (h e.1 (ap (λ b. cond b (Some e.1) (lookup test es)) t))
-    go false t = ap (λ (ds : Entries UnorderedStream). (e.0, held_from n e.1) ∷ ds) (same_forwarded n test w es (λ v l. h v (ap (λ b. cond b (Some e.1) (lookup test es)) t ∙ l)))
+    go : (b : Bool) → test e.0 ≡ b → (((v : UnorderedStream) → lookup test es ≡ Some v → held_from n w ≡ held_from n v) → forwarded n (set_value test es w) ≡ forwarded n es) → forwarded n (cond b ((e.0, w) ∷ es) (e ∷ set_value test es w)) ≡ (e.0, held_from n e.1) ∷ forwarded n es
+    go true t ih = ap (λ (s : UnorderedStream). (e.0, s) ∷ forwarded n es) (h e.1 (ap (λ b. cond b (Some e.1) (lookup test es)) t))
+    go false t ih = ap (λ (ds : Entries UnorderedStream). (e.0, held_from n e.1) ∷ ds) (ih (λ v l. h v (ap (λ b. cond b (Some e.1) (lookup test es)) t ∙ l)))
 
 pub forwarded_one : (n id : ℕ) (es new : Entries UnorderedStream) → new ≡ written id (held_from n (stream_at fresh_unordered id es)) es → forwarded n new ≡ forwarded n es
 forwarded_one n id es new made =
@@ -266,21 +266,22 @@ notes_one i d old new records es l kept made until id =
     go true h same = inl (subst (λ k. HasNote new k (stream_at fresh_unordered k es).held) (equal (get_or records i d).id id h) made)
     go false h same = inr (sym (ap (is_listed id) (drop_more records i d l) ∙ ap (λ b. b || is_listed id (drop (i + 1) records)) h) ∙ same)
 
+unlisted : (id : ℕ) (es : Entries UnorderedStream) → is_listed id (unordered_records es) ≡ false → stream_at fresh_unordered id es ≡ fresh_unordered
+unlisted id [] h = refl
+unlisted id (e ∷ es) h = go (e.0 == id) refl h (unlisted id es)
+  where
+    other : (a b : ℕ) → (b == a) ≡ false → is_at (nat_cmp a) b ≡ false
+    other a b t = grind (arith, nat_tests)
+
+    go : (b : Bool) → (e.0 == id) ≡ b → (b || is_listed id (unordered_records es)) ≡ false → (is_listed id (unordered_records es) ≡ false → stream_at fresh_unordered id es ≡ fresh_unordered)
+        → stream_at fresh_unordered id (e ∷ es) ≡ fresh_unordered
+    go true t h ih = absurd (cc)
+    go false t h ih = ap (λ b. unwrap_or (cond b (Some e.1) (lookup (is_at (nat_cmp id)) es)) fresh_unordered) (other id e.0 t) ∙ ih h
+
 pub notes_all : (i : ℕ) (notes : Notes) (records : List HandoverUnorderedStream) (es : Entries UnorderedStream) → length records ≤ i → records ≡ unordered_records es
     → NotedUntil i notes records es → AreNoted notes es
 notes_all i notes records es l made until id =
     elim (until id) [
       | inl has ↦ has
-      | inr same ↦ inl (ap (λ (s : UnorderedStream). s.held) (unlisted es (sym (ap (is_listed id) (sym made)) ∙ (sym same ∙ ap (is_listed id) (drop_all i records l)))))
+      | inr same ↦ inl (ap (λ (s : UnorderedStream). s.held) (unlisted id es (ap (is_listed id) (sym made) ∙ (sym same ∙ ap (is_listed id) (drop_all i records l)))))
     ]
-  where
-    unlisted : (es : Entries UnorderedStream) → is_listed id (unordered_records es) ≡ false → stream_at fresh_unordered id es ≡ fresh_unordered
-    unlisted [] h = refl
-    unlisted (e ∷ es) h = go (e.0 == id) refl h
-      where
-        go : (b : Bool) → (e.0 == id) ≡ b → (b || is_listed id (unordered_records es)) ≡ false → stream_at fresh_unordered id (e ∷ es) ≡ fresh_unordered
-        go true t h = absurd (cc)
-        go false t h = ap (λ b. unwrap_or (cond b (Some e.1) (lookup (is_at (nat_cmp id)) es)) fresh_unordered) (other id e.0 t) ∙ unlisted es h
-          where
-            other : (a b : ℕ) → (b == a) ≡ false → is_at (nat_cmp a) b ≡ false
-            other a b t = grind (arith, nat_tests)

@@ -8,6 +8,7 @@ ghost use Rattle.sctp_reassembly.specs.ReassemblyHandover.{unordered_is_held, un
 ghost use Rattle.sctp_reassembly.specs.Streams.{unordered_bytes, is_named, stream_at};
 ghost use Rattle.sctp_state.specs.Validity.{rises_from, unordered_ids};
 
+use crate::named_streams::NamedStreams;
 use crate::ready_messages::ReadyMessages;
 use crate::unordered_streams::UnorderedStreams;
 use sctp_chunk::Data;
@@ -274,7 +275,7 @@ impl NotedStreams {
     }
 
     /// Drops the fragments before the key, of the streams that are named, or of the others.
-    pub fn forward_part(&mut self, named: bool, ids: &[StreamId], first: TraditionalKey)
+    pub fn forward_part(&mut self, named: bool, ids: &NamedStreams, first: TraditionalKey)
         ensures value { self.new ≡ map (λ e. (e.0, if is_part named ids.now e.0 then held_from (pair_rank first.number first.index) e.1 else e.1)) self.old }
         ensures bytes { unordered_bytes self.new ≤ unordered_bytes self.old }
     {
