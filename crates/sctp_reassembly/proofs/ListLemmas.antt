@@ -204,9 +204,9 @@ module _ {K : Type 0} (f : Entry K → Held) where
 
 -- no fragment is before the first one
 module _ {K : Type 0} (f : Entry K → Held) where
-  pub begins : (xs : List (Interval K)) (i : Interval K) (e : Held) → 0 < length xs → i ≡ get_or xs 0 i → ((d : Held) (ds : List Held) → run_of f i ≡ d ∷ ds → e ≡ d)
+  pub begins_from : (xs : List (Interval K)) (i : Interval K) (e : Held) → 0 < length xs → i ≡ get_or xs 0 i → ((d : Held) (ds : List Held) → run_of f i ≡ d ∷ ds → e ≡ d)
       → AreRuns rank_of goes_on None (lists_of f xs) → (n : ℕ) → n ≤ rank_of e → from_rank rank_of n (flat (lists_of f xs)) ≡ flat (lists_of f xs)
-  begins xs i e some read first runs n l = sym (drops_none f (lists_of f xs) n runs (sym (first_below-read f xs n i e false some read first (sym (le-ltb _ _ l)))))
+  begins_from xs i e some read first runs n l = sym (drops_none f (lists_of f xs) n runs (sym (first_below-read f xs n i e false some read first (sym (le-ltb _ _ l)))))
 
 -- the run in turn
 module _ {K : Type 0} (f : Entry K → Held) where

@@ -5,8 +5,8 @@ use Rattle.sctp_reassembly.specs.Streams.{unordered_bytes}
 use Rattle.sctp_reassembly.proofs.EntriesLemmas.{sum-written, sum-at_least}
 use Rattle.sctp_reassembly.proofs.unordered_streams.UnorderedStreams.forward_to.Goals as goal
 
-pub invariant_of-self : goal.invariant_of-self
-invariant_of-self g c =
+pub invariant_of-self-2 : goal.invariant_of-self-2
+invariant_of-self-2 g c =
     let entries = c.self.inside.streams.entries in
     let written = ap (λ m. unordered_bytes m) (c.get_mut.follows.holds c.forward_to.new.self).0 in
     let sums = sum-written (λ (s : UnorderedStream). bytes_of s.held) c.args.id.0 entries c.in-Some.stream.now c.forward_to.new.self c.in-Some.ensures.value in
