@@ -18,6 +18,7 @@ pub mod SettledQueueLemmas
 pub mod FrontLemmas
 pub mod WrittenLemmas
 pub mod HeldLemmas
+pub mod NoteLemmas
 pub mod ReadyLemmas
 pub mod ForgetLemmas
 pub mod NamedLemmas

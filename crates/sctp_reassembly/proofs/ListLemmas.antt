@@ -3,7 +3,7 @@ use Rattle.std.proofs.Common.{◌≡◌, ℕ, zero, suc, ◌+◌, ◌-◌, ◌<�
 use Rattle.std.proofs.lemmas.Bool.Decides.{nat_tests}
 use Rattle.std.specs.List.{remove}
 use Rattle.std.specs.Prelude.{IfSome, IfNone, ◌&&◌}
-use Rattle.std.proofs.lemmas.Bool.{lt-ltb}
+use Rattle.std.proofs.lemmas.Bool.{lt-ltb, le-ltb}
 use Rattle.sctp_fragments.specs.Intervals.{StartsInTurn, without_first, first_below, IsInserted, EndsFrom, starts_upto, run_of}
 use Rattle.sctp_fragments.specs.Runs.{from_rank}
 use Rattle.sctp_fragments.proofs.PlaceLemmas.{told_less, told_not_less}
@@ -201,6 +201,12 @@ module _ {K : Type 0} (f : Entry K → Held) where
   first_below-read (x ∷ xs) n i e r h read first is =
       let c = cons (run_of f i) (some_run f i) in
       rw (← read) (rw c.is (is ∙ ap (λ (d : Held). ltb (rank_of d) n) (first c.head c.tail c.is)))
+
+-- no fragment is before the first one
+module _ {K : Type 0} (f : Entry K → Held) where
+  pub begins_from : (xs : List (Interval K)) (i : Interval K) (e : Held) → 0 < length xs → i ≡ get_or xs 0 i → ((d : Held) (ds : List Held) → run_of f i ≡ d ∷ ds → e ≡ d)
+      → AreRuns rank_of goes_on None (lists_of f xs) → (n : ℕ) → n ≤ rank_of e → from_rank rank_of n (flat (lists_of f xs)) ≡ flat (lists_of f xs)
+  begins_from xs i e some read first runs n l = sym (drops_none f (lists_of f xs) n runs (sym (first_below-read f xs n i e false some read first (sym (le-ltb _ _ l)))))
 
 -- the run in turn
 module _ {K : Type 0} (f : Entry K → Held) where

@@ -7,3 +7,4 @@ pub mod WaitingViews
 pub mod ReassemblyHandover
 pub mod Settled
 pub mod Ready
+pub mod Notes

@@ -35,6 +35,7 @@ impl<K: ReassemblyKey> IntervalList<K> {
     ghost use Rattle.sctp_fragments.specs.Held.{Held, rank_of, intervals_of, bytes_of, is_complete, NoneComplete, is_in_turn, without_first_of, left_by, IsPlaced, IsTaken};
     ghost use Rattle.sctp_fragments.specs.Key.{rank_at};
     ghost use Rattle.sctp_fragments.specs.Intervals.{held, held_of, run_of};
+    ghost use Rattle.sctp_reassembly.specs.Notes.{BeginsFrom};
 
     /// No fragments. Takes no memory.
     pub fn new(alloc: Global) -> IntervalList<K>
@@ -52,6 +53,14 @@ impl<K: ReassemblyKey> IntervalList<K> {
         ensures { result ≡ (length self.now == 0) }
     {
         self.intervals.is_empty()
+    }
+
+    /// The key of the first fragment.
+    pub(crate) fn first(&self) -> Option<K>
+        ensures some { IfSome result (λ k. BeginsFrom (rank_at K.number K.index k) self.now) }
+        ensures none { IfNone result (self.now ≡ []) }
+    {
+        first_key(&self.intervals)
     }
 
     /// How many bytes of payload it holds.
@@ -155,6 +164,7 @@ ghost use Rattle.sctp_fragments.specs.Key.{rank_at};
 ghost use Rattle.sctp_fragments.specs.Intervals.{held_of, run_of, lists_of, entries_of, EndsFrom, IsInRuns, IsInserted, starts_upto, StartsInTurn, without_first, first_below};
 ghost use Rattle.sctp_fragments.specs.declared.interval.Entry.{Entry};
 ghost use Rattle.sctp_fragments.specs.declared.interval.Interval.{Interval};
+ghost use Rattle.sctp_reassembly.specs.Notes.{BeginsFrom};
 
 // How many bytes the intervals before the place hold.
 fn bytes_before<K: ReassemblyKey>(intervals: &[Interval<K>], place: usize) -> usize
@@ -179,6 +189,18 @@ fn drop_front<K: ReassemblyKey>(intervals: &mut Vec<Interval<K>>, place: usize) 
     let bytes = bytes_before(intervals, place);
     drop(intervals.drain(..place));
     bytes
+}
+
+// The key of the first fragment.
+fn first_key<K: ReassemblyKey>(intervals: &[Interval<K>]) -> Option<K>
+    requires { IsInRuns (lists_of (held_of K.number K.index) intervals.now) }
+    ensures some { IfSome result (λ k. BeginsFrom (rank_at K.number K.index k) (entries_of (held_of K.number K.index) intervals.now)) }
+    ensures none { IfNone result (entries_of (held_of K.number K.index) intervals.now ≡ []) }
+{
+    if intervals.len() == 0 {
+        return None;
+    }
+    Some(intervals[0].first().key)
 }
 
 // Whether the first fragment is before the key.

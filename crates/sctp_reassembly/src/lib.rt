@@ -6,6 +6,7 @@ pub mod interval_laws;
 pub mod interval_list;
 pub mod named_streams;
 mod near;
+mod noted_streams;
 mod ordered_stream;
 mod ordered_streams;
 pub mod ready_laws;

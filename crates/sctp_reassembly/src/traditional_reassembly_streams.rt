@@ -4,12 +4,12 @@ ghost use Rattle.std.specs.Prelude.{◌≡◌};
 
 use crate::named_streams::NamedStreams;
 use crate::near::ssn_near;
+use crate::noted_streams::NotedStreams;
 use crate::ordered_stream::{FIRST, OrderedStream as StreamInOrder};
 use crate::ordered_streams::OrderedStreams;
 use crate::ready_messages::ReadyMessages;
 use crate::reassembly_streams::ReassemblyStreams;
 use crate::unordered_stream::UnorderedStream as StreamInAnyOrder;
-use crate::unordered_streams::UnorderedStreams;
 use sctp_chunk::{Data, SkippedStream};
 use sctp_fragments::TraditionalKey;
 use sctp_serial::{StreamId, StreamKey};
@@ -28,7 +28,7 @@ pub type UnorderedStream = StreamInAnyOrder<TraditionalKey>;
 pub struct TraditionalReassemblyStreams {
     alloc: Global,
     ordered: OrderedStreams<TraditionalKey>,
-    unordered: UnorderedStreams<TraditionalKey>,
+    unordered: NotedStreams,
 }
 
 impl Model for TraditionalReassemblyStreams {
@@ -53,7 +53,7 @@ impl TraditionalReassemblyStreams {
         TraditionalReassemblyStreams {
             alloc,
             ordered: OrderedStreams::new(alloc),
-            unordered: UnorderedStreams::new(alloc),
+            unordered: NotedStreams::new(alloc),
         }
     }
 }
@@ -146,7 +146,7 @@ impl ReassemblyStreams for TraditionalReassemblyStreams {
 
     fn restore_from_state(&mut self, state: &SocketHandoverState) -> Result<(), AllocError> {
         let ordered = OrderedStreams::restored(self.alloc, &state.rx.ordered_streams)?;
-        let unordered = UnorderedStreams::restored(self.alloc, &state.rx.unordered_streams)?;
+        let unordered = NotedStreams::restored(self.alloc, &state.rx.unordered_streams)?;
         self.ordered = ordered;
         self.unordered = unordered;
         Ok(())

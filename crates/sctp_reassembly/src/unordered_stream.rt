@@ -1,6 +1,6 @@
 //! A stream whose messages become ready when they are complete.
 
-ghost use Rattle.std.specs.Prelude.{◌≡◌, ℕ, suc, ◌+◌, ◌<◌, ◌≤◌, ◌^◌, ◌++◌, max, length, nat_lt, OnOk, []};
+ghost use Rattle.std.specs.Prelude.{◌≡◌, ℕ, suc, ◌+◌, ◌<◌, ◌≤◌, ◌^◌, ◌++◌, max, length, nat_lt, OnOk, IfSome, IfNone, []};
 ghost use Rattle.sctp_serial.specs.Unwrapped.{origin};
 
 use crate::interval_list::IntervalList;
@@ -66,6 +66,7 @@ fn take_in<K: ReassemblyKey>(
 impl<K: ReassemblyKey> UnorderedStream<K> {
     ghost use Rattle.sctp_reassembly.specs.Delivery.{fresh_unordered, unordered_arrival, unordered_forward, held_from};
     ghost use Rattle.sctp_fragments.specs.Key.{rank_at};
+    ghost use Rattle.sctp_reassembly.specs.Notes.{BeginsFrom};
 
     /// A stream of which nothing came.
     pub fn new(alloc: Global) -> UnorderedStream<K>
@@ -84,6 +85,14 @@ impl<K: ReassemblyKey> UnorderedStream<K> {
         ensures { result ≡ nat_lt 0 (length self.now.held) }
     {
         !self.list.is_empty()
+    }
+
+    /// The key of the first fragment.
+    pub fn first(&self) -> Option<K>
+        ensures some { IfSome result (λ k. BeginsFrom (rank_at K.number K.index k) self.now.held) }
+        ensures none { IfNone result (self.now.held ≡ []) }
+    {
+        self.list.first()
     }
 
     /// The last number that came.

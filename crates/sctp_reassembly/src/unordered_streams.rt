@@ -1,6 +1,6 @@
 //! Streams with unordered messages, by their ids.
 
-ghost use Rattle.std.specs.Prelude.{◌≡◌, ℕ, suc, ◌+◌, ◌<◌, ◌≤◌, ◌^◌, ◌++◌, [], true, length, map, IsSome, OnOk, OnErr, IfOk};
+ghost use Rattle.std.specs.Prelude.{◌≡◌, ℕ, suc, ◌+◌, ◌<◌, ◌≤◌, ◌^◌, ◌++◌, [], true, length, map, IsSome, IfSome, IfNone, OnOk, OnErr, IfOk};
 ghost use Rattle.std.specs.Map.{lookup};
 ghost use Rattle.std.specs.Ordering.{nat_cmp};
 ghost use Rattle.std.specs.BTreeMap.{is_at};
@@ -44,6 +44,9 @@ impl<K: ReassemblyKey> UnorderedStreams<K> {
     ghost use Rattle.sctp_fragments.specs.Intervals.{held};
     ghost use Rattle.sctp_reassembly.specs.Delivery.{fresh_unordered, unordered_arrival, unordered_forward, held_from, ready_bytes, Extends};
     ghost use Rattle.sctp_fragments.specs.Key.{rank_at};
+    ghost use Rattle.std.specs.List.Sorted.{IsStrictlySortedBy};
+    ghost use Rattle.std.specs.Map.{keys_of};
+    ghost use Rattle.sctp_reassembly.specs.Notes.{BeginsFrom};
     ghost use Rattle.sctp_reassembly.specs.Streams.{unordered_bytes, stream_at, opened, written, changed, forgotten, is_part};
 
     /// No streams. Takes no memory.
@@ -104,6 +107,24 @@ impl<K: ReassemblyKey> UnorderedStreams<K> {
             Some(stream) => stream.near(),
             None => FIRST,
         }
+    }
+
+    /// The key of the stream's first fragment.
+    pub fn first(&self, id: StreamId) -> Option<K>
+        ensures some { IfSome result (λ k. BeginsFrom (rank_at K.number K.index k) (stream_at fresh_unordered id.0 self.now).held) }
+        ensures none { IfNone result ((stream_at fresh_unordered id.0 self.now).held ≡ []) }
+    {
+        match self.streams.get(&id.0) {
+            Some(stream) => stream.first(),
+            None => None,
+        }
+    }
+
+    /// The streams are in the order of their ids.
+    pub fn rises(&self)
+        ensures { IsStrictlySortedBy nat_cmp (keys_of self.now) }
+    {
+        let _count = self.streams.len();
     }
 
     // Makes the stream where there is none. Without memory nothing changes.
@@ -207,6 +228,19 @@ impl<K: ReassemblyKey> UnorderedStreams<K> {
             return;
         }
         remove_each(&mut self.streams, &mut self.bytes, ids);
+    }
+
+    /// Drops the fragments of a stream before the key.
+    pub fn forward_to(&mut self, id: StreamId, first: K)
+        ensures value { self.new ≡ written id.0 (held_from (rank_at K.number K.index first) (stream_at fresh_unordered id.0 self.old)) self.old }
+        ensures bytes { unordered_bytes self.new ≤ unordered_bytes self.old }
+    {
+        let Some(stream) = self.streams.get_mut(&id.0) else {
+            return;
+        };
+        let before = stream.queued_bytes();
+        stream.forward_to(first);
+        self.bytes = self.bytes - before + stream.queued_bytes();
     }
 
     /// Drops the fragments of all streams before the key.

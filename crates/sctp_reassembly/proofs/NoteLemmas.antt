@@ -1,0 +1,287 @@
+-- Notes of the streams that hold a fragment.
+use Rattle.std.proofs.Common.{◌≡◌, ◌⊎◌, ℕ, zero, suc, ◌+◌, ◌<◌, ◌≤◌, ◌==◌, ◌||◌, Bool, true, false, cond, List, [], ◌∷◌, Option, Some, None, length, drop, get_or, map, refl, ap, sym, subst, ◌∙◌, inl, inr, arith, Less, Equal, Greater}
+use Rattle.std.specs.Prelude.{unwrap_or, is_some, filter, not, nat_lt, Result, Ok, Err, OnOk, OnErr}
+use Rattle.std.specs.List.{list_any}
+use Rattle.std.specs.List.Sorted.{IsStrictlySortedBy}
+use Rattle.std.specs.Ordering.{nat_cmp, is_gt, match_ordering}
+use Rattle.std.specs.declared.cmp.Ordering.{Ordering}
+use Rattle.std.specs.Map.{lookup, set_value, keys_of}
+use Rattle.std.specs.BTreeMap.{is_at, insert_entry}
+use Rattle.std.proofs.lemmas.Bool.{cases_lt}
+use Rattle.std.proofs.lemmas.Bool.Decides.{nat_tests}
+use Rattle.std.proofs.lemmas.Cmp.{nat_cmp_total, eq_by_cmp_equiv}
+use Rattle.std.proofs.lemmas.List.{drop_more, drop_all}
+use Rattle.std.proofs.lemmas.Map.{lookup-none}
+use Rattle.std.proofs.lemmas.Map.Entries.{none_past_head, lookup-filter-keys}
+use Rattle.std.proofs.lemmas.Map.Keys.{sorted_tail, IsDistinct-from_sorted}
+use Rattle.sctp_serial.specs.declared.api.StreamId.{StreamId}
+use Rattle.sctp_state.specs.declared.api.handover.HandoverUnorderedStream.{HandoverUnorderedStream}
+use Rattle.sctp_fragments.specs.Runs.{from_rank}
+use Rattle.sctp_fragments.specs.Held.{Held, rank_of}
+use Rattle.sctp_reassembly.specs.Delivery.{UnorderedStream, fresh_unordered, held_from}
+use Rattle.sctp_reassembly.specs.Streams.{Entries, stream_at, opened, written, changed, is_named, forgotten}
+use Rattle.sctp_reassembly.specs.ReassemblyHandover.{unordered_records}
+use Rattle.sctp_reassembly.specs.Notes.{Notes, note_cmp, is_noted, BeginsFrom, HasNote, AreNoted, OthersAreNoted, KeepsOthers, NoneBelow, forwarded}
+
+-- ---- the order of notes
+
+pub first_rank : (a b c d : ℕ) → is_gt (note_cmp (a, c) (b, d)) ≡ false → a ≤ b
+first_rank a b c d h = elim (cases_lt b a) [ inl less ↦ absurd (behind less) | inr l ↦ l ]
+  where
+    behind : b < a → ⊥
+    behind l = grind (arith, nat_tests)
+
+pub other_note : (a c : ℕ) (note : ℕ × ℕ) → (note.1 == c) ≡ false → is_at (note_cmp (a, c)) note ≡ false
+other_note a c note h = apart a c note.0 note.1 h
+  where
+    apart : (a c b d : ℕ) → (d == c) ≡ false → is_at (note_cmp (a, c)) (b, d) ≡ false
+    apart a c b d h = grind (arith, nat_tests)
+
+pub same_note : (a c : ℕ) → is_at (note_cmp (a, c)) (a, c) ≡ true
+same_note a c = grind (arith, nat_tests)
+
+equal : (a b : ℕ) → (a == b) ≡ true → a ≡ b
+equal a b h = grind (arith, nat_tests)
+
+equal-at : (a b : ℕ) → is_at (nat_cmp a) b ≡ true → b ≡ a
+equal-at a b h = grind (arith, nat_tests)
+
+at_itself : (k : ℕ) → is_at (nat_cmp k) k ≡ true
+at_itself k = grind (arith, nat_tests)
+
+apart-at : (q id : ℕ) → (q == id) ≡ false → is_at (nat_cmp q) id ≡ false
+apart-at q id h = grind (arith, nat_tests)
+
+equal-from : (a b : ℕ) → nat_cmp a b ≡ Equal → b ≡ a
+equal-from a b h = grind (arith, nat_tests)
+
+-- a note that goes out, and one that comes in
+pub out_others : (rank id : ℕ) (old new : Notes) → ((note : ℕ × ℕ) → is_noted new note ≡ cond (is_at (note_cmp (rank, id)) note) false (is_noted old note)) → KeepsOthers id old new
+out_others rank id old new made note other there = made note ∙ (ap (λ b. cond b false (is_noted old note)) (other_note rank id note other) ∙ there)
+
+pub in_keeps : (rank id : ℕ) (old new : Notes) → ((note : ℕ × ℕ) → is_noted new note ≡ cond (is_at (note_cmp (rank, id)) note) true (is_noted old note))
+    → (note : ℕ × ℕ) → is_noted old note ≡ true → is_noted new note ≡ true
+in_keeps rank id old new made note there = made note ∙ go (is_at (note_cmp (rank, id)) note)
+  where
+    go : (b : Bool) → cond b true (is_noted old note) ≡ true
+    go true = refl
+    go false = there
+
+pub in_there : (rank id : ℕ) (old new : Notes) → ((note : ℕ × ℕ) → is_noted new note ≡ cond (is_at (note_cmp (rank, id)) note) true (is_noted old note)) → is_noted new (rank, id) ≡ true
+in_there rank id old new made = made (rank, id) ∙ ap (λ b. cond b true (is_noted old (rank, id))) (same_note rank id)
+
+-- of a call that may fail, which changes nothing then
+pub either : {T E P Q R : Type 0} (r : Result T E) → OnOk r P → OnErr r Q → (P → R) → (Q → R) → R
+either (Ok x) p q f g = f p
+either (Err y) p q f g = g q
+
+-- ---- one stream changes
+
+still : (old new : Notes) (q : ℕ) (hs : List Held) → ((note : ℕ × ℕ) → note.1 ≡ q → is_noted old note ≡ true → is_noted new note ≡ true) → HasNote old q hs → HasNote new q hs
+still old new q hs kept has =
+    elim has [
+      | inl none ↦ inl none
+      | inr some ↦ inr (some.0, kept (some.0, q) refl some.1, some.2)
+    ]
+
+pub renewed : (id : ℕ) (old less new : Notes) (es : Entries UnorderedStream) → KeepsOthers id old less → ((note : ℕ × ℕ) → is_noted less note ≡ true → is_noted new note ≡ true)
+    → HasNote new id (stream_at fresh_unordered id es).held → OthersAreNoted id old es → AreNoted new es
+renewed id old less new es out more made others q = go (q == id) refl
+  where
+    go : (b : Bool) → (q == id) ≡ b → HasNote new q (stream_at fresh_unordered q es).held
+    go true h = subst (λ i. HasNote new i (stream_at fresh_unordered i es).held) (sym (equal q id h)) made
+    go false h = still old new q (stream_at fresh_unordered q es).held (λ note is there. more note (out note (ap (λ i. i == id) is ∙ h) there)) (others q h)
+
+module _ {S : Type 0} (fresh : S) (q id : ℕ) (other : (q == id) ≡ false) where
+  -- past an entry of the one
+  past : (e : ℕ × S) (v : S) (o : Option S) → e.0 ≡ id → unwrap_or (cond (is_at (nat_cmp q) e.0) (Some v) o) fresh ≡ unwrap_or o fresh
+  past e v o is = ap (λ b. unwrap_or (cond b (Some v) o) fresh) (ap (is_at (nat_cmp q)) is ∙ apart-at q id other)
+
+  before : (b : Bool) (v : S) (o p : Option S) → unwrap_or o fresh ≡ unwrap_or p fresh → unwrap_or (cond b (Some v) o) fresh ≡ unwrap_or (cond b (Some v) p) fresh
+  before true v o p h = refl
+  before false v o p h = h
+
+  other_written : (s : S) (es : Entries S) → stream_at fresh q (written id s es) ≡ stream_at fresh q es
+  other_written s [] = refl
+  other_written s (e ∷ es) = go (is_at (nat_cmp id) e.0) refl (other_written s es)
+    where
+      go : (b : Bool) → is_at (nat_cmp id) e.0 ≡ b → stream_at fresh q (written id s es) ≡ stream_at fresh q es
+          → stream_at fresh q (cond b ((e.0, s) ∷ es) (e ∷ written id s es)) ≡ stream_at fresh q (e ∷ es)
+      go true h ih = past e s (lookup (is_at (nat_cmp q)) es) (equal-at id e.0 h) ∙ sym (past e e.1 (lookup (is_at (nat_cmp q)) es) (equal-at id e.0 h))
+      go false h ih = before (is_at (nat_cmp q) e.0) e.1 (lookup (is_at (nat_cmp q)) (written id s es)) (lookup (is_at (nat_cmp q)) es) ih
+
+  other_inserted : (s : S) (es : Entries S) → stream_at fresh q (insert_entry nat_cmp es id s) ≡ stream_at fresh q es
+  other_inserted s [] = past (id, s) s None refl
+  other_inserted s (e ∷ es) = go (nat_cmp id e.0) refl (other_inserted s es)
+    where
+      go : (o : Ordering) → nat_cmp id e.0 ≡ o → stream_at fresh q (insert_entry nat_cmp es id s) ≡ stream_at fresh q es
+          → stream_at fresh q (match_ordering o ((id, s) ∷ e ∷ es) ((e.0, s) ∷ es) (e ∷ insert_entry nat_cmp es id s)) ≡ stream_at fresh q (e ∷ es)
+      go Less h ih = past (id, s) s (lookup (is_at (nat_cmp q)) (e ∷ es)) refl
+      go Equal h ih = past e s (lookup (is_at (nat_cmp q)) es) (equal-from id e.0 h) ∙ sym (past e e.1 (lookup (is_at (nat_cmp q)) es) (equal-from id e.0 h))
+      go Greater h ih = before (is_at (nat_cmp q) e.0) e.1 (lookup (is_at (nat_cmp q)) (insert_entry nat_cmp es id s)) (lookup (is_at (nat_cmp q)) es) ih
+
+  other_opened : (es : Entries S) → stream_at fresh q (opened fresh id es) ≡ stream_at fresh q es
+  other_opened es = go (is_some (lookup (is_at (nat_cmp id)) es))
+    where
+      go : (b : Bool) → stream_at fresh q (cond b es (insert_entry nat_cmp es id fresh)) ≡ stream_at fresh q es
+      go true = refl
+      go false = other_inserted fresh es
+
+pub written_others : (id : ℕ) (s : UnorderedStream) (notes : Notes) (es new : Entries UnorderedStream) → new ≡ written id s es → AreNoted notes es → OthersAreNoted id notes new
+written_others id s notes es new made all q other =
+    subst (λ (t : UnorderedStream). HasNote notes q t.held) (sym (ap (stream_at fresh_unordered q) made ∙ other_written fresh_unordered q id other s es)) (all q)
+
+pub changed_others : (id : ℕ) (s : UnorderedStream) (notes : Notes) (es new : Entries UnorderedStream) → new ≡ changed fresh_unordered id s es → AreNoted notes es → OthersAreNoted id notes new
+changed_others id s notes es new made all q other =
+    subst (λ (t : UnorderedStream). HasNote notes q t.held)
+    (sym (ap (stream_at fresh_unordered q) made ∙ (other_written fresh_unordered q id other s (opened fresh_unordered id es) ∙ other_opened fresh_unordered q id other es)))
+    (all q)
+
+-- ---- a forward point
+
+again : (n : ℕ) (hs : List Held) → from_rank rank_of n (from_rank rank_of n hs) ≡ from_rank rank_of n hs
+again n [] = refl
+again n (h ∷ hs) = go (nat_lt (rank_of h) n) refl (again n hs)
+  where
+    go : (b : Bool) → nat_lt (rank_of h) n ≡ b → from_rank rank_of n (from_rank rank_of n hs) ≡ from_rank rank_of n hs
+        → from_rank rank_of n (cond b (from_rank rank_of n hs) (h ∷ from_rank rank_of n hs)) ≡ cond b (from_rank rank_of n hs) (h ∷ from_rank rank_of n hs)
+    go true t ih = ih
+    go false t ih = ap (λ b. cond b (from_rank rank_of n (from_rank rank_of n hs)) (h ∷ from_rank rank_of n (from_rank rank_of n hs))) t ∙ ap (λ ks. h ∷ ks) ih
+
+same_forwarded : (n : ℕ) (test : ℕ → Bool) (w : UnorderedStream) (es : Entries UnorderedStream) → ((v : UnorderedStream) → lookup test es ≡ Some v → held_from n w ≡ held_from n v) → forwarded n (set_value test es w) ≡ forwarded n es
+same_forwarded n test w [] h = refl
+same_forwarded n test w (e ∷ es) h = go (test e.0) refl (same_forwarded n test w es)
+  where
+    go : (b : Bool) → test e.0 ≡ b → (((v : UnorderedStream) → lookup test es ≡ Some v → held_from n w ≡ held_from n v) → forwarded n (set_value test es w) ≡ forwarded n es) → forwarded n (cond b ((e.0, w) ∷ es) (e ∷ set_value test es w)) ≡ (e.0, held_from n e.1) ∷ forwarded n es
+    go true t ih = ap (λ (s : UnorderedStream). (e.0, s) ∷ forwarded n es) (h e.1 (ap (λ b. cond b (Some e.1) (lookup test es)) t))
+    go false t ih = ap (λ (ds : Entries UnorderedStream). (e.0, held_from n e.1) ∷ ds) (ih (λ v l. h v (ap (λ b. cond b (Some e.1) (lookup test es)) t ∙ l)))
+
+pub forwarded_one : (n id : ℕ) (es new : Entries UnorderedStream) → new ≡ written id (held_from n (stream_at fresh_unordered id es)) es → forwarded n new ≡ forwarded n es
+forwarded_one n id es new made =
+    ap (forwarded n) made
+    ∙ same_forwarded n (is_at (nat_cmp id)) (held_from n (stream_at fresh_unordered id es)) es
+    (λ v l. ap (λ (o : Option UnorderedStream). held_from n (held_from n (unwrap_or o fresh_unordered))) l ∙ ap (λ (hs : List Held). record v { held = hs }) (again n v.held))
+
+none_held : (n : ℕ) (notes : Notes) (id : ℕ) (hs : List Held) → NoneBelow n notes → HasNote notes id hs → from_rank rank_of n hs ≡ hs
+none_held n notes id hs none has =
+    elim has [
+      | inl e ↦ ap (from_rank rank_of n) e ∙ sym e
+      | inr some ↦ some.2 n (none (some.0, id) some.1)
+    ]
+
+keeps_all : (n : ℕ) (es : Entries UnorderedStream) → IsStrictlySortedBy nat_cmp (keys_of es)
+    → ((id : ℕ) → from_rank rank_of n (stream_at fresh_unordered id es).held ≡ (stream_at fresh_unordered id es).held) → es ≡ forwarded n es
+keeps_all n [] sorted h = refl
+keeps_all n (e ∷ es) sorted h =
+    ap (λ (hs : List Held). (e.0, record e.1 { held = hs }) ∷ es) (sym head) ∙ ap (λ (ds : Entries UnorderedStream). (e.0, held_from n e.1) ∷ ds) (keeps_all n es (sorted_tail nat_cmp e.0 (keys_of es) sorted) tail)
+  where
+    first : stream_at fresh_unordered e.0 (e ∷ es) ≡ e.1
+    first = ap (λ b. unwrap_or (cond b (Some e.1) (lookup (is_at (nat_cmp e.0)) es)) fresh_unordered) (at_itself e.0)
+
+    head : from_rank rank_of n e.1.held ≡ e.1.held
+    head = subst (λ (s : UnorderedStream). from_rank rank_of n s.held ≡ s.held) first (h e.0)
+
+    tail : (id : ℕ) → from_rank rank_of n (stream_at fresh_unordered id es).held ≡ (stream_at fresh_unordered id es).held
+    tail id = go (is_at (nat_cmp id) e.0) refl
+      where
+        go : (b : Bool) → is_at (nat_cmp id) e.0 ≡ b → from_rank rank_of n (stream_at fresh_unordered id es).held ≡ (stream_at fresh_unordered id es).held
+        go true t =
+            let none : stream_at fresh_unordered id es ≡ fresh_unordered =
+            ap (λ (o : Option UnorderedStream). unwrap_or o fresh_unordered) (lookup-none (is_at (nat_cmp id)) es (none_past_head (eq_by_cmp_equiv nat_cmp_total) id e es (IsDistinct-from_sorted nat_cmp (keys_of (e ∷ es)) sorted) t)) in
+            subst (λ (s : UnorderedStream). from_rank rank_of n s.held ≡ s.held) (sym none) refl
+        go false t = subst (λ (s : UnorderedStream). from_rank rank_of n s.held ≡ s.held) (ap (λ b. unwrap_or (cond b (Some e.1) (lookup (is_at (nat_cmp id)) es)) fresh_unordered) t) (h id)
+
+pub none_left : (n : ℕ) (notes : Notes) (es : Entries UnorderedStream) → IsStrictlySortedBy nat_cmp (keys_of es) → NoneBelow n notes → AreNoted notes es → es ≡ forwarded n es
+none_left n notes es sorted none all = keeps_all n es sorted (λ id. none_held n notes id (stream_at fresh_unordered id es).held none (all id))
+
+-- a stream that isn't there stays so
+pub not_written : {S : Type 0} (test : ℕ → Bool) (s : S) (es : Entries S) → None ≡ lookup test es → es ≡ set_value test es s
+not_written test s [] h = refl
+not_written {S = S} test s (e ∷ es) h = go (test e.0) h (not_written test s es)
+  where
+    go : (b : Bool) → None ≡ cond b (Some e.1) (lookup test es) → (None ≡ lookup test es → es ≡ set_value test es s) → e ∷ es ≡ cond b ((e.0, s) ∷ es) (e ∷ set_value test es s)
+    go true h ih = absurd (cc)
+    go false h ih = ap (λ (ds : Entries S). e ∷ ds) (ih h)
+
+-- ---- streams are forgotten
+
+named_one : (ids : List StreamId) (i n : ℕ) (d : StreamId) → i < length ids → list_any (λ x. x.0 == n) ids ≡ false → ((get_or ids i d).0 == n) ≡ false
+named_one [] i n d l h = absurd (omega arith)
+named_one (x ∷ ids) zero n d l h = left (x.0 == n) (list_any (λ x. x.0 == n) ids) h
+  where
+    left : (a b : Bool) → (a || b) ≡ false → a ≡ false
+    left true b h = h
+    left false b h = refl
+named_one (x ∷ ids) (suc i) n d l h = named_one ids i n d (omega arith) (right (x.0 == n) (list_any (λ x. x.0 == n) ids) h)
+  where
+    right : (a b : Bool) → (a || b) ≡ false → b ≡ false
+    right true b h = absurd (cc)
+    right false b h = h
+
+pub not_named : (ids : List StreamId) (i n : ℕ) (d : StreamId) → i < length ids → is_named ids n ≡ false → (n == (get_or ids i d).0) ≡ false
+not_named ids i n d l h = turn (get_or ids i d).0 n (named_one ids i n d l (right (length ids == 0) (list_any (λ x. x.0 == n) ids) h))
+  where
+    turn : (a b : ℕ) → (a == b) ≡ false → (b == a) ≡ false
+    turn a b h = grind (arith, nat_tests)
+
+    right : (a b : Bool) → (a || b) ≡ false → b ≡ false
+    right true b h = absurd (cc)
+    right false b h = h
+
+pub forgets : (ids : List StreamId) (old new : Notes) (es left : Entries UnorderedStream) → ((note : ℕ × ℕ) → is_named ids note.1 ≡ false → is_noted old note ≡ true → is_noted new note ≡ true)
+    → left ≡ forgotten ids es → AreNoted old es → AreNoted new left
+forgets ids old new es left kept made all id = subst (λ (t : Entries UnorderedStream). HasNote new id (stream_at fresh_unordered id t).held) (sym made) (go (is_named ids id) refl)
+  where
+    found : lookup (is_at (nat_cmp id)) (forgotten ids es) ≡ cond (not (is_named ids id)) (lookup (is_at (nat_cmp id)) es) None
+    found = lookup-filter-keys (is_at (nat_cmp id)) (λ k. not (is_named ids k)) (not (is_named ids id)) (λ k t. ap (λ k. not (is_named ids k)) (equal-at id k t)) es
+
+    go : (b : Bool) → is_named ids id ≡ b → HasNote new id (stream_at fresh_unordered id (forgotten ids es)).held
+    go true h =
+        let none : stream_at fresh_unordered id (forgotten ids es) ≡ fresh_unordered = ap (λ (o : Option UnorderedStream). unwrap_or o fresh_unordered) (found ∙ ap (λ b. cond (not b) (lookup (is_at (nat_cmp id)) es) None) h) in
+        inl (ap (λ (s : UnorderedStream). s.held) none)
+    go false h =
+        let same : stream_at fresh_unordered id (forgotten ids es) ≡ stream_at fresh_unordered id es = ap (λ (o : Option UnorderedStream). unwrap_or o fresh_unordered) (found ∙ ap (λ b. cond (not b) (lookup (is_at (nat_cmp id)) es) None) h) in
+        still old new id (stream_at fresh_unordered id (forgotten ids es)).held (λ note is there. kept note (ap (is_named ids) is ∙ h) there) (subst (λ (s : UnorderedStream). HasNote old id s.held) (sym same) (all id))
+
+-- ---- all notes are made anew
+
+-- whether a record of the id is among them
+abbrev pub is_listed : ℕ → List HandoverUnorderedStream → Bool
+is_listed id records = list_any (λ r. r.id == id) records
+
+-- of the streams whose records were taken there is a note
+abbrev pub NotedUntil : ℕ → Notes → List HandoverUnorderedStream → Entries UnorderedStream → Type 0
+NotedUntil i notes records es = (id : ℕ) → HasNote notes id (stream_at fresh_unordered id es).held ⊎ (is_listed id (drop i records) ≡ is_listed id records)
+
+pub notes_one : (i : ℕ) (d : HandoverUnorderedStream) (old new : Notes) (records : List HandoverUnorderedStream) (es : Entries UnorderedStream) → i < length records
+    → ((note : ℕ × ℕ) → is_noted old note ≡ true → is_noted new note ≡ true) → HasNote new (get_or records i d).id (stream_at fresh_unordered (get_or records i d).id es).held
+    → NotedUntil i old records es → NotedUntil (i + 1) new records es
+notes_one i d old new records es l kept made until id =
+    elim (until id) [
+      | inl has ↦ inl (still old new id (stream_at fresh_unordered id es).held (λ note is there. kept note there) has)
+      | inr same ↦ go ((get_or records i d).id == id) refl same
+    ]
+  where
+    go : (b : Bool) → ((get_or records i d).id == id) ≡ b → is_listed id (drop i records) ≡ is_listed id records → HasNote new id (stream_at fresh_unordered id es).held ⊎ (is_listed id (drop (i + 1) records) ≡ is_listed id records)
+    go true h same = inl (subst (λ k. HasNote new k (stream_at fresh_unordered k es).held) (equal (get_or records i d).id id h) made)
+    go false h same = inr (sym (ap (is_listed id) (drop_more records i d l) ∙ ap (λ b. b || is_listed id (drop (i + 1) records)) h) ∙ same)
+
+unlisted : (id : ℕ) (es : Entries UnorderedStream) → is_listed id (unordered_records es) ≡ false → stream_at fresh_unordered id es ≡ fresh_unordered
+unlisted id [] h = refl
+unlisted id (e ∷ es) h = go (e.0 == id) refl h (unlisted id es)
+  where
+    other : (a b : ℕ) → (b == a) ≡ false → is_at (nat_cmp a) b ≡ false
+    other a b t = grind (arith, nat_tests)
+
+    go : (b : Bool) → (e.0 == id) ≡ b → (b || is_listed id (unordered_records es)) ≡ false → (is_listed id (unordered_records es) ≡ false → stream_at fresh_unordered id es ≡ fresh_unordered)
+        → stream_at fresh_unordered id (e ∷ es) ≡ fresh_unordered
+    go true t h ih = absurd (cc)
+    go false t h ih = ap (λ b. unwrap_or (cond b (Some e.1) (lookup (is_at (nat_cmp id)) es)) fresh_unordered) (other id e.0 t) ∙ ih h
+
+pub notes_all : (i : ℕ) (notes : Notes) (records : List HandoverUnorderedStream) (es : Entries UnorderedStream) → length records ≤ i → records ≡ unordered_records es
+    → NotedUntil i notes records es → AreNoted notes es
+notes_all i notes records es l made until id =
+    elim (until id) [
+      | inl has ↦ has
+      | inr same ↦ inl (ap (λ (s : UnorderedStream). s.held) (unlisted id es (ap (is_listed id) (sym made) ∙ (sym same ∙ ap (is_listed id) (drop_all i records l)))))
+    ]
