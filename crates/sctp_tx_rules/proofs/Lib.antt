@@ -15,6 +15,7 @@ pub mod LineRowLemmas
 pub mod KeyLemmas
 pub mod WaitsLemmas
 pub mod AskedLemmas
+pub mod OpenedLemmas
 pub mod RecordedLemmas
 pub mod FollowLemmas
 pub mod FollowPacketLemmas

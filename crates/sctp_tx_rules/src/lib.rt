@@ -3,7 +3,7 @@
 #![tactic(auto)]
 
 ghost use Rattle.sctp_tx_rules.specs.Records.{AcceptingKeepsOne, LeavingKeepsOne, NewHaveNone, SendingKeepsOne, TakingKeepsOne, ValuesHaveOneRecord};
-ghost use Rattle.sctp_tx_rules.specs.Asked.{AnsweredAreOpen, CallsKeepAsked, EachIsAsked, NoneIsAsked, RequestedAreAsked};
+ghost use Rattle.sctp_tx_rules.specs.Asked.{AnsweredAreOpen, AnsweringOpens, CallsKeepAsked, EachIsAsked, NoneIsAsked, PreparingRaises, RequestedAreAsked, RequestingSends};
 ghost use Rattle.sctp_tx_rules.specs.Following.{AcceptingFollows, AnsweringFollows, BeginningFollows, BreaksAreKept, FastFollows, HearingFollows, ItemsFollow, LeadsBegin, NextIsCounted, OthersFollow, PreparingFollows, PreparingLeads, RequestedAreReady, RequestingFollows, SendingFollows, SettingFollows};
 ghost use Rattle.sctp_tx_rules.specs.Line.{CallsKeepLine, NextFlows, ProducingPauses};
 ghost use Rattle.sctp_tx_rules.specs.Pauses.{AcceptingPauses, AnswerPauses, CommittingPauses, DiscardingPauses, PointsEndAtBreaks, PreparesShow, PreparingPauses, RequestPauses, RequestingPauses, RequestsBreak, SacksPassBreaks, SendingPauses, SettingPauses, TurningPauses, TurnsBegin};
@@ -65,7 +65,8 @@ pub fn stopped_streams_wait()
 {}
 
 /// The streams that go into a request are ready, each of them once. They alone wait for its answer, whatever other calls do, until they
-/// have it. Where what waits on a stream that isn't open waits still, nothing of a later epoch was begun.
+/// have it. Of the epochs a stream that is prepared raises one, a request adds its own, and an answer opens its streams; nothing else
+/// changes. Where what waits on a stream that isn't open waits still, nothing of a later epoch was begun.
 pub fn streams_wait_for_their_reset()
     ensures ready { RequestedAreReady }
     ensures requested { RequestedAreAsked }
@@ -73,6 +74,9 @@ pub fn streams_wait_for_their_reset()
     ensures answered { AnsweredAreOpen }
     ensures each { EachIsAsked }
     ensures none { NoneIsAsked }
+    ensures raising { PreparingRaises }
+    ensures sending { RequestingSends }
+    ensures opening { AnsweringOpens }
     ensures begins { LeadsBegin }
 {}
 
