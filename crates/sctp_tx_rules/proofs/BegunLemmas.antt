@@ -1,30 +1,30 @@
 -- What a stream begins is of the epoch in which it is open.
-use Rattle.std.proofs.Common.{◌≡◌, ◌≢◌, ℕ, suc, ◌<◌, ◌≤◌, Bool, true, false, cond, inl, inr, Option, Some, None, List, [], ◌∷◌, length, map, refl, sym, ap, ◌∙◌, subst, arith}
+use Rattle.std.proofs.Common.{◌≡◌, ℕ, suc, ◌<◌, ◌≤◌, Bool, true, false, inl, inr, Option, Some, None, List, [], ◌∷◌, length, map, refl, sym, ap, ◌∙◌, subst, arith}
 use Rattle.std.specs.Prelude.{is_some}
 use Rattle.std.specs.List.{list_all}
-use Rattle.std.proofs.lemmas.Bool.{cases_eq, and_parts, false_from_ne_true}
+use Rattle.std.proofs.lemmas.Bool.{and_parts, false_from_ne_true}
 use Rattle.sctp_state.specs.Events.{Told}
 use Rattle.sctp_send_queue.specs.declared.send_queue.stream.PauseState.{PauseState}
 use Rattle.sctp_send_queue.specs.declared.send_queue.stream.PauseState.TheVariants.{NotPaused, Pending, Paused, Resetting}
-use Rattle.sctp_send_queue.specs.Queue.{Queued, Queue, Stream, stream, is_stopped}
-use Rattle.sctp_send_queue.specs.Produced.{numbers_of, moved, ends, advanced, turn}
-use Rattle.sctp_send_queue.specs.InOrder.{is_first_begun}
+use Rattle.sctp_send_queue.specs.Queue.{Queued, Queue, stream, is_stopped}
+use Rattle.sctp_send_queue.specs.Produced.{turn}
 use Rattle.sctp_outstanding.specs.Items.{Items}
 use Rattle.sctp_rules.specs.State.{Message, Sender, Transfer, stream_of}
 use Rattle.sctp_rules.specs.Rules.{Event, accept, begin, number, close, give_up, data_comes, late_comes, deliver, send_sack, leave, send_forward, forward_comes, forget, IsAllowed, Happens, after, run}
 use Rattle.sctp_rules.specs.Kept.{Kept}
 use Rattle.sctp_rules.specs.Sending.{Waiting}
-use Rattle.sctp_rules.specs.Resets.{Epochs, transfers, InEpoch, goes, MayAll}
+use Rattle.sctp_rules.specs.Resets.{Epochs, transfers, InEpoch, goes, MayAll, go_all}
 use Rattle.sctp_rules.proofs.ToolsLemmas.{put_at, put_off, not_both}
 use Rattle.sctp_rules.proofs.KeepsLemmas.{keeps}
 use Rattle.sctp_rules.proofs.StepLemmas.{later}
-use Rattle.sctp_tx_rules.specs.Shown.{found, messages_of, waiting_of, queue_of, Shows}
-use Rattle.sctp_tx_rules.specs.Led.{is_sending}
+use Rattle.sctp_tx_rules.specs.Shown.{found, messages_of, waiting_of, queue_of, QueueShows, Shows}
+use Rattle.sctp_tx_rules.specs.Led.{is_sending, LeadsTo}
 use Rattle.sctp_tx_rules.specs.Pauses.{ArePausedAs}
-use Rattle.sctp_tx_rules.proofs.FoundLemmas.{one_value, found_at, found_off}
+use Rattle.sctp_tx_rules.specs.Following.{WaitsOn}
 use Rattle.sctp_tx_rules.proofs.QueuedLemmas.{queue_some, queued_is}
 use Rattle.sctp_tx_rules.proofs.PausedLemmas.{unnumbered}
-use Rattle.sctp_tx_rules.proofs.PauseRowLemmas.{same_epochs, freshened, there, elsewhere}
+use Rattle.sctp_tx_rules.proofs.PauseRowLemmas.{same_epochs}
+use Rattle.sctp_tx_rules.proofs.WaitsLemmas.{turn_waits}
 
 -- ---- the rules of a sender
 
@@ -55,7 +55,7 @@ module _ (message : ℕ → Message) (mixed : Bool) where
   begun_later [] x k h p b = b
   begun_later (e ∷ es) x k h p b = begun_later es (after message mixed x e) (keeps message mixed x k e h.0) h.1 p ((later message mixed x k e h.0).begun_stays p b)
 
-  kept_later : (es : List Event) (x : Transfer) → Kept message mixed x → Happens message mixed x es → Kept message mixed (run message mixed x es)
+  pub kept_later : (es : List Event) (x : Transfer) → Kept message mixed x → Happens message mixed x es → Kept message mixed (run message mixed x es)
   kept_later [] x k h = k
   kept_later (e ∷ es) x k h = kept_later es (after message mixed x e) (keeps message mixed x k e h.0) h.1
 
@@ -144,79 +144,47 @@ module _ (message : ℕ → Message) (mixed : Bool) where
             omega (arith, le, same)),
       )
 
--- ---- a turn of a stream that isn't stopped
+-- ---- what leads to a queue in which what waits on streams that aren't open waits still
 
-module _ {P : Type 0} (message : ℕ → Message) (lifecycle : ℕ → Option ℕ) (mixed : Bool) (x : Epochs) (q : Queue) (s : Items) (k : Kept message mixed x.transfer)
-    (sh : Shows message lifecycle mixed x.transfer q s) (h : ArePausedAs x q) (now id size : ℕ) (told : Told P) (goes_on : is_stopped (stream id q.streams).pause ≡ false)
-    (es : List Event) (may : Happens message mixed x.transfer es) (all : list_all is_sending es ≡ true) (t : Items)
-    (shown : Shows message lifecycle mixed (run message mixed x.transfer es) (turn now id size q told).queue t) where
+module _ (message : ℕ → Message) (lifecycle : ℕ → Option ℕ) (mixed : Bool) (x : Epochs) (q r : Queue) (t : Items) (k : Kept message mixed x.transfer)
+    (sh : QueueShows message lifecycle mixed x.transfer.sender q) (h : ArePausedAs x q) (still : WaitsOn q r) (es : List Event) (may : Happens message mixed x.transfer es)
+    (all : list_all is_sending es ≡ true) (shown : Shows message lifecycle mixed (run message mixed x.transfer es) r t) where
   abbrev o : Sender
   o = x.transfer.sender
 
   abbrev o' : Sender
   o' = (run message mixed x.transfer es).sender
 
-  abbrev t0 : Stream
-  t0 = stream id q.streams
-
-  abbrev q' : Queue
-  q' = (turn now id size q told).queue
-
   -- what waits in the queue afterwards isn't begun
-  after_unbegun : (p : ℕ) (m : Queued) → found p (messages_of q' (stream_of message p)) ≡ Some m → m.numbers ≡ None → o'.begun p ≡ false
+  after_unbegun : (p : ℕ) (m : Queued) → found p (messages_of r (stream_of message p)) ≡ Some m → m.numbers ≡ None → o'.begun p ≡ false
   after_unbegun p m f e = go (o'.given_up p) refl
     where
       go : (b : Bool) → o'.given_up p ≡ b → o'.begun p ≡ false
       go true g = absurd (not_both ((shown.queue.messages.entries (stream_of message p) p m f).partly_sent g) (ap is_some e))
-      go false g = (shown.queue.messages.queued.waits p (waiting_of m) (queue_some message o' (messages_of q') p m g f) (ap is_some e)).not_begun
-
-  -- behind a message that is partly sent, one that waits does so still
-  still_behind : (p : ℕ) (m : Queued) → m.numbers ≡ None → (ms : List Queued) → is_first_begun ms ≡ true → found p ms ≡ Some m
-      → found p (let z : Stream = advanced size (record t0 { messages = ms }) in z).messages ≡ Some m
-  still_behind p m e [] b f = absurd (cc)
-  still_behind p m e (c ∷ rest) b f = by (ends size c)
-    where
-      other : c.number ≢ p
-      other n = not_both b (ap (λ (v : Queued). is_some v.numbers) (one_value (found p (c ∷ rest)) c m (found_at p c rest n) f) ∙ ap is_some e)
-
-      behind : found p rest ≡ Some m
-      behind = sym (found_off p c rest other) ∙ f
-
-      part : Queued
-      part = moved size (numbers_of (record t0 { messages = c ∷ rest }) c) c
-
-      by : (b : Bool) → found p (cond b rest (part ∷ rest)) ≡ Some m
-      by true = behind
-      by false = found_off p part rest other ∙ behind
-
-  still_there : (p : ℕ) (m : Queued) → m.numbers ≡ None → found p t0.messages ≡ Some m → t0.pause ≡ Pending → found p (messages_of q' id) ≡ Some m
-  still_there p m e f pends =
-      let b = (h id).pending pends in
-      ap (λ (z : Stream). found p z.messages) (there x q sh.queue.order sh.queue.rising h now id size told goes_on)
-      ∙ (ap (λ (ms : List Queued). found p (let z : Stream = advanced size (record t0 { messages = ms }) in z).messages) ((freshened x q sh.queue.order sh.queue.rising h now id size told goes_on).begun b)
-      ∙ still_behind p m e t0.messages b f)
+      go false g = (shown.queue.messages.queued.waits p (waiting_of m) (queue_some message o' (messages_of r) p m g f) (ap is_some e)).not_begun
 
   -- a message that waited is of the open epoch, if it is begun
   module _ (p : ℕ) (b : o'.begun p ≡ true) (m : Queued) (none : m.numbers ≡ None) (f : found p (messages_of q (stream_of message p)) ≡ Some m) where
-    here : (pause : PauseState) → t0.pause ≡ pause → stream_of message p ≡ id → x.epoch p ≤ x.opened (stream_of message p)
-    here NotPaused e c =
-        let new = (h id).newest p m (ap (λ j. found p (messages_of q j)) (sym c) ∙ f) none in
-        let flows = (h id).flows e in
-        let same = ap x.opened c in
-        omega (arith, new, flows, same)
-    here Pending e c =
-        absurd (not_both b (after_unbegun p m (ap (λ j. found p (messages_of q' j)) c ∙ still_there p m none (ap (λ j. found p (messages_of q j)) (sym c) ∙ f) e) none))
-    here Paused e c = absurd (not_both (ap is_stopped e) goes_on)
-    here Resetting e c = absurd (not_both (ap is_stopped e) goes_on)
+    abbrev own : ℕ
+    own = stream_of message p
 
-    waited : x.epoch p ≤ x.opened (stream_of message p)
-    waited =
-        elim (cases_eq (stream_of message p) id) [
-          | inl c ↦ here t0.pause refl c
-          | inr d ↦
-              absurd (not_both b (after_unbegun p m
-              (ap (λ (z : Stream). found p z.messages) (elsewhere x q sh.queue.order sh.queue.rising h now id size told goes_on (stream_of message p) d) ∙ f) none))
-        ]
+    later_epoch : ((stream own q.streams).pause ≡ NotPaused → ⊥) → x.epoch p ≤ x.opened own
+    later_epoch n = absurd (not_both b (after_unbegun p m (still.waiting own p m n f none) none))
+
+    waited : (pause : PauseState) → (stream own q.streams).pause ≡ pause → x.epoch p ≤ x.opened own
+    waited NotPaused e = let new = (h own).newest p m f none in let flows = (h own).flows e in omega (arith, new, flows)
+    waited Pending e = later_epoch (λ c. pending_flows (sym e ∙ c))
+      where
+        pending_flows : Pending ≡ NotPaused → ⊥
+        pending_flows c = cc
+    waited Paused e = later_epoch (λ c. paused_flows (sym e ∙ c))
+      where
+        paused_flows : Paused ≡ NotPaused → ⊥
+        paused_flows c = cc
+    waited Resetting e = later_epoch (λ c. resetting_flows (sym e ∙ c))
+      where
+        resetting_flows : Resetting ≡ NotPaused → ⊥
+        resetting_flows c = cc
 
   newly : (p : ℕ) → o.begun p ≡ false → o'.begun p ≡ true → x.epoch p ≤ x.opened (stream_of message p)
   newly p n b = go (queue_of message o (messages_of q) p) refl
@@ -226,15 +194,51 @@ module _ {P : Type 0} (message : ℕ → Message) (lifecycle : ℕ → Option �
 
       go : (w : Option Waiting) → queue_of message o (messages_of q) p ≡ w → x.epoch p ≤ x.opened (stream_of message p)
       go None e =
-          absurd (elim ((sh.queue.messages.queued.gone p below e).gone) [
+          absurd (elim ((sh.messages.queued.gone p below e).gone) [
             | inl c ↦ not_both c n
             | inr g ↦ not_both b (unbegun message mixed es x.transfer k may p g n)
           ])
       go (Some w) e =
           let z = queued_is message o (messages_of q) p w e in
           let none = unnumbered z.entry.numbers (false_from_ne_true (is_some z.entry.numbers)
-          (λ c. not_both (k.outgoing.partly_begun p (sh.queue.messages.queued.partly p w e (ap (λ (v : Waiting). v.begun) (sym z.is) ∙ c))) n)) in
-          waited p b z.entry none z.found_there
+          (λ c. not_both (k.outgoing.partly_begun p (sh.messages.queued.partly p w e (ap (λ (v : Waiting). v.begun) (sym z.is) ∙ c))) n)) in
+          waited p b z.entry none z.found_there (stream (stream_of message p) q.streams).pause refl
 
-  pub turn_begins : (run message mixed x.transfer es).forward_points ≡ x.transfer.forward_points → MayAll message mixed x (map transfers es)
-  turn_begins points = in_epochs message mixed es x k all may (ap length points) newly
+  pub begins_waiting : (run message mixed x.transfer es).forward_points ≡ x.transfer.forward_points → MayAll message mixed x (map transfers es)
+  begins_waiting points = in_epochs message mixed es x k all may (ap length points) newly
+
+-- the epochs stay
+pub goes_sending : (message : ℕ → Message) (mixed : Bool) (es : List Event) (x : Epochs) → list_all is_sending es ≡ true
+    → go_all message mixed x (map transfers es) ≡ record x { transfer = run message mixed x.transfer es }
+goes_sending message mixed [] x all = refl
+goes_sending message mixed (e ∷ es) x all =
+    let a = and_parts (is_sending e) (list_all is_sending es) all in
+    let y : Epochs = goes message mixed x (transfers e) in
+    goes_sending message mixed es y a.1 ∙ ap with_epochs (same_epochs message mixed x e a.0)
+  where
+    with_epochs : (ℕ → ℕ) → Epochs
+    with_epochs f = record x { transfer = run message mixed x.transfer (e ∷ es); epoch = f }
+
+pub queue_begins : {P : Type 0} (message : ℕ → Message) (lifecycle : ℕ → Option ℕ) (mixed : Bool) (x : Epochs) (q r : Queue) (t : Items) (told later : Told P) → Kept message mixed x.transfer
+    → QueueShows message lifecycle mixed x.transfer.sender q → ArePausedAs x q → WaitsOn q r → (l : LeadsTo message lifecycle mixed x.transfer told r t later)
+    → MayAll message mixed x (map transfers l.leads.events) × (go_all message mixed x (map transfers l.leads.events) ≡ record x { transfer = l.after })
+queue_begins message lifecycle mixed x q r t told later k sh h still l =
+    let es = l.leads.events in
+    let shown = subst (λ (z : Transfer). Shows message lifecycle mixed z r t) (sym l.leads.leads) l.shows in
+    let points : (run message mixed x.transfer es).forward_points ≡ x.transfer.forward_points = ap (λ (z : Transfer). z.forward_points) l.leads.leads ∙ ap (λ (z : Transfer). z.forward_points) l.leads.rest_stays in (
+      begins_waiting message lifecycle mixed x q r t k sh h still es l.leads.may l.leads.sends shown points,
+      goes_sending message mixed es x l.leads.sends ∙ ap with_transfer l.leads.leads,
+    )
+  where
+    with_transfer : Transfer → Epochs
+    with_transfer z = record x { transfer = z }
+
+-- ---- a turn of a stream that isn't stopped
+
+pub turn_begins : {P : Type 0} (message : ℕ → Message) (lifecycle : ℕ → Option ℕ) (mixed : Bool) (x : Epochs) (q : Queue) (s : Items) → Kept message mixed x.transfer
+    → Shows message lifecycle mixed x.transfer q s → ArePausedAs x q → (now id size : ℕ) (told : Told P) → is_stopped (stream id q.streams).pause ≡ false
+    → (es : List Event) → Happens message mixed x.transfer es → list_all is_sending es ≡ true → (t : Items)
+    → Shows message lifecycle mixed (run message mixed x.transfer es) (turn now id size q told).queue t → (run message mixed x.transfer es).forward_points ≡ x.transfer.forward_points
+    → MayAll message mixed x (map transfers es)
+turn_begins message lifecycle mixed x q s k sh h now id size told goes_on es may all t shown points =
+    begins_waiting message lifecycle mixed x q (turn now id size q told).queue t k sh.queue h (turn_waits x q sh.queue.order sh.queue.rising h now id size told goes_on) es may all shown points

@@ -8,7 +8,7 @@ use Rattle.sctp_outstanding.specs.Item.{Item}
 use Rattle.sctp_outstanding.specs.Items.{Items, next_number, begin_reset}
 use Rattle.sctp_outstanding.specs.Losses.{Step, gives_up, nack_item, nack_at, nack_below, option_bind, expired_of, given_up_if, expire_at, expire_below}
 use Rattle.sctp_outstanding.specs.Sack.{staying}
-use Rattle.sctp_rules.specs.State.{Message, IsAmong, count}
+use Rattle.sctp_rules.specs.State.{Message, Transfer, IsAmong, count}
 use Rattle.sctp_rules.specs.Rules.{send_forward}
 use Rattle.sctp_rules.specs.Resets.{Request, Epochs, send_request, InEpoch, goes, go_all}
 use Rattle.sctp_tx.specs.Retransmission.{Sender}
@@ -98,12 +98,16 @@ module _ (message : ℕ → Message) (lifecycle : ℕ → Option ℕ) (mixed : B
       one r (inl e) = inl (subst (λ (z : Request). IsAmong (origin + z.upto) t.breaks) (sym e) b)
       one r (inr a) = h r a
 
+  pub next_counted : (x : Transfer) (q : Queue) (s : Items) → Shows message lifecycle mixed x q s → next_number s ≡ origin + count x.sender
+  next_counted x q s sh =
+      let p = sh.items.point in
+      let c = kept_count message lifecycle x.sender x.acknowledged s.kept sh.items.kept in
+      omega (arith, p, c)
+
   pub requests_break : (ids : List ℕ) (x : Epochs) (q : Queue) (s : Items) → Shows message lifecycle mixed x.transfer q s → HasBreaks x s
       → HasBreaks (go_all message mixed x (map send_request ids)) (begin_reset s)
   requests_break ids x q s sh h =
-      let p = sh.items.point in
-      let c = kept_count message lifecycle x.transfer.sender x.transfer.acknowledged s.kept sh.items.kept in
-      let next : next_number s ≡ origin + count x.transfer.sender = omega (arith, p, c) in
+      let next = next_counted x.transfer q s sh in
       requested_each ids x (begin_reset s) (subst (λ n. IsAmong n (begin_reset s).breaks) next (among_last (next_number s) s.breaks)) (begun x s h)
 
   -- a point that is due is of one epoch

@@ -104,7 +104,7 @@ module _ {P : Type 0} (message : ℕ → Message) (lifecycle : ℕ → Option �
           ∙ (ap (found number) e ∙ (found_off number m rest d ∙ behind_none (found number rest) refl d))
 
   module _ (h : QueueShows message lifecycle mixed o q) (gone : o.given_up number ≡ true) where
-    same_found : (k r : ℕ) → r ≢ number → found r (messages_of after k) ≡ found r (messages_of q k)
+    pub same_found : (k r : ℕ) → r ≢ number → found r (messages_of after k) ≡ found r (messages_of q k)
     same_found k r d =
         elim (cases_eq k id) [
           | inl e ↦ ap (λ z. found r (messages_of after z)) e ∙ (ap (λ (t : Stream). found r t.messages) there ∙ (front_off s0.messages refl r d ∙ ap (λ z. found r (messages_of q z)) (sym e)))

@@ -12,6 +12,13 @@ pub mod PauseRowLemmas
 pub mod BegunLemmas
 pub mod LineLemmas
 pub mod LineRowLemmas
+pub mod KeyLemmas
+pub mod WaitsLemmas
+pub mod AskedLemmas
+pub mod OpenedLemmas
+pub mod RecordedLemmas
+pub mod FollowLemmas
+pub mod FollowPacketLemmas
 pub mod BreakLemmas
 pub mod ResetLemmas
 pub mod PointLemmas

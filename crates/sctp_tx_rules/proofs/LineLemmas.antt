@@ -14,10 +14,10 @@ use Rattle.sctp_tx_rules.proofs.FoundLemmas.{one_value}
 
 -- ---- finish times
 
-same_id : (a b : ℕ) → is_at (nat_cmp a) b ≡ true → b ≡ a
+pub same_id : (a b : ℕ) → is_at (nat_cmp a) b ≡ true → b ≡ a
 same_id a b e = grind (arith, nat_tests)
 
-other_id : (a b : ℕ) → a ≢ b → is_at (nat_cmp a) b ≡ false
+pub other_id : (a b : ℕ) → a ≢ b → is_at (nat_cmp a) b ≡ false
 other_id a b d = grind (arith, nat_tests)
 
 from_less : (least later : ℕ) (es : Times) → least ≤ later → are_ascending later es ≡ true → are_ascending least es ≡ true
@@ -70,13 +70,13 @@ record Enters (id finish least : ℕ) (es : Times) : Type 0 where
   ascending : are_ascending least (insert_entry nat_cmp es id finish) ≡ true
   others : (k : ℕ) → k ≢ id → finish_time k (insert_entry nat_cmp es id finish) ≡ finish_time k es
 
-less : (a b : ℕ) → nat_cmp a b ≡ Less → a < b
+pub less : (a b : ℕ) → nat_cmp a b ≡ Less → a < b
 less a b q = grind (arith, nat_tests)
 
-greater : (a b : ℕ) → nat_cmp a b ≡ Greater → b < a
+pub greater : (a b : ℕ) → nat_cmp a b ≡ Greater → b < a
 greater a b q = grind (arith, nat_tests)
 
-equal : (a b : ℕ) → nat_cmp a b ≡ Equal → b ≡ a
+pub equal : (a b : ℕ) → nat_cmp a b ≡ Equal → b ≡ a
 equal a b q = grind (arith, nat_tests)
 
 enters : (id finish least : ℕ) (es : Times) → least ≤ id → are_ascending least es ≡ true → Enters id finish least es

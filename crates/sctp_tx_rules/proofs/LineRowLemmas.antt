@@ -46,14 +46,14 @@ in_line_by q r id bytes sch h heard still elsewhere here whole = record {
   whole = whole;
 }
 
-heard_line : (q r : Queue) (id : ℕ) (s : Stream) → IsInLine q → r.scheduler ≡ hears id s q.scheduler → stream id r.streams ≡ s
+pub heard_line : (q r : Queue) (id : ℕ) (s : Stream) → IsInLine q → r.scheduler ≡ hears id s q.scheduler → stream id r.streams ≡ s
     → ((k : ℕ) → k ≢ id → stream k r.streams ≡ stream k q.streams) → (q.begun ≡ None → r.begun ≡ None) → IsInLine r
 heard_line q r id s h same here elsewhere none =
     in_line_by q r id (sendable s) q.scheduler h (subst (λ (z : Scheduler). Heard id (sendable s) q.scheduler z) (sym same) (heard id (sendable s) s.priority q.scheduler h.ascending))
     (λ k d t. t) elsewhere (λ e. ap (λ (z : Stream). is_stopped z.pause) here ∙ sendable_flows s e)
     (λ m. none (h.whole (sym (ap (λ (z : Scheduler). z.is_interleaved) same ∙ hears_mode id (sendable s) s.priority q.scheduler) ∙ m)))
 
-same_line : (q r : Queue) → r.scheduler ≡ q.scheduler → r.begun ≡ q.begun → ((k : ℕ) → (stream k r.streams).pause ≡ (stream k q.streams).pause) → IsInLine q → IsInLine r
+pub same_line : (q r : Queue) → r.scheduler ≡ q.scheduler → r.begun ≡ q.begun → ((k : ℕ) → (stream k r.streams).pause ≡ (stream k q.streams).pause) → IsInLine q → IsInLine r
 same_line q r sch begun pauses h = record {
   ascending = ap (λ (z : Scheduler). are_ascending 0 z.times) sch ∙ h.ascending;
   flows = λ k t. ap is_stopped (pauses k) ∙ h.flows k (ap (λ (z : Scheduler). is_active k z) (sym sch) ∙ t);
@@ -78,7 +78,7 @@ steps_line : (step : ResetStep) (ids : List ℕ) (q : Queue) → IsInLine q → 
 steps_line step [] q h = h
 steps_line step (id ∷ ids) q h = steps_line step ids (stepped step id q) (stepped_line step id q h)
 
-discarded_line : {P : Type 0} (id number : ℕ) (told : Told P) (q : Queue) → IsInLine q → IsInLine (discard id number q told).queue
+pub discarded_line : {P : Type 0} (id number : ℕ) (told : Told P) (q : Queue) → IsInLine q → IsInLine (discard id number q told).queue
 discarded_line {P} id number told q h = go (front_discarded number s0.messages) refl
   where
     s0 : Stream
@@ -123,7 +123,7 @@ set_line q r id s sch begun streams pause h = same_line q r sch begun each h
       | inl c ↦ subst (λ j. (stream j r.streams).pause ≡ (stream j q.streams).pause) (sym c) (ap (λ (z : Stream). z.pause) (ap (stream id) streams ∙ written id s q.streams) ∙ pause)
     ]
 
-turned_line : {P : Type 0} (now id size : ℕ) (told : Told P) (q : Queue) → IsInLine q → IsInLine (turn now id size q told).queue
+pub turned_line : {P : Type 0} (now id size : ℕ) (told : Told P) (q : Queue) → IsInLine q → IsInLine (turn now id size q told).queue
 turned_line {P} now id size told q h = go (next_fragment id size (stream id ss)) refl
   where
     ss : Streams

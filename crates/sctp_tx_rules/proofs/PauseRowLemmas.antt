@@ -35,12 +35,12 @@ use Rattle.sctp_tx_rules.proofs.PausedLemmas.{requesting_may, requesting_keeps, 
 -- ---- a stream later on
 
 -- nothing waits in it that didn't, and its pause agrees with its first message
-record Follows (s t : Stream) : Type 0 where
-  flows : t.pause ≡ NotPaused → s.pause ≡ NotPaused
-  shut : (t.pause ≡ NotPaused → ⊥) → s.pause ≡ NotPaused → ⊥
-  stopped : is_stopped t.pause ≡ true → is_first_begun t.messages ≡ false
-  pending : t.pause ≡ Pending → is_first_begun t.messages ≡ true
-  new : (p : ℕ) (m : Queued) → found p t.messages ≡ Some m → m.numbers ≡ None → found p s.messages ≡ Some m
+pub record Follows (s t : Stream) : Type 0 where
+  pub flows : t.pause ≡ NotPaused → s.pause ≡ NotPaused
+  pub shut : (t.pause ≡ NotPaused → ⊥) → s.pause ≡ NotPaused → ⊥
+  pub stopped : is_stopped t.pause ≡ true → is_first_begun t.messages ≡ false
+  pub pending : t.pause ≡ Pending → is_first_begun t.messages ≡ true
+  pub new : (p : ℕ) (m : Queued) → found p t.messages ≡ Some m → m.numbers ≡ None → found p s.messages ≡ Some m
 
 keeps_paused : (x : Epochs) (k : ℕ) (s t : Stream) → Follows s t → IsPausedAs x k s → IsPausedAs x k t
 keeps_paused x k s t f i = record {
@@ -111,7 +111,7 @@ module _ {P : Type 0} (message : ℕ → Message) (lifecycle : ℕ → Option �
   same_stream : Follows s0 s0
   same_stream = record { flows = λ e. e; shut = λ e. e; stopped = (a id).stopped; pending = (a id).pending; new = λ p m f e. f }
 
-  dropped_follows : (ms : List Queued) → s0.messages ≡ ms → Follows s0 (without_front number ms s0)
+  pub dropped_follows : (ms : List Queued) → s0.messages ≡ ms → Follows s0 (without_front number ms s0)
   dropped_follows [] e = same_stream
   dropped_follows (m ∷ rest) e = by (m.number == number)
     where
@@ -202,7 +202,7 @@ module _ {P : Type 0} (x : Epochs) (q : Queue) (ordered : IsInOrder q) (numbered
   pub freshened : IsFresh now 0 q.next_number t0.messages
   freshened = is_fresh now 0 q.next_number t0.messages (numbered.rising id) (ordered.order id)
 
-  turned_follows : (ms : List Queued) → fresh now t0.messages ≡ ms → Follows t0 (advanced size (with_these ms))
+  pub turned_follows : (ms : List Queued) → fresh now t0.messages ≡ ms → Follows t0 (advanced size (with_these ms))
   turned_follows [] e = record {
     flows = λ c. c;
     shut = λ c. c;
@@ -257,7 +257,7 @@ module _ {P : Type 0} (x : Epochs) (q : Queue) (ordered : IsInOrder q) (numbered
 
 -- ---- several streams
 
-still_each : (step : ResetStep) (p : PauseState) (id : ℕ) (ids : List ℕ) (q : Queue) → ((j : ℕ) → IsAmong j ids → id ≢ j) → AreEach p q ids → AreEach p (stepped step id q) ids
+pub still_each : (step : ResetStep) (p : PauseState) (id : ℕ) (ids : List ℕ) (q : Queue) → ((j : ℕ) → IsAmong j ids → id ≢ j) → AreEach p q ids → AreEach p (stepped step id q) ids
 still_each step p id [] q d e = tt
 still_each step p id (j ∷ ids) q d e = (ap (λ (z : Stream). z.pause) (off step id q j (λ c. d j (inl refl) (sym c))) ∙ e.0, e.1, still_each step p id ids q (λ i a. d i (inr a)) e.2)
 

@@ -149,7 +149,7 @@ module _ (message : ℕ → Message) (lifecycle : ℕ → Option ℕ) (mixed : B
 
 module _ (message : ℕ → Message) (mixed : Bool) where
   -- that messages are given up changes the transfer alone
-  go_given : (ps : List ℕ) (x : Epochs) → go_all message mixed x (map transfers (give_ups ps)) ≡ record x { transfer = run message mixed x.transfer (give_ups ps) }
+  pub go_given : (ps : List ℕ) (x : Epochs) → go_all message mixed x (map transfers (give_ups ps)) ≡ record x { transfer = run message mixed x.transfer (give_ups ps) }
   go_given [] x = refl
   go_given (p ∷ ps) x = go_given ps (goes message mixed x (transfers (give_up p)))
 
@@ -157,11 +157,11 @@ module _ (message : ℕ → Message) (mixed : Bool) where
   may_given [] x h = tt
   may_given (p ∷ ps) x h = ((h.0, tt), may_given ps (goes message mixed x (transfers (give_up p))) h.1)
 
-  go_more : (es fs : List ResetEvent) (x : Epochs) → go_all message mixed x (es ++ fs) ≡ go_all message mixed (go_all message mixed x es) fs
+  pub go_more : (es fs : List ResetEvent) (x : Epochs) → go_all message mixed x (es ++ fs) ≡ go_all message mixed (go_all message mixed x es) fs
   go_more [] fs x = refl
   go_more (e ∷ es) fs x = go_more es fs (goes message mixed x e)
 
-  may_more : (es fs : List ResetEvent) (x : Epochs) → MayAll message mixed x es → MayAll message mixed (go_all message mixed x es) fs → MayAll message mixed x (es ++ fs)
+  pub may_more : (es fs : List ResetEvent) (x : Epochs) → MayAll message mixed x es → MayAll message mixed (go_all message mixed x es) fs → MayAll message mixed x (es ++ fs)
   may_more [] fs x a b = b
   may_more (e ∷ es) fs x a b = (a.0, may_more es fs (goes message mixed x e) a.1 b)
 

@@ -121,7 +121,7 @@ module _ (P : Resent → Type 0) (k : ℕ) (x : Resent) (sent : (i : Item) → s
   by_item true (Some i) h = fast_case i h (is_fast i) (nat_le (size_in x i) x.room) refl refl
   by_item false (Some i) h = queued_case i h (should_be_retransmitted i) (nat_le (size_in x i) (allowed x)) refl refl
 
-  by_turn : (fast : Bool) → P (step_at fast k x)
+  pub by_turn : (fast : Bool) → P (step_at fast k x)
   by_turn fast = by_item fast (slice_get x.outstanding.items.kept k) refl
 
 short : (k : ℕ) (is : List Item) (i : Item) → slice_get is k ≡ Some i → k < length is

@@ -67,7 +67,7 @@ module _ (message : ℕ → Message) (lifecycle : ℕ → Option ℕ) where
     first_waits k [] e = refl
     first_waits k (m ∷ rest) e = unnumbered k m (ap (found m.number) e ∙ found_at m.number m rest refl)
 
-    unsent : mixed ≡ false → IsUnsent q
+    pub unsent : mixed ≡ false → IsUnsent q
     unsent plain = record { first = λ k. first_waits k (messages_of q k) refl; begun = go q.begun refl }
       where
         go : (b : Option ℕ) → q.begun ≡ b → q.begun ≡ None

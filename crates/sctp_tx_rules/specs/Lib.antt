@@ -5,3 +5,5 @@ pub mod Rows
 pub mod Shown
 pub mod Pauses
 pub mod Line
+pub mod Following
+pub mod Asked

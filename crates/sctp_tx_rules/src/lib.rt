@@ -3,6 +3,8 @@
 #![tactic(auto)]
 
 ghost use Rattle.sctp_tx_rules.specs.Records.{AcceptingKeepsOne, LeavingKeepsOne, NewHaveNone, SendingKeepsOne, TakingKeepsOne, ValuesHaveOneRecord};
+ghost use Rattle.sctp_tx_rules.specs.Asked.{AnsweredAreOpen, AnsweringOpens, CallsKeepAsked, EachIsAsked, NoneIsAsked, PreparingRaises, RequestedAreAsked, RequestingSends};
+ghost use Rattle.sctp_tx_rules.specs.Following.{AcceptingFollows, AnsweringFollows, BeginningFollows, BreaksAreKept, FastFollows, HearingFollows, ItemsFollow, LeadsBegin, NextIsCounted, OthersFollow, PreparingFollows, PreparingLeads, RequestedAreReady, RequestingFollows, SendingFollows, SettingFollows};
 ghost use Rattle.sctp_tx_rules.specs.Line.{CallsKeepLine, NextFlows, ProducingPauses};
 ghost use Rattle.sctp_tx_rules.specs.Pauses.{AcceptingPauses, AnswerPauses, CommittingPauses, DiscardingPauses, PointsEndAtBreaks, PreparesShow, PreparingPauses, RequestPauses, RequestingPauses, RequestsBreak, SacksPassBreaks, SendingPauses, SettingPauses, TurningPauses, TurnsBegin};
 ghost use Rattle.sctp_tx_rules.specs.Rows.{Accepts, BeginningsShow, CarryingStays, CommitsShow, DiscardsShow, Expires, FastPacketsAreSent, GivesUp, LifetimesEnd, Loses, NewShow, OffersAreQueued, OthersAreNotShown, PacketsAreSent, PointsAreDue, Produces, RecordsAreExact, RequestsShow, ResetsShow, RestIsRest, SacksAreHeard, SettingsShow, TimesOut};
@@ -28,10 +30,11 @@ pub fn messages_are_accepted()
     ensures settings { SettingsShow }
 {}
 
-/// Where a stream is to be reset, its messages of which nothing was sent are given up. Streams that go into a request change nothing of
+/// Where a stream is to be reset, its messages of which nothing was sent are given up, each with its record. Streams that go into a request change nothing of
 /// what the values show. Once its answer has come, their numbers on the wire begin again, and nothing else changes.
 pub fn streams_are_reset()
     ensures prepared { PreparesShow }
+    ensures recorded { PreparingLeads }
     ensures requested { RequestsShow }
     ensures committed { CommitsShow }
 {}
@@ -59,6 +62,41 @@ pub fn stopped_streams_wait()
     ensures line { CallsKeepLine }
     ensures next { NextFlows }
     ensures produces { ProducingPauses }
+{}
+
+/// The streams that go into a request are ready, each of them once. They alone wait for its answer, whatever other calls do, until they
+/// have it. Of the epochs a stream that is prepared raises one, a request adds its own, and an answer opens its streams; nothing else
+/// changes. Where what waits on a stream that isn't open waits still, nothing of a later epoch was begun.
+pub fn streams_wait_for_their_reset()
+    ensures ready { RequestedAreReady }
+    ensures requested { RequestedAreAsked }
+    ensures kept { CallsKeepAsked }
+    ensures answered { AnsweredAreOpen }
+    ensures each { EachIsAsked }
+    ensures none { NoneIsAsked }
+    ensures raising { PreparingRaises }
+    ensures sending { RequestingSends }
+    ensures opening { AnsweringOpens }
+    ensures begins { LeadsBegin }
+{}
+
+/// All together: pauses agree with the epochs, no stream that is stopped is in line, each stream stands once, and each request has its
+/// breakpoint. So it is in a new queue, and where an association begins; each call keeps it, and what a call does as rules may happen by the
+/// rules with epochs too.
+pub fn epochs_are_followed()
+    ensures beginning { BeginningFollows }
+    ensures accepting { AcceptingFollows }
+    ensures settings { SettingFollows }
+    ensures preparing { PreparingFollows }
+    ensures requesting { RequestingFollows }
+    ensures counted { NextIsCounted }
+    ensures answering { AnsweringFollows }
+    ensures sending { SendingFollows }
+    ensures fast { FastFollows }
+    ensures hearing { HearingFollows }
+    ensures items { ItemsFollow }
+    ensures breaks { BreaksAreKept }
+    ensures others { OthersFollow }
 {}
 
 /// A forward point goes on over no request of a reset before all below that is acknowledged: a request makes a breakpoint of what is
