@@ -72,6 +72,7 @@ module _ (message : ℕ → Message) (lifecycle : ℕ → Option ℕ) (mixed : B
   near_once first shift x e r k may same h = record {
     tsns = sender_keeps message mixed first shift x e r k may same h.tsns;
     mids = λ m. sender_keeps_mids message mixed x k m e may same no_base r (h.mids m);
+    start = h.start;
   }
 
   module _ (x : Transfer) (e : Event) (k : Kept message mixed x) (may : IsAllowed message mixed x e) (same : SameReceiver x (after message mixed x e)) where

@@ -59,7 +59,7 @@ first_flows message lifecycle mixed of short o q words others = record {
     none_handed = refl;
     no_sacks = refl;
     receives = λ options size. first_receives message mixed 0 options size;
-    near = λ first size. record { tsns = new_is_near mixed first 0 size; mids = λ m. new_mids message mixed size };
+    near = λ first size. record { tsns = new_is_near mixed first 0 size; mids = λ m. new_mids message mixed size; start = λ e. refl };
   };
   accepted_is = refl;
   out = tt;

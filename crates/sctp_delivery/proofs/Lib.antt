@@ -41,3 +41,9 @@ pub mod ProperCourseLemmas
 pub mod ProperRunLemmas
 pub mod BoundsLemmas
 pub mod SkippingLemmas
+pub mod AsksLemmas
+pub mod ResetRunLemmas
+pub mod EpochClaimLemmas
+pub mod StreamEpochLemmas
+pub mod AskedNextLemmas
+pub mod AnswersLemmas

@@ -44,7 +44,7 @@ pub record Arrives (message : ℕ → Message) (mixed : Bool) (first : ℕ) (han
   pub not_deferred : r.deferred ≡ None
 
 module _ (message : ℕ → Message) (mixed : Bool) (first : ℕ) (handed : List messages.Message) (x : Transfer) where
-  arrives_by : (shift : ℕ) (es : List Event) (t : Tracker) (r : Reassembly) → GoesNear message mixed no_base first shift x es handed t r → list_all is_receiving es ≡ true
+  arrives_by : (shift : ℕ) (es : List Event) (t : Tracker) (r : Reassembly) → GoesNear message mixed no_base first shift x es handed None t r → list_all is_receiving es ≡ true
       → IsTracker t → Arrives message mixed first handed x t r
   arrives_by shift es t r g all is = record {
     to = run message mixed x es;
@@ -53,7 +53,7 @@ module _ (message : ℕ → Message) (mixed : Bool) (first : ℕ) (handed : List
     receives = g.goes.receives;
     near = g.near;
     is_tracker = is;
-    not_deferred = g.goes.not_deferred;
+    not_deferred = g.goes.deferred;
   }
 
   module _ (kept : Kept message mixed x) (windows : Windows message x) (own : AreTheirOwn x.sender x.forward_points) (few : AreFew x.sender) (shift : ℕ) (t : Tracker) (r : Reassembly)
@@ -119,7 +119,7 @@ module _ (message : ℕ → Message) (mixed : Bool) (first : ℕ) (handed : List
 
       point_by : (b : Bool) → moves_on (origin + k) t ≡ b → Arrives message mixed first handed x (tracker.forward (origin + k) t) (skipped_if b tsn skipped r)
       point_by true moves =
-          let l = point_near message mixed no_base first shift x kept windows.items handed t r shown near is k tsn f sent last moves are_now tsn_is none few apart (named moves) skipped are in
+          let l = point_near message mixed no_base first shift x kept windows.items handed t r shown near is k tsn f sent last moves are_now tsn_is apart none few (named moves) skipped are in
           arrives_by (shift_after r.first shift k) (forward_comes f no_stream ∷ map deliver l.0) (tracker.forward (origin + k) t) (skipped_if true tsn skipped r) l.1
           (ready_is_receiving l.0) passed
       point_by false old = stays (tracker.forward (origin + k) t) (old_point message mixed shift no_base x handed t r shown (origin + k) old) passed

@@ -1,5 +1,5 @@
 -- Rules of a receiver that lead on: the sender's part and what is under way stay, SACKs only grow, and what was said stays true.
-use Rattle.std.proofs.Common.{◌≡◌, ℕ, Bool, true, inr, List, [], ◌∷◌, map, All, refl, ◌∙◌, subst}
+use Rattle.std.proofs.Common.{◌≡◌, ℕ, Bool, true, inr, None, List, [], ◌∷◌, map, All, refl, ◌∙◌, subst}
 use Rattle.std.specs.List.{list_all}
 use Rattle.std.proofs.lemmas.Bool.{and_parts}
 use Rattle.std.proofs.lemmas.List.Elements.{All-weaker}
@@ -22,7 +22,7 @@ ready_is_receiving (p ∷ ps) = ready_is_receiving ps
 module _ (message : ℕ → Message) (mixed : Bool) where
   -- by the laws of the receiver's values
   pub receiving_goes : (shift : ℕ) (x : Transfer) (es : List Event) (handed : List messages.Message) (t : Tracker) (r : Reassembly)
-      → Goes message mixed no_base shift x es handed t r → list_all is_receiving es ≡ true → GoesOn message mixed is_receiving x (run message mixed x es)
+      → Goes message mixed no_base shift x es handed None t r → list_all is_receiving es ≡ true → GoesOn message mixed is_receiving x (run message mixed x es)
   receiving_goes shift x es handed t r goes all = record { events = es; may = goes.may; all = all; leads = refl }
 
   -- ---- what stays

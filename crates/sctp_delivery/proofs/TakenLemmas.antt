@@ -47,6 +47,7 @@ module _ (message : ℕ → Message) (mixed : Bool) (x : Transfer) where
   near_taken first shift r h = record {
     tsns = h.tsns;
     mids = λ m. record { streams = (h.mids m).streams; points = (h.mids m).points };
+    start = h.start;
   }
 
   fresh_taken : (handed : List messages.Message) → IsFresh message mixed handed x → IsFresh message mixed (handed ++ []) x

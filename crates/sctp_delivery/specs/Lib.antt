@@ -5,3 +5,6 @@ pub mod Delivery
 pub mod Proper
 pub mod Skipping
 pub mod Ending
+pub mod Asks
+pub mod Answered
+pub mod StreamEpochs

@@ -5,6 +5,9 @@ ghost use Rattle.sctp_delivery.specs.Delivery.{MessagesAreDelivered, TwoAreDeliv
 ghost use Rattle.sctp_delivery.specs.Ending.{MessagesAreDeliveredThen};
 ghost use Rattle.sctp_delivery.specs.Proper.{AcceptancesAreAccepted, RecordsAreProper, TwoAreGivenUp};
 ghost use Rattle.sctp_delivery.specs.Skipping.{OneIsSkipped};
+ghost use Rattle.sctp_delivery.specs.StreamEpochs.{OneIsReset};
+
+pub mod asks;
 
 /// Two new ends go on as in `ends_are_joined`: by any calls, moments, foreign bytes that they refuse, and packets of the other
 /// end, each of which may come again, late, in any order, or never. At each point of such a course, in either direction and
@@ -55,4 +58,11 @@ pub fn records_are_proper()
     ensures proper { RecordsAreProper }
     ensures accepted { AcceptancesAreAccepted }
     ensures goes { TwoAreGivenUp }
+{}
+
+/// In a course, computed, a message is sent, its stream is reset, twice, and another message is accepted before the answer comes. The
+/// first is of epoch 0, the second of epoch 1; both become ready; the reset is told once at either end, and none is refused. (Deliveries
+/// with resets are not proved yet: this shows what their epochs are.)
+pub fn a_stream_is_reset()
+    ensures { OneIsReset }
 {}

@@ -20,7 +20,7 @@ put_entries (e ∷ es) xs = put_entries es (put_entry e xs)
 
 -- ---- the entries as they came are sorted alike
 
-id_is : (mixed : Bool) (ss : Streams) (x : SkippedStream) (e : Entry) → StandsFor mixed ss x e → skipped_id x ≡ e.stream
+pub id_is : (mixed : Bool) (ss : Streams) (x : SkippedStream) (e : Entry) → StandsFor mixed ss x e → skipped_id x ≡ e.stream
 id_is false ss (ForwardTsn id ssn) e h = sym h.1
 id_is false ss (IForwardTsn key mid) e h = absurd h
 id_is true ss (ForwardTsn id ssn) e h = absurd h

@@ -1,5 +1,5 @@
 -- A fragment of the sender that comes.
-use Rattle.std.proofs.Common.{◌≡◌, ℕ, ◌+◌, ◌-◌, ◌^◌, ◌<◌, ◌≤◌, Bool, true, false, cond, inl, inr, None, List, refl, ap, sym, ◌∙◌, subst, arith}
+use Rattle.std.proofs.Common.{◌≡◌, ℕ, ◌+◌, ◌-◌, ◌^◌, ◌<◌, ◌≤◌, Bool, true, false, cond, inl, inr, List, refl, ap, sym, ◌∙◌, subst, arith}
 use Rattle.std.specs.Prelude.{not, ◌&&◌, ◌||◌, nat_lt}
 use Rattle.std.proofs.lemmas.Bool.{cond-true, cond-false, eqb-true, and_parts, or_right}
 use Rattle.std.proofs.lemmas.Bool.Decides.{nat_tests}
@@ -89,10 +89,10 @@ module _ (message : ℕ → Message) (mixed : Bool) (shift : ℕ) (o : Sender) (
   number_near = let e = read.number_is in far_is (number_read f.is_unordered f r.streams) (wire_chunk message mixed o k).number (omega (arith, e)) read.number_below
 
   -- the call
-  pub added_now : r.deferred ≡ None → add tsn f r ≡ made (streams.add (number_of r tsn) f r.streams) (came tsn r)
-  added_now none =
+  pub added_now : fragment_waits (number_of r tsn) f.stream_id r.deferred ≡ false → add tsn f r ≡ made (streams.add (number_of r tsn) f r.streams) (came tsn r)
+  added_now at_once =
       cond-false (is_far (number_of r tsn)) r (add_or_wait (number_of r tsn) f (came tsn r)) (let e = read.tsn_is in far_is (number_of r tsn) k (omega (arith, e)) read.tsn_below)
-      ∙ cond-false (fragment_waits (number_of r tsn) f.stream_id r.deferred) (waits (Added (number_of r tsn) f) (came tsn r)) (add_now (number_of r tsn) f (came tsn r)) (ap (fragment_waits (number_of r tsn) f.stream_id) none)
+      ∙ cond-false (fragment_waits (number_of r tsn) f.stream_id r.deferred) (waits (Added (number_of r tsn) f) (came tsn r)) (add_now (number_of r tsn) f (came tsn r)) at_once
 
 -- ---- is it late?
 

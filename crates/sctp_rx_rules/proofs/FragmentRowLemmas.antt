@@ -10,7 +10,7 @@ use Rattle.sctp_rx.specs.Delivery.{ordered_arrival, unordered_arrival}
 use Rattle.sctp_rx.specs.Settled.{AreInOrder, AreSettled}
 use Rattle.sctp_rx.specs.Streams as streams
 use Rattle.sctp_rx.specs.Streams.{Streams, Outcome, unchanged, with_ordered, with_unordered, is_far, held_as, add_in_order, add_ordered, add_unordered}
-use Rattle.sctp_rx.specs.ReassemblyQueue.{Reassembly, number_of, came, made, add}
+use Rattle.sctp_rx.specs.ReassemblyQueue.{Reassembly, number_of, came, made, add, fragment_waits}
 use Rattle.sctp_rx.specs.Tracker.{Tracker, IsTracker, observe}
 use Rattle.sctp_tracker.proofs.SeenOneFormLemmas.{contains-add}
 use Rattle.sctp_reassembly.proofs.SettledQueueLemmas.{settled_arrives}
@@ -67,7 +67,7 @@ add_mode n f ss = go f.is_unordered
 
 module _ (message : ℕ → Message) (mixed : Bool) (base : Bool → ℕ → ℕ) (before : ℕ) (x : Transfer) (kept : Kept message mixed x) (handed : List messages.Message) (t : Tracker) (r : Reassembly)
     (shown : Receives message mixed base before x handed t r)
-    (is_tracker : IsTracker t) (none : r.deferred ≡ None) (k tsn : ℕ) (f : FragmentTree) (carries : Carries message mixed x.sender k f) (read : IsRead message mixed (shift_after r.first before k) x.sender r k tsn f) (unseen : was_seen t k ≡ false) (is_now : IsNow base message x.sender k) where
+    (is_tracker : IsTracker t) (k tsn : ℕ) (f : FragmentTree) (at_once : fragment_waits (number_of r tsn) f.stream_id r.deferred ≡ false) (carries : Carries message mixed x.sender k f) (read : IsRead message mixed (shift_after r.first before k) x.sender r k tsn f) (unseen : was_seen t k ≡ false) (is_now : IsNow base message x.sender k) where
   abbrev shift : ℕ
   shift = shift_after r.first before k
 
@@ -133,7 +133,7 @@ module _ (message : ℕ → Message) (mixed : Bool) (base : Bool → ℕ → ℕ
   view_is = ap (λ z. view_with outcome.streams z) (sym (append_assoc handed r.ready outcome.messages))
 
   call_is : add tsn f r ≡ made outcome (came tsn r)
-  call_is = added_now message mixed shift x.sender r k tsn f carries read shown.mode none
+  call_is = added_now message mixed shift x.sender r k tsn f carries read shown.mode at_once
 
   mode_is : (made outcome (came tsn r)).streams.is_interleaved ≡ mixed
   mode_is = add_mode (number_of r tsn) f r.streams ∙ shown.mode
@@ -141,7 +141,7 @@ module _ (message : ℕ → Message) (mixed : Bool) (base : Bool → ℕ → ℕ
   pub first_is : (add tsn f r).first ≡ Some (unwrap_or r.first tsn)
   first_is = ap (λ z. z.first) call_is
 
-  pub row_held : is_behind message mixed x.sender x.receiver k ≡ false → (now : Bool) → (ps : List ℕ) × Goes message mixed base shift x (data_comes k ∷ map deliver ps) handed (observe (origin + k) now t) (add tsn f r)
+  pub row_held : is_behind message mixed x.sender x.receiver k ≡ false → (now : Bool) → (ps : List ℕ) × Goes message mixed base shift x (data_comes k ∷ map deliver ps) handed r.deferred (observe (origin + k) now t) (add tsn f r)
   row_held current now =
       let a = arrival f.is_unordered refl in
       let p' : IsSeenAs mixed shift (view_of handed (made outcome (came tsn r))) a.leads.queue = subst (λ z. IsSeenAs mixed shift z a.leads.queue) (sym view_is) a.leads.seen_as in
@@ -151,9 +151,9 @@ module _ (message : ℕ → Message) (mixed : Bool) (base : Bool → ℕ → ℕ
       let none_more = none_left message mixed base shift x kept outcome.streams ((handed ++ r.ready) ++ outcome.messages) a.leads.queue a.leads.seen_as settled (λ κ w e. sent a.middle comes κ w (takes_fewer mixed a.leads.takes κ w e)) in
       let l = wire_chunk_row message mixed base x q a.middle a.leads.queue k kept shown.shows carries.numbered carries.real unseen_there is_now comes (takes_readied mixed a.leads.takes none_more) in (
         l.0,
-        subst (λ z. Goes message mixed base shift x (data_comes k ∷ map deliver l.0) handed (observe (origin + k) now t) z) (sym call_is)
-            (goes_to message mixed base shift x kept (data_comes k) (map deliver l.0) a.leads.queue l.1 handed (observe (origin + k) now t) (made outcome (came tsn r)) p'
-            (λ n. observed_seen t is_tracker x.receiver.seen shown.seen k n now) mode_is settled (λ e. cc) none),
+        subst (λ z. Goes message mixed base shift x (data_comes k ∷ map deliver l.0) handed r.deferred (observe (origin + k) now t) z) (sym call_is)
+            (goes_to message mixed base shift x kept (data_comes k) (map deliver l.0) a.leads.queue l.1 handed r.deferred (observe (origin + k) now t) (made outcome (came tsn r)) p'
+            (λ n. observed_seen t is_tracker x.receiver.seen shown.seen k n now) mode_is settled (λ e. cc) refl),
       )
     where
       arrival : (b : Bool) → f.is_unordered ≡ b → Arrival mixed shift decide r.streams (handed ++ r.ready) q seen_as sorted f.stream_id (item r tsn f) own own_is new outcome
@@ -178,14 +178,14 @@ module _ (message : ℕ → Message) (mixed : Bool) (base : Bool → ℕ → ℕ
             | inr d ↦ sent_of message mixed base shift x kept q shown.shows κ w (sym (z.kept κ d) ∙ e)
           ]
 
-  pub row_late : is_behind message mixed x.sender x.receiver k ≡ true → (now : Bool) → Goes message mixed base shift x (late_comes k ∷ []) handed (observe (origin + k) now t) (add tsn f r)
+  pub row_late : is_behind message mixed x.sender x.receiver k ≡ true → (now : Bool) → Goes message mixed base shift x (late_comes k ∷ []) handed r.deferred (observe (origin + k) now t) (add tsn f r)
   row_late late now =
       let p' : IsSeenAs mixed shift (view_of handed (made outcome (came tsn r))) q = subst (λ z. IsSeenAs mixed shift z q) (sym view_is) (seen_alike mixed shift (view_of handed r) (view_with outcome.streams ((handed ++ r.ready) ++ outcome.messages)) q (alike f.is_unordered refl) seen_as) in
       let settled = subst (λ z. AreSettled z.streams) call_is (settled_arrives r shown.settled tsn f) in
       let l = wire_late_row message mixed base x q k kept shown.shows carries.numbered unseen_there is_now
       (late_in message mixed shift x handed r k tsn f carries read base q shown.shows seen_as is_now late) (none_ready message mixed base before x kept handed t r shown) in
-      subst (λ z. Goes message mixed base shift x (late_comes k ∷ []) handed (observe (origin + k) now t) z) (sym call_is)
-      (goes_to message mixed base shift x kept (late_comes k) [] q l handed (observe (origin + k) now t) (made outcome (came tsn r)) p' (λ n. observed_seen t is_tracker x.receiver.seen shown.seen k n now) mode_is settled (λ e. cc) none)
+      subst (λ z. Goes message mixed base shift x (late_comes k ∷ []) handed r.deferred (observe (origin + k) now t) z) (sym call_is)
+      (goes_to message mixed base shift x kept (late_comes k) [] q l handed r.deferred (observe (origin + k) now t) (made outcome (came tsn r)) p' (λ n. observed_seen t is_tracker x.receiver.seen shown.seen k n now) mode_is settled (λ e. cc) refl)
     where
       alike : (b : Bool) → f.is_unordered ≡ b → AreAlike (view_of handed r) (view_with outcome.streams ((handed ++ r.ready) ++ outcome.messages))
       alike false e =

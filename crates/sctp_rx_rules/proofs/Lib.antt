@@ -25,3 +25,5 @@ pub mod NearKeptLemmas
 pub mod NearRunLemmas
 pub mod NearComesLemmas
 pub mod ResetRowLemmas
+pub mod DeferralLemmas
+pub mod DeferralRowLemmas

@@ -1,12 +1,12 @@
 -- What comes as it was written is a few of the rules, and what comes next is read as it was meant.
-use Rattle.std.proofs.Common.{◌≡◌, ℕ, suc, ◌+◌, Bool, true, false, None, List, [], ◌∷◌, map}
+use Rattle.std.proofs.Common.{◌≡◌, ℕ, suc, ◌+◌, Bool, true, false, Option, Some, None, List, [], ◌∷◌, map, sym, ap, ◌∙◌, subst}
 use Rattle.sctp_serial.specs.Messages as messages
 use Rattle.sctp_serial.specs.Unwrapped.{origin, words, wire}
 use Rattle.sctp_packet.specs.Chunk.{FragmentTree}
 use Rattle.sctp_chunk.specs.declared.forward_tsn.SkippedStream.{SkippedStream}
 use Rattle.sctp_rx.specs.Tracker as tracker
 use Rattle.sctp_rx.specs.Tracker.{Tracker, IsTracker, moves_on, observe}
-use Rattle.sctp_rx.specs.ReassemblyQueue.{Reassembly, number_of, add, forward}
+use Rattle.sctp_rx.specs.ReassemblyQueue.{Reassembly, Deferred, number_of, fragment_waits, point_waits, came, made, add, forward}
 use Rattle.sctp_rules.specs.State.{Message, ForwardPoint, Transfer, IsAmong}
 use Rattle.sctp_rules.specs.Rules.{Event, data_comes, late_comes, deliver, forward_comes, run, no_stream}
 use Rattle.sctp_rules.specs.Lifted.{wire_point, IsNow, AreEntriesNow}
@@ -16,12 +16,16 @@ use Rattle.sctp_rx_rules.specs.Read.{Carries, IsRead, StandForAll, is_behind, sh
 use Rattle.sctp_rules.specs.Points.{AreApart}
 use Rattle.sctp_rx_rules.specs.Receives.{Receives, Goes}
 use Rattle.sctp_rx_rules.specs.Near.{IsWritten, AreEntries, AreFew, ReadsNear, GoesNear, IsInWindow, IsNearNext, AreNearNext}
-use Rattle.sctp_rx_rules.proofs.FragmentRowLemmas.{row_held, row_late}
-use Rattle.sctp_rx_rules.proofs.ForwardRowLemmas.{row_point}
+use Rattle.sctp_rx_rules.proofs.FragmentRowLemmas.{first_is, row_held, row_late}
+use Rattle.sctp_rx_rules.proofs.ForwardLemmas.{passed_but}
+use Rattle.sctp_rx_rules.proofs.ForwardRowLemmas.{called_at_once, row_point}
 use Rattle.sctp_rx_rules.proofs.NearRowLemmas.{kept_yet, fragment_is_read, fragment_keeps, point_is_read, point_below, point_keeps, is_ahead}
 use Rattle.sctp_rx_rules.proofs.NearNumberLemmas.{entries_are_read}
 use Rattle.sctp_rx_rules.proofs.NearMidLemmas.{fragment_number, entry_mid}
 use Rattle.sctp_rx_rules.proofs.NearKeptLemmas.{fragment_keeps_mids, point_keeps_mids}
+
+pub some_none : {n : ℕ} → Some n ≡ None → ⊥
+some_none e = cc
 
 module _ (message : ℕ → Message) (mixed : Bool) (base : Bool → ℕ → ℕ) (first shift : ℕ) (x : Transfer) (kept : Kept message mixed x) (windows : IsInWindow x) (handed : List messages.Message) (t : Tracker) (r : Reassembly)
     (shown : Receives message mixed base shift x handed t r) (near : ReadsNear message mixed base first shift x r) where
@@ -38,26 +42,45 @@ module _ (message : ℕ → Message) (mixed : Bool) (base : Bool → ℕ → ℕ
         (λ m e. fragment_number message mixed base x kept windows r (near.mids m) k f carries written (kept_yet message mixed base first shift x kept windows handed t r shown near.tsns k tsn f tsn_is carries unseen)
         is_now m shown.mode e)
 
-    module _ (is_tracker : IsTracker t) (none : r.deferred ≡ None) where
-      pub near_then : IsRead message mixed later x.sender r k tsn f → (now : Bool) (es : List Event) → Goes message mixed base later x es handed (observe (origin + k) now t) (add tsn f r) → ReadsNear message mixed base first later (run message mixed x es) (add tsn f r)
-      near_then read now es goes = record {
-        tsns = fragment_keeps message mixed base first shift x kept windows handed t r shown near.tsns k tsn f tsn_is carries unseen none read es (observe (origin + k) now t) goes;
-        mids = λ m. fragment_keeps_mids message mixed base shift x kept windows handed t r shown m (near.mids m) is_tracker none k tsn f carries read unseen is_now now es goes;
+    module _ (is_tracker : IsTracker t) (at_once : fragment_waits (number_of r tsn) f.stream_id r.deferred ≡ false) where
+      pub near_then : IsRead message mixed later x.sender r k tsn f → (now : Bool) (es : List Event) (waiting : Option Deferred)
+          → Goes message mixed base later x es handed waiting (observe (origin + k) now t) (add tsn f r) → ReadsNear message mixed base first later (run message mixed x es) (add tsn f r)
+      near_then read now es waiting goes = record {
+        tsns = fragment_keeps message mixed base first shift x kept windows handed t r shown near.tsns k tsn f tsn_is carries unseen at_once read es waiting (observe (origin + k) now t) goes;
+        mids = λ m. fragment_keeps_mids message mixed base shift x kept windows handed t r shown m (near.mids m) is_tracker k tsn f at_once carries read unseen is_now now es waiting goes;
+        start = λ e. absurd (some_none (sym (first_is message mixed base shift x kept handed t r shown is_tracker k tsn f at_once carries read unseen is_now) ∙ e));
       }
 
-      pub held_near : AreFew x.sender → IsWritten message mixed x.sender k f → IsNearNext message x k → (now : Bool) → is_behind message mixed x.sender x.receiver k ≡ false
-          → (ps : List ℕ) × GoesNear message mixed base first later x (data_comes k ∷ map deliver ps) handed (observe (origin + k) now t) (add tsn f r)
-      held_near few written ordered now current =
+      pub held_comes : AreFew x.sender → IsWritten message mixed x.sender k f → IsNearNext message x k → (now : Bool) → is_behind message mixed x.sender x.receiver k ≡ false
+          → (ps : List ℕ) × GoesNear message mixed base first later x (data_comes k ∷ map deliver ps) handed r.deferred (observe (origin + k) now t) (add tsn f r)
+      held_comes few written ordered now current =
           let read = is_read few written ordered in
-          let l = row_held message mixed base shift x kept handed t r shown is_tracker none k tsn f carries read unseen is_now current now in
-          (l.0, record { goes = l.1; near = near_then read now (data_comes k ∷ map deliver l.0) l.1 })
+          let l = row_held message mixed base shift x kept handed t r shown is_tracker k tsn f at_once carries read unseen is_now current now in
+          (l.0, record { goes = l.1; near = near_then read now (data_comes k ∷ map deliver l.0) r.deferred l.1 })
+
+      pub late_comes_then : AreFew x.sender → IsWritten message mixed x.sender k f → IsNearNext message x k → (now : Bool) → is_behind message mixed x.sender x.receiver k ≡ true
+          → GoesNear message mixed base first later x (late_comes k ∷ []) handed r.deferred (observe (origin + k) now t) (add tsn f r)
+      late_comes_then few written ordered now late =
+          let read = is_read few written ordered in
+          let l = row_late message mixed base shift x kept handed t r shown is_tracker k tsn f at_once carries read unseen is_now late now in
+          record { goes = l; near = near_then read now (late_comes k ∷ []) r.deferred l }
+
+    -- where no reset is deferred
+    module _ (is_tracker : IsTracker t) (none : r.deferred ≡ None) where
+      at_once : fragment_waits (number_of r tsn) f.stream_id r.deferred ≡ false
+      at_once = ap (fragment_waits (number_of r tsn) f.stream_id) none
+
+      pub held_near : AreFew x.sender → IsWritten message mixed x.sender k f → IsNearNext message x k → (now : Bool) → is_behind message mixed x.sender x.receiver k ≡ false
+          → (ps : List ℕ) × GoesNear message mixed base first later x (data_comes k ∷ map deliver ps) handed None (observe (origin + k) now t) (add tsn f r)
+      held_near few written ordered now current =
+          let l = held_comes is_tracker at_once few written ordered now current in
+          (l.0, subst (λ (d : Option Deferred). GoesNear message mixed base first later x (data_comes k ∷ map deliver l.0) handed d (observe (origin + k) now t) (add tsn f r)) none l.1)
 
       pub late_near : AreFew x.sender → IsWritten message mixed x.sender k f → IsNearNext message x k → (now : Bool) → is_behind message mixed x.sender x.receiver k ≡ true
-          → GoesNear message mixed base first later x (late_comes k ∷ []) handed (observe (origin + k) now t) (add tsn f r)
+          → GoesNear message mixed base first later x (late_comes k ∷ []) handed None (observe (origin + k) now t) (add tsn f r)
       late_near few written ordered now late =
-          let read = is_read few written ordered in
-          let l = row_late message mixed base shift x kept handed t r shown is_tracker none k tsn f carries read unseen is_now late now in
-          record { goes = l; near = near_then read now (late_comes k ∷ []) l }
+          subst (λ (d : Option Deferred). GoesNear message mixed base first later x (late_comes k ∷ []) handed d (observe (origin + k) now t) (add tsn f r)) none
+          (late_comes_then is_tracker at_once few written ordered now late)
 
   -- ---- a forward point
 
@@ -70,20 +93,38 @@ module _ (message : ℕ → Message) (mixed : Bool) (base : Bool → ℕ → ℕ
         entries_are_read message mixed base shift x kept handed t r shown few f sent are_now ordered
         (λ m e a u. entry_mid message mixed base x kept windows r (near.mids m) f sent ahead apart e a u (are_now e a)) entries are
 
-    module _ (tsn_is : tsn ≡ wire words first (origin + k)) (none : r.deferred ≡ None) (few : AreFew x.sender) (apart : AreApart f.entries) where
-      read : number_of r tsn + shift_after r.first shift k ≡ origin + k
+    module _ (tsn_is : tsn ≡ wire words first (origin + k)) (apart : AreApart f.entries) where
+      pub read : number_of r tsn + shift_after r.first shift k ≡ origin + k
       read = point_is_read message mixed base first shift x kept windows handed t r shown near.tsns is_tracker k tsn f sent last moves tsn_is
 
-      pub point_near_then : (entries : List SkippedStream) → StandForAll mixed r.streams entries (wire_point f).entries
-          → (es : List Event) → Goes message mixed base (shift_after r.first shift k) x es handed (tracker.forward (origin + k) t) (forward tsn entries r) → ReadsNear message mixed base first (shift_after r.first shift k) (run message mixed x es) (forward tsn entries r)
-      point_near_then entries stand es goes = record {
-        tsns = point_keeps message mixed base first shift x kept windows handed t r shown near.tsns is_tracker k tsn f sent last moves tsn_is none few entries stand apart are_now es (tracker.forward (origin + k) t) goes;
-        mids = λ m. point_keeps_mids message mixed base shift x kept windows handed t r shown m (near.mids m) none k tsn entries f sent last read (point_below message mixed x kept few k f sent last) stand apart are_now es goes;
-      }
+      module _ (spared : ℕ → Bool) (entries : List SkippedStream) (call_is : forward tsn entries r ≡ made (passed_but spared (number_of r tsn) entries r.streams) (came tsn r)) where
+        pub point_near_then : StandForAll mixed r.streams entries (wire_point f).entries → (es : List Event) (waiting : Option Deferred)
+            → Goes message mixed base (shift_after r.first shift k) x es handed waiting (tracker.forward (origin + k) t) (forward tsn entries r)
+            → ReadsNear message mixed base first (shift_after r.first shift k) (run message mixed x es) (forward tsn entries r)
+        point_near_then stand es waiting goes = record {
+          tsns = point_keeps message mixed base first shift x kept windows handed t r shown near.tsns is_tracker k tsn f sent last moves tsn_is spared entries call_is es waiting (tracker.forward (origin + k) t) goes;
+          mids = λ m. point_keeps_mids message mixed base shift x kept windows handed t r shown m (near.mids m) spared k tsn entries call_is f sent last stand apart are_now es waiting goes;
+          start = λ e. absurd (some_none (sym (ap (λ (z : Reassembly). z.first) call_is) ∙ e));
+        }
 
-      pub point_near : AreNearNext x f → (entries : List SkippedStream) → AreEntries mixed entries f.entries
-          → (ps : List ℕ) × GoesNear message mixed base first (shift_after r.first shift k) x (forward_comes f no_stream ∷ map deliver ps) handed (tracker.forward (origin + k) t) (forward tsn entries r)
-      point_near ordered entries are =
-          let stand = entries_read few apart ordered entries are in
-          let l = row_point message mixed base shift x kept handed t r shown none k tsn entries f sent last read (point_below message mixed x kept few k f sent last) stand apart are_now in
-          (l.0, record { goes = l.1; near = point_near_then entries stand (forward_comes f no_stream ∷ map deliver l.0) l.1 })
+        pub point_comes : AreFew x.sender → AreNearNext x f → AreEntries mixed entries f.entries
+            → (ps : List ℕ) × GoesNear message mixed base first (shift_after r.first shift k) x (forward_comes f spared ∷ map deliver ps) handed r.deferred (tracker.forward (origin + k) t) (forward tsn entries r)
+        point_comes few ordered are =
+            let stand = entries_read few apart ordered entries are in
+            let l = row_point message mixed base shift x kept handed t r shown spared k tsn entries call_is f sent last read stand apart are_now in
+            (l.0, record { goes = l.1; near = point_near_then stand (forward_comes f spared ∷ map deliver l.0) r.deferred l.1 })
+
+      -- where no reset is deferred
+      module _ (none : r.deferred ≡ None) (few : AreFew x.sender) where
+        pub called : (entries : List SkippedStream) → forward tsn entries r ≡ made (passed_but no_stream (number_of r tsn) entries r.streams) (came tsn r)
+        called entries =
+            called_at_once r tsn k (shift_after r.first shift k) entries read (point_below message mixed x kept few k f sent last) (ap (point_waits (number_of r tsn)) none)
+
+        pub point_near : AreNearNext x f → (entries : List SkippedStream) → AreEntries mixed entries f.entries
+            → (ps : List ℕ) × GoesNear message mixed base first (shift_after r.first shift k) x (forward_comes f no_stream ∷ map deliver ps) handed None (tracker.forward (origin + k) t) (forward tsn entries r)
+        point_near ordered entries are =
+            let l = point_comes no_stream entries (called entries) few ordered are in (
+              l.0,
+              subst (λ (d : Option Deferred). GoesNear message mixed base first (shift_after r.first shift k) x (forward_comes f no_stream ∷ map deliver l.0) handed d (tracker.forward (origin + k) t) (forward tsn entries r)) none
+                  l.1,
+            )

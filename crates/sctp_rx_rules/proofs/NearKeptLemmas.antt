@@ -1,5 +1,5 @@
 -- The MIDs of unordered streams stay near as the rules go on.
-use Rattle.std.proofs.Common.{◌≡◌, ◌≢◌, ℕ, zero, suc, ◌+◌, ◌-◌, ◌^◌, ◌<◌, ◌≤◌, Bool, true, false, ◌⊎◌, inl, inr, None, List, refl, sym, ap, ◌∙◌, subst, arith}
+use Rattle.std.proofs.Common.{◌≡◌, ◌≢◌, ℕ, zero, suc, ◌+◌, ◌-◌, ◌^◌, ◌<◌, ◌≤◌, Bool, true, false, ◌⊎◌, inl, inr, Option, List, refl, sym, ap, ◌∙◌, subst, arith}
 use Rattle.std.specs.Prelude.{◌||◌, not, nat_lt}
 use Rattle.std.proofs.lemmas.Bool.{cases_eq, cases_lt, cond-true, or_cases, or_right, ltb-true, false≢true}
 use Rattle.sctp_serial.specs.Messages as messages
@@ -9,7 +9,7 @@ use Rattle.sctp_chunk.specs.declared.forward_tsn.SkippedStream.{SkippedStream}
 use Rattle.sctp_rx.specs.Streams.{is_far}
 use Rattle.sctp_rx.specs.Tracker as tracker
 use Rattle.sctp_rx.specs.Tracker.{Tracker, IsTracker, observe}
-use Rattle.sctp_rx.specs.ReassemblyQueue.{Reassembly, number_of, add, forward, reassembly}
+use Rattle.sctp_rx.specs.ReassemblyQueue.{Reassembly, Deferred, number_of, fragment_waits, came, made, add, forward, reassembly}
 use Rattle.sctp_rules.specs.State.{Message, ForwardPoint, Sender, Receiver, Transfer, IsAmong, place_of, count, start, put, ordered_of, stream_of}
 use Rattle.sctp_rules.specs.Rules.{Event, accept, begin, number, close, give_up, data_comes, late_comes, deliver, send_sack, leave, send_forward, forward_comes, forget, IsAllowed, IsDue, after, run, covers, raised}
 use Rattle.sctp_rules.specs.Lifted.{no_base, wire_point, IsNow, AreEntriesNow}
@@ -26,7 +26,8 @@ use Rattle.sctp_rx_rules.specs.Near.{IsOn, IsOf, IsNearStream, IsNamed, AreNearS
 use Rattle.sctp_rx_rules.proofs.KeyLemmas.{twice_not}
 use Rattle.sctp_rx_rules.proofs.FragmentLemmas.{added_now, number_near}
 use Rattle.sctp_rx_rules.proofs.FragmentRowLemmas.{observed_seen}
-use Rattle.sctp_rx_rules.proofs.ForwardRowLemmas.{written_apart, call_is, point_seen}
+use Rattle.sctp_rx_rules.proofs.ForwardLemmas.{passed_but}
+use Rattle.sctp_rx_rules.proofs.ForwardRowLemmas.{written_apart, point_seen}
 use Rattle.sctp_rx_rules.proofs.NearTsnLemmas.{not_acknowledged}
 use Rattle.sctp_rx_rules.proofs.NearMidLemmas.{rising, few_ahead}
 use Rattle.sctp_rx_rules.proofs.NearStreamLemmas.{ordered_leaves, near_here, near_off, point_nears}
@@ -51,7 +52,7 @@ module _ (message : ℕ → Message) (mixed : Bool) (base : Bool → ℕ → ℕ
     (shown : Receives message mixed base before x handed t r) (is_mixed : mixed ≡ true) (near : AreNearStreams message base x r) where
   -- ---- a fragment
 
-  module _ (is_tracker : IsTracker t) (none : r.deferred ≡ None) (k tsn : ℕ) (f : FragmentTree) (carries : Carries message mixed x.sender k f) (read : IsRead message mixed (shift_after r.first before k) x.sender r k tsn f) (unseen : was_seen t k ≡ false)
+  module _ (is_tracker : IsTracker t) (k tsn : ℕ) (f : FragmentTree) (at_once : fragment_waits (number_of r tsn) f.stream_id r.deferred ≡ false) (carries : Carries message mixed x.sender k f) (read : IsRead message mixed (shift_after r.first before k) x.sender r k tsn f) (unseen : was_seen t k ≡ false)
       (is_now : IsNow base message x.sender k) where
     abbrev place : ℕ
     place = place_of x.sender k
@@ -74,12 +75,12 @@ module _ (message : ℕ → Message) (mixed : Bool) (base : Bool → ℕ → ℕ
       stream_kept : (s : ℕ) (b : Bool) → f.is_unordered ≡ b → IsNearStream message base s (with_receiver x i) (unordered_at (add tsn f r).streams s).near
       stream_kept s false e =
           still_near message base s x i (unordered_at r.streams s).near (unordered_at (add tsn f r).streams s).near
-          (ap (λ z. (unordered_at z.streams s).near) (added_now message mixed (shift_after r.first before k) x.sender r k tsn f carries read shown.mode none) ∙ ap (λ z. z.near) (ordered_leaves (number_of r tsn) f r.streams e s))
+          (ap (λ z. (unordered_at z.streams s).near) (added_now message mixed (shift_after r.first before k) x.sender r k tsn f carries read shown.mode at_once) ∙ ap (λ z. z.near) (ordered_leaves (number_of r tsn) f r.streams e s))
           (λ n h on. elim (came_or_was n h) [ inr a ↦ a | inl q ↦ absurd (not_both (ordered_is false e) (ap (λ z. ordered_of message (place_of x.sender z)) (sym q) ∙ on.unordered)) ]) (near.streams s)
       stream_kept s true e = elim (cases_eq s f.stream_id) [
         | inr d ↦
             still_near message base s x i (unordered_at r.streams s).near (unordered_at (add tsn f r).streams s).near
-            (ap (λ z. (unordered_at z.streams s).near) (added_now message mixed (shift_after r.first before k) x.sender r k tsn f carries read shown.mode none) ∙ ap (λ z. z.near) (near_off (number_of r tsn) f r.streams e (near_number e) s d))
+            (ap (λ z. (unordered_at z.streams s).near) (added_now message mixed (shift_after r.first before k) x.sender r k tsn f carries read shown.mode at_once) ∙ ap (λ z. z.near) (near_off (number_of r tsn) f r.streams e (near_number e) s d))
             (λ n h on. elim (came_or_was n h) [ inr a ↦ a | inl q ↦ absurd (d (sym on.stream ∙ (ap (λ z. stream_of message (place_of x.sender z)) q ∙ sym carries.stream))) ]) (near.streams s)
         | inl q ↦
             let here : IsOn message x.sender s k = record { numbered = carries.numbered; unordered = ordered_is true e; stream = sym carries.stream ∙ sym q } in
@@ -87,7 +88,7 @@ module _ (message : ℕ → Message) (mixed : Bool) (base : Bool → ℕ → ℕ
             let own : base false s + x.sender.written place ≡ x.sender.number place =
             subst (λ z. base false z + x.sender.written place ≡ x.sender.number place) here.stream
             (subst (λ z. base z (stream_of message place) + x.sender.written place ≡ x.sender.number place) here.unordered is_now) in
-            let is = ap (λ z. (unordered_at z.streams s).near) (added_now message mixed (shift_after r.first before k) x.sender r k tsn f carries read shown.mode none) ∙ near_here (number_of r tsn) f r.streams e (near_number e) s q in
+            let is = ap (λ z. (unordered_at z.streams s).near) (added_now message mixed (shift_after r.first before k) x.sender r k tsn f carries read shown.mode at_once) ∙ near_here (number_of r tsn) f r.streams e (near_number e) s q in
             record {
               number = x.sender.written place;
               near_is = omega (arith, is, n);
@@ -104,14 +105,14 @@ module _ (message : ℕ → Message) (mixed : Bool) (base : Bool → ℕ → ℕ
         points = λ p a. still_named message x i p (λ n h. seen_is n ∙ put_keeps x.receiver.seen k n h) (near.points p a);
       }
 
-    pub fragment_keeps_mids : (now : Bool) (es : List Event) → Goes message mixed base (shift_after r.first before k) x es handed (observe (origin + k) now t) (add tsn f r) → AreNearStreams message base (run message mixed x es) (add tsn f r)
-    fragment_keeps_mids now es goes =
+    pub fragment_keeps_mids : (now : Bool) (es : List Event) (waiting : Option Deferred) → Goes message mixed base (shift_after r.first before k) x es handed waiting (observe (origin + k) now t) (add tsn f r) → AreNearStreams message base (run message mixed x es) (add tsn f r)
+    fragment_keeps_mids now es waiting goes =
         subst (λ z. AreNearStreams message base z (add tsn f r)) (sym goes.rest_stays)
         (all_kept (run message mixed x es).receiver (λ n. sym (goes.receives.seen n) ∙ observed_seen t is_tracker x.receiver.seen shown.seen k n now))
 
   -- ---- a forward point
 
-  module _ (none : r.deferred ≡ None) (k tsn : ℕ) (xs : List SkippedStream) (f : ForwardPoint) (sent : IsAmong f x.forward_points) (last : f.upto ≡ suc k) (tsn_is : number_of r tsn + shift_after r.first before k ≡ origin + k) (small : k < 2 ^ 62)
+  module _ (spared : ℕ → Bool) (k tsn : ℕ) (xs : List SkippedStream) (call_is : forward tsn xs r ≡ made (passed_but spared (number_of r tsn) xs r.streams) (came tsn r)) (f : ForwardPoint) (sent : IsAmong f x.forward_points) (last : f.upto ≡ suc k)
       (stand : StandForAll mixed r.streams xs (wire_point f).entries) (apart : AreApart f.entries) (are_now : AreEntriesNow base f) where
     -- the number behind all that are named, as it is on the wire, and as it is in the rules
     abbrev top : ℕ → ℕ
@@ -124,8 +125,8 @@ module _ (message : ℕ → Message) (mixed : Bool) (base : Bool → ℕ → ℕ
 
     near_top : (s : ℕ) → suc (unordered_at (forward tsn xs r).streams s).near ≡ origin + top s
     near_top s =
-        ap (λ z. suc (unordered_at z.streams s).near) (call_is message mixed base before x kept handed t r shown none k tsn xs f sent last tsn_is small stand apart are_now)
-        ∙ point_nears s xs (wire_point f).entries r.streams (number_of r tsn) (near.streams s).number (subst (λ z. StandForAll z r.streams xs (wire_point f).entries) is_mixed stand)
+        ap (λ z. suc (unordered_at z.streams s).near) call_is
+        ∙ point_nears s spared xs (wire_point f).entries r.streams (number_of r tsn) (near.streams s).number (subst (λ z. StandForAll z r.streams xs (wire_point f).entries) is_mixed stand)
         (written_apart f.entries apart) (shown.mode ∙ is_mixed) (near.streams s).near_is
 
     module _ (i : Receiver) (seen_is : (n : ℕ) → i.seen n ≡ (nat_lt n f.upto || x.receiver.seen n)) where
@@ -170,8 +171,8 @@ module _ (message : ℕ → Message) (mixed : Bool) (base : Bool → ℕ → ℕ
         points = λ p a. still_named message x i p (λ n h. seen_is n ∙ or_right (nat_lt n f.upto) (x.receiver.seen n) h) (near.points p a);
       }
 
-    pub point_keeps_mids : (es : List Event) → Goes message mixed base (shift_after r.first before k) x es handed (tracker.forward (origin + k) t) (forward tsn xs r) → AreNearStreams message base (run message mixed x es) (forward tsn xs r)
-    point_keeps_mids es goes =
+    pub point_keeps_mids : (es : List Event) (waiting : Option Deferred) → Goes message mixed base (shift_after r.first before k) x es handed waiting (tracker.forward (origin + k) t) (forward tsn xs r) → AreNearStreams message base (run message mixed x es) (forward tsn xs r)
+    point_keeps_mids es waiting goes =
         subst (λ z. AreNearStreams message base z (forward tsn xs r)) (sym goes.rest_stays)
         (all_pointed (run message mixed x es).receiver (λ n. sym (goes.receives.seen n) ∙ point_seen t x.receiver.seen shown.seen k f.upto n last))
 

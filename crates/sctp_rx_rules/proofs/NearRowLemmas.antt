@@ -1,23 +1,22 @@
 -- What comes is read as it was meant, and so is what comes after it.
-use Rattle.std.proofs.Common.{◌≡◌, ℕ, suc, ◌+◌, ◌^◌, ◌<◌, ◌≤◌, Bool, true, false, None, List, sym, ap, ◌∙◌, subst, arith}
+use Rattle.std.proofs.Common.{◌≡◌, ℕ, suc, ◌+◌, ◌^◌, ◌<◌, ◌≤◌, Bool, true, false, Option, None, List, sym, ap, ◌∙◌, subst, arith}
 use Rattle.sctp_serial.specs.Messages as messages
 use Rattle.sctp_serial.specs.Unwrapped.{origin, words, wire}
 use Rattle.sctp_packet.specs.Chunk.{FragmentTree}
 use Rattle.sctp_chunk.specs.declared.forward_tsn.SkippedStream.{SkippedStream}
 use Rattle.sctp_rx.specs.Tracker.{Tracker, IsTracker, moves_on}
-use Rattle.sctp_rx.specs.ReassemblyQueue.{Reassembly, number_of, add, forward, reassembly}
+use Rattle.sctp_rx.specs.ReassemblyQueue.{Reassembly, Deferred, number_of, fragment_waits, came, made, add, forward, reassembly}
 use Rattle.sctp_rules.specs.State.{Message, ForwardPoint, Transfer, IsAmong, place_of, count, start}
 use Rattle.sctp_rules.specs.Rules.{Event, IsAllowed, after, run}
-use Rattle.sctp_rules.specs.Lifted.{wire_point, IsNow, AreEntriesNow}
+use Rattle.sctp_rules.specs.Lifted.{IsNow}
 use Rattle.sctp_rules.specs.Kept.{Kept}
 use Rattle.sctp_rules.proofs.StepLemmas.{later}
 use Rattle.sctp_rx_rules.specs.View.{was_seen}
-use Rattle.sctp_rx_rules.specs.Read.{Carries, IsRead, StandForAll, number_read, shift_after}
-use Rattle.sctp_rules.specs.Points.{AreApart}
+use Rattle.sctp_rx_rules.specs.Read.{Carries, IsRead, number_read, shift_after}
 use Rattle.sctp_rx_rules.specs.Receives.{Receives, Goes}
 use Rattle.sctp_rx_rules.specs.Near.{IsWritten, AreFew, IsNearQueue, IsInWindow, IsNearNext}
 use Rattle.sctp_rx_rules.proofs.FragmentLemmas.{added_now}
-use Rattle.sctp_rx_rules.proofs.ForwardRowLemmas.{call_is}
+use Rattle.sctp_rx_rules.proofs.ForwardLemmas.{passed_but}
 use Rattle.sctp_rx_rules.proofs.NearTsnLemmas.{not_acknowledged, tsn_is_read, near_after, above_front}
 use Rattle.sctp_rx_rules.proofs.NearNumberLemmas.{number_is_read, number_is_below, index_below}
 
@@ -52,10 +51,11 @@ module _ (message : ℕ → Message) (mixed : Bool) (base : Bool → ℕ → ℕ
       index_below = index_below message mixed x kept few k carries.numbered;
     }
 
-    pub fragment_keeps : r.deferred ≡ None → IsRead message mixed (shift_after r.first shift k) x.sender r k tsn f → (es : List Event) (u : Tracker) → Goes message mixed base (shift_after r.first shift k) x es handed u (add tsn f r)
+    pub fragment_keeps : fragment_waits (number_of r tsn) f.stream_id r.deferred ≡ false → IsRead message mixed (shift_after r.first shift k) x.sender r k tsn f → (es : List Event) (waiting : Option Deferred) (u : Tracker)
+        → Goes message mixed base (shift_after r.first shift k) x es handed waiting u (add tsn f r)
         → IsNearQueue first (shift_after r.first shift k) (run message mixed x es) (add tsn f r)
-    fragment_keeps none read es u goes =
-        subst (λ z. IsNearQueue first (shift_after r.first shift k) (run message mixed x es) z) (sym (added_now message mixed (shift_after r.first shift k) x.sender r k tsn f carries read shown.mode none))
+    fragment_keeps at_once read es waiting u goes =
+        subst (λ z. IsNearQueue first (shift_after r.first shift k) (run message mixed x es) z) (sym (added_now message mixed (shift_after r.first shift k) x.sender r k tsn f carries read shown.mode at_once))
         (near_after message mixed x kept windows first shift r near k tsn tsn_is kept_yet carries.numbered (run message mixed x es) goes.kept (ap (λ z. z.sender) goes.rest_stays))
 
   -- ---- a forward point
@@ -67,12 +67,12 @@ module _ (message : ℕ → Message) (mixed : Bool) (base : Bool → ℕ → ℕ
     pub point_is_read : number_of r tsn + shift_after r.first shift k ≡ origin + k
     point_is_read = tsn_is_read message mixed x kept windows first shift r near k tsn tsn_is unpassed (point_numbered message mixed x kept k f sent last)
 
-    pub point_keeps : r.deferred ≡ None → AreFew x.sender → (entries : List SkippedStream) → StandForAll mixed r.streams entries (wire_point f).entries → AreApart f.entries → AreEntriesNow base f
-        → (es : List Event) (u : Tracker) → Goes message mixed base (shift_after r.first shift k) x es handed u (forward tsn entries r)
+    pub point_keeps : (spared : ℕ → Bool) (entries : List SkippedStream) → forward tsn entries r ≡ made (passed_but spared (number_of r tsn) entries r.streams) (came tsn r)
+        → (es : List Event) (waiting : Option Deferred) (u : Tracker) → Goes message mixed base (shift_after r.first shift k) x es handed waiting u (forward tsn entries r)
         → IsNearQueue first (shift_after r.first shift k) (run message mixed x es) (forward tsn entries r)
-    point_keeps none few entries stand apart now es u goes =
+    point_keeps spared entries call_is es waiting u goes =
         subst (λ z. IsNearQueue first (shift_after r.first shift k) (run message mixed x es) z)
-        (sym (call_is message mixed base shift x kept handed t r shown none k tsn entries f sent last point_is_read (point_below message mixed x kept few k f sent last) stand apart now))
+        (sym call_is)
         (near_after message mixed x kept windows first shift r near k tsn tsn_is unpassed (point_numbered message mixed x kept k f sent last) (run message mixed x es) goes.kept (ap (λ z. z.sender) goes.rest_stays))
 
 -- ---- the rest

@@ -135,11 +135,25 @@ module _ (message : ℕ → Message) (mixed : Bool) (base : Bool → ℕ → ℕ
           by : (b : Bool) (d : ℕ) → origin + f ≡ suc d → n < f → (leb (origin + n) d || b) ≡ true
           by b d e l = grind (arith, nat_tests)
 
-  abbrev front : ℕ
+  abbrev pub front : ℕ
   front = suc t.seen.front - origin
 
   at : origin + front ≡ suc t.seen.front
   at = let l = is_tracker.least in let b = is_tracker.begun in omega (arith, l, b)
+
+  -- it is not seen, and not above what would move the front
+  pub front_unseen : x.receiver.seen front ≡ false
+  front_unseen = sym (shown.seen front) ∙ unseen (was_seen t front) (next_is_new t.seen.front (origin + front) t.seen.runs is_tracker.runs (let e = at in omega (arith, e)))
+    where
+      unseen : (b : Bool) → true ≡ not b → b ≡ false
+      unseen false s = refl
+      unseen true s = cc
+
+  pub front_below : (k : ℕ) → moves_on (origin + k) t ≡ true → front < suc k
+  front_below k moves = let e = at in by t.seen.front front moves e
+    where
+      by : (a f : ℕ) → nat_lt a (origin + k) ≡ true → origin + f ≡ suc a → f < suc k
+      by a f m e = grind (arith, nat_tests)
 
   -- what lies above the front is not acknowledged
   pub above_front : (k : ℕ) → moves_on (origin + k) t ≡ true → x.acknowledged ≤ k

@@ -4,7 +4,7 @@ use Rattle.sctp_serial.specs.Messages as messages
 use Rattle.sctp_rx.specs.Held.{Held}
 use Rattle.sctp_rx.specs.Settled.{AreSettled}
 use Rattle.sctp_rx.specs.Streams.{Streams}
-use Rattle.sctp_rx.specs.ReassemblyQueue.{Reassembly}
+use Rattle.sctp_rx.specs.ReassemblyQueue.{Reassembly, Deferred}
 use Rattle.sctp_rx.specs.Tracker.{Tracker}
 use Rattle.sctp_rules.specs.State.{Message, Transfer, IsAmong}
 use Rattle.sctp_rules.specs.Rules.{Event, after, run}
@@ -35,10 +35,10 @@ module _ (message : ℕ → Message) (mixed : Bool) (base : Bool → ℕ → ℕ
 
   -- where the events lead
   pub goes_to : (e : Event) (es : List Event) (q : Queue (KeyOf mixed) (next_of mixed)) → LeadsTo message mixed x e es (lifted base mixed q)
-      → (handed : List messages.Message) (t : Tracker) (r : Reassembly) → IsSeenAs mixed shift (view_of handed r) q → ((n : ℕ) → was_seen t n ≡ (after message mixed x e).receiver.seen n)
+      → (handed : List messages.Message) (waiting : Option Deferred) (t : Tracker) (r : Reassembly) → IsSeenAs mixed shift (view_of handed r) q → ((n : ℕ) → was_seen t n ≡ (after message mixed x e).receiver.seen n)
       → r.streams.is_interleaved ≡ mixed → AreSettled r.streams
-      → (r.first ≡ None → (kind : Bool) (s : ℕ) (h : Held) → IsAmong h (held_on r.streams kind s) → ⊥) → r.deferred ≡ None → Goes message mixed base shift x (e ∷ es) handed t r
-  goes_to e es q l handed t r p seen mode settled fresh none = record {
+      → (r.first ≡ None → (kind : Bool) (s : ℕ) (h : Held) → IsAmong h (held_on r.streams kind s) → ⊥) → r.deferred ≡ waiting → Goes message mixed base shift x (e ∷ es) handed waiting t r
+  goes_to e es q l handed waiting t r p seen mode settled fresh deferred = record {
     may = l.may;
     kept = l.kept;
     rest_stays = l.rest_stays;
@@ -51,7 +51,7 @@ module _ (message : ℕ → Message) (mixed : Bool) (base : Bool → ℕ → ℕ
       settled = settled;
       fresh = fresh;
     };
-    not_deferred = none;
+    deferred = deferred;
   }
 
 -- where nothing is held, the first fragment that comes may be any

@@ -400,6 +400,7 @@ module _ (message : ℕ → Message) (mixed : Bool) (first shift : ℕ) (x : Epo
           numbered = omega (arith, numbered, same);
           seen = λ u s. n.seen u (sym (done.seen u) ∙ s);
         };
+    start = near.start;
     mids = λ m. record {
       streams = λ s. near_stream s ((near.mids m).streams s);
       points = λ f a.
@@ -417,4 +418,5 @@ module _ (message : ℕ → Message) (mixed : Bool) (first shift : ℕ) (x : Epo
     may = done.may;
     receives = subst (λ (z : Reassembly). Receives message mixed (base_now y) shift y.transfer handed t z) (sym call_is) receives_then;
     near = subst (λ (z : Reassembly). ReadsNear message mixed (base_now y) first shift y.transfer z) (sym call_is) near_then;
+    none_deferred = ap (λ (z : Reassembly). z.deferred) call_is;
   }

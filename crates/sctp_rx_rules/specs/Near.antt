@@ -1,5 +1,5 @@
 -- Wire numbers as the sender writes them, and what keeps the receiver near enough to read them.
-use Rattle.std.specs.Prelude.{◌≡◌, ℕ, ◌+◌, ◌^◌, ◌<◌, ◌≤◌, Bool, true, false, ◌⊎◌, Some, List, [], ◌∷◌}
+use Rattle.std.specs.Prelude.{◌≡◌, ℕ, ◌+◌, ◌^◌, ◌<◌, ◌≤◌, Bool, true, false, ◌⊎◌, Option, Some, None, List, [], ◌∷◌}
 use Rattle.sctp_serial.specs.Messages as messages
 use Rattle.sctp_serial.specs.Unwrapped.{origin, words, halves, wire}
 use Rattle.sctp_serial.specs.declared.types.StreamKey.TheVariants.{Ordered, Unordered}
@@ -7,7 +7,7 @@ use Rattle.sctp_packet.specs.Chunk.{FragmentTree}
 use Rattle.sctp_chunk.specs.declared.forward_tsn.SkippedStream.{SkippedStream}
 use Rattle.sctp_chunk.specs.declared.forward_tsn.SkippedStream.TheVariants.{ForwardTsn, IForwardTsn}
 use Rattle.sctp_rx.specs.Tracker.{Tracker}
-use Rattle.sctp_rx.specs.ReassemblyQueue.{Reassembly}
+use Rattle.sctp_rx.specs.ReassemblyQueue.{Reassembly, Deferred}
 use Rattle.sctp_rules.specs.State.{Message, Entry, ForwardPoint, Sender, Transfer, IsAmong, place_of, count, ordered_of, stream_of}
 use Rattle.sctp_rules.specs.Rules.{Event, covers, run}
 use Rattle.sctp_rules.specs.Windows.{IsNear}
@@ -113,8 +113,10 @@ pub record AreNearStreams (message : ℕ → Message) (base : Bool → ℕ → �
 pub record ReadsNear (message : ℕ → Message) (mixed : Bool) (base : Bool → ℕ → ℕ) (first shift : ℕ) (x : Transfer) (r : Reassembly) : Type 0 where
   pub tsns : IsNearQueue first shift x r
   pub mids : mixed ≡ true → AreNearStreams message base x r
+  -- before a first TSN came, they would be read near that one
+  pub start : r.first ≡ None → r.near ≡ origin
 
 -- these events lead to these values, and what comes next is read as it was meant too
-pub record GoesNear (message : ℕ → Message) (mixed : Bool) (base : Bool → ℕ → ℕ) (first shift : ℕ) (x : Transfer) (es : List Event) (handed : List messages.Message) (t : Tracker) (r : Reassembly) : Type 0 where
-  pub goes : Goes message mixed base shift x es handed t r
+pub record GoesNear (message : ℕ → Message) (mixed : Bool) (base : Bool → ℕ → ℕ) (first shift : ℕ) (x : Transfer) (es : List Event) (handed : List messages.Message) (waiting : Option Deferred) (t : Tracker) (r : Reassembly) : Type 0 where
+  pub goes : Goes message mixed base shift x es handed waiting t r
   pub near : ReadsNear message mixed base first shift (run message mixed x es) r

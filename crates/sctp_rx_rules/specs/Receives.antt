@@ -1,10 +1,10 @@
 -- The values of the code are the receiver of the rules, and where a call leads.
-use Rattle.std.specs.Prelude.{◌≡◌, ℕ, Bool, None, List}
+use Rattle.std.specs.Prelude.{◌≡◌, ℕ, Bool, Option, None, List}
 use Rattle.sctp_serial.specs.Messages as messages
 use Rattle.sctp_rx.specs.Tracker.{Tracker}
 use Rattle.sctp_rx.specs.Held.{Held}
 use Rattle.sctp_rx.specs.Settled.{AreSettled}
-use Rattle.sctp_rx.specs.ReassemblyQueue.{Reassembly}
+use Rattle.sctp_rx.specs.ReassemblyQueue.{Reassembly, Deferred}
 use Rattle.sctp_rules.specs.State.{Message, Transfer, IsAmong}
 use Rattle.sctp_rules.specs.Rules.{Event, Happens, run}
 use Rattle.sctp_rules.specs.Kept.{Kept}
@@ -26,10 +26,10 @@ pub record Receives (message : ℕ → Message) (mixed : Bool) (base : Bool → 
   pub fresh : r.first ≡ None → (kind : Bool) (s : ℕ) (h : Held) → IsAmong h (held_on r.streams kind s) → ⊥
 
 -- these events may happen, the invariant is kept, nothing of the sender or of the packets changes, and they lead to
--- these values, with no reset deferred
-pub record Goes (message : ℕ → Message) (mixed : Bool) (base : Bool → ℕ → ℕ) (shift : ℕ) (x : Transfer) (es : List Event) (handed : List messages.Message) (t : Tracker) (r : Reassembly) : Type 0 where
+-- these values, with this reset deferred, or none
+pub record Goes (message : ℕ → Message) (mixed : Bool) (base : Bool → ℕ → ℕ) (shift : ℕ) (x : Transfer) (es : List Event) (handed : List messages.Message) (waiting : Option Deferred) (t : Tracker) (r : Reassembly) : Type 0 where
   pub may : Happens message mixed x es
   pub kept : Kept message mixed (run message mixed x es)
   pub rest_stays : run message mixed x es ≡ record x { receiver = (run message mixed x es).receiver }
-  pub not_deferred : r.deferred ≡ None
+  pub deferred : r.deferred ≡ waiting
   pub receives : Receives message mixed base shift (run message mixed x es) handed t r

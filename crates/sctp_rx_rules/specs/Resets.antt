@@ -1,11 +1,13 @@
 -- Resets of streams at the receiver, by the epochs of the rules (RFC 6525 section 5.2.2).
-use Rattle.std.specs.Prelude.{◌≡◌, ◌≢◌, ℕ, suc, ◌<◌, Bool, true, List, [], ◌∷◌, map}
+use Rattle.std.specs.Prelude.{◌≡◌, ◌≢◌, ℕ, suc, ◌+◌, ◌<◌, Bool, true, Option, Some, None, List, [], ◌∷◌, map}
 use Rattle.sctp_serial.specs.Messages as messages
+use Rattle.sctp_serial.specs.Unwrapped.{origin}
 use Rattle.sctp_serial.specs.declared.api.StreamId.{StreamId}
 use Rattle.sctp_rx.specs.Tracker.{Tracker}
-use Rattle.sctp_rx.specs.ReassemblyQueue.{Reassembly, reset}
+use Rattle.sctp_rx.specs.ReassemblyQueue.{Reassembly, Deferred, reset}
 use Rattle.sctp_rules.specs.State.{Message, IsAmong}
-use Rattle.sctp_rules.specs.Resets.{Request, Epochs, ResetEvent, perform, MayAll, go_all}
+use Rattle.sctp_rules.specs.Rules.{Event}
+use Rattle.sctp_rules.specs.Resets.{Request, Epochs, ResetEvent, transfers, perform, MayAll, go_all}
 use Rattle.sctp_rx_rules.specs.Receives.{Receives}
 use Rattle.sctp_rx_rules.specs.Near.{ReadsNear}
 
@@ -36,3 +38,41 @@ pub record Performs (message : ℕ → Message) (mixed : Bool) (first shift : �
   pub may : MayAll message mixed x (performs rs)
   pub receives : Receives message mixed (base_now (go_all message mixed x (performs rs))) shift (go_all message mixed x (performs rs)).transfer handed t (reset (named_by rs) r)
   pub near : ReadsNear message mixed (base_now (go_all message mixed x (performs rs))) first shift (go_all message mixed x (performs rs)).transfer (reset (named_by rs) r)
+  pub none_deferred : (reset (named_by rs) r).deferred ≡ None
+
+-- ---- a reset that is deferred
+
+-- the request was sent with this last TSN, and is the next one of its stream
+pub record IsNextTo (x : Epochs) (upto : ℕ) (r : Request) : Type 0 where
+  pub sent : IsAmong r x.requests
+  pub epoch : r.epoch ≡ suc (x.performed r.stream)
+  pub last : r.upto ≡ upto
+
+-- so are these, each of another stream
+abbrev pub AreNextTo : Epochs → (upto : ℕ) → List Request → Type 0
+AreNextTo x upto [] = Unit {0}
+AreNextTo x upto (r ∷ rs) = IsNextTo x upto r × ((q : Request) → IsAmong q rs → r.stream ≢ q.stream) × AreNextTo x upto rs
+
+-- they are deferred until their last TSN comes, and nothing waits for that
+pub record IsDeferral (shift : ℕ) (x : Epochs) (first : Option ℕ) (d : Deferred) : Type 0 where
+  pub request : Request
+  pub more : List Request
+  pub upto : ℕ
+  pub next : AreNextTo x upto (request ∷ more)
+  pub names : d.streams ≡ named_by (request ∷ more)
+  pub last : d.last + shift + 1 ≡ origin + upto
+  pub idle : d.waiting ≡ []
+  pub told : ℕ  -- a TSN that the queue counts from
+  pub begun : first ≡ Some told
+
+-- no reset is deferred, or such a one
+abbrev pub IsWaitingFor : (shift : ℕ) → Epochs → (first : Option ℕ) → Option Deferred → Type 0
+IsWaitingFor shift x first None = Unit {0}
+IsWaitingFor shift x first (Some d) = IsDeferral shift x first d
+
+-- the rules go on by these events, and these values show the state
+pub record Comes (message : ℕ → Message) (mixed : Bool) (first shift : ℕ) (x : Epochs) (es : List Event) (handed : List messages.Message) (t : Tracker) (r : Reassembly) : Type 0 where
+  pub may : MayAll message mixed x (map transfers es)
+  pub receives : Receives message mixed (base_now (go_all message mixed x (map transfers es))) shift (go_all message mixed x (map transfers es)).transfer handed t r
+  pub near : ReadsNear message mixed (base_now (go_all message mixed x (map transfers es))) first shift (go_all message mixed x (map transfers es)).transfer r
+  pub waiting : IsWaitingFor shift (go_all message mixed x (map transfers es)) r.first r.deferred

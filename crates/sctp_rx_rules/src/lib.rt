@@ -4,7 +4,7 @@
 //! are its receiver (`Receives`). A call leads to values that are the receiver again after the events that the law names.
 //! `handed` is what was handed out of the queue before, and `shift` the fragment that the queue counts TSNs from: the first
 //! that came. `base` is how many messages of each kind and stream were numbered before the stream's last reset; what comes is of
-//! the time since then (`IsNow`, `AreEntriesNow`). No reset is deferred.
+//! the time since then (`IsNow`, `AreEntriesNow`). No reset is deferred here: `resets` has what comes while one is.
 #![tactic(auto)]
 
 ghost use Rattle.std.specs.Prelude.{◌≡◌, ◌+◌, ◌++◌, ◌^◌, ◌<◌, Bool, List, None, Some, [], ◌∷◌, false, map, suc, true, unwrap_or, ℕ};
@@ -45,12 +45,12 @@ pub fn fragment_comes()
         Kept message mixed x → Receives message mixed base shift x handed t r → IsTracker t → r.deferred ≡ None →
         Carries message mixed x.sender k f → IsRead message mixed (shift_after r.first shift k) x.sender r k tsn f → was_seen t k ≡ false → IsNow base message x.sender k →
         is_behind message mixed x.sender x.receiver k ≡ false →
-        (ps : List ℕ) × Goes message mixed base (shift_after r.first shift k) x (data_comes k ∷ map deliver ps) handed (observe (origin + k) now t) (add tsn f r) }
+        (ps : List ℕ) × Goes message mixed base (shift_after r.first shift k) x (data_comes k ∷ map deliver ps) handed None (observe (origin + k) now t) (add tsn f r) }
     ensures late { (message : ℕ → Message) (mixed : Bool) (base : Bool → ℕ → ℕ) (shift : ℕ) (x : Transfer) (handed : List messages.Message) (t : Tracker) (r : Reassembly) (k tsn : ℕ) (f : FragmentTree) (now : Bool) →
         Kept message mixed x → Receives message mixed base shift x handed t r → IsTracker t → r.deferred ≡ None →
         Carries message mixed x.sender k f → IsRead message mixed (shift_after r.first shift k) x.sender r k tsn f → was_seen t k ≡ false → IsNow base message x.sender k →
         is_behind message mixed x.sender x.receiver k ≡ true →
-        Goes message mixed base (shift_after r.first shift k) x (late_comes k ∷ []) handed (observe (origin + k) now t) (add tsn f r) }
+        Goes message mixed base (shift_after r.first shift k) x (late_comes k ∷ []) handed None (observe (origin + k) now t) (add tsn f r) }
     ensures first { (message : ℕ → Message) (mixed : Bool) (base : Bool → ℕ → ℕ) (shift : ℕ) (x : Transfer) (handed : List messages.Message) (t : Tracker) (r : Reassembly) (k tsn : ℕ) (f : FragmentTree) →
         Kept message mixed x → Receives message mixed base shift x handed t r → IsTracker t → r.deferred ≡ None →
         Carries message mixed x.sender k f → IsRead message mixed (shift_after r.first shift k) x.sender r k tsn f → was_seen t k ≡ false → IsNow base message x.sender k →
@@ -65,7 +65,7 @@ pub fn forward_point_comes()
         Kept message mixed x → Receives message mixed base shift x handed t r → r.deferred ≡ None →
         IsAmong f x.forward_points → f.upto ≡ suc k → number_of r tsn + shift_after r.first shift k ≡ origin + k → k < 2 ^ 62 →
         StandForAll mixed r.streams entries (wire_point f).entries → AreApart f.entries → AreEntriesNow base f →
-        (ps : List ℕ) × Goes message mixed base (shift_after r.first shift k) x (forward_comes f no_stream ∷ map deliver ps) handed (tracker.forward (origin + k) t) (forward tsn entries r) }
+        (ps : List ℕ) × Goes message mixed base (shift_after r.first shift k) x (forward_comes f no_stream ∷ map deliver ps) handed None (tracker.forward (origin + k) t) (forward tsn entries r) }
     ensures first { (message : ℕ → Message) (mixed : Bool) (base : Bool → ℕ → ℕ) (shift : ℕ) (x : Transfer) (handed : List messages.Message) (t : Tracker) (r : Reassembly) (k tsn : ℕ) (entries : List SkippedStream) (f : ForwardPoint) →
         Kept message mixed x → Receives message mixed base shift x handed t r → r.deferred ≡ None →
         IsAmong f x.forward_points → f.upto ≡ suc k → number_of r tsn + shift_after r.first shift k ≡ origin + k → k < 2 ^ 62 →

@@ -58,13 +58,13 @@ pub fn nearness_is_kept()
     ensures fragment { (message : ℕ → Message) (mixed : Bool) (base : Bool → ℕ → ℕ) (first shift : ℕ) (x : Transfer) (handed : List messages.Message) (t : Tracker) (r : Reassembly) (k tsn : ℕ) (f : FragmentTree) (now : Bool) (es : List Event) →
         Kept message mixed x → IsInWindow x → Receives message mixed base shift x handed t r → ReadsNear message mixed base first shift x r → IsTracker t → r.deferred ≡ None →
         tsn ≡ wire words first (origin + k) → Carries message mixed x.sender k f → IsRead message mixed (shift_after r.first shift k) x.sender r k tsn f → was_seen t k ≡ false → IsNow base message x.sender k →
-        Goes message mixed base (shift_after r.first shift k) x es handed (observe (origin + k) now t) (add tsn f r) →
+        Goes message mixed base (shift_after r.first shift k) x es handed None (observe (origin + k) now t) (add tsn f r) →
         ReadsNear message mixed base first (shift_after r.first shift k) (run message mixed x es) (add tsn f r) }
     ensures forward_point { (message : ℕ → Message) (mixed : Bool) (base : Bool → ℕ → ℕ) (first shift : ℕ) (x : Transfer) (handed : List messages.Message) (t : Tracker) (r : Reassembly) (k tsn : ℕ) (f : ForwardPoint) (entries : List SkippedStream) (es : List Event) →
         Kept message mixed x → IsInWindow x → AreFew x.sender → Receives message mixed base shift x handed t r → ReadsNear message mixed base first shift x r → IsTracker t → r.deferred ≡ None →
         IsAmong f x.forward_points → f.upto ≡ suc k → moves_on (origin + k) t ≡ true → tsn ≡ wire words first (origin + k) →
         StandForAll mixed r.streams entries (wire_point f).entries → AreApart f.entries → AreEntriesNow base f →
-        Goes message mixed base (shift_after r.first shift k) x es handed (tracker.forward (origin + k) t) (forward tsn entries r) →
+        Goes message mixed base (shift_after r.first shift k) x es handed None (tracker.forward (origin + k) t) (forward tsn entries r) →
         ReadsNear message mixed base first (shift_after r.first shift k) (run message mixed x es) (forward tsn entries r) }
     ensures message_is_taken { (message : ℕ → Message) (mixed : Bool) (base : Bool → ℕ → ℕ) (first shift : ℕ) (x : Transfer) (r : Reassembly) (ms : List messages.Message) →
         ReadsNear message mixed base first shift x r → ReadsNear message mixed base first shift x (record r { ready = ms }) }
@@ -80,12 +80,12 @@ pub fn written_fragment_comes()
         Kept message mixed x → IsInWindow x → AreFew x.sender → Receives message mixed base shift x handed t r → ReadsNear message mixed base first shift x r → IsTracker t → r.deferred ≡ None →
         tsn ≡ wire words first (origin + k) → Carries message mixed x.sender k f → IsWritten message mixed x.sender k f → was_seen t k ≡ false → IsNow base message x.sender k → IsNearNext message x k →
         is_behind message mixed x.sender x.receiver k ≡ false →
-        (ps : List ℕ) × GoesNear message mixed base first (shift_after r.first shift k) x (data_comes k ∷ map deliver ps) handed (observe (origin + k) now t) (add tsn f r) }
+        (ps : List ℕ) × GoesNear message mixed base first (shift_after r.first shift k) x (data_comes k ∷ map deliver ps) handed None (observe (origin + k) now t) (add tsn f r) }
     ensures late { (message : ℕ → Message) (mixed : Bool) (base : Bool → ℕ → ℕ) (first shift : ℕ) (x : Transfer) (handed : List messages.Message) (t : Tracker) (r : Reassembly) (k tsn : ℕ) (f : FragmentTree) (now : Bool) →
         Kept message mixed x → IsInWindow x → AreFew x.sender → Receives message mixed base shift x handed t r → ReadsNear message mixed base first shift x r → IsTracker t → r.deferred ≡ None →
         tsn ≡ wire words first (origin + k) → Carries message mixed x.sender k f → IsWritten message mixed x.sender k f → was_seen t k ≡ false → IsNow base message x.sender k → IsNearNext message x k →
         is_behind message mixed x.sender x.receiver k ≡ true →
-        GoesNear message mixed base first (shift_after r.first shift k) x (late_comes k ∷ []) handed (observe (origin + k) now t) (add tsn f r) }
+        GoesNear message mixed base first (shift_after r.first shift k) x (late_comes k ∷ []) handed None (observe (origin + k) now t) (add tsn f r) }
 {}
 
 /// And so is a forward point that moves the tracker's front. The last fragment that it passes is k.
@@ -94,5 +94,5 @@ pub fn written_point_comes()
         Kept message mixed x → IsInWindow x → AreFew x.sender → Receives message mixed base shift x handed t r → ReadsNear message mixed base first shift x r → IsTracker t → r.deferred ≡ None →
         IsAmong f x.forward_points → f.upto ≡ suc k → moves_on (origin + k) t ≡ true → tsn ≡ wire words first (origin + k) →
         AreApart f.entries → AreEntries mixed entries f.entries → AreEntriesNow base f → AreNearNext x f →
-        (ps : List ℕ) × GoesNear message mixed base first (shift_after r.first shift k) x (forward_comes f no_stream ∷ map deliver ps) handed (tracker.forward (origin + k) t) (forward tsn entries r) }
+        (ps : List ℕ) × GoesNear message mixed base first (shift_after r.first shift k) x (forward_comes f no_stream ∷ map deliver ps) handed None (tracker.forward (origin + k) t) (forward tsn entries r) }
 {}
