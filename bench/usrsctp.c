@@ -36,6 +36,7 @@ struct end {
     struct socket *socket;
     struct way way;
     struct end *peer;
+    uint16_t port;
 };
 
 struct plan {
@@ -77,7 +78,7 @@ static uint64_t mixed(uint64_t number)
 
 static void grow(struct way *way)
 {
-    size_t size = way->size ? 2 * way->size : 64;
+    size_t size = way->size ? 2 * way->size : 4;
     struct packet *ring = made(size * sizeof *ring);
     for (size_t i = 0; i < way->length; i++)
         ring[i] = way->ring[(way->first + i) & (way->size - 1)];
@@ -194,7 +195,7 @@ static void set(struct socket *socket, int level, int name, const void *value, s
 
 static struct sockaddr_conn address_of(struct end *end)
 {
-    struct sockaddr_conn address = {.sconn_family = AF_CONN, .sconn_port = htons(5000), .sconn_addr = end};
+    struct sockaddr_conn address = {.sconn_family = AF_CONN, .sconn_port = htons(end->port), .sconn_addr = end};
     return address;
 }
 
@@ -228,12 +229,22 @@ static void open_end(struct end *end, uint64_t salt)
         stop("bind");
 }
 
-/* Opens an association: both ends connect, as peers of WebRTC do. */
+static int is_open(struct end *end)
+{
+    struct sctp_status status;
+    socklen_t length = sizeof status;
+    memset(&status, 0, sizeof status);
+    return usrsctp_getsockopt(end->socket, IPPROTO_SCTP, SCTP_STATUS, &status, &length) == 0 && status.sstat_state == SCTP_ESTABLISHED;
+}
+
+/* Opens an association: both ends connect, as peers of WebRTC do. Each has a port of its own, by which usrsctp finds its ends. */
 static void open_pair(struct end *from, struct end *to)
 {
+    static uint16_t port = 1024;
     struct end *ends[] = {from, to};
     from->peer = to;
     to->peer = from;
+    from->port = to->port = port++;
     for (int i = 0; i < 2; i++)
         open_end(ends[i], (uint64_t)i);
     for (int i = 0; i < 2; i++) {
@@ -241,9 +252,11 @@ static void open_pair(struct end *from, struct end *to)
         if (usrsctp_connect(ends[i]->socket, (struct sockaddr *)&address, sizeof address) < 0 && errno != EINPROGRESS)
             stop("connect");
     }
-    for (int i = 0; i < 1000; i++)
+    while (!is_open(from) || !is_open(to))
         if (!turn(from, to, 0))
             wait_for(from, to);
+    while (turn(from, to, 0))
+        ;
 }
 
 static void set_all(void)
@@ -279,6 +292,10 @@ int main(int count, char **words)
     for (uint64_t i = 0; i < plan.idle; i++) {
         struct end *pair = made(2 * sizeof *pair);
         open_pair(&pair[0], &pair[1]);
+        for (int end = 0; end < 2; end++) {
+            free(pair[end].way.ring);
+            memset(&pair[end].way, 0, sizeof pair[end].way);
+        }
     }
     open_pair(&from, &to);
     uint64_t opened = now;
