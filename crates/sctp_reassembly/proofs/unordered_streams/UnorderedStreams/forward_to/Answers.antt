@@ -1,8 +1,12 @@
-use Rattle.std.proofs.Common.{refl, ap, arith}
+use Rattle.std.proofs.Common.{refl, ap, ◌∙◌, arith}
+use Rattle.std.specs.Ordering.{nat_cmp}
+use Rattle.std.specs.BTreeMap.{is_at}
+use Rattle.sctp_fragments.specs.Key.{rank_at}
 use Rattle.sctp_fragments.specs.Held.{bytes_of}
-use Rattle.sctp_reassembly.specs.Delivery.{UnorderedStream, fresh_unordered}
-use Rattle.sctp_reassembly.specs.Streams.{unordered_bytes}
+use Rattle.sctp_reassembly.specs.Delivery.{UnorderedStream, fresh_unordered, held_from}
+use Rattle.sctp_reassembly.specs.Streams.{unordered_bytes, stream_at, written}
 use Rattle.sctp_reassembly.proofs.EntriesLemmas.{sum-written, sum-at_least}
+use Rattle.sctp_reassembly.proofs.NoteLemmas.{not_written}
 use Rattle.sctp_reassembly.proofs.unordered_streams.UnorderedStreams.forward_to.Goals as goal
 
 pub invariant_of-self-2 : goal.invariant_of-self-2
@@ -20,3 +24,9 @@ returns-clause-bytes g c =
     let sums = sum-written (λ (s : UnorderedStream). bytes_of s.held) c.args.id.0 entries c.in-Some.stream.now c.forward_to.new.self c.in-Some.ensures.value in
     let least = sum-at_least (λ (s : UnorderedStream). bytes_of s.held) c.args.id.0 entries c.in-Some.stream.now fresh_unordered refl c.in-Some.ensures.value in
     omega (arith, written, sums, least, c.forward_to.ensures.bytes, ap unordered_bytes c.self.view_is)
+
+pub returns-in_default-clause-value : goal.returns-in_default-clause-value
+returns-in_default-clause-value g c =
+    let left = held_from (rank_at g.K.ReassemblyKey.number g.K.ReassemblyKey.index c.args.first) (stream_at fresh_unordered c.args.id.0 c.args.self.now) in
+    ap (λ m. m.entries) c.get_mut.follows.holds-at-none
+    ∙ (not_written (is_at (nat_cmp c.args.id.0)) left c.self.inside.streams.entries c.in_default.ensures.value ∙ ap (λ es. written c.args.id.0 left es) c.self.view_is)
