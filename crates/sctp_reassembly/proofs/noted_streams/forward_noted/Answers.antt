@@ -12,7 +12,7 @@ loop-preserved c =
       same = forwarded_one n c.in-Some.note.1 c.loop.streams c.forward_to.new.self c.forward_to.ensures.value ∙ c.loop.invariant.same;
       fewer = omega (arith, c.forward_to.ensures.bytes, c.loop.invariant.fewer);
       noted = λ all. renewed c.in-Some.note.1 c.loop.notes.keys c.take_below.new.notes.keys c.make_note.new.notes.keys c.forward_to.new.self c.in-Some.ensures.some c.make_note.ensures.kept (c.make_note.ensures.made made)
-      (written_others c.in-Some.note.1 _ c.loop.notes.keys c.loop.streams c.forward_to.new.self c.forward_to.ensures.value (c.loop.invariant.noted all));
+          (written_others c.in-Some.note.1 _ c.loop.notes.keys c.loop.streams c.forward_to.new.self c.forward_to.ensures.value (c.loop.invariant.noted all));
     }
 
 pub returns-in_default-clause-same : goal.returns-in_default-clause-same
