@@ -71,6 +71,7 @@ module _ (message : ℕ → Message) (mixed : Bool) (x : Transfer) (kept : Kept 
       near = record {
         tsns = sender_keeps message mixed t.tracker.first shown.shift x (send_sack point) t.reassembly kept may refl shown.near.tsns;
         mids = λ m. sender_keeps_mids message mixed x kept m (send_sack point) may refl no_base t.reassembly (shown.near.mids m);
+        start = shown.near.start;
       };
       is_tracker = shown.is_tracker;
       not_deferred = shown.not_deferred;
