@@ -1,7 +1,8 @@
 -- Epochs along a course: one for each message that was accepted, in their order; and all are 0 where no stream is reset.
-use Rattle.std.proofs.Common.{◌≡◌, ℕ, ◌+◌, Bool, true, false, List, [], ◌∷◌, ◌++◌, length, All, refl, ap, sym, ◌∙◌, append_assoc, arith}
+use Rattle.std.proofs.Common.{◌≡◌, ℕ, ◌+◌, Bool, true, false, List, [], ◌∷◌, ◌++◌, length, All, refl, ap, sym, ◌∙◌, append_assoc}
 use Rattle.std.specs.List.{list_any}
 use Rattle.std.proofs.lemmas.Bool.{or_parts}
+use Rattle.std.proofs.lemmas.List.{length-append, length-map}
 use Rattle.std.proofs.lemmas.List.Elements.{All-nil, All-cons, All-append}
 use Rattle.sctp_table.specs.Laws.{Connect, Close, Shutdown, Send, SendMany, ResetStreams, TakeMessage, SetLowThreshold, SetPriority, SetMaxMessageSize, Advance, HandOver, Restore, Packet, NoPacket}
 use Rattle.sctp_course.specs.Course.{Side, Pair, Turn, Calls, Gives, Refuses, goes, run}
@@ -11,20 +12,15 @@ use Rattle.sctp_delivery.specs.Proper.{reset_by, reset_at}
 use Rattle.sctp_delivery.specs.StreamEpochs.{StreamEpoch, are_named, shut, opened_if, performed_of, told_at, epochs_after, epochs_of, offer_epochs, epochs_along}
 
 one_each : (os : List Offer) (f : ℕ → StreamEpoch) → length (epochs_of os f) ≡ length os
-one_each [] f = refl
-one_each (o ∷ os) f = ap (λ (n : ℕ). 1 + n) (one_each os f)
-
-lengths : {X : Type 0} (xs ys : List X) → length (xs ++ ys) ≡ length xs + length ys
-lengths [] ys = refl
-lengths (x ∷ xs) ys = let e = lengths xs ys in omega (arith, e)
+one_each os f = length-map os (λ (o : Offer). (f o.message.stream).epoch)
 
 pub epochs_are_many : (x : Bool) (turns : List (Bool × Turn)) (w : Pair) (f : ℕ → StreamEpoch) → length (offer_epochs x turns w f) ≡ length (accepted x turns w)
 epochs_are_many x [] w f = refl
 epochs_are_many x (e ∷ es) w f =
     let here : List Offer = accepted_at x e.0 e.1 w in
     let v : Pair = goes e.0 e.1 w in
-    let a = lengths (epochs_of here f) (offer_epochs x es v (epochs_after x e.0 e.1 w f)) in
-    let b = lengths here (accepted x es v) in
+    let a = length-append (epochs_of here f) (offer_epochs x es v (epochs_after x e.0 e.1 w f)) in
+    let b = length-append here (accepted x es v) in
     let c = one_each here f in
     let d = epochs_are_many x es v (epochs_after x e.0 e.1 w f) in
     a ∙ (ap (λ (n : ℕ). n + length (offer_epochs x es v (epochs_after x e.0 e.1 w f))) c ∙ (ap (λ (n : ℕ). length here + n) d ∙ sym b))
