@@ -37,6 +37,8 @@ static void without_a_socket(void) {
     is("reset_streams", sctp_reset_streams(&none, streams, 1), SCTP_NO_SOCKET);
     is("get_metrics", sctp_get_metrics(&none, &metrics), SCTP_NO_SOCKET);
     is("handover_readiness", sctp_handover_readiness(&none, &state), SCTP_NO_SOCKET);
+    is("handover", sctp_handover(&none, &bytes, SCTP_EMPTY, 0), SCTP_NO_SOCKET);
+    is("restore", sctp_restore(&none, SCTP_EMPTY, 0), SCTP_NO_SOCKET);
     is("send", sctp_send(&none, 1, 1, SCTP_EMPTY, 0, &plainly), SCTP_NO_SOCKET);
     is("send_many", sctp_send_many(&none, &outgoing, 1, &plainly, answers, 1), SCTP_NO_SOCKET);
     is("next_message", sctp_next_message(&none, &message, SCTP_EMPTY, 0), SCTP_NO_SOCKET);
@@ -135,6 +137,78 @@ static void resets_and_counts(sctp_socket *a, sctp_socket *b) {
     is("interleaving", metrics.uses_message_interleaving, 0);
 }
 
+/* A record that doesn't fit stays, bytes that are no record change nothing, and who takes the record up goes on. */
+static void handovers(sctp_socket *a, sctp_socket *b, const sctp_options *options) {
+    static uint8_t record[65536], again[65536];
+    sctp_socket c = SCTP_NO_HANDLE, d = SCTP_NO_HANDLE;
+    sctp_send_options plainly = {0, 0, 0, 0};
+    sctp_message message;
+    sctp_event event;
+    uint8_t buffer[1500];
+    uint32_t state;
+    size_t needed = 0, length = 0;
+    is("send", sctp_send(b, 9, 51, (const uint8_t *)"held", 4, &plainly), SCTP_OK);
+    is("not ready", sctp_handover(b, &needed, record, sizeof record), SCTP_NOT_READY);
+    pass_packets(b, a);
+    is("handed out", sctp_next_message(a, &message, buffer, sizeof buffer), SCTP_OK);
+    is("new", sctp_new(&c, options, 3, 3), SCTP_OK);
+    is("new", sctp_new(&d, options, 4, 4), SCTP_OK);
+    is("short", sctp_handover(b, &needed, SCTP_EMPTY, 0), SCTP_SHORT_BUFFER);
+    is("its length", 0 < needed && needed < sizeof record, 1);
+    is("short again", sctp_handover(b, &length, record, needed - 1), SCTP_SHORT_BUFFER);
+    is("same length", length, needed);
+    is("closed", sctp_state(b, &state), SCTP_OK);
+    is("state", state, SCTP_CLOSED);
+    is("record", sctp_handover(b, &length, record, needed), SCTP_OK);
+    is("same length", length, needed);
+    is("event", sctp_poll_event(b, &event, buffer, sizeof buffer), SCTP_OK);
+    is("on closed", event.kind, SCTP_ON_CLOSED);
+    is("no bytes", sctp_restore(&c, SCTP_EMPTY, 0), SCTP_INVALID_STATE);
+    is("cut short", sctp_restore(&c, record, length - 1), SCTP_INVALID_STATE);
+    is("too long", sctp_restore(&c, record, length + 1), SCTP_INVALID_STATE);
+    for (size_t i = 0; i < 8; i++) { /* the version, and the flags behind it */
+        record[i] ^= 2;
+        is("damaged", sctp_restore(&c, record, length), SCTP_INVALID_STATE);
+        record[i] ^= 2;
+    }
+    memset(record + 8, 0, 4);
+    is("no tag", sctp_restore(&c, record, length), SCTP_INVALID_STATE);
+    is("unlike", sctp_handover(b, &needed, again, sizeof again), SCTP_OK);
+    is("of a closed one", again[4], 0);
+    is("nothing to take up", sctp_restore(&d, again, needed), SCTP_OK);
+    is("no event", sctp_poll_event(&d, &event, buffer, sizeof buffer), SCTP_NOTHING);
+    is("not closed", sctp_restore(a, again, needed), SCTP_NOT_CLOSED);
+    sctp_free(&c);
+    sctp_free(&d);
+}
+
+/* The same socket, handed over twice, is the same record; a message comes through behind it. */
+static void taken_up(sctp_socket *a, sctp_socket *b, const sctp_options *options) {
+    static uint8_t record[65536], again[65536];
+    sctp_socket c = SCTP_NO_HANDLE;
+    sctp_send_options plainly = {0, 0, 0, 0};
+    sctp_message message;
+    uint8_t buffer[1500];
+    uint32_t state;
+    size_t length, needed;
+    is("connect", sctp_connect(b), SCTP_OK);
+    pass_packets(b, a);
+    is("record", sctp_handover(b, &length, record, sizeof record), SCTP_OK);
+    is("new", sctp_new(&c, options, 3, 3), SCTP_OK);
+    is("restore", sctp_restore(&c, record, length), SCTP_OK);
+    is("state", sctp_state(&c, &state), SCTP_OK);
+    is("connected", state, SCTP_CONNECTED);
+    is("again", sctp_restore(&c, record, length), SCTP_NOT_CLOSED);
+    is("record", sctp_handover(&c, &needed, again, sizeof again), SCTP_OK);
+    is("the same", needed == length && memcmp(record, again, length) == 0, 1);
+    is("restore", sctp_restore(&c, again, needed), SCTP_OK);
+    is("send", sctp_send(&c, 5, 51, (const uint8_t *)"here", 4, &plainly), SCTP_OK);
+    pass_packets(&c, a);
+    is("message", sctp_next_message(a, &message, buffer, sizeof buffer), SCTP_OK);
+    is("as it was sent", message.stream == 5 && message.length == 4 && memcmp(buffer, "here", 4) == 0, 1);
+    sctp_free(&c);
+}
+
 /* An event, and a message, that don't fit stay. */
 static void short_buffers(sctp_socket *a, sctp_socket *b) {
     sctp_send_options plainly = {0, 0, 0, 0};
@@ -193,6 +267,8 @@ int main(void) {
     short_buffers(&a, &b);
     batches(&a, &b);
     resets_and_counts(&a, &b);
+    handovers(&a, &b, &options);
+    taken_up(&a, &b, &options);
     sctp_free(&a);
     sctp_free(&a);
     is("freed", sctp_connect(&a), SCTP_NO_SOCKET);

@@ -1,4 +1,5 @@
-/* Two sockets over memory: they connect, a message crosses each way, and the association shuts down. */
+/* Two sockets over memory: they connect, a message crosses each way, one of them is handed over to a third, and the association shuts
+ * down. */
 #include "sctp.h"
 #include <stdio.h>
 #include <string.h>
@@ -65,8 +66,20 @@ static void take_messages(const char *name, sctp_socket *socket) {
         printf("%s: stream %u: %.*s\n", name, (unsigned)message.stream, (int)message.length, (const char *)buffer);
 }
 
+/* Hands a connected socket over to a new one, which goes on in its place. */
+static int hand_over(sctp_socket *from, sctp_socket *to, const sctp_options *options) {
+    uint8_t record[4096];
+    size_t length;
+    uint32_t answer = sctp_handover(from, &length, record, sizeof record);
+    if (answer != SCTP_OK || (answer = sctp_new(to, options, 3, 3)) != SCTP_OK || (answer = sctp_restore(to, record, length)) != SCTP_OK)
+        return failed("handover", answer);
+    printf("a record of %zu bytes\n", length);
+    sctp_free(from);
+    return 0;
+}
+
 int main(void) {
-    sctp_socket a = SCTP_NO_HANDLE, b = SCTP_NO_HANDLE;
+    sctp_socket a = SCTP_NO_HANDLE, b = SCTP_NO_HANDLE, c = SCTP_NO_HANDLE;
     sctp_options options;
     sctp_send_options plainly = {0, 0, 0, 0};
     uint64_t now = 0;
@@ -83,9 +96,14 @@ int main(void) {
         return 1;
     take_messages("a", &a);
     take_messages("b", &b);
-    if ((answer = sctp_shutdown(&a)) != SCTP_OK || settle(&a, &b, &now))
+    if (hand_over(&b, &c, &options) || (answer = sctp_advance_time(&c, now)) != SCTP_OK || settle(&a, &c, &now))
+        return 1;
+    if ((answer = sctp_send(&c, 2, 51, (const uint8_t *)"still here", 10, &plainly)) != SCTP_OK || settle(&a, &c, &now))
+        return failed("send", answer);
+    take_messages("a", &a);
+    if ((answer = sctp_shutdown(&a)) != SCTP_OK || settle(&a, &c, &now))
         return failed("shutdown", answer);
     sctp_free(&a);
-    sctp_free(&b);
+    sctp_free(&c);
     return 0;
 }

@@ -6,8 +6,10 @@ use Rattle.rand_pcg.specs.Lcg.{Lcg}
 use Rattle.rand_pcg.specs.Pcg.{pcg32}
 use Rattle.sctp_association.specs.Socket.{SocketValue, Ends, endpoint}
 use Rattle.sctp_c_calls.specs.Answers.{IsAmong, OnAnswer, ending_at}
+use Rattle.sctp_c_calls.specs.Handing.{record_of, record_or}
 use Rattle.sctp_c_records.specs.Checksums.{word_by}
 use Rattle.sctp_c_records.specs.declared.checksum.PacketChecksum.{PacketChecksum}
+use Rattle.sctp_state.specs.Handover.{HandoverState}
 use Rattle.sctp_table.specs.Association.{Endpoint as End}
 use Rattle.sctp_c.specs.declared.endpoint.Endpoint.{Endpoint}
 
@@ -21,15 +23,19 @@ stream = stream_of (steps_u32 pcg32)
 abbrev pub end_of : CSocket → End (List ℕ)
 end_of s = endpoint stream word_by s
 
+-- the record that the next call hands out
+abbrev pub record_at : Endpoint → HandoverState
+record_at e = record_or (record_of e.handed_over) (end_of e.socket).standing
+
 -- A handle with a socket makes the call on it. One without answers 3, and stays so.
 abbrev pub Answers : (call : Endpoint → ℕ → Endpoint → Type 0) → (old : Option Endpoint) → ℕ → (new : Option Endpoint) → Type 0
 Answers call None n new = (n ≡ 3) × (new ≡ None)
 Answers call (Some e) n None = ⊥
 Answers call (Some e) n (Some f) = call e n f
 
--- the event that is kept stays
+-- the event and the record that are kept stay
 abbrev pub OnSocket : (call : CSocket → ℕ → CSocket → Type 0) → Endpoint → ℕ → Endpoint → Type 0
-OnSocket call e n f = call e.socket n f.socket × (f.event ≡ e.event)
+OnSocket call e n f = call e.socket n f.socket × ((f.event ≡ e.event) × (f.handed_over ≡ e.handed_over))
 
 -- a changing call: done, or out of memory, now or earlier
 abbrev pub Makes : (effect : CSocket → End (List ℕ) → Type 0) → (old : Option Endpoint) → ℕ → (new : Option Endpoint) → Type 0

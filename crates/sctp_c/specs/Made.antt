@@ -16,6 +16,7 @@ pub record IsFresh (options : Options) (checksum : PacketChecksum) (rng : Lcg) (
   pub start : end_of e.socket ≡ fresh options (writing (word_by checksum)) (stream rng)
   pub working : e.socket.has_failed ≡ false
   pub event : e.event ≡ None
+  pub handed_over : e.handed_over ≡ None
 
 abbrev pub Made : OptionsRecord → Lcg → Option Endpoint → Type 0
 Made o rng None = ⊥

@@ -1,12 +1,13 @@
 //! A socket as C holds it.
 
 use rand_pcg::Pcg32;
-use sctp_association::{Socket, SocketEvent};
+use sctp_association::{Socket, SocketEvent, SocketHandoverState};
 use sctp_c_records::PacketChecksum;
 
-/// A socket, and the event that was taken from it and didn't fit yet.
+/// A socket, and the event and the record that were taken from it and didn't fit yet.
 #[derive(Drop)]
 pub struct Endpoint {
     pub(crate) socket: Socket<Pcg32, PacketChecksum>,
     pub(crate) event: Option<SocketEvent>,
+    pub(crate) handed_over: Option<SocketHandoverState>,
 }

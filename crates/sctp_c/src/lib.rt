@@ -7,6 +7,7 @@ mod calls;
 mod endpoint;
 mod events;
 mod handle;
+mod handover;
 mod making;
 mod messages;
 mod settings;

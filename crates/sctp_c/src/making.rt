@@ -33,6 +33,7 @@ fn boxed(
             Endpoint {
                 socket,
                 event: None,
+                handed_over: None,
             },
         ) {
             Ok(end) => Ok(end),

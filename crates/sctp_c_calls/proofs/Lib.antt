@@ -1,2 +1,3 @@
+pub mod HandoverLemmas
 pub mod OutcomeLemmas
 pub mod ReadyLemmas

@@ -6,6 +6,8 @@ use Rattle.sctp_state.specs.declared.api.errors.SendError.{SendError}
 use Rattle.sctp_state.specs.declared.api.errors.SendError.TheVariants.{EmptyPayload, MessageTooLarge, ShuttingDown, ResourceExhaustion, Memory, Failed}
 use Rattle.sctp_state.specs.declared.api.errors.ResetStreamsError.{ResetStreamsError}
 use Rattle.sctp_state.specs.declared.api.errors.ResetStreamsError.TheVariants as resets
+use Rattle.sctp_state.specs.declared.api.errors.RestoreError.{RestoreError}
+use Rattle.sctp_state.specs.declared.api.errors.RestoreError.TheVariants as restores
 use Rattle.sctp_state.specs.declared.api.SocketState.{SocketState}
 use Rattle.sctp_state.specs.declared.api.SocketState.TheVariants as shown
 use Rattle.sctp_association.specs.Socket.{Ending, Worked, RanOut, HadFailed, SocketValue, Ends}
@@ -62,6 +64,13 @@ reset_number (Some resets.NotConnected) = 14
 reset_number (Some resets.NotSupported) = 15
 reset_number (Some resets.Memory) = 1
 reset_number (Some resets.Failed) = 2
+
+abbrev pub restore_number : Option RestoreError → ℕ
+restore_number None = 0
+restore_number (Some restores.SocketNotClosed) = 19
+restore_number (Some restores.InvalidState) = 20
+restore_number (Some restores.Memory) = 1
+restore_number (Some restores.Failed) = 2
 
 -- P, where the call was made, done or refused
 abbrev pub OnSettled : ℕ → Type 0 → Type 0

@@ -1,4 +1,5 @@
 pub mod Answers
 pub mod Counted
+pub mod Handing
 pub mod Outgoing
 pub mod Waiting

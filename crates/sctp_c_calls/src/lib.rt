@@ -5,6 +5,7 @@ mod asking;
 mod batch;
 mod calls;
 mod events;
+mod handover;
 mod messages;
 mod outcome;
 mod settings;
@@ -13,6 +14,7 @@ pub use asking::{buffered_amount, handover_readiness, metrics, nanos_until, stat
 pub use batch::{have_streams, send_many};
 pub use calls::{advance_time, close, connect, handle_input, shutdown};
 pub use events::poll_event;
+pub use handover::{hand_over, restore};
 pub use messages::{next_message, send};
 pub use settings::{
     reset_stream, reset_streams, set_buffered_amount_low_threshold, set_stream_priority,

@@ -38,8 +38,12 @@ pub const NOT_READY: u32 = 16;
 pub const NO_ROOM: u32 = 17;
 /// Some messages of a batch weren't accepted; the others were.
 pub const SOME_REFUSED: u32 = 18;
+/// A record can be taken up by a closed socket alone.
+pub const NOT_CLOSED: u32 = 19;
+/// The bytes are no record of a socket, or of none that there could be.
+pub const INVALID_STATE: u32 = 20;
 
-const TEXTS: [&str; 19] = [
+const TEXTS: [&str; 21] = [
     "done",
     "out of memory",
     "socket has failed",
@@ -59,6 +63,8 @@ const TEXTS: [&str; 19] = [
     "socket is not in a ready state for handover",
     "out of memory, nothing changed",
     "some messages were not accepted",
+    "socket is not closed",
+    "handover state is not valid",
 ];
 
 /// The text of an answer.

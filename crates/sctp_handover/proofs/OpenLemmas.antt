@@ -1,0 +1,45 @@
+-- Bytes with something behind them, field by field.
+use Rattle.std.proofs.Common.{◌≡◌, ℕ, ℤ, pos, Bool, false, is_some, unwrap_or, List, [], ◌++◌, append_assoc, append-nil}
+use Rattle.sctp_wire.specs.Fields.{be16, be32, be64}
+use Rattle.sctp_state.specs.Handover.{HandoverState, OutstandingData, Receive, StreamMessage, Transmission}
+use Rattle.sctp_state.specs.declared.api.handover.HandoverCapabilities.{HandoverCapabilities}
+use Rattle.sctp_state.specs.declared.api.handover.HandoverOrderedStream.{HandoverOrderedStream}
+use Rattle.sctp_state.specs.declared.api.handover.HandoverOutgoingStream.{HandoverOutgoingStream}
+use Rattle.sctp_state.specs.declared.api.handover.HandoverUnorderedStream.{HandoverUnorderedStream}
+use Rattle.sctp_handover.specs.Bytes.{capability_bytes, data_bytes, flag_bytes, is_connected, list_bytes, message_bytes, ordered_bytes, outgoing_bytes, payload_bytes, reception_bytes, record_bytes, signed_bytes, transmission_bytes, unordered_bytes}
+
+pub opened_outgoing : (s : HandoverOutgoingStream) (after : List ℕ) → outgoing_bytes s ++ after ≡ be16 s.id ++ (be16 s.next_ssn ++ (be32 s.next_unordered_mid ++ (be32 s.next_ordered_mid ++ (be16 s.priority ++ after))))
+unfolding outgoing_bytes
+opened_outgoing s after = simp append_assoc
+
+pub opened_ordered : (s : HandoverOrderedStream) (after : List ℕ) → ordered_bytes s ++ after ≡ be16 s.id ++ (be32 s.next_ssn ++ after)
+unfolding ordered_bytes
+opened_ordered s after = simp append_assoc
+
+pub opened_unordered : (s : HandoverUnorderedStream) (after : List ℕ) → unordered_bytes s ++ after ≡ be16 s.id ++ after
+unfolding unordered_bytes
+opened_unordered s after = simp append_assoc
+
+pub opened_message : (m : StreamMessage) (after : List ℕ) → message_bytes m ++ after ≡ flag_bytes m.unordered (is_some m.expires_in_ms) (is_some m.mid) (is_some m.ssn) ++ (be16 m.stream_id ++ (be16 m.max_retransmissions ++ (be16 (unwrap_or m.ssn 0) ++ (be32 m.ppid ++ (be32 (unwrap_or m.mid 0) ++ (be32 m.fsn ++ (signed_bytes (unwrap_or m.expires_in_ms (pos 0)) ++ (be64 m.lifecycle_id ++ (be64 m.message_id ++ (be64 m.remaining_offset ++ (payload_bytes m.payload ++ after)))))))))))
+unfolding message_bytes
+opened_message m after = simp append_assoc
+
+pub opened_data : (d : OutstandingData) (after : List ℕ) → data_bytes d ++ after ≡ flag_bytes d.is_unordered (is_some d.expires_in_ms) d.is_beginning d.is_end ++ (flag_bytes d.acked d.is_abandoned d.is_nacked d.is_to_be_retransmitted ++ (be16 d.stream_id ++ (be16 d.ssn ++ (be16 d.max_retransmissions ++ (be16 d.retransmission_count ++ (be32 d.mid ++ (be32 d.fsn ++ (be32 d.ppid ++ (signed_bytes (unwrap_or d.expires_in_ms (pos 0)) ++ (signed_bytes d.time_since_sent_ms ++ (be64 d.lifecycle_id ++ (be64 d.message_id ++ (payload_bytes d.payload ++ after)))))))))))))
+unfolding data_bytes
+opened_data d after = simp append_assoc
+
+pub opened_capability : (k : HandoverCapabilities) (after : List ℕ) → capability_bytes k ++ after ≡ flag_bytes k.partial_reliability k.message_interleaving k.reconfig k.zero_checksum ++ (be16 k.negotiated_maximum_incoming_streams ++ (be16 k.negotiated_maximum_outgoing_streams ++ after))
+unfolding capability_bytes
+opened_capability k after = simp append_assoc
+
+pub opened_transmission : (t : Transmission) (after : List ℕ) → transmission_bytes t ++ after ≡ be32 t.next_tsn ++ (be32 t.last_cumulative_tsn_ack ++ (be32 t.next_reset_req_sn ++ (be32 t.cwnd ++ (be32 t.rwnd ++ (be32 t.ssthresh ++ (be32 t.partial_bytes_acked ++ (be64 t.next_outgoing_message_id ++ (list_bytes outgoing_bytes t.streams ++ (list_bytes message_bytes t.queued_messages ++ (list_bytes data_bytes t.outstanding_data ++ after))))))))))
+unfolding transmission_bytes
+opened_transmission t after = simp append_assoc
+
+pub opened_reception : (r : Receive) (after : List ℕ) → reception_bytes r ++ after ≡ flag_bytes r.seen_packet false false false ++ (be32 r.last_cumulative_acked_tsn ++ (be32 r.last_assembled_tsn ++ (be32 r.last_completed_deferred_reset_req_sn ++ (be32 r.last_completed_reset_req_sn ++ (list_bytes ordered_bytes r.ordered_streams ++ (list_bytes unordered_bytes r.unordered_streams ++ after))))))
+unfolding reception_bytes
+opened_reception r after = simp append_assoc
+
+pub opened_record : (h : HandoverState) → record_bytes h ≡ be32 1 ++ (flag_bytes (is_connected h.socket_state) false false false ++ (be32 h.my_verification_tag ++ (be32 h.my_initial_tsn ++ (be32 h.peer_verification_tag ++ (be32 h.peer_initial_tsn ++ (be64 h.tie_tag ++ (capability_bytes h.capabilities ++ (reception_bytes h.rx ++ (transmission_bytes h.tx ++ [])))))))))
+unfolding record_bytes
+opened_record h = simp append-nil

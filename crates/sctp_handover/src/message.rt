@@ -1,0 +1,161 @@
+//! Messages of the queue, and fragments that are kept.
+
+ghost use Rattle.std.specs.Prelude.{◌≡◌};
+ghost use Rattle.sctp_state.specs.Handover.{OutstandingData, StreamMessage, outstanding_data_of, stream_message_of};
+ghost use Rattle.sctp_handover.specs.Bounds.{DataFits, MessageFits};
+ghost use Rattle.sctp_handover.specs.Bytes.{data_bytes, message_bytes};
+ghost use Rattle.sctp_handover.specs.Parts.{data_has_bytes, message_has_bytes};
+
+use crate::field::{
+    flags_at, number16_at, number32_at, number64_at, payload_at, push_flags, push_payload,
+    push_signed, signed_at, some_if,
+};
+use crate::part::Part;
+use sctp_state::api::handover::{HandoverOutstandingData, HandoverStreamMessage};
+use sctp_wire::{push_u16, push_u32, push_u64};
+use std::alloc::{AllocError, Global};
+
+impl Part for HandoverStreamMessage {
+    ghost Value = { StreamMessage };
+
+    ghost value_of = { stream_message_of };
+
+    ghost bytes_of = { message_bytes };
+
+    ghost Fits = { MessageFits };
+
+    ghost has_bytes = { message_has_bytes };
+
+    fn part_at(alloc: Global, bytes: &[u8]) -> Result<(HandoverStreamMessage, &[u8]), AllocError> {
+        let ((unordered, expires, has_mid, has_ssn), rest) = flags_at(bytes);
+        let (stream_id, rest) = number16_at(rest);
+        let (max_retransmissions, rest) = number16_at(rest);
+        let (ssn, rest) = number16_at(rest);
+        let (ppid, rest) = number32_at(rest);
+        let (mid, rest) = number32_at(rest);
+        let (fsn, rest) = number32_at(rest);
+        let (millis, rest) = signed_at(rest);
+        let (lifecycle_id, rest) = number64_at(rest);
+        let (message_id, rest) = number64_at(rest);
+        let (remaining_offset, rest) = number64_at(rest);
+        let (payload, rest) = payload_at(alloc, rest)?;
+        let message = HandoverStreamMessage {
+            stream_id,
+            ppid,
+            payload,
+            expires_in_ms: some_if(expires, millis),
+            max_retransmissions,
+            unordered,
+            lifecycle_id,
+            message_id,
+            remaining_offset: remaining_offset as usize,
+            mid: some_if(has_mid, mid),
+            ssn: some_if(has_ssn, ssn),
+            fsn,
+        };
+        Ok((message, rest))
+    }
+
+    #[tactic(auto, unfolding(crate::specs::Bytes::message_bytes))]
+    fn push_to(&self, output: &mut Vec<u8>) -> Result<(), AllocError> {
+        push_flags(
+            output,
+            self.unordered,
+            self.expires_in_ms.is_some(),
+            self.mid.is_some(),
+            self.ssn.is_some(),
+        )?;
+        push_u16(output, self.stream_id)?;
+        push_u16(output, self.max_retransmissions)?;
+        push_u16(output, self.ssn.unwrap_or(0))?;
+        push_u32(output, self.ppid)?;
+        push_u32(output, self.mid.unwrap_or(0))?;
+        push_u32(output, self.fsn)?;
+        push_signed(output, self.expires_in_ms.unwrap_or(0))?;
+        push_u64(output, self.lifecycle_id)?;
+        push_u64(output, self.message_id)?;
+        push_u64(output, self.remaining_offset as u64)?;
+        push_payload(output, &self.payload)
+    }
+}
+
+impl Part for HandoverOutstandingData {
+    ghost Value = { OutstandingData };
+
+    ghost value_of = { outstanding_data_of };
+
+    ghost bytes_of = { data_bytes };
+
+    ghost Fits = { DataFits };
+
+    ghost has_bytes = { data_has_bytes };
+
+    fn part_at(alloc: Global, bytes: &[u8]) -> Result<(HandoverOutstandingData, &[u8]), AllocError> {
+        let ((is_unordered, expires, is_beginning, is_end), rest) = flags_at(bytes);
+        let ((acked, is_abandoned, is_nacked, is_to_be_retransmitted), rest) = flags_at(rest);
+        let (stream_id, rest) = number16_at(rest);
+        let (ssn, rest) = number16_at(rest);
+        let (max_retransmissions, rest) = number16_at(rest);
+        let (retransmission_count, rest) = number16_at(rest);
+        let (mid, rest) = number32_at(rest);
+        let (fsn, rest) = number32_at(rest);
+        let (ppid, rest) = number32_at(rest);
+        let (millis, rest) = signed_at(rest);
+        let (time_since_sent_ms, rest) = signed_at(rest);
+        let (lifecycle_id, rest) = number64_at(rest);
+        let (message_id, rest) = number64_at(rest);
+        let (payload, rest) = payload_at(alloc, rest)?;
+        let data = HandoverOutstandingData {
+            mid,
+            stream_id,
+            ssn,
+            fsn,
+            ppid,
+            payload,
+            expires_in_ms: some_if(expires, millis),
+            max_retransmissions,
+            is_beginning,
+            is_end,
+            is_unordered,
+            lifecycle_id,
+            time_since_sent_ms,
+            retransmission_count,
+            acked,
+            is_abandoned,
+            is_nacked,
+            is_to_be_retransmitted,
+            message_id,
+        };
+        Ok((data, rest))
+    }
+
+    #[tactic(auto, unfolding(crate::specs::Bytes::data_bytes))]
+    fn push_to(&self, output: &mut Vec<u8>) -> Result<(), AllocError> {
+        push_flags(
+            output,
+            self.is_unordered,
+            self.expires_in_ms.is_some(),
+            self.is_beginning,
+            self.is_end,
+        )?;
+        push_flags(
+            output,
+            self.acked,
+            self.is_abandoned,
+            self.is_nacked,
+            self.is_to_be_retransmitted,
+        )?;
+        push_u16(output, self.stream_id)?;
+        push_u16(output, self.ssn)?;
+        push_u16(output, self.max_retransmissions)?;
+        push_u16(output, self.retransmission_count)?;
+        push_u32(output, self.mid)?;
+        push_u32(output, self.fsn)?;
+        push_u32(output, self.ppid)?;
+        push_signed(output, self.expires_in_ms.unwrap_or(0))?;
+        push_signed(output, self.time_since_sent_ms)?;
+        push_u64(output, self.lifecycle_id)?;
+        push_u64(output, self.message_id)?;
+        push_payload(output, &self.payload)
+    }
+}
