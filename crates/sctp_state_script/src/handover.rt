@@ -1,7 +1,10 @@
 //! `handover closed`, `handover connected`: which records a socket can take up; at first that of a closed socket, or of a
 //! connected one that has sent nothing.
 
-use crate::answer::{Answer, Line, Subject, low_half, low_word, run_commands};
+use crate::answer::{
+    Answer, Line, Subject, bytes_of, low_half, low_word, run_commands, tell, tell_hex,
+};
+use sctp_handover::{RecordFault, from_bytes, to_bytes};
 use sctp_state::SocketHandoverState;
 use sctp_state::api::handover::{
     HandoverOrderedStream, HandoverOutgoingStream, HandoverOutstandingData, HandoverSocketState,
@@ -33,17 +36,19 @@ fn connect(state: &mut SocketHandoverState, made_of: &str) {
 }
 
 impl Subject for SocketHandoverState {
-    /// `valid`; `peer-tag TAG`; `interleaving FLAG`; `ordered STREAM NEXT`: a stream on which messages came; `ordered-count`; and
-    /// what this end sends.
+    /// `valid`; `written`: its bytes, in hex; `read HEX`: the record that these bytes are, in place of it; `peer-tag TAG`;
+    /// `interleaving FLAG`; `ordered STREAM NEXT`: a stream on which messages came; `ordered-count`; and what this end sends.
     fn obey(
         &mut self,
         alloc: Global,
         line: Line<'_>,
-        _output: &mut String,
+        output: &mut String,
     ) -> Result<Answer, AllocError> {
         let [first, _, _, _] = line.numbers;
         match line.name {
             "valid" => return Ok(Answer::Flag(self.is_valid())),
+            "written" => return show_bytes(alloc, self, output),
+            "read" => return read(alloc, self, line.last, output),
             "peer-tag" => self.peer_verification_tag = low_word(first),
             "interleaving" => self.capabilities.message_interleaving = first == 1,
             "ordered" => add_ordered(&mut self.rx.ordered_streams, line.numbers)?,
@@ -51,6 +56,49 @@ impl Subject for SocketHandoverState {
             _ => return send(alloc, &mut self.tx, line),
         }
         Ok(Answer::Done)
+    }
+}
+
+fn show_bytes(
+    alloc: Global,
+    state: &SocketHandoverState,
+    output: &mut String,
+) -> Result<Answer, AllocError> {
+    let bytes = to_bytes(alloc, state)?;
+    let outcome = tell_hex(alloc, output, &bytes);
+    drop(bytes);
+    outcome
+}
+
+fn read(
+    alloc: Global,
+    state: &mut SocketHandoverState,
+    digits: &str,
+    output: &mut String,
+) -> Result<Answer, AllocError> {
+    match bytes_of(alloc, digits)? {
+        Some(bytes) => {
+            let outcome = read_bytes(alloc, state, &bytes, output);
+            drop(bytes);
+            outcome
+        }
+        None => Ok(Answer::Unknown),
+    }
+}
+
+fn read_bytes(
+    alloc: Global,
+    state: &mut SocketHandoverState,
+    bytes: &[u8],
+    output: &mut String,
+) -> Result<Answer, AllocError> {
+    match from_bytes(alloc, bytes) {
+        Ok(read) => {
+            drop(std::mem::replace(state, read));
+            Ok(Answer::Done)
+        }
+        Err(RecordFault::Memory) => Err(AllocError),
+        Err(fault) => tell(output, &fault),
     }
 }
 
