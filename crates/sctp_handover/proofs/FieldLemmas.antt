@@ -1,15 +1,14 @@
 -- What is found at the front of bytes.
-use Rattle.std.proofs.Common.{◌≡◌, ◌<◌, ◌+◌, ◌^◌, min, ℕ, ℤ, pos, Bool, true, false, Option, Some, None, IfSome, is_some, unwrap_or, List, [], ◌∷◌, ◌++◌, length, take, drop, refl, sym, ap, ◌∙◌, subst, arith, append_assoc, length-append}
-use Rattle.std.specs.Int.{w16, w32, w64, Width, to_be_bytes, from_be_bytes, cast_signed, cast_unsigned}
-use Rattle.std.specs.Prelude.{FitsSigned}
-use mir.ValLaws as laws
+use Rattle.std.proofs.Common.{◌≡◌, ◌<◌, ◌^◌, min, ℕ, ℤ, pos, Bool, Option, Some, None, IfSome, is_some, unwrap_or, Result, Ok, Err, OnOk, List, ◌++◌, length, take, drop, refl, sym, ap, ◌∙◌, arith, append_assoc, length-append, FitsSigned}
+use Rattle.std.specs.Int.{w16, w32, w64, from_be_bytes, cast_signed, cast_unsigned}
 use Rattle.std.proofs.lemmas.Nat.{from_be_bytes-to_be_bytes_2, from_be_bytes-to_be_bytes_4, from_be_bytes-to_be_bytes_8}
 use Rattle.std.proofs.lemmas.Int.{to_z-of_z}
 use Rattle.std.proofs.lemmas.List.{drop_at, take_at}
+use mir.ValLaws as laws
 use Rattle.sctp_wire.specs.Fields.{be16, be32, be64, length_be16, length_be32, length_be64}
 use Rattle.sctp_wire.proofs.TilesLemmas.{cut_same}
 use Rattle.sctp_handover.specs.Bounds.{Is16, Is32, Is64}
-use Rattle.sctp_handover.specs.Bytes.{flag_byte, flag_bytes, is_connected, payload_bytes, signed_bytes}
+use Rattle.sctp_handover.specs.Bytes.{is_connected, payload_bytes, signed_bytes}
 use Rattle.sctp_handover.specs.Reads.{Finds, some_if, state_if}
 use Rattle.sctp_state.specs.declared.api.handover.HandoverSocketState.{HandoverSocketState}
 use Rattle.sctp_state.specs.declared.api.handover.HandoverSocketState.TheVariants.{Closed, Connected}
@@ -66,14 +65,19 @@ or_zero bound None some fits = some
 or_zero bound (Some n) some fits = fits
 
 pub or_zero_signed : (o : Option ℤ) → IfSome o (FitsSigned w32) → FitsSigned w32 (unwrap_or o (pos 0))
-or_zero_signed None fits = omega arith
+or_zero_signed None fits = search rules
 or_zero_signed (Some z) fits = fits
 
-pub found_signed : (bytes rest : List ℕ) (n : ℕ) (z : ℤ) → Finds be32 Is32 bytes n rest → z ≡ cast_signed w32 n → Finds signed_bytes (FitsSigned w32) bytes z rest
+-- a signed number is kept by its bits
+pub through : (r z : ℤ) → FitsSigned w32 z → r ≡ z → cast_signed w32 (cast_unsigned w32 r) ≡ z
+through r z fits e = ap (λ (y : ℤ). cast_signed w32 (cast_unsigned w32 y)) e ∙ to_z-of_z w32 z fits
+
+pub found_signed : (bytes rest : List ℕ) (n : ℕ) (r : ℤ) → Finds be32 Is32 bytes n rest → r ≡ cast_signed w32 n
+    → Finds signed_bytes (FitsSigned w32) bytes (cast_signed w32 (cast_unsigned w32 r)) rest
 unfolding signed_bytes
-found_signed bytes rest n z finds ez = λ y after fits e.
+found_signed bytes rest n r finds er = λ y after fits e.
     let at = finds (cast_unsigned w32 y) after (laws.of_z_fits w32 y fits).fits e in
-    (ez ∙ ap (cast_signed w32) at.0 ∙ to_z-of_z w32 y fits, at.1)
+    (through r y fits (er ∙ ap (cast_signed w32) at.0 ∙ to_z-of_z w32 y fits), at.1)
 
 -- as many bytes as the length says, at most those that are left
 pub found_payload : (bytes rest payload after : List ℕ) (n k : ℕ) → Finds be64 Is64 bytes n rest → k ≡ min n (length rest)
@@ -89,3 +93,7 @@ found_payload bytes rest payload after n k finds ek ep ea = λ p behind fits e.
 pub state_back : (b : Bool) (s : HandoverSocketState) → b ≡ is_connected s → state_if b ≡ s
 state_back b Closed e = rw e refl
 state_back b Connected e = rw e refl
+
+pub passes_on : {T E P Q : Type 0} (r : Result T E) → (P → Q) → OnOk r P → OnOk r Q
+passes_on (Ok x) f p = f p
+passes_on (Err e) f p = tt

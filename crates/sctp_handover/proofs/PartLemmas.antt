@@ -1,26 +1,27 @@
 -- Parts of a list, one after the other.
 use Rattle.std.proofs.Common.{◌≡◌, ◌+◌, ◌<◌, ◌≤◌, ℕ, zero, suc, List, [], ◌∷◌, ◌++◌, length, get_or, map, take, drop, All, refl, sym, ap, ◌∙◌, append_assoc, arith}
 use Rattle.std.specs.List.{flat_map}
+use native.Mathlib.Numerals.{unary_clauses}
 use Rattle.std.proofs.lemmas.List.{drop_all, take_all, take_more}
 use Rattle.std.proofs.lemmas.List.Concat.{flat_map-append}
 use Rattle.sctp_handover.specs.Parts.{HasBytes}
 use Rattle.sctp_handover.specs.Reads.{Finds}
 
-no_bytes : (bytes after : List ℕ) → HasBytes bytes → [] ≡ bytes ++ after → ⊥
-no_bytes bytes after some e = let at : [] ≡ some.0 ∷ (some.1 ++ after) = e ∙ ap (λ (b : List ℕ). b ++ after) some.2 in cc
+no_bytes : (bytes after : List ℕ) → HasBytes bytes → length (bytes ++ after) ≡ 0 → ⊥
+no_bytes bytes after some none = let one : length (some.0 ∷ (some.1 ++ after)) ≡ 0 = ap (λ (b : List ℕ). length (b ++ after)) (sym some.2) ∙ none in omega (arith, one)
 
 module _ {X : Type 0} (spelled : X → List ℕ) where
   pub some_left : ((x : X) → HasBytes (spelled x)) → (xs : List X) (after : List ℕ) (place : ℕ) → place < length xs
-      → [] ≡ flat_map spelled (drop place xs) ++ after → ⊥
-  some_left some [] after place short e = omega (arith, short)
-  some_left some (x ∷ xs) after zero short e =
-      no_bytes (spelled x) (flat_map spelled xs ++ after) (some x) (e ∙ append_assoc (spelled x) (flat_map spelled xs) after)
-  some_left some (x ∷ xs) after (suc n) short e = some_left some xs after n (omega (arith, short)) e
+      → length (flat_map spelled (drop place xs) ++ after) ≡ 0 → ⊥
+  some_left some [] after place short none = omega (arith, short)
+  some_left some (x ∷ xs) after zero short none = no_bytes (spelled x) (flat_map spelled xs ++ after) (some x)
+      (ap (λ (bytes : List ℕ). length bytes) (sym (append_assoc (spelled x) (flat_map spelled xs) after)) ∙ none)
+  some_left some (x ∷ xs) after (suc n) short none = some_left some xs after n (omega (arith, short)) none
 
   split : (xs : List X) (place : ℕ) (d : X) → place < length xs → drop place xs ≡ get_or xs place d ∷ drop (place + 1) xs
   split [] place d short = absurd (omega (arith, short))
   split (x ∷ xs) zero d short = refl
-  split (x ∷ xs) (suc n) d short = split xs n d (omega (arith, short))
+  split (x ∷ xs) (suc n) d short = simp unary_clauses (split xs n d (omega (arith, short)))
 
   pub one_more : (Fits : X → Type 0) (xs : List X) (after rest left : List ℕ) (place : ℕ) (v : X) (vs : List X) → All Fits xs → place < length xs
       → vs ≡ take place xs → rest ≡ flat_map spelled (drop place xs) ++ after → Finds spelled Fits rest v left

@@ -7,7 +7,7 @@ ghost use Rattle.sctp_handover.specs.Bounds.{Is16, Is32, Is64};
 ghost use Rattle.sctp_handover.specs.Bytes.{flag_bytes, payload_bytes, signed_bytes};
 ghost use Rattle.sctp_handover.specs.Reads.{Finds, some_if};
 
-use sctp_wire::{push_u32, push_u64, u16_at, u32_at, u64_at};
+use sctp_wire::{push_u16, push_u32, push_u64, u16_at, u32_at, u64_at};
 use std::alloc::{AllocError, Global};
 
 /// Four flags, and the bytes behind them.
@@ -100,4 +100,20 @@ pub(crate) fn push_payload(output: &mut Vec<u8>, payload: &[u8]) -> Result<(), A
 {
     push_u64(output, payload.len() as u64)?;
     output.extend_from_slice(payload)
+}
+
+/// Appends two numbers of two bytes.
+pub(crate) fn push_pair16(output: &mut Vec<u8>, first: u16, second: u16) -> Result<(), AllocError>
+    ensures { OnOk result (output.new.items ≡ output.old.items ++ (be16 first ++ be16 second)) }
+{
+    push_u16(output, first)?;
+    push_u16(output, second)
+}
+
+/// Appends two numbers of eight bytes.
+pub(crate) fn push_pair64(output: &mut Vec<u8>, first: u64, second: u64) -> Result<(), AllocError>
+    ensures { OnOk result (output.new.items ≡ output.old.items ++ (be64 first ++ be64 second)) }
+{
+    push_u64(output, first)?;
+    push_u64(output, second)
 }

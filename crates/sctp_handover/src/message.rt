@@ -7,8 +7,8 @@ ghost use Rattle.sctp_handover.specs.Bytes.{data_bytes, message_bytes};
 ghost use Rattle.sctp_handover.specs.Parts.{data_has_bytes, message_has_bytes};
 
 use crate::field::{
-    flags_at, number16_at, number32_at, number64_at, payload_at, push_flags, push_payload,
-    push_signed, signed_at, some_if,
+    flags_at, number16_at, number32_at, number64_at, payload_at, push_flags, push_pair16,
+    push_pair64, push_payload, push_signed, signed_at, some_if,
 };
 use crate::part::Part;
 use sctp_state::api::handover::{HandoverOutstandingData, HandoverStreamMessage};
@@ -65,15 +65,13 @@ impl Part for HandoverStreamMessage {
             self.mid.is_some(),
             self.ssn.is_some(),
         )?;
-        push_u16(output, self.stream_id)?;
-        push_u16(output, self.max_retransmissions)?;
+        push_pair16(output, self.stream_id, self.max_retransmissions)?;
         push_u16(output, self.ssn.unwrap_or(0))?;
         push_u32(output, self.ppid)?;
         push_u32(output, self.mid.unwrap_or(0))?;
         push_u32(output, self.fsn)?;
         push_signed(output, self.expires_in_ms.unwrap_or(0))?;
-        push_u64(output, self.lifecycle_id)?;
-        push_u64(output, self.message_id)?;
+        push_pair64(output, self.lifecycle_id, self.message_id)?;
         push_u64(output, self.remaining_offset as u64)?;
         push_payload(output, &self.payload)
     }
@@ -145,17 +143,14 @@ impl Part for HandoverOutstandingData {
             self.is_nacked,
             self.is_to_be_retransmitted,
         )?;
-        push_u16(output, self.stream_id)?;
-        push_u16(output, self.ssn)?;
-        push_u16(output, self.max_retransmissions)?;
-        push_u16(output, self.retransmission_count)?;
+        push_pair16(output, self.stream_id, self.ssn)?;
+        push_pair16(output, self.max_retransmissions, self.retransmission_count)?;
         push_u32(output, self.mid)?;
         push_u32(output, self.fsn)?;
         push_u32(output, self.ppid)?;
         push_signed(output, self.expires_in_ms.unwrap_or(0))?;
         push_signed(output, self.time_since_sent_ms)?;
-        push_u64(output, self.lifecycle_id)?;
-        push_u64(output, self.message_id)?;
+        push_pair64(output, self.lifecycle_id, self.message_id)?;
         push_payload(output, &self.payload)
     }
 }

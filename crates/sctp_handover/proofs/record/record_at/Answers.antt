@@ -4,8 +4,8 @@ use Rattle.sctp_handover.proofs.OpenLemmas.{opened_record}
 use Rattle.sctp_handover.specs.Bytes.{is_connected}
 use Rattle.sctp_handover.proofs.record.record_at.Goals as goal
 
-pub returns-in_ok-tx : goal.returns-in_ok-tx
-returns-in_ok-tx c = λ h fits e.
+pub returns : goal.returns
+returns c = λ h fits e.
     let opened = e ∙ opened_record h in
     let version_is = c.number32_at-_version.ensures 1 _ (omega arith) opened in
     let is_connected_is = c.flags_at-is_connected.ensures (is_connected h.socket_state) false false false _ version_is.1 in

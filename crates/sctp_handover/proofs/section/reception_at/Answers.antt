@@ -2,8 +2,8 @@ use Rattle.std.proofs.Common.{◌≡◌, Bool, ap, ◌∙◌, pos, arith, is_som
 use Rattle.sctp_handover.proofs.OpenLemmas.{opened_reception}
 use Rattle.sctp_handover.proofs.section.reception_at.Goals as goal
 
-pub returns-in_ok-unordered_streams : goal.returns-in_ok-unordered_streams
-returns-in_ok-unordered_streams c = λ r after fits e.
+pub returns : goal.returns
+returns c = λ r after fits e.
     let opened = e ∙ opened_reception r after in
     let seen_packet_is = c.flags_at-seen_packet.ensures r.seen_packet false false false _ opened in
     let last_cumulative_acked_tsn_is = c.number32_at-last_cumulative_acked_tsn.ensures r.last_cumulative_acked_tsn _ fits.last_cumulative_acked_tsn seen_packet_is.1 in

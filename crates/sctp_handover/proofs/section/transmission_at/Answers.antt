@@ -2,8 +2,8 @@ use Rattle.std.proofs.Common.{◌≡◌, Bool, ap, ◌∙◌, pos, arith, is_som
 use Rattle.sctp_handover.proofs.OpenLemmas.{opened_transmission}
 use Rattle.sctp_handover.proofs.section.transmission_at.Goals as goal
 
-pub returns-in_ok-outstanding_data : goal.returns-in_ok-outstanding_data
-returns-in_ok-outstanding_data c = λ t after fits e.
+pub returns : goal.returns
+returns c = λ t after fits e.
     let opened = e ∙ opened_transmission t after in
     let next_tsn_is = c.number32_at-next_tsn.ensures t.next_tsn _ fits.next_tsn opened in
     let last_cumulative_tsn_ack_is = c.number32_at-last_cumulative_tsn_ack.ensures t.last_cumulative_tsn_ack _ fits.last_cumulative_tsn_ack next_tsn_is.1 in

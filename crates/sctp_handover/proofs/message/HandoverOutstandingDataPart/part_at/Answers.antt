@@ -1,10 +1,10 @@
 use Rattle.std.proofs.Common.{◌≡◌, Bool, ap, ◌∙◌, pos, arith, is_some, unwrap_or, false, ◌^◌}
-use Rattle.sctp_handover.proofs.FieldLemmas.{there, or_zero_signed, or_zero}
+use Rattle.sctp_handover.proofs.FieldLemmas.{there, through, or_zero_signed, or_zero}
 use Rattle.sctp_handover.proofs.OpenLemmas.{opened_data}
 use Rattle.sctp_handover.proofs.message.HandoverOutstandingDataPart.part_at.Goals as goal
 
-pub returns-in_ok-payload : goal.returns-in_ok-payload
-returns-in_ok-payload c = λ d after fits e.
+pub returns : goal.returns
+returns c = λ d after fits e.
     let opened = e ∙ opened_data d after in
     let is_unordered_is = c.flags_at-is_unordered.ensures d.is_unordered (is_some d.expires_in_ms) d.is_beginning d.is_end _ opened in
     let acked_is = c.flags_at-acked.ensures d.acked d.is_abandoned d.is_nacked d.is_to_be_retransmitted _ is_unordered_is.1 in
@@ -20,4 +20,4 @@ returns-in_ok-payload c = λ d after fits e.
     let lifecycle_id_is = c.number64_at-lifecycle_id.ensures d.lifecycle_id _ fits.lifecycle_id time_since_sent_ms_is.1 in
     let message_id_is = c.number64_at-message_id.ensures d.message_id _ fits.message_id lifecycle_id_is.1 in
     let payload_is = c.in_ok-payload.ensures d.payload _ fits.payload message_id_is.1 in
-    (λ j. record { mid = mid_is.0 j; stream_id = stream_id_is.0 j; ssn = ssn_is.0 j; fsn = fsn_is.0 j; ppid = ppid_is.0 j; payload = payload_is.0 j; max_retransmissions = max_retransmissions_is.0 j; lifecycle_id = lifecycle_id_is.0 j; time_since_sent_ms = time_since_sent_ms_is.0 j; retransmission_count = retransmission_count_is.0 j; message_id = message_id_is.0 j; expires_in_ms = (c.some_if-expires_in_ms.ensures ∙ there _ _ (pos 0) d.expires_in_ms (ap (λ (t : Bool × Bool × Bool × Bool). t.1) is_unordered_is.0) millis_is.0) j; is_unordered = (ap (λ (t : Bool × Bool × Bool × Bool). t.0) is_unordered_is.0) j; is_beginning = (ap (λ (t : Bool × Bool × Bool × Bool). t.2) is_unordered_is.0) j; is_end = (ap (λ (t : Bool × Bool × Bool × Bool). t.3) is_unordered_is.0) j; acked = (ap (λ (t : Bool × Bool × Bool × Bool). t.0) acked_is.0) j; is_abandoned = (ap (λ (t : Bool × Bool × Bool × Bool). t.1) acked_is.0) j; is_nacked = (ap (λ (t : Bool × Bool × Bool × Bool). t.2) acked_is.0) j; is_to_be_retransmitted = (ap (λ (t : Bool × Bool × Bool × Bool). t.3) acked_is.0) j }, payload_is.1)
+    (λ j. record { mid = mid_is.0 j; stream_id = stream_id_is.0 j; ssn = ssn_is.0 j; fsn = fsn_is.0 j; ppid = ppid_is.0 j; payload = payload_is.0 j; max_retransmissions = max_retransmissions_is.0 j; lifecycle_id = lifecycle_id_is.0 j; time_since_sent_ms = (through _ _ fits.time_since_sent_ms time_since_sent_ms_is.0) j; retransmission_count = retransmission_count_is.0 j; message_id = message_id_is.0 j; expires_in_ms = (c.some_if.ensures ∙ there _ _ (pos 0) d.expires_in_ms (ap (λ (t : Bool × Bool × Bool × Bool). t.1) is_unordered_is.0) (through _ _ (or_zero_signed d.expires_in_ms fits.expires_in_ms) millis_is.0)) j; is_unordered = (ap (λ (t : Bool × Bool × Bool × Bool). t.0) is_unordered_is.0) j; is_beginning = (ap (λ (t : Bool × Bool × Bool × Bool). t.2) is_unordered_is.0) j; is_end = (ap (λ (t : Bool × Bool × Bool × Bool). t.3) is_unordered_is.0) j; acked = (ap (λ (t : Bool × Bool × Bool × Bool). t.0) acked_is.0) j; is_abandoned = (ap (λ (t : Bool × Bool × Bool × Bool). t.1) acked_is.0) j; is_nacked = (ap (λ (t : Bool × Bool × Bool × Bool). t.2) acked_is.0) j; is_to_be_retransmitted = (ap (λ (t : Bool × Bool × Bool × Bool). t.3) acked_is.0) j }, payload_is.1)
