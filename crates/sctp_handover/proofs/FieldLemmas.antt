@@ -1,5 +1,5 @@
 -- What is found at the front of bytes.
-use Rattle.std.proofs.Common.{◌≡◌, ◌<◌, ◌^◌, min, ℕ, ℤ, pos, Bool, Option, Some, None, IfSome, is_some, unwrap_or, Result, Ok, Err, OnOk, IfOk, List, ◌++◌, length, take, drop, refl, sym, ap, ◌∙◌, arith, append_assoc, length-append, FitsSigned}
+use Rattle.std.proofs.Common.{◌≡◌, ◌<◌, ◌^◌, min, ℕ, ℤ, pos, Bool, Option, Some, None, IfSome, is_some, unwrap_or, Result, Ok, Err, OnOk, IfOk, List, ◌++◌, length, take, drop, refl, sym, ap, ◌∙◌, arith, rules, append_assoc, length-append, FitsSigned}
 use Rattle.std.specs.Int.{w16, w32, w64, from_be_bytes, cast_signed, cast_unsigned}
 use Rattle.std.proofs.lemmas.Nat.{from_be_bytes-to_be_bytes_2, from_be_bytes-to_be_bytes_4, from_be_bytes-to_be_bytes_8}
 use Rattle.std.proofs.lemmas.Int.{to_z-of_z}
@@ -95,10 +95,10 @@ state_back b Closed e = rw e refl
 state_back b Connected e = rw e refl
 
 -- what holds of an answer that is handed on
-pub passes_on : {T E P Q : Type 0} (r : Result T E) → (P → Q) → OnOk r P → OnOk r Q
-passes_on (Ok x) f p = f p
-passes_on (Err e) f p = tt
+pub passes_on : {T E P Q : Type 0} (r : Result T E) → OnOk r P → (P → Q) → OnOk r Q
+passes_on (Ok x) p f = f p
+passes_on (Err e) p f = tt
 
-pub passes_if : {T E : Type 0} {P Q : T → Type 0} (r : Result T E) → ((x : T) → P x → Q x) → IfOk r P → IfOk r Q
-passes_if (Ok x) f p = f x p
-passes_if (Err e) f p = tt
+pub passes_if : {T E : Type 0} {P Q : T → Type 0} (r : Result T E) → IfOk r P → ((x : T) → P x → Q x) → IfOk r Q
+passes_if (Ok x) p f = f x p
+passes_if (Err e) p f = tt

@@ -1,5 +1,5 @@
 -- Bytes with something behind them, field by field.
-use Rattle.std.proofs.Common.{◌≡◌, ℕ, ℤ, pos, Bool, false, is_some, unwrap_or, List, [], ◌++◌, append_assoc, append-nil}
+use Rattle.std.proofs.Common.{◌≡◌, ℕ, ℤ, pos, Bool, false, is_some, unwrap_or, List, [], ◌++◌, refl, append_assoc, append-nil}
 use Rattle.sctp_wire.specs.Fields.{be16, be32, be64}
 use Rattle.sctp_state.specs.Handover.{HandoverState, OutstandingData, Receive, StreamMessage, Transmission}
 use Rattle.sctp_state.specs.declared.api.handover.HandoverCapabilities.{HandoverCapabilities}
@@ -18,7 +18,7 @@ opened_ordered s after = simp append_assoc
 
 pub opened_unordered : (s : HandoverUnorderedStream) (after : List ℕ) → unordered_bytes s ++ after ≡ be16 s.id ++ after
 unfolding unordered_bytes
-opened_unordered s after = simp append_assoc
+opened_unordered s after = refl
 
 pub opened_message : (m : StreamMessage) (after : List ℕ) → message_bytes m ++ after ≡ flag_bytes m.unordered (is_some m.expires_in_ms) (is_some m.mid) (is_some m.ssn) ++ (be16 m.stream_id ++ (be16 m.max_retransmissions ++ (be16 (unwrap_or m.ssn 0) ++ (be32 m.ppid ++ (be32 (unwrap_or m.mid 0) ++ (be32 m.fsn ++ (signed_bytes (unwrap_or m.expires_in_ms (pos 0)) ++ (be64 m.lifecycle_id ++ (be64 m.message_id ++ (be64 m.remaining_offset ++ (payload_bytes m.payload ++ after)))))))))))
 unfolding message_bytes

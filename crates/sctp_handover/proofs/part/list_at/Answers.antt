@@ -7,7 +7,7 @@ use Rattle.sctp_handover.proofs.part.list_at.Goals as goal
 
 pub returns : goal.returns
 unfolding list_bytes
-returns g c = passes_if c.parts_at.result (λ read back xs after fits e.
+returns g c = passes_if c.parts_at.result c.parts_at.ensures (λ read back xs after fits e.
     let tail : List ℕ = flat_map g.P.Part.bytes_of xs in
     let at = c.number64_at-count.ensures (length xs) (tail ++ after) fits.few (e ∙ append_assoc (be64 (length xs)) tail after) in
-    back xs after at.0 fits.each at.1) c.parts_at.ensures
+    back xs after at.0 fits.each at.1)

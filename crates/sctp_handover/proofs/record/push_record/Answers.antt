@@ -5,4 +5,4 @@ use Rattle.sctp_handover.proofs.record.push_record.Goals as goal
 
 pub returns-clause-wrote : goal.returns-clause-wrote
 unfolding record_bytes
-returns-clause-wrote c = passes_on c.push_transmission.result (λ last. rw (last, c.in_ok-push_reception.ensures.wrote, c.in_ok-push_capabilities.ensures.wrote, c.in_ok-push_u64.ensures.wrote, c.in_ok-push_u32-5.ensures.wrote, c.in_ok-push_u32-4.ensures.wrote, c.in_ok-push_u32-3.ensures.wrote, c.in_ok-push_u32-2.ensures.wrote, c.in_ok-push_flags.ensures, c.in_ok-push_u32.ensures.wrote, c.is_connected.ensures) (simp append_assoc)) c.push_transmission.ensures.wrote
+returns-clause-wrote c = passes_on c.push_transmission.result c.push_transmission.ensures.wrote (λ last. rw (last, c.in_ok-push_reception.ensures.wrote, c.in_ok-push_capabilities.ensures.wrote, c.in_ok-push_u64.ensures.wrote, c.in_ok-push_u32-5.ensures.wrote, c.in_ok-push_u32-4.ensures.wrote, c.in_ok-push_u32-3.ensures.wrote, c.in_ok-push_u32-2.ensures.wrote, c.in_ok-push_flags.ensures, c.in_ok-push_u32.ensures.wrote, c.is_connected.ensures) (simp append_assoc))

@@ -7,7 +7,7 @@ use Rattle.sctp_handover.proofs.record.record_at.Goals as goal
 pub returns : goal.returns
 returns c = λ h fits e.
     let opened = e ∙ opened_record h in
-    let version_is = c.number32_at-_version.ensures 1 _ (omega arith) opened in
+    let version_is = c.number32_at-version.ensures 1 _ (omega arith) opened in
     let is_connected_is = c.flags_at-is_connected.ensures (is_connected h.socket_state) false false false _ version_is.1 in
     let my_verification_tag_is = c.number32_at-my_verification_tag.ensures h.my_verification_tag _ fits.my_verification_tag is_connected_is.1 in
     let my_initial_tsn_is = c.number32_at-my_initial_tsn.ensures h.my_initial_tsn _ fits.my_initial_tsn my_verification_tag_is.1 in

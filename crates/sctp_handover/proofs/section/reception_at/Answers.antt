@@ -1,4 +1,5 @@
 use Rattle.std.proofs.Common.{◌≡◌, Bool, ap, ◌∙◌, pos, arith, is_some, unwrap_or, false, ◌^◌}
+use Rattle.sctp_handover.proofs.PartLemmas.{same_list}
 use Rattle.sctp_handover.proofs.OpenLemmas.{opened_reception}
 use Rattle.sctp_handover.proofs.section.reception_at.Goals as goal
 
@@ -12,4 +13,4 @@ returns c = λ r after fits e.
     let last_completed_reset_req_sn_is = c.number32_at-last_completed_reset_req_sn.ensures r.last_completed_reset_req_sn _ fits.last_completed_reset_req_sn last_completed_deferred_reset_req_sn_is.1 in
     let ordered_streams_is = c.in_ok-ordered_streams.ensures r.ordered_streams _ fits.ordered_streams last_completed_reset_req_sn_is.1 in
     let unordered_streams_is = c.in_ok-unordered_streams.ensures r.unordered_streams _ fits.unordered_streams ordered_streams_is.1 in
-    (λ j. record { seen_packet = (ap (λ (t : Bool × Bool × Bool × Bool). t.0) seen_packet_is.0) j; last_cumulative_acked_tsn = last_cumulative_acked_tsn_is.0 j; last_assembled_tsn = last_assembled_tsn_is.0 j; last_completed_deferred_reset_req_sn = last_completed_deferred_reset_req_sn_is.0 j; last_completed_reset_req_sn = last_completed_reset_req_sn_is.0 j; ordered_streams = ordered_streams_is.0 j; unordered_streams = unordered_streams_is.0 j }, unordered_streams_is.1)
+    (λ j. record { seen_packet = (ap (λ (t : Bool × Bool × Bool × Bool). t.0) seen_packet_is.0) j; last_cumulative_acked_tsn = last_cumulative_acked_tsn_is.0 j; last_assembled_tsn = last_assembled_tsn_is.0 j; last_completed_deferred_reset_req_sn = last_completed_deferred_reset_req_sn_is.0 j; last_completed_reset_req_sn = last_completed_reset_req_sn_is.0 j; ordered_streams = (same_list _ ∙ ordered_streams_is.0) j; unordered_streams = (same_list _ ∙ unordered_streams_is.0) j }, unordered_streams_is.1)

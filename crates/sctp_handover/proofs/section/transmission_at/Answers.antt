@@ -1,4 +1,5 @@
 use Rattle.std.proofs.Common.{◌≡◌, Bool, ap, ◌∙◌, pos, arith, is_some, unwrap_or, false, ◌^◌}
+use Rattle.sctp_handover.proofs.PartLemmas.{same_list}
 use Rattle.sctp_handover.proofs.OpenLemmas.{opened_transmission}
 use Rattle.sctp_handover.proofs.section.transmission_at.Goals as goal
 
@@ -16,4 +17,4 @@ returns c = λ t after fits e.
     let streams_is = c.in_ok-streams.ensures t.streams _ fits.streams next_outgoing_message_id_is.1 in
     let queued_messages_is = c.in_ok-queued_messages.ensures t.queued_messages _ fits.queued_messages streams_is.1 in
     let outstanding_data_is = c.in_ok-outstanding_data.ensures t.outstanding_data _ fits.outstanding_data queued_messages_is.1 in
-    (λ j. record { next_tsn = next_tsn_is.0 j; last_cumulative_tsn_ack = last_cumulative_tsn_ack_is.0 j; next_reset_req_sn = next_reset_req_sn_is.0 j; cwnd = cwnd_is.0 j; rwnd = rwnd_is.0 j; ssthresh = ssthresh_is.0 j; partial_bytes_acked = partial_bytes_acked_is.0 j; next_outgoing_message_id = next_outgoing_message_id_is.0 j; streams = streams_is.0 j; queued_messages = queued_messages_is.0 j; outstanding_data = outstanding_data_is.0 j }, outstanding_data_is.1)
+    (λ j. record { next_tsn = next_tsn_is.0 j; last_cumulative_tsn_ack = last_cumulative_tsn_ack_is.0 j; next_reset_req_sn = next_reset_req_sn_is.0 j; cwnd = cwnd_is.0 j; rwnd = rwnd_is.0 j; ssthresh = ssthresh_is.0 j; partial_bytes_acked = partial_bytes_acked_is.0 j; next_outgoing_message_id = next_outgoing_message_id_is.0 j; streams = (same_list _ ∙ streams_is.0) j; queued_messages = queued_messages_is.0 j; outstanding_data = outstanding_data_is.0 j }, outstanding_data_is.1)
