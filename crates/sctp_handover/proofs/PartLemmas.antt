@@ -42,5 +42,5 @@ module _ {X : Type 0} (spelled : X → List ℕ) where
   )
 
 pub same_list : {X : Type 0} (xs : List X) → xs ≡ map (λ (x : X). x) xs
-same_list [] = refl
-same_list (x ∷ xs) = ap (λ (ys : List X). x ∷ ys) (same_list xs)
+same_list {X = X} [] = refl
+same_list {X = X} (x ∷ xs) = ap (λ (ys : List X). x ∷ ys) (same_list xs)
