@@ -27,7 +27,7 @@ same64 m n hm hn e = sym (from_be_bytes-to_be_bytes_8 m hm) ∙ ap (from_be_byte
 
 -- a field of one width, whose numbers are told apart by their bytes
 module _ (spelled : ℕ → List ℕ) (bound width : ℕ) (wide : (n : ℕ) → length (spelled n) ≡ width)
-  (same : (m n : ℕ) → m < bound → n < bound → spelled m ≡ spelled n → m ≡ n) where
+    (same : (m n : ℕ) → m < bound → n < bound → spelled m ≡ spelled n → m ≡ n) where
   pub found : (bytes rest : List ℕ) (n : ℕ) → bytes ≡ spelled n ++ rest → n < bound → Finds spelled (λ m. m < bound) bytes n rest
   found bytes rest n e small = λ m after fits other.
       let parts = cut_same (spelled n) rest (spelled m) after (wide n ∙ sym (wide m)) (sym e ∙ other) in

@@ -1,4 +1,4 @@
--- Bytes with something behind them, field by field.
+-- Bytes with something behind them, and bytes that are written, field by field.
 use Rattle.std.proofs.Common.{◌≡◌, ℕ, ℤ, pos, Bool, false, is_some, unwrap_or, List, [], ◌++◌, refl, append_assoc, append-nil}
 use Rattle.sctp_wire.specs.Fields.{be16, be32, be64}
 use Rattle.sctp_state.specs.Handover.{HandoverState, OutstandingData, Receive, StreamMessage, Transmission}
@@ -43,3 +43,38 @@ opened_reception r after = simp append_assoc
 pub opened_record : (h : HandoverState) → record_bytes h ≡ be32 1 ++ (flag_bytes (is_connected h.socket_state) false false false ++ (be32 h.my_verification_tag ++ (be32 h.my_initial_tsn ++ (be32 h.peer_verification_tag ++ (be32 h.peer_initial_tsn ++ (be64 h.tie_tag ++ (capability_bytes h.capabilities ++ (reception_bytes h.rx ++ (transmission_bytes h.tx ++ [])))))))))
 unfolding record_bytes
 opened_record h = simp append-nil
+
+pub message_written : (m : StreamMessage) (o w0 w1 w2 w3 w4 w5 w6 w7 w8 w9 : List ℕ) (expires has_mid has_ssn : Bool) (ssn mid : ℕ) (millis : ℤ) (payload : List ℕ)
+    → expires ≡ is_some m.expires_in_ms → has_mid ≡ is_some m.mid → has_ssn ≡ is_some m.ssn → ssn ≡ unwrap_or m.ssn 0 → mid ≡ unwrap_or m.mid 0 → millis ≡ unwrap_or m.expires_in_ms (pos 0) → payload ≡ m.payload
+    → w0 ≡ o ++ flag_bytes m.unordered expires has_mid has_ssn
+    → w1 ≡ w0 ++ (be16 m.stream_id ++ be16 m.max_retransmissions)
+    → w2 ≡ w1 ++ be16 ssn
+    → w3 ≡ w2 ++ be32 m.ppid
+    → w4 ≡ w3 ++ be32 mid
+    → w5 ≡ w4 ++ be32 m.fsn
+    → w6 ≡ w5 ++ signed_bytes millis
+    → w7 ≡ w6 ++ (be64 m.lifecycle_id ++ be64 m.message_id)
+    → w8 ≡ w7 ++ be64 m.remaining_offset
+    → w9 ≡ w8 ++ payload_bytes payload
+    → w9 ≡ o ++ message_bytes m
+unfolding message_bytes
+message_written m o w0 w1 w2 w3 w4 w5 w6 w7 w8 w9 expires has_mid has_ssn ssn mid millis payload q0 q1 q2 q3 q4 q5 q6 e0 e1 e2 e3 e4 e5 e6 e7 e8 e9 =
+    rw (e9, e8, e7, e6, e5, e4, e3, e2, e1, e0, q0, q1, q2, q3, q4, q5, q6) (simp append_assoc)
+
+pub data_written : (d : OutstandingData) (o w0 w1 w2 w3 w4 w5 w6 w7 w8 w9 w10 : List ℕ) (expires : Bool) (millis since : ℤ) (payload : List ℕ)
+    → expires ≡ is_some d.expires_in_ms → millis ≡ unwrap_or d.expires_in_ms (pos 0) → since ≡ d.time_since_sent_ms → payload ≡ d.payload
+    → w0 ≡ o ++ flag_bytes d.is_unordered expires d.is_beginning d.is_end
+    → w1 ≡ w0 ++ flag_bytes d.acked d.is_abandoned d.is_nacked d.is_to_be_retransmitted
+    → w2 ≡ w1 ++ (be16 d.stream_id ++ be16 d.ssn)
+    → w3 ≡ w2 ++ (be16 d.max_retransmissions ++ be16 d.retransmission_count)
+    → w4 ≡ w3 ++ be32 d.mid
+    → w5 ≡ w4 ++ be32 d.fsn
+    → w6 ≡ w5 ++ be32 d.ppid
+    → w7 ≡ w6 ++ signed_bytes millis
+    → w8 ≡ w7 ++ signed_bytes since
+    → w9 ≡ w8 ++ (be64 d.lifecycle_id ++ be64 d.message_id)
+    → w10 ≡ w9 ++ payload_bytes payload
+    → w10 ≡ o ++ data_bytes d
+unfolding data_bytes
+data_written d o w0 w1 w2 w3 w4 w5 w6 w7 w8 w9 w10 expires millis since payload q0 q1 q2 q3 e0 e1 e2 e3 e4 e5 e6 e7 e8 e9 e10 =
+    rw (e10, e9, e8, e7, e6, e5, e4, e3, e2, e1, e0, q0, q1, q2, q3) (simp append_assoc)

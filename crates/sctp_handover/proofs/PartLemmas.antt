@@ -30,9 +30,10 @@ module _ {X : Type 0} (spelled : X → List ℕ) where
       let tail : List ℕ = flat_map spelled (drop (suc place) xs) in
       let next : suc place ≡ place + 1 = omega arith in
       let found = finds x (tail ++ after) (all place v short)
-      (er ∙ ap (λ (ys : List X). flat_map spelled ys ++ after) (split xs place v short) ∙ append_assoc (spelled x) tail after) in
-      (ap (λ (ys : List X). ys ++ v ∷ []) ev ∙ ap (λ (y : X). take place xs ++ y ∷ []) found.0 ∙ sym (take_more xs place v short),
-      found.1 ∙ ap (λ (k : ℕ). flat_map spelled (drop k xs) ++ after) next)
+      (er ∙ ap (λ (ys : List X). flat_map spelled ys ++ after) (split xs place v short) ∙ append_assoc (spelled x) tail after) in (
+        ap (λ (ys : List X). ys ++ v ∷ []) ev ∙ ap (λ (y : X). take place xs ++ y ∷ []) found.0 ∙ sym (take_more xs place v short),
+        found.1 ∙ ap (λ (k : ℕ). flat_map spelled (drop k xs) ++ after) next,
+      )
 
   pub all_of : (xs : List X) (after rest : List ℕ) (place : ℕ) (vs : List X) → length xs ≤ place
       → vs ≡ take place xs → rest ≡ flat_map spelled (drop place xs) ++ after → (vs ≡ xs) × (rest ≡ after)

@@ -1,6 +1,6 @@
 //! Fields. A reader answers what the bytes begin with; where they begin with no such field it answers something.
 
-ghost use Rattle.std.specs.Prelude.{◌≡◌, Bool, List, ℕ, ◌++◌, length, FitsSigned, IfOk, OnOk};
+ghost use Rattle.std.specs.Prelude.{◌≡◌, ◌<◌, ◌^◌, Bool, List, ℕ, ◌++◌, length, FitsSigned, IfOk, OnOk};
 ghost use Rattle.std.specs.Int.{w32};
 ghost use Rattle.sctp_wire.specs.Fields.{be16, be32, be64};
 ghost use Rattle.sctp_handover.specs.Bounds.{Is16, Is32, Is64};
@@ -18,7 +18,10 @@ pub(crate) fn flags_at(bytes: &[u8]) -> ((bool, bool, bool, bool), &[u8])
     match bytes.split_first_chunk::<4>() {
         None => ((false, false, false, false), bytes),
         Some((flags, rest)) => {
-            ((flags[0] == 1, flags[1] == 1, flags[2] == 1, flags[3] == 1), rest)
+            (
+                (flags[0] == 1, flags[1] == 1, flags[2] == 1, flags[3] == 1),
+                rest,
+            )
         }
     }
 }
@@ -79,7 +82,13 @@ pub(crate) fn payload_at(alloc: Global, bytes: &[u8]) -> Result<(Vec<u8>, &[u8])
 
 /// Appends four flags.
 #[tactic(auto, unfolding(crate::specs::Bytes::flag_bytes))]
-pub(crate) fn push_flags(output: &mut Vec<u8>, a: bool, b: bool, c: bool, d: bool) -> Result<(), AllocError>
+pub(crate) fn push_flags(
+    output: &mut Vec<u8>,
+    a: bool,
+    b: bool,
+    c: bool,
+    d: bool,
+) -> Result<(), AllocError>
     ensures { OnOk result (output.new.items ≡ output.old.items ++ flag_bytes a b c d) }
 {
     output.extend_from_slice(&[u8::from(a), u8::from(b), u8::from(c), u8::from(d)])
@@ -112,7 +121,8 @@ pub(crate) fn push_pair16(output: &mut Vec<u8>, first: u16, second: u16) -> Resu
 
 /// Appends two numbers of eight bytes.
 pub(crate) fn push_pair64(output: &mut Vec<u8>, first: u64, second: u64) -> Result<(), AllocError>
-    ensures { OnOk result (output.new.items ≡ output.old.items ++ (be64 first ++ be64 second)) }
+    ensures wrote { OnOk result (output.new.items ≡ output.old.items ++ (be64 first ++ be64 second)) }
+    ensures fits { second < 2 ^ 64 }
 {
     push_u64(output, first)?;
     push_u64(output, second)

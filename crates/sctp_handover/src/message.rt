@@ -88,7 +88,10 @@ impl Part for HandoverOutstandingData {
 
     ghost has_bytes = { data_has_bytes };
 
-    fn part_at(alloc: Global, bytes: &[u8]) -> Result<(HandoverOutstandingData, &[u8]), AllocError> {
+    fn part_at(
+        alloc: Global,
+        bytes: &[u8],
+    ) -> Result<(HandoverOutstandingData, &[u8]), AllocError> {
         let ((is_unordered, expires, is_beginning, is_end), rest) = flags_at(bytes);
         let ((acked, is_abandoned, is_nacked, is_to_be_retransmitted), rest) = flags_at(rest);
         let (stream_id, rest) = number16_at(rest);

@@ -92,7 +92,13 @@ fn push_record(output: &mut Vec<u8>, state: &SocketHandoverState) -> Result<(), 
     ensures fits { OnOk result (RecordFits (handover_state_of state.now)) }
 {
     push_u32(output, VERSION)?;
-    push_flags(output, is_connected(state.socket_state), false, false, false)?;
+    push_flags(
+        output,
+        is_connected(state.socket_state),
+        false,
+        false,
+        false,
+    )?;
     push_u32(output, state.my_verification_tag)?;
     push_u32(output, state.my_initial_tsn)?;
     push_u32(output, state.peer_verification_tag)?;

@@ -15,7 +15,9 @@ use std::alloc::{AllocError, Global};
 pub(crate) fn capabilities_at(bytes: &[u8]) -> (HandoverCapabilities, &[u8])
     ensures { Finds capability_bytes CapabilitiesFit bytes.now result.0 result.1.now }
 {
-    let ((partial_reliability, message_interleaving, reconfig, zero_checksum), rest) = flags_at(bytes);
+    let ((partial_reliability, message_interleaving, reconfig, zero_checksum), rest) = flags_at(
+        bytes,
+    );
     let (negotiated_maximum_incoming_streams, rest) = number16_at(rest);
     let (negotiated_maximum_outgoing_streams, rest) = number16_at(rest);
     let capabilities = HandoverCapabilities {

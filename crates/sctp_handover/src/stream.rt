@@ -27,7 +27,10 @@ impl Part for HandoverOutgoingStream {
 
     ghost has_bytes = { outgoing_has_bytes };
 
-    fn part_at(_alloc: Global, bytes: &[u8]) -> Result<(HandoverOutgoingStream, &[u8]), AllocError> {
+    fn part_at(
+        _alloc: Global,
+        bytes: &[u8],
+    ) -> Result<(HandoverOutgoingStream, &[u8]), AllocError> {
         let (id, rest) = number16_at(bytes);
         let (next_ssn, rest) = number16_at(rest);
         let (next_unordered_mid, rest) = number32_at(rest);
@@ -88,7 +91,10 @@ impl Part for HandoverUnorderedStream {
 
     ghost has_bytes = { unordered_has_bytes };
 
-    fn part_at(_alloc: Global, bytes: &[u8]) -> Result<(HandoverUnorderedStream, &[u8]), AllocError> {
+    fn part_at(
+        _alloc: Global,
+        bytes: &[u8],
+    ) -> Result<(HandoverUnorderedStream, &[u8]), AllocError> {
         let (id, rest) = number16_at(bytes);
         Ok((HandoverUnorderedStream { id }, rest))
     }
