@@ -1,6 +1,6 @@
--- What an end's values and packets say of a transfer: as its sender, and as its receiver. One end acts, and the state that the
--- rules had before its turn is `from`.
-use Rattle.std.proofs.Common.{◌≡◌, ℕ, ◌+◌, ◌-◌, ◌^◌, ◌<◌, ◌≤◌, Bool, true, false, Option, None, List, [], ◌++◌, All}
+-- What an end's values and packets say of one direction of an association, by the rules with epochs: as its sender, and as its receiver.
+-- One end acts, and the state that the rules had before its turn is `from`.
+use Rattle.std.proofs.Common.{◌≡◌, ℕ, suc, ◌+◌, ◌-◌, ◌^◌, ◌<◌, ◌≤◌, Bool, true, false, Option, Some, List, [], ◌∷◌, ◌++◌, length, slice_get, All}
 use Rattle.std.specs.Prelude.{⊤}
 use Rattle.std.specs.List.{list_all}
 use Rattle.sctp_serial.specs.Messages as messages
@@ -10,31 +10,33 @@ use Rattle.sctp_packet.specs.Grammar.{carried}
 use Rattle.sctp_state.specs.Events as events
 use Rattle.sctp_state.specs.Options.{Options}
 use Rattle.sctp_capabilities.specs.Capabilities.{agreed}
-use Rattle.sctp_send_queue.specs.declared.send_queue.stream.PauseState.TheVariants.{NotPaused}
-use Rattle.sctp_send_queue.specs.Queue.{Stream, Queue}
+use Rattle.sctp_send_queue.specs.Queue.{Queue}
 use Rattle.sctp_outstanding.specs.Items.{no_items}
 use Rattle.sctp_tx.specs.ForwardPoints.{most_of}
 use Rattle.sctp_rx.specs.Tracker.{IsTracker, tracker}
 use Rattle.sctp_rx.specs.ReassemblyQueue.{reassembly}
 use Rattle.sctp_rules.specs.State.{Message, ForwardPoint, Sender, Transfer, IsAmong, new_sender, fragment, count}
-use Rattle.sctp_rules.specs.Rules.{Event, accept, begin, number, close, give_up, data_comes, late_comes, deliver, send_sack, leave, send_forward, forward_comes, forget, Happens, run}
-use Rattle.sctp_rules.specs.Kept.{Kept}
-use Rattle.sctp_rules.specs.Lifted.{no_base}
-use Rattle.sctp_rules.specs.Windows.{Windows}
-use Rattle.sctp_rules.specs.Written.{AreTheirOwn}
+use Rattle.sctp_rules.specs.Rules.{Event, accept, begin, number, close, give_up, data_comes, late_comes, deliver, send_sack, leave, send_forward, forward_comes, forget}
+use Rattle.sctp_rules.specs.Resets.{Epochs, ResetEvent, transfers, reset_stream, send_request, perform, commit, MayAll, go_all}
+use Rattle.sctp_rules.specs.Based.{InEpochs, EpochWindows}
 use Rattle.sctp_tx_rules.specs.Shown.{Shows}
+use Rattle.sctp_tx_rules.specs.Following.{FollowsEpochs, NoneIsReset}
 use Rattle.sctp_tx_rules.specs.Led.{given_ups, recorded, is_sending, delivered, ids_at}
 use Rattle.sctp_tx_rules.specs.Points.{chunk_of}
 use Rattle.sctp_tx_rules.specs.Rows.{Carries}
 use Rattle.sctp_rules.specs.Points.{AreApart}
 use Rattle.sctp_rx_rules.specs.Receives.{Receives}
 use Rattle.sctp_rx_rules.specs.Near.{ReadsNear, AreFew}
+use Rattle.sctp_rx_rules.specs.Resets.{base_now, IsWaitingFor}
 use Rattle.sctp_table.specs.Association.{Tcb, State, Closed, CookieWait, Open}
 use Rattle.sctp_table.specs.Laws.{Call}
 use Rattle.sctp_table_laws.specs.Mapped.{Carried}
-use Rattle.sctp_course.specs.Acts.{Making, IsHeard, is_response}
+use Rattle.sctp_course.specs.Acts.{Making, IsHeard}
 use Rattle.sctp_course.specs.Course.{packets_in, AreGiven}
 use Rattle.sctp_course.proofs.JoinActsLemmas.{Setting}
+use Rattle.sctp_delivery.specs.Asks.{Ask, AreAsked, SaysOutgoing, SaysIncoming, IsAsking, IsAnswering}
+use Rattle.sctp_delivery.specs.Answered.{performed_in}
+use Rattle.sctp_delivery.specs.StreamEpochs.{StreamEpoch, shut, reopened, performed_of, resets_told, failed_in}
 
 -- ---- rules of one end
 
@@ -54,12 +56,57 @@ is_receiving (send_forward f) = false
 is_receiving (forward_comes f spared) = true
 is_receiving (forget s c) = false
 
--- rules of this kind lead from x to y
-pub record GoesOn (message : ℕ → Message) (mixed : Bool) (kind : Event → Bool) (x y : Transfer) : Type 0 where
-  pub events : List Event
-  pub may : Happens message mixed x events
+abbrev pub goes_out : ResetEvent → Bool
+goes_out (transfers e) = is_sending e
+goes_out (reset_stream s) = true
+goes_out (send_request s) = true
+goes_out (perform r) = false
+goes_out (commit s) = true
+
+abbrev pub goes_in : ResetEvent → Bool
+goes_in (transfers e) = is_receiving e
+goes_in (reset_stream s) = false
+goes_in (send_request s) = false
+goes_in (perform r) = true
+goes_in (commit s) = false
+
+-- what happens to the transfer alone
+abbrev pub of_transfer : List ResetEvent → List Event
+of_transfer [] = []
+of_transfer (transfers e ∷ es) = e ∷ of_transfer es
+of_transfer (e ∷ es) = of_transfer es
+
+-- One direction: its state by the rules; and the requests to reset its streams, how many of them were performed, and how many answered.
+-- No packet tells them all.
+pub record Direction : Type 0 where
+  pub rules : Epochs
+  pub asks : List Ask
+  pub done : ℕ
+  pub answered : ℕ
+
+abbrev pub transfer_of : Direction → Transfer
+transfer_of x = x.rules.transfer
+
+-- what is true of every state that the rules lead to
+pub record IsKept (message : ℕ → Message) (mixed : Bool) (x : Direction) : Type 0 where
+  pub epochs : InEpochs message mixed x.rules
+  pub asked : AreAsked x.rules x.asks x.done x.answered
+
+-- rules of this kind lead from x to y; more may be asked, performed and answered
+pub record GoesOn (message : ℕ → Message) (mixed : Bool) (kind : ResetEvent → Bool) (x y : Direction) : Type 0 where
+  pub events : List ResetEvent
+  pub may : MayAll message mixed x.rules events
   pub all : list_all kind events ≡ true
-  pub leads : run message mixed x events ≡ y
+  pub leads : go_all message mixed x.rules events ≡ y.rules
+  pub more : List Ask
+  pub asks : y.asks ≡ x.asks ++ more
+  pub further : ℕ
+  pub done : y.done ≡ x.done + further
+  pub answered : x.answered ≤ y.answered
+
+-- what only one end's rules change
+abbrev pub AsksStay : (x y : Direction) → Type 0
+AsksStay x y = (y.asks ≡ x.asks) × (y.answered ≡ x.answered)
 
 -- ---- chunks
 
@@ -84,18 +131,20 @@ pub record SaysSack (first least most : ℕ) (x : Transfer) (k : SackTree) : Typ
   pub from : least ≤ point
   pub to : point ≤ most
 
--- what the sender says, whose first TSN is `first`
-abbrev pub SaysOut : (message : ℕ → Message) (mixed : Bool) (first least : ℕ) → Transfer → ChunkTree → Type 0
-SaysOut message mixed first least x (data_chunk tsn is_immediate f) = (mixed ≡ false) × SaysData message first least x.sender tsn f
-SaysOut message mixed first least x (idata_chunk tsn is_immediate f) = (mixed ≡ true) × SaysData message first least x.sender tsn f
-SaysOut message mixed first least x (forward_tsn_chunk tsn skipped) = SaysPoint mixed first least x (forward_tsn_chunk tsn skipped)
-SaysOut message mixed first least x (i_forward_tsn_chunk tsn skipped) = SaysPoint mixed first least x (i_forward_tsn_chunk tsn skipped)
-SaysOut message mixed first least x (re_config_chunk parameters) = list_all is_response parameters ≡ true
-SaysOut message mixed first least x chunk = ⊤
+-- what the sender says, whose first TSN is `first`, where `least` were acknowledged and `most` numbered. A RE-CONFIG speaks of both
+-- directions
+abbrev pub SaysOut : (message : ℕ → Message) (mixed : Bool) (first least most : ℕ) → Direction → ChunkTree → Type 0
+SaysOut message mixed first least most x (data_chunk tsn is_immediate f) = (mixed ≡ false) × SaysData message first least (transfer_of x).sender tsn f
+SaysOut message mixed first least most x (idata_chunk tsn is_immediate f) = (mixed ≡ true) × SaysData message first least (transfer_of x).sender tsn f
+SaysOut message mixed first least most x (forward_tsn_chunk tsn skipped) = SaysPoint mixed first least (transfer_of x) (forward_tsn_chunk tsn skipped)
+SaysOut message mixed first least most x (i_forward_tsn_chunk tsn skipped) = SaysPoint mixed first least (transfer_of x) (i_forward_tsn_chunk tsn skipped)
+SaysOut message mixed first least most x (re_config_chunk parameters) = All (SaysOutgoing first most x.asks) parameters
+SaysOut message mixed first least most x chunk = ⊤
 
 -- what its receiver says
-abbrev pub SaysIn : (first least most : ℕ) → Transfer → ChunkTree → Type 0
-SaysIn first least most x (sack_chunk k) = SaysSack first least most x k
+abbrev pub SaysIn : (first least most : ℕ) → Direction → ChunkTree → Type 0
+SaysIn first least most x (sack_chunk k) = SaysSack first least most (transfer_of x) k
+SaysIn first least most x (re_config_chunk parameters) = All (SaysIncoming first x.done (length x.asks)) parameters
 SaysIn first least most x chunk = ⊤
 
 -- the first TSN of what an end sends, and of what it receives
@@ -121,126 +170,143 @@ pub record WasSaid (Says : ChunkTree → Type 0) (chunk : ChunkTree) : Type 0 wh
 abbrev pub AreShort : Sender → Type 0
 AreShort o = (t : ℕ) → t < count o → (fragment o t).placeholder ≡ false → (fragment o t).index < 2 ^ 32
 
--- no stream is to be reset
-pub record IsFlowing (q : Queue) : Type 0 where
-  pub flows : All (λ (e : ℕ × Stream). e.1.pause ≡ NotPaused) q.streams.entries
-
 -- what the rules reported from x to y is what was told meanwhile
 pub record Reports (lifecycle : ℕ → Option ℕ) (x y : Transfer) (before after : List (events.Event Carried)) : Type 0 where
   pub places : List ℕ
   pub more : y.reports ≡ x.reports ++ places
   pub told_of : delivered after ≡ delivered before ++ ids_at lifecycle places
 
-module _ (message : ℕ → Message) (lifecycle : ℕ → Option ℕ) (mixed : Bool) where
-  -- without a control block all that was accepted waits
-  pub record IsWaiting (q : Queue) (x : Transfer) : Type 0 where
-    pub sender : x.sender ≡ record new_sender { accepted = x.sender.accepted }
-    pub acknowledged : x.acknowledged ≡ 0
-    pub no_points : x.forward_points ≡ []
-    pub no_reports : x.reports ≡ []
-    pub shows : Shows message lifecycle false x q (no_items false false)
+-- how the streams stand for what is accepted next: their epochs, and which are open
+abbrev pub AreSo : (ℕ → StreamEpoch) → Epochs → Type 0
+AreSo f x = (s : ℕ) → ((f s).epoch ≡ x.raised s) × ((f s).is_open ≡ true → x.raised s ≡ x.opened s) × ((f s).is_open ≡ false → x.raised s ≡ suc (x.opened s))
 
-  -- with it the values show the state; a forward point with an entry fits a packet; no reset of streams is asked
-  pub record IsSending (t : Tcb) (q : Queue) (x : Transfer) : Type 0 where
-    pub shows : Shows message lifecycle mixed x q t.sender.outstanding.items
+module _ (message : ℕ → Message) (lifecycle : ℕ → Option ℕ) (mixed : Bool) where
+  -- without a control block all that was accepted waits, and no stream was ever reset
+  pub record IsWaiting (q : Queue) (x : Direction) : Type 0 where
+    pub sender : (transfer_of x).sender ≡ record new_sender { accepted = (transfer_of x).sender.accepted }
+    pub acknowledged : (transfer_of x).acknowledged ≡ 0
+    pub no_points : (transfer_of x).forward_points ≡ []
+    pub no_reports : (transfer_of x).reports ≡ []
+    pub none_reset : NoneIsReset x.rules
+    pub none_asked : x.asks ≡ []
+    pub shows : Shows message lifecycle false (transfer_of x) q (no_items false false)
+    pub follows : FollowsEpochs x.rules q (no_items false false)
+
+  -- with it the values show the state; a forward point with an entry fits a packet; the last ask waits, or none does
+  pub record IsSending (t : Tcb) (q : Queue) (x : Direction) : Type 0 where
+    pub shows : Shows message lifecycle mixed (transfer_of x) q t.sender.outstanding.items
+    pub follows : FollowsEpochs x.rules q t.sender.outstanding.items
     pub first : t.sender.outstanding.first ≡ t.identity.my_first
     pub room : 16 ≤ most_of t.sender
-    pub no_request : t.requests.current ≡ None
+    pub asks : IsAsking t.identity.my_first x.answered x.asks q t.requests
 
-  abbrev pub SendsIn : State → Queue → Transfer → Type 0
+  abbrev pub SendsIn : State → Queue → Direction → Type 0
   SendsIn Closed q x = IsWaiting q x
   SendsIn (CookieWait tag first t1) q x = IsWaiting q x
   SendsIn (Open phase t) q x = IsSending t q x
 
-  -- each chunk that it puts into a packet or tells, now and behind what was told before
-  pub record SenderClaim (from : Transfer) (m : Making Carried) (x : Transfer) : Type 0 where
-    pub kept : Kept message mixed x
-    pub goes : GoesOn message mixed is_sending from x
+  -- Each chunk that it puts into a packet or tells, now and behind what was told before. These streams were to be reset in the turn. A
+  -- request that waits goes out before 2^30 fragments more are numbered. Each answer is told, and none as failed.
+  pub record SenderClaim (from : Direction) (prepared : List ℕ) (m : Making Carried) (x : Direction) : Type 0 where
+    pub kept : IsKept message mixed x
+    pub goes : GoesOn message mixed goes_out from x
+    pub done : x.done ≡ from.done
     pub shown : SendsIn m.state m.context.queue x
-    pub flows : IsFlowing m.context.queue
-    pub gone : recorded m.context.told ≡ given_ups goes.events
-    pub reported : Reports lifecycle from x [] m.context.told.events
-    pub told : All (λ (p : Carried). All (SaysOut message mixed (first_out m.state) from.acknowledged x) p.chunks) (packets_in m.context.told.events)
-    pub made : All (SaysOut message mixed (first_out m.state) from.acknowledged x) m.packet.chunks
+    pub near : (a : Ask) → slice_get x.asks x.answered ≡ Some a → count (transfer_of from).sender < a.upto + 2 ^ 30
+    pub gone : recorded m.context.told ≡ given_ups (of_transfer goes.events)
+    pub reported : Reports lifecycle (transfer_of from) (transfer_of x) [] m.context.told.events
+    pub performed : x.answered ≡ from.answered + performed_in m.context.told.events
+    pub epochs : (f : ℕ → StreamEpoch) → AreSo f from.rules → AreSo (reopened (performed_of m.context.told.events) (shut prepared f)) x.rules
+    pub none_failed : failed_in m.context.told.events ≡ false
+    pub told : All (λ (p : Carried). All (SaysOut message mixed (first_out m.state) (transfer_of from).acknowledged (count (transfer_of from).sender) x) p.chunks) (packets_in m.context.told.events)
+    pub made : All (SaysOut message mixed (first_out m.state) (transfer_of from).acknowledged (count (transfer_of from).sender) x) m.packet.chunks
 
 -- ---- the receiver, where the first messages that became ready were handed out
 
 module _ (message : ℕ → Message) (mixed : Bool) where
   -- without a control block nothing came: any new values are the receiver
-  pub record IsFresh (handed : List messages.Message) (x : Transfer) : Type 0 where
+  pub record IsFresh (handed : List messages.Message) (x : Direction) : Type 0 where
     pub none_handed : handed ≡ []
-    pub no_sacks : x.sacks ≡ []
-    pub receives : (o : Options) (size : ℕ) → Receives message mixed no_base 0 x [] (tracker o origin) (reassembly size mixed)
-    pub near : (first size : ℕ) → ReadsNear message mixed no_base first 0 x (reassembly size mixed)
+    pub no_sacks : (transfer_of x).sacks ≡ []
+    pub none_done : x.done ≡ 0
+    pub receives : (o : Options) (size : ℕ) → Receives message mixed (base_now x.rules) 0 (transfer_of x) [] (tracker o origin) (reassembly size mixed)
+    pub near : (first size : ℕ) → ReadsNear message mixed (base_now x.rules) first 0 (transfer_of x) (reassembly size mixed)
 
-  pub record IsReceiving (handed : List messages.Message) (t : Tcb) (x : Transfer) : Type 0 where
+  -- with it, its numbers count from the epochs that it performed, and the next ask is deferred or none is
+  pub record IsReceiving (handed : List messages.Message) (t : Tcb) (x : Direction) : Type 0 where
     pub shift : ℕ
-    pub receives : Receives message mixed no_base shift x handed t.tracker.tracker t.reassembly
-    pub near : ReadsNear message mixed no_base t.tracker.first shift x t.reassembly
+    pub receives : Receives message mixed (base_now x.rules) shift (transfer_of x) handed t.tracker.tracker t.reassembly
+    pub near : ReadsNear message mixed (base_now x.rules) t.tracker.first shift (transfer_of x) t.reassembly
     pub is_tracker : IsTracker t.tracker.tracker
-    pub not_deferred : t.reassembly.deferred ≡ None
+    pub waiting : IsWaitingFor shift x.rules t.reassembly.first t.reassembly.deferred
     pub first : t.tracker.first ≡ t.identity.peer_first
+    pub answers : IsAnswering t.identity.peer_first x.done x.asks t.requests t.reassembly.deferred
 
-  abbrev pub ReceivesIn : State → (handed : List messages.Message) → Transfer → Type 0
+  abbrev pub ReceivesIn : State → (handed : List messages.Message) → Direction → Type 0
   ReceivesIn Closed handed x = IsFresh handed x
   ReceivesIn (CookieWait tag first t1) handed x = IsFresh handed x
   ReceivesIn (Open phase t) handed x = IsReceiving handed t x
 
-  pub record ReceiverClaim (from : Transfer) (handed : List messages.Message) (m : Making Carried) (x : Transfer) : Type 0 where
-    pub kept : Kept message mixed x
-    pub goes : GoesOn message mixed is_receiving from x
+  -- each reset that it performs it tells
+  pub record ReceiverClaim (from : Direction) (handed : List messages.Message) (m : Making Carried) (x : Direction) : Type 0 where
+    pub kept : IsKept message mixed x
+    pub goes : GoesOn message mixed goes_in from x
+    pub stay : AsksStay from x
     pub shown : ReceivesIn m.state handed x
-    pub told : All (λ (p : Carried). All (SaysIn (first_in m.state) from.acknowledged (count from.sender) x) p.chunks) (packets_in m.context.told.events)
-    pub made : All (SaysIn (first_in m.state) from.acknowledged (count from.sender) x) m.packet.chunks
+    pub performed : (s : ℕ) → x.rules.performed s ≡ from.rules.performed s + resets_told s m.context.told.events
+    pub told : All (λ (p : Carried). All (SaysIn (first_in m.state) (transfer_of from).acknowledged (count (transfer_of from).sender) x) p.chunks) (packets_in m.context.told.events)
+    pub made : All (SaysIn (first_in m.state) (transfer_of from).acknowledged (count (transfer_of from).sender) x) m.packet.chunks
 
 -- ---- what a call hears
 
 -- Of a packet that the receiver emitted when `least` were acknowledged and `most` numbered, as the sender hears it: fewer than 2^30
 -- were numbered since.
-pub record HearsSacks (call : Call) (first : ℕ) (from : Transfer) : Type 0 where
+pub record HearsSacks (call : Call) (first : ℕ) (from : Direction) : Type 0 where
   pub least : ℕ
   pub most : ℕ
-  pub past : least ≤ from.acknowledged
+  pub past : least ≤ (transfer_of from).acknowledged
   pub near : most ≤ least + 2 ^ 30
-  pub young : count from.sender < most + 2 ^ 30
+  pub young : count (transfer_of from).sender < most + 2 ^ 30
   pub says : (tag : ℕ) (chunk : ChunkTree) → IsHeard call tag chunk → WasSaid (SaysIn first least most from) chunk
 
 -- Of one that the sender emitted, as its receiver hears it.
-pub record HearsData (message : ℕ → Message) (mixed : Bool) (call : Call) (first : ℕ) (from : Transfer) : Type 0 where
+pub record HearsData (message : ℕ → Message) (mixed : Bool) (call : Call) (first : ℕ) (from : Direction) : Type 0 where
   pub least : ℕ
   pub most : ℕ
   pub near : most ≤ least + 2 ^ 30
-  pub below : most ≤ count from.sender
-  pub young : count from.sender < most + 2 ^ 30
-  pub says : (tag : ℕ) (chunk : ChunkTree) → IsHeard call tag chunk → WasSaid (SaysOut message mixed first least from) chunk
+  pub below : most ≤ count (transfer_of from).sender
+  pub young : count (transfer_of from).sender < most + 2 ^ 30
+  pub says : (tag : ℕ) (chunk : ChunkTree) → IsHeard call tag chunk → WasSaid (SaysOut message mixed first least most from) chunk
 
 -- ---- where an act leads, and what it may use
 
 module _ (message : ℕ → Message) (lifecycle : ℕ → Option ℕ) (mixed : Bool) where
-  abbrev pub SenderGoes : Transfer → (before after : Making Carried) → Type 0
-  SenderGoes from a b = (x : Transfer) → SenderClaim message lifecycle mixed from a x → (y : Transfer) × SenderClaim message lifecycle mixed from b y
+  abbrev pub SenderGoes : Direction → (before after : Making Carried) → Type 0
+  SenderGoes from a b =
+      (prepared : List ℕ) (x : Direction) → SenderClaim message lifecycle mixed from prepared a x → (y : Direction) × SenderClaim message lifecycle mixed from prepared b y
 
-  -- of the receiver beside it, and of the SACKs that come from there
-  pub record SenderPremises (g : Setting) (call : Call) (from : Transfer) : Type 0 where
+  -- of the receiver beside it, and of the SACKs and answers that come from there
+  pub record SenderPremises (g : Setting) (call : Call) (from : Direction) : Type 0 where
     pub own : AreGiven g.own
-    pub kept : Kept message mixed from
+    pub kept : IsKept message mixed from
     pub mode : mixed ≡ (agreed g.own g.other).message_interleaving
+    pub few : length from.asks < 2 ^ 32
     pub handed : List messages.Message
     pub beside : ReceivesIn message mixed g.beside handed from
     pub hears : HearsSacks call (first_in g.beside) from
 
-  abbrev pub ReceiverGoes : Transfer → List messages.Message → (before after : Making Carried) → Type 0
-  ReceiverGoes from handed a b = (x : Transfer) → ReceiverClaim message mixed from handed a x → (y : Transfer) × ReceiverClaim message mixed from handed b y
+  abbrev pub ReceiverGoes : Direction → List messages.Message → (before after : Making Carried) → Type 0
+  ReceiverGoes from handed a b = (x : Direction) → ReceiverClaim message mixed from handed a x → (y : Direction) × ReceiverClaim message mixed from handed b y
 
   -- of the sender beside it, its windows, and what comes from there
-  pub record ReceiverPremises (g : Setting) (call : Call) (from : Transfer) : Type 0 where
+  pub record ReceiverPremises (g : Setting) (call : Call) (from : Direction) : Type 0 where
     pub own : AreGiven g.own
-    pub kept : Kept message mixed from
+    pub kept : IsKept message mixed from
     pub mode : mixed ≡ (agreed g.own g.other).message_interleaving
+    pub few_asks : length from.asks < 2 ^ 32
     pub queue : Queue
     pub beside : SendsIn message lifecycle mixed g.beside queue from
-    pub windows : Windows message from
-    pub written : AreTheirOwn from.sender from.forward_points
-    pub few : AreFew from.sender
-    pub short : AreShort from.sender
+    pub windows : EpochWindows message from.rules
+    pub few : AreFew (transfer_of from).sender
+    pub short : AreShort (transfer_of from).sender
     pub hears : HearsData message mixed call (first_out g.beside) from
