@@ -4,12 +4,14 @@ use Rattle.std.proofs.Common.{◌≡◌, ℕ, ◌<◌, ◌≤◌, Bool, true, fa
 use Rattle.std.specs.List.{list_all}
 use Rattle.std.proofs.lemmas.Bool.{cases_eq, cases_lt, and_parts}
 use Rattle.sctp_rules.specs.State.{Message, Fragment, Sender, Transfer, blank, fragment, place_of, count, put, gathered, parts, is_empty, new_sender}
-use Rattle.sctp_rules.specs.Rules.{Event, accept, begin, number, close, give_up, data_comes, late_comes, deliver, send_sack, leave, send_forward, forward_comes, forget, Waits, IsAllowed, Happens, accepts, numbers, begins, part, end_of, after, run}
+use Rattle.sctp_rules.specs.Rules.{Event, accept, begin, number, close, give_up, data_comes, late_comes, deliver, send_sack, leave, send_forward, forward_comes, forget, Waits, IsAllowed, accepts, numbers, begins, part, end_of, after}
+use Rattle.sctp_rules.specs.Resets.{Epochs, ResetEvent, transfers, reset_stream, send_request, perform, commit, MayReset, goes, MayAll, go_all}
+use Rattle.sctp_rules.specs.Based.{InEpochs}
 use Rattle.sctp_rules.specs.Kept.{Kept}
 use Rattle.sctp_rules.proofs.ToolsLemmas.{put_at, put_off, not_both, each_push, gathered_push, gathered_off}
 use Rattle.sctp_rules.proofs.IndexedLemmas.{parts_push, parts_off}
-use Rattle.sctp_rules.proofs.KeepsLemmas.{keeps}
-use Rattle.sctp_delivery.proofs.ClaimLemmas.{GoesOn, is_receiving}
+use Rattle.sctp_rules.proofs.BasedLemmas.{keeps_epochs}
+use Rattle.sctp_delivery.proofs.ClaimLemmas.{Direction, transfer_of, goes_in, GoesOn}
 
 pub record IsFilled (message : ℕ → Message) (o : Sender) : Type 0 where
   -- of what is partly sent, so far
@@ -20,6 +22,13 @@ pub record IsFilled (message : ℕ → Message) (o : Sender) : Type 0 where
 abbrev pub has_bytes : Event → Bool
 has_bytes (number p bytes more) = not (is_empty bytes)
 has_bytes e = true
+
+abbrev pub fills : ResetEvent → Bool
+fills (transfers e) = has_bytes e
+fills (reset_stream s) = true
+fills (send_request s) = true
+fills (perform r) = true
+fills (commit s) = true
 
 some_length : (bytes : List ℕ) → not (is_empty bytes) ≡ true → 0 < length bytes
 some_length [] h = absurd (cc)
@@ -126,30 +135,54 @@ module _ (message : ℕ → Message) where
   -- ---- runs
 
   module _ (mixed : Bool) where
-    pub filled_along : (es : List Event) (x : Transfer) → Kept message mixed x → Happens message mixed x es → list_all has_bytes es ≡ true
-        → IsFilled message x.sender → IsFilled message (run message mixed x es).sender
+    filled_reset : (x : Epochs) → InEpochs message mixed x → (e : ResetEvent) → MayReset message mixed x e → fills e ≡ true
+        → IsFilled message x.transfer.sender → IsFilled message (goes message mixed x e).transfer.sender
+    filled_reset x k (transfers e) a b f = filled_once mixed x.transfer k.order.kept f e a.0 b
+    filled_reset x k (reset_stream s) a b f = f
+    filled_reset x k (send_request s) a b f = f
+    filled_reset x k (perform r) a b f = f
+    filled_reset x k (commit s) a b f = record { partly = f.partly; within = f.within }
+
+    pub filled_along : (es : List ResetEvent) (x : Epochs) → InEpochs message mixed x → MayAll message mixed x es → list_all fills es ≡ true
+        → IsFilled message x.transfer.sender → IsFilled message (go_all message mixed x es).transfer.sender
     filled_along [] x k h b f = f
     filled_along (e ∷ es) x k h b f =
-        let bs = and_parts (has_bytes e) (list_all has_bytes es) b in
-        filled_along es (after message mixed x e) (keeps message mixed x k e h.0) h.1 bs.1 (filled_once mixed x k f e h.0 bs.0)
+        let bs = and_parts (fills e) (list_all fills es) b in
+        filled_along es (goes message mixed x e) (keeps_epochs message mixed x k e h.0) h.1 bs.1 (filled_reset x k e h.0 bs.0 f)
 
-    all_have : (kind : Event → Bool) → ((e : Event) → kind e ≡ true → has_bytes e ≡ true) → (es : List Event) → list_all kind es ≡ true → list_all has_bytes es ≡ true
+    all_have : (kind : ResetEvent → Bool) → ((e : ResetEvent) → kind e ≡ true → fills e ≡ true) → (es : List ResetEvent) → list_all kind es ≡ true → list_all fills es ≡ true
     all_have kind each [] h = refl
     all_have kind each (e ∷ es) h =
         let hs = and_parts (kind e) (list_all kind es) h in
-        ap (λ b. b && list_all has_bytes es) (each e hs.0) ∙ all_have kind each es hs.1
+        ap (λ b. b && list_all fills es) (each e hs.0) ∙ all_have kind each es hs.1
 
-    pub filled_goes : (kind : Event → Bool) → ((e : Event) → kind e ≡ true → has_bytes e ≡ true) → (x y : Transfer) → Kept message mixed x → GoesOn message mixed kind x y
-        → IsFilled message x.sender → IsFilled message y.sender
+    pub filled_goes : (kind : ResetEvent → Bool) → ((e : ResetEvent) → kind e ≡ true → fills e ≡ true) → (x y : Direction) → InEpochs message mixed x.rules
+        → GoesOn message mixed kind x y → IsFilled message (transfer_of x).sender → IsFilled message (transfer_of y).sender
     filled_goes kind each x y k g f =
-        subst (λ (z : Transfer). IsFilled message z.sender) g.leads (filled_along g.events x k g.may (all_have kind each g.events g.all) f)
+        subst (λ (z : Epochs). IsFilled message z.transfer.sender) g.leads (filled_along g.events x.rules k g.may (all_have kind each g.events g.all) f)
 
-    receiving_has : (e : Event) → is_receiving e ≡ true → has_bytes e ≡ true
-    receiving_has (number p bytes more) h = absurd (cc)
-    receiving_has e h = refl
+    receiving_has : (e : ResetEvent) → goes_in e ≡ true → fills e ≡ true
+    receiving_has (transfers (number p bytes more)) h = absurd (cc)
+    receiving_has (transfers accept) h = refl
+    receiving_has (transfers (begin p)) h = refl
+    receiving_has (transfers (close p)) h = refl
+    receiving_has (transfers (give_up p)) h = refl
+    receiving_has (transfers (data_comes t)) h = refl
+    receiving_has (transfers (late_comes t)) h = refl
+    receiving_has (transfers (deliver p)) h = refl
+    receiving_has (transfers (send_sack c)) h = refl
+    receiving_has (transfers (leave c)) h = refl
+    receiving_has (transfers (send_forward f)) h = refl
+    receiving_has (transfers (forward_comes f spared)) h = refl
+    receiving_has (transfers (forget s c)) h = refl
+    receiving_has (reset_stream s) h = refl
+    receiving_has (send_request s) h = refl
+    receiving_has (perform r) h = refl
+    receiving_has (commit s) h = refl
 
-    pub receives_filled : (x y : Transfer) → Kept message mixed x → GoesOn message mixed is_receiving x y → IsFilled message x.sender → IsFilled message y.sender
-    receives_filled = filled_goes is_receiving receiving_has
+    pub receives_filled : (x y : Direction) → InEpochs message mixed x.rules → GoesOn message mixed goes_in x y → IsFilled message (transfer_of x).sender
+        → IsFilled message (transfer_of y).sender
+    receives_filled = filled_goes goes_in receiving_has
 
   -- ---- what it says
 

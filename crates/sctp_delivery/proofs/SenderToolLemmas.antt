@@ -1,21 +1,23 @@
 -- Rules that lead on: what an end says stays true, and what one end's rules leave of the other's part. For an act of a sender:
 -- its claim after it.
-use Rattle.std.proofs.Common.{◌≡◌, ℕ, ◌≤◌, ◌&&◌, Bool, true, Option, inr, List, [], ◌∷◌, ◌++◌, All, refl, sym, ap, ◌∙◌, subst, arith, append-nil, append_assoc}
+use Rattle.std.proofs.Common.{◌≡◌, ℕ, ◌+◌, ◌≤◌, ◌&&◌, Bool, true, Option, inr, List, [], ◌∷◌, ◌++◌, length, map, All, refl, sym, ap, ◌∙◌, subst, arith, append-nil, append_assoc, length-append}
 use Rattle.std.specs.List.{list_all}
 use Rattle.std.proofs.lemmas.List.Folds.{list_all-append}
 use Rattle.std.proofs.lemmas.List.Elements.{All-weaker}
 use Rattle.std.proofs.lemmas.Bool.{and_parts}
+use Rattle.sctp_wire.specs.Parameter.{ParameterTree}
 use Rattle.sctp_packet.specs.Chunk.{ChunkTree, FragmentTree, data_chunk, idata_chunk, sack_chunk, re_config_chunk, forward_tsn_chunk, i_forward_tsn_chunk}
 use Rattle.sctp_state.specs.Events as events
 use Rattle.sctp_state.specs.Events.{Told, SendPacket, OnLifecycleMessageDelivered}
 use Rattle.sctp_rules.specs.State.{Message, ForwardPoint, Transfer, IsAmong, count}
-use Rattle.sctp_rules.specs.Rules.{Event, accept, begin, number, close, give_up, data_comes, late_comes, deliver, send_sack, leave, send_forward, forward_comes, forget, Happens, after, run}
-use Rattle.sctp_rules.specs.Kept.{Kept}
-use Rattle.sctp_rules.proofs.GrowsLemmas.{run_more}
-use Rattle.sctp_rules.proofs.KeepsLemmas.{keeps, all_kept}
+use Rattle.sctp_rules.specs.Rules.{Event, accept, begin, number, close, give_up, data_comes, late_comes, deliver, send_sack, leave, send_forward, forward_comes, forget, after}
+use Rattle.sctp_rules.specs.Resets.{Epochs, ResetEvent, transfers, reset_stream, send_request, perform, commit, MayReset, goes, MayAll, go_all}
+use Rattle.sctp_rules.specs.Based.{InEpochs}
+use Rattle.sctp_rules.proofs.BasedLemmas.{keeps_epochs, all_in_epochs}
 use Rattle.sctp_rules.proofs.StepLemmas.{later}
-use Rattle.sctp_tx_rules.specs.Led.{given_ups, recorded, is_sending, Leads, delivered, ids_at}
-use Rattle.sctp_tx_rules.proofs.LedLemmas.{happens_more, given_more}
+use Rattle.sctp_tx_rules.specs.Led.{given_ups, recorded, is_sending, delivered, ids_at}
+use Rattle.sctp_tx_rules.proofs.LedLemmas.{given_more}
+use Rattle.sctp_tx_rules.proofs.PausedLemmas.{go_more, may_more}
 use Rattle.sctp_tx_rules.proofs.SackLemmas.{delivered_more, ids_more}
 use Rattle.sctp_tx_rules.proofs.SendLemmas.{carries_along}
 use Rattle.sctp_table_laws.specs.Mapped.{Carried}
@@ -23,47 +25,100 @@ use Rattle.sctp_course.specs.Acts.{Making}
 use Rattle.sctp_course.specs.Course.{packets_in}
 use Rattle.sctp_course.proofs.ToldLemmas.{is_light, is_quiet, TellsLightly, TellsQuietly}
 use Rattle.sctp_course.proofs.JoinActsLemmas.{packets_both}
-use Rattle.sctp_delivery.proofs.ClaimLemmas.{GoesOn, SaysData, SaysPoint, SaysOut, SaysIn, first_out, IsFlowing, SendsIn, Reports, SenderClaim}
+use Rattle.sctp_delivery.specs.Asks.{Ask, SaysOutgoing, SaysIncoming}
+use Rattle.sctp_delivery.proofs.AsksLemmas.{asks_said, answers_said}
+use Rattle.sctp_delivery.proofs.ClaimLemmas.{Direction, transfer_of, of_transfer, goes_out, GoesOn, SaysData, SaysPoint, SaysOut, SaysIn, first_out, SendsIn, Reports, SenderClaim}
 
 -- ---- one run after another
 
-module _ (message : ℕ → Message) (mixed : Bool) (kind : Event → Bool) where
-  pub goes_none : (x : Transfer) → GoesOn message mixed kind x x
-  goes_none x = record { events = []; may = tt; all = refl; leads = refl }
+transfer_more : (es fs : List ResetEvent) → of_transfer (es ++ fs) ≡ of_transfer es ++ of_transfer fs
+transfer_more [] fs = refl
+transfer_more (transfers e ∷ es) fs = ap (λ (gs : List Event). e ∷ gs) (transfer_more es fs)
+transfer_more (reset_stream s ∷ es) fs = transfer_more es fs
+transfer_more (send_request s ∷ es) fs = transfer_more es fs
+transfer_more (perform r ∷ es) fs = transfer_more es fs
+transfer_more (commit s ∷ es) fs = transfer_more es fs
 
-  -- with what they give up
-  pub goes_given : (x y z : Transfer) → (a : GoesOn message mixed kind x y) → (b : GoesOn message mixed kind y z)
-      → (c : GoesOn message mixed kind x z) × (given_ups c.events ≡ given_ups a.events ++ given_ups b.events)
-  goes_given x y z a b =
-      let c : GoesOn message mixed kind x z = record {
-        events = a.events ++ b.events;
-        may = happens_more message mixed a.events b.events x a.may (subst (λ w. Happens message mixed w b.events) (sym a.leads) b.may);
-        all = list_all-append kind a.events b.events ∙ (ap (λ (t : Bool). t && list_all kind b.events) a.all ∙ b.all);
-        leads = run_more message mixed a.events b.events x ∙ (ap (λ w. run message mixed w b.events) a.leads ∙ b.leads);
-      } in
-      (c, given_more message mixed a.events b.events)
+pub of_transfers : (es : List Event) → of_transfer (map transfers es) ≡ es
+of_transfers [] = refl
+of_transfers (e ∷ es) = ap (λ (gs : List Event). e ∷ gs) (of_transfers es)
 
-  pub goes_on : (x y z : Transfer) → GoesOn message mixed kind x y → GoesOn message mixed kind y z → GoesOn message mixed kind x z
-  goes_on x y z a b = (goes_given x y z a b).0
+pub all_transfers : (kind : ResetEvent → Bool) (only : Event → Bool) → ((e : Event) → only e ≡ true → kind (transfers e) ≡ true) → (es : List Event) → list_all only es ≡ true
+    → list_all kind (map transfers es) ≡ true
+all_transfers kind only each [] h = refl
+all_transfers kind only each (e ∷ es) h =
+    let hs = and_parts (only e) (list_all only es) h in
+    ap (λ b. b && list_all kind (map transfers es)) (each e hs.0) ∙ all_transfers kind only each es hs.1
 
-  pub goes_kept : (x y : Transfer) → Kept message mixed x → GoesOn message mixed kind x y → Kept message mixed y
-  goes_kept x y k g = subst (λ (z : Transfer). Kept message mixed z) g.leads (all_kept message mixed g.events x k g.may)
+module _ (message : ℕ → Message) (mixed : Bool) where
+  pub goes_none : (kind : ResetEvent → Bool) (x : Direction) → GoesOn message mixed kind x x
+  goes_none kind x = record {
+    events = [];
+    may = tt;
+    all = refl;
+    leads = refl;
+    more = [];
+    asks = sym (append-nil x.asks);
+    further = 0;
+    done = omega arith;
+    answered = omega arith;
+  }
 
-  pub led_given : (x y : Transfer) (ps : List ℕ) → (l : Leads message mixed x y ps) → list_all kind l.events ≡ true
-      → (g : GoesOn message mixed kind x y) × (given_ups g.events ≡ ps)
-  led_given x y ps l all =
-      let g : GoesOn message mixed kind x y = record { events = l.events; may = l.may; all = all; leads = l.leads } in
-      (g, l.given_up)
+  module _ (kind : ResetEvent → Bool) where
+    -- with what they give up
+    pub goes_given : (x y z : Direction) → (a : GoesOn message mixed kind x y) → (b : GoesOn message mixed kind y z)
+        → (c : GoesOn message mixed kind x z) × (given_ups (of_transfer c.events) ≡ given_ups (of_transfer a.events) ++ given_ups (of_transfer b.events))
+    goes_given x y z a b =
+        let one = a.done in
+        let two = b.done in
+        let few = a.answered in
+        let some = b.answered in
+        let c : GoesOn message mixed kind x z = record {
+          events = a.events ++ b.events;
+          may = may_more message mixed a.events b.events x.rules a.may (subst (λ w. MayAll message mixed w b.events) (sym a.leads) b.may);
+          all = list_all-append kind a.events b.events ∙ (ap (λ (t : Bool). t && list_all kind b.events) a.all ∙ b.all);
+          leads = go_more message mixed a.events b.events x.rules ∙ (ap (λ w. go_all message mixed w b.events) a.leads ∙ b.leads);
+          more = a.more ++ b.more;
+          asks = b.asks ∙ (ap (λ (l : List Ask). l ++ b.more) a.asks ∙ append_assoc x.asks a.more b.more);
+          further = a.further + b.further;
+          done = omega (arith, one, two);
+          answered = omega (arith, few, some);
+        } in
+        (c, ap given_ups (transfer_more a.events b.events) ∙ given_more message mixed (of_transfer a.events) (of_transfer b.events))
+
+    pub goes_on : (x y z : Direction) → GoesOn message mixed kind x y → GoesOn message mixed kind y z → GoesOn message mixed kind x z
+    goes_on x y z a b = (goes_given x y z a b).0
+
+    pub goes_epochs : (x y : Direction) → InEpochs message mixed x.rules → GoesOn message mixed kind x y → InEpochs message mixed y.rules
+    goes_epochs x y k g = subst (λ (z : Epochs). InEpochs message mixed z) g.leads (all_in_epochs message mixed g.events x.rules k g.may)
+
+  -- the transfer goes on, and nothing else changes
+  abbrev pub with_transfer : Direction → Transfer → Direction
+  with_transfer x t = record x { rules = record x.rules { transfer = t } }
+
+  pub transfers_go : (kind : ResetEvent → Bool) (x : Direction) (t : Transfer) (es : List Event) → MayAll message mixed x.rules (map transfers es) → list_all kind (map transfers es) ≡ true
+      → go_all message mixed x.rules (map transfers es) ≡ record x.rules { transfer = t } → GoesOn message mixed kind x (with_transfer x t)
+  transfers_go kind x t es may all leads = record {
+    events = map transfers es;
+    may = may;
+    all = all;
+    leads = leads;
+    more = [];
+    asks = sym (append-nil x.asks);
+    further = 0;
+    done = omega arith;
+    answered = omega arith;
+  }
 
 -- ---- what only grows, along rules of any kind
 
 module _ (message : ℕ → Message) (mixed : Bool) where
   -- from x to y
-  pub record Grows (x y : Transfer) : Type 0 where
-    pub numbered : count x.sender ≤ count y.sender
-    pub left : x.acknowledged ≤ y.acknowledged
-    pub points : (f : ForwardPoint) → IsAmong f x.forward_points → IsAmong f y.forward_points
-    pub sacks : (c : ℕ) → IsAmong c x.sacks → IsAmong c y.sacks
+  pub record Grows (x y : Direction) : Type 0 where
+    pub numbered : count (transfer_of x).sender ≤ count (transfer_of y).sender
+    pub left : (transfer_of x).acknowledged ≤ (transfer_of y).acknowledged
+    pub points : (f : ForwardPoint) → IsAmong f (transfer_of x).forward_points → IsAmong f (transfer_of y).forward_points
+    pub sacks : (c : ℕ) → IsAmong c (transfer_of x).sacks → IsAmong c (transfer_of y).sacks
 
   left_once : (x : Transfer) (e : Event) → x.acknowledged ≤ (after message mixed x e).acknowledged
   left_once x (leave c) = omega arith
@@ -110,122 +165,165 @@ module _ (message : ℕ → Message) (mixed : Bool) where
   sacks_once x (forward_comes f spared) n a = a
   sacks_once x (forget s c) n a = a
 
-  left_along : (es : List Event) (x : Transfer) → x.acknowledged ≤ (run message mixed x es).acknowledged
-  left_along [] x = omega arith
-  left_along (e ∷ es) x =
-      let once = left_once x e in
-      let more = left_along es (after message mixed x e) in
-      omega (arith, once, more)
+  -- of the transfers alone
+  record Goes (x y : Transfer) : Type 0 where
+    numbered : count x.sender ≤ count y.sender
+    left : x.acknowledged ≤ y.acknowledged
+    points : (f : ForwardPoint) → IsAmong f x.forward_points → IsAmong f y.forward_points
+    sacks : (c : ℕ) → IsAmong c x.sacks → IsAmong c y.sacks
 
-  pub left_grows : (kind : Event → Bool) (x y : Transfer) → GoesOn message mixed kind x y → x.acknowledged ≤ y.acknowledged
-  left_grows kind x y g = subst (λ (z : Transfer). x.acknowledged ≤ z.acknowledged) g.leads (left_along g.events x)
+  goes_alike : (x y : Transfer) → count y.sender ≡ count x.sender → y.acknowledged ≡ x.acknowledged → y.forward_points ≡ x.forward_points → y.sacks ≡ x.sacks → Goes x y
+  goes_alike x y numbered left points sacks = record {
+    numbered = omega (arith, numbered);
+    left = omega (arith, left);
+    points = λ f a. subst (IsAmong f) (sym points) a;
+    sacks = λ c a. subst (IsAmong c) (sym sacks) a;
+  }
 
-  pub all_grow : (es : List Event) (x : Transfer) → Kept message mixed x → Happens message mixed x es → Grows x (run message mixed x es)
-  all_grow [] x k h = record { numbered = omega arith; left = omega arith; points = λ f a. a; sacks = λ c a. a }
-  all_grow (e ∷ es) x k h =
-      let r = all_grow es (after message mixed x e) (keeps message mixed x k e h.0) h.1 in
-      let counted = (later message mixed x k e h.0).count_grows in
-      let further = r.numbered in
-      let once = left_once x e in
-      let more = r.left in
-      record {
-        numbered = omega (arith, counted, further);
-        left = omega (arith, once, more);
-        points = λ f a. r.points f (points_once x e f a);
-        sacks = λ c a. r.sacks c (sacks_once x e c a);
-      }
+  goes_once : (x : Epochs) (e : ResetEvent) → InEpochs message mixed x → MayReset message mixed x e → Goes x.transfer (goes message mixed x e).transfer
+  goes_once x (transfers e) k may = record {
+    numbered = (later message mixed x.transfer k.order.kept e may.0).count_grows;
+    left = left_once x.transfer e;
+    points = points_once x.transfer e;
+    sacks = sacks_once x.transfer e;
+  }
+  goes_once x (reset_stream s) k may = goes_alike x.transfer x.transfer refl refl refl refl
+  goes_once x (send_request s) k may = goes_alike x.transfer x.transfer refl refl refl refl
+  goes_once x (perform r) k may = goes_alike x.transfer (goes message mixed x (perform r)).transfer refl refl refl refl
+  goes_once x (commit s) k may = goes_alike x.transfer (goes message mixed x (commit s)).transfer refl refl refl refl
 
-  pub goes_grows : (kind : Event → Bool) (x y : Transfer) → Kept message mixed x → GoesOn message mixed kind x y → Grows x y
-  goes_grows kind x y k g = subst (λ (z : Transfer). Grows x z) g.leads (all_grow g.events x k g.may)
+  goes_then : (x y z : Transfer) → Goes x y → Goes y z → Goes x z
+  goes_then x y z a b =
+      let c = a.numbered in
+      let d = b.numbered in
+      let l = a.left in
+      let m = b.left in
+      record { numbered = omega (arith, c, d); left = omega (arith, l, m); points = λ f i. b.points f (a.points f i); sacks = λ n i. b.sacks n (a.sacks n i) }
+
+  goes_along : (es : List ResetEvent) (x : Epochs) → InEpochs message mixed x → MayAll message mixed x es → Goes x.transfer (go_all message mixed x es).transfer
+  goes_along [] x k h = goes_alike x.transfer x.transfer refl refl refl refl
+  goes_along (e ∷ es) x k h =
+      goes_then x.transfer (goes message mixed x e).transfer (go_all message mixed (goes message mixed x e) es).transfer (goes_once x e k h.0)
+      (goes_along es (goes message mixed x e) (keeps_epochs message mixed x k e h.0) h.1)
+
+  pub goes_grows : (kind : ResetEvent → Bool) (x y : Direction) → InEpochs message mixed x.rules → GoesOn message mixed kind x y → Grows x y
+  goes_grows kind x y k g =
+      let r = subst (λ (z : Epochs). Goes x.rules.transfer z.transfer) g.leads (goes_along g.events x.rules k g.may) in
+      record { numbered = r.numbered; left = r.left; points = r.points; sacks = r.sacks }
 
   -- ---- what was said stays true
 
-  data_along : (es : List Event) (x : Transfer) → Kept message mixed x → Happens message mixed x es → (first least tsn : ℕ) (f : FragmentTree)
-      → SaysData message first least x.sender tsn f → SaysData message first least (run message mixed x es).sender tsn f
-  data_along es x k h first least tsn f s =
-      let c = carries_along message mixed first es x k h (tsn, f) s.carries in
+  abbrev SaysFrom : (first least tsn : ℕ) → FragmentTree → Transfer → Type 0
+  SaysFrom first least tsn f x = SaysData message first least x.sender tsn f
+
+  data_once : (x : Epochs) (e : ResetEvent) → InEpochs message mixed x → MayReset message mixed x e → (first least tsn : ℕ) (f : FragmentTree)
+      → SaysFrom first least tsn f x.transfer → SaysFrom first least tsn f (goes message mixed x e).transfer
+  data_once x (transfers e) k may first least tsn f s =
+      let c = carries_along message mixed first (e ∷ []) x.transfer k.order.kept (may.0, tt) (tsn, f) s.carries in
       record { carries = c.0; from = subst (λ n. least ≤ n) (sym c.1) s.from }
+  data_once x (reset_stream t) k may first least tsn f s = s
+  data_once x (send_request t) k may first least tsn f s = s
+  data_once x (perform r) k may first least tsn f s = s
+  data_once x (commit t) k may first least tsn f s =
+      record { carries = record { at = s.carries.at; below = s.carries.below; real = s.carries.real; tsn = s.carries.tsn; tree = s.carries.tree }; from = s.from }
 
-  point_along : (x y : Transfer) → Grows x y → (first least : ℕ) (chunk : ChunkTree) → SaysPoint mixed first least x chunk → SaysPoint mixed first least y chunk
-  point_along x y g first least chunk s = record { point = s.point; sent = g.points s.point s.sent; written = s.written; apart = s.apart; ahead = s.ahead }
+  data_along : (es : List ResetEvent) (x : Epochs) → InEpochs message mixed x → MayAll message mixed x es → (first least tsn : ℕ) (f : FragmentTree)
+      → SaysFrom first least tsn f x.transfer → SaysFrom first least tsn f (go_all message mixed x es).transfer
+  data_along [] x k h first least tsn f s = s
+  data_along (e ∷ es) x k h first least tsn f s =
+      data_along es (goes message mixed x e) (keeps_epochs message mixed x k e h.0) h.1 first least tsn f (data_once x e k h.0 first least tsn f s)
 
-  out_along : (es : List Event) (x : Transfer) → Kept message mixed x → Happens message mixed x es → (first least : ℕ) (chunk : ChunkTree)
-      → SaysOut message mixed first least x chunk → SaysOut message mixed first least (run message mixed x es) chunk
-  out_along es x k h first least (data_chunk tsn is_immediate f) s = (s.0, data_along es x k h first least tsn f s.1)
-  out_along es x k h first least (idata_chunk tsn is_immediate f) s = (s.0, data_along es x k h first least tsn f s.1)
-  out_along es x k h first least (forward_tsn_chunk tsn skipped) s =
-      point_along x (run message mixed x es) (all_grow es x k h) first least (forward_tsn_chunk tsn skipped) s
-  out_along es x k h first least (i_forward_tsn_chunk tsn skipped) s =
-      point_along x (run message mixed x es) (all_grow es x k h) first least (i_forward_tsn_chunk tsn skipped) s
-  out_along es x k h first least (re_config_chunk parameters) s = s
-  out_along es x k h first least chunk s = s
+  module _ (kind : ResetEvent → Bool) (x y : Direction) (k : InEpochs message mixed x.rules) (g : GoesOn message mixed kind x y) where
+    data_stays : (first least tsn : ℕ) (f : FragmentTree) → SaysData message first least (transfer_of x).sender tsn f → SaysData message first least (transfer_of y).sender tsn f
+    data_stays first least tsn f s = subst (λ (z : Epochs). SaysFrom first least tsn f z.transfer) g.leads (data_along g.events x.rules k g.may first least tsn f s)
 
-  pub out_stays : (kind : Event → Bool) (x y : Transfer) → Kept message mixed x → GoesOn message mixed kind x y → (first least : ℕ) (chunk : ChunkTree)
-      → SaysOut message mixed first least x chunk → SaysOut message mixed first least y chunk
-  out_stays kind x y k g first least chunk s = subst (λ (z : Transfer). SaysOut message mixed first least z chunk) g.leads (out_along g.events x k g.may first least chunk s)
+    point_stays : (first least : ℕ) (chunk : ChunkTree) → SaysPoint mixed first least (transfer_of x) chunk → SaysPoint mixed first least (transfer_of y) chunk
+    point_stays first least chunk s =
+        record { point = s.point; sent = (goes_grows kind x y k g).points s.point s.sent; written = s.written; apart = s.apart; ahead = s.ahead }
 
-  in_grows : (x y : Transfer) → Grows x y → (first least most : ℕ) (chunk : ChunkTree) → SaysIn first least most x chunk → SaysIn first least most y chunk
-  in_grows x y g first least most (sack_chunk k) s = record { point = s.point; sent = g.sacks s.point s.sent; written = s.written; from = s.from; to = s.to }
-  in_grows x y g first least most chunk s = s
+    asks_stay : (first most : ℕ) (ps : List ParameterTree) → All (SaysOutgoing first most x.asks) ps → All (SaysOutgoing first most y.asks) ps
+    asks_stay first most ps h =
+        subst (λ (l : List Ask). All (SaysOutgoing first most l) ps) (sym g.asks)
+        (All-weaker (SaysOutgoing first most x.asks) (SaysOutgoing first most (x.asks ++ g.more)) (λ p s. asks_said first most x.asks g.more p s) ps h)
 
-  pub in_stays : (kind : Event → Bool) (x y : Transfer) → Kept message mixed x → GoesOn message mixed kind x y → (first least most : ℕ) (chunk : ChunkTree)
-      → SaysIn first least most x chunk → SaysIn first least most y chunk
-  in_stays kind x y k g first least most chunk s = in_grows x y (goes_grows kind x y k g) first least most chunk s
+    answers_stay : (first : ℕ) (ps : List ParameterTree) → All (SaysIncoming first x.done (length x.asks)) ps → All (SaysIncoming first y.done (length y.asks)) ps
+    answers_stay first ps h =
+        subst (λ (n : ℕ). All (SaysIncoming first n (length y.asks)) ps) (sym g.done)
+        (subst (λ (n : ℕ). All (SaysIncoming first (x.done + g.further) n) ps) (sym (ap length g.asks ∙ length-append x.asks g.more))
+        (All-weaker (SaysIncoming first x.done (length x.asks)) (SaysIncoming first (x.done + g.further) (length x.asks + length g.more))
+        (λ p s. answers_said first x.done (length x.asks) (g.further) (length g.more) p s) ps h))
 
-  -- chunks, and packets
-  pub all_out_stay : (kind : Event → Bool) (x y : Transfer) → Kept message mixed x → GoesOn message mixed kind x y → (first least : ℕ) (chunks : List ChunkTree)
-      → All (SaysOut message mixed first least x) chunks → All (SaysOut message mixed first least y) chunks
-  all_out_stay kind x y k g first least chunks a =
-      All-weaker (SaysOut message mixed first least x) (SaysOut message mixed first least y) (λ chunk s. out_stays kind x y k g first least chunk s) chunks a
+    pub out_stays : (first least most : ℕ) (chunk : ChunkTree) → SaysOut message mixed first least most x chunk → SaysOut message mixed first least most y chunk
+    out_stays first least most (data_chunk tsn is_immediate f) s = (s.0, data_stays first least tsn f s.1)
+    out_stays first least most (idata_chunk tsn is_immediate f) s = (s.0, data_stays first least tsn f s.1)
+    out_stays first least most (forward_tsn_chunk tsn skipped) s = point_stays first least (forward_tsn_chunk tsn skipped) s
+    out_stays first least most (i_forward_tsn_chunk tsn skipped) s = point_stays first least (i_forward_tsn_chunk tsn skipped) s
+    out_stays first least most (re_config_chunk parameters) s = asks_stay first most parameters s
+    out_stays first least most chunk s = s
 
-  pub all_in_stay : (kind : Event → Bool) (x y : Transfer) → Kept message mixed x → GoesOn message mixed kind x y → (first least most : ℕ) (chunks : List ChunkTree)
-      → All (SaysIn first least most x) chunks → All (SaysIn first least most y) chunks
-  all_in_stay kind x y k g first least most chunks a =
-      All-weaker (SaysIn first least most x) (SaysIn first least most y) (λ chunk s. in_stays kind x y k g first least most chunk s) chunks a
+    pub in_stays : (first least most : ℕ) (chunk : ChunkTree) → SaysIn first least most x chunk → SaysIn first least most y chunk
+    in_stays first least most (sack_chunk sack) s =
+        record { point = s.point; sent = (goes_grows kind x y k g).sacks s.point s.sent; written = s.written; from = s.from; to = s.to }
+    in_stays first least most (re_config_chunk parameters) s = answers_stay first parameters s
+    in_stays first least most chunk s = s
 
-  pub told_out_stays : (kind : Event → Bool) (x y : Transfer) → Kept message mixed x → GoesOn message mixed kind x y → (first least : ℕ) (packets : List Carried)
-      → All (λ (p : Carried). All (SaysOut message mixed first least x) p.chunks) packets → All (λ (p : Carried). All (SaysOut message mixed first least y) p.chunks) packets
-  told_out_stays kind x y k g first least packets a =
-      All-weaker (λ (p : Carried). All (SaysOut message mixed first least x) p.chunks) (λ (p : Carried). All (SaysOut message mixed first least y) p.chunks)
-      (λ p s. all_out_stay kind x y k g first least p.chunks s) packets a
+    -- chunks, and packets
+    pub all_out_stay : (first least most : ℕ) (chunks : List ChunkTree) → All (SaysOut message mixed first least most x) chunks → All (SaysOut message mixed first least most y) chunks
+    all_out_stay first least most chunks a =
+        All-weaker (SaysOut message mixed first least most x) (SaysOut message mixed first least most y) (λ chunk s. out_stays first least most chunk s) chunks a
 
-  pub told_in_stays : (kind : Event → Bool) (x y : Transfer) → Kept message mixed x → GoesOn message mixed kind x y → (first least most : ℕ) (packets : List Carried)
-      → All (λ (p : Carried). All (SaysIn first least most x) p.chunks) packets → All (λ (p : Carried). All (SaysIn first least most y) p.chunks) packets
-  told_in_stays kind x y k g first least most packets a =
-      All-weaker (λ (p : Carried). All (SaysIn first least most x) p.chunks) (λ (p : Carried). All (SaysIn first least most y) p.chunks)
-      (λ p s. all_in_stay kind x y k g first least most p.chunks s) packets a
+    pub all_in_stay : (first least most : ℕ) (chunks : List ChunkTree) → All (SaysIn first least most x) chunks → All (SaysIn first least most y) chunks
+    all_in_stay first least most chunks a = All-weaker (SaysIn first least most x) (SaysIn first least most y) (λ chunk s. in_stays first least most chunk s) chunks a
+
+    pub told_out_stays : (first least most : ℕ) (packets : List Carried) → All (λ (p : Carried). All (SaysOut message mixed first least most x) p.chunks) packets
+        → All (λ (p : Carried). All (SaysOut message mixed first least most y) p.chunks) packets
+    told_out_stays first least most packets a =
+        All-weaker (λ (p : Carried). All (SaysOut message mixed first least most x) p.chunks) (λ (p : Carried). All (SaysOut message mixed first least most y) p.chunks)
+        (λ p s. all_out_stay first least most p.chunks s) packets a
+
+    pub told_in_stays : (first least most : ℕ) (packets : List Carried) → All (λ (p : Carried). All (SaysIn first least most x) p.chunks) packets
+        → All (λ (p : Carried). All (SaysIn first least most y) p.chunks) packets
+    told_in_stays first least most packets a =
+        All-weaker (λ (p : Carried). All (SaysIn first least most x) p.chunks) (λ (p : Carried). All (SaysIn first least most y) p.chunks)
+        (λ p s. all_in_stay first least most p.chunks s) packets a
 
   -- ---- a sender's rules leave the receiver as it is
 
-  pub record SameReceiver (x y : Transfer) : Type 0 where
-    pub receiver : y.receiver ≡ x.receiver
-    pub sacks : y.sacks ≡ x.sacks
+  pub record SameReceiver (x y : Epochs) : Type 0 where
+    pub receiver : y.transfer.receiver ≡ x.transfer.receiver
+    pub sacks : y.transfer.sacks ≡ x.transfer.sacks
+    pub performed : y.performed ≡ x.performed
+    pub base : y.base ≡ x.base
 
-  same_once : (x : Transfer) (e : Event) → is_sending e ≡ true → SameReceiver x (after message mixed x e)
-  same_once x (begin p) s = record { receiver = refl; sacks = refl }
-  same_once x (number p bytes more) s = record { receiver = refl; sacks = refl }
-  same_once x (close p) s = record { receiver = refl; sacks = refl }
-  same_once x (give_up p) s = record { receiver = refl; sacks = refl }
-  same_once x (leave c) s = record { receiver = refl; sacks = refl }
-  same_once x (send_forward f) s = record { receiver = refl; sacks = refl }
-  same_once x accept s = cc
-  same_once x (data_comes t) s = cc
-  same_once x (late_comes t) s = cc
-  same_once x (deliver p) s = cc
-  same_once x (send_sack c) s = cc
-  same_once x (forward_comes f spared) s = cc
-  same_once x (forget s c) h = cc
+  same_once : (x : Epochs) (e : ResetEvent) → goes_out e ≡ true → SameReceiver x (goes message mixed x e)
+  same_once x (transfers (begin p)) s = record { receiver = refl; sacks = refl; performed = refl; base = refl }
+  same_once x (transfers (number p bytes more)) s = record { receiver = refl; sacks = refl; performed = refl; base = refl }
+  same_once x (transfers (close p)) s = record { receiver = refl; sacks = refl; performed = refl; base = refl }
+  same_once x (transfers (give_up p)) s = record { receiver = refl; sacks = refl; performed = refl; base = refl }
+  same_once x (transfers (leave c)) s = record { receiver = refl; sacks = refl; performed = refl; base = refl }
+  same_once x (transfers (send_forward f)) s = record { receiver = refl; sacks = refl; performed = refl; base = refl }
+  same_once x (transfers accept) s = cc
+  same_once x (transfers (data_comes t)) s = cc
+  same_once x (transfers (late_comes t)) s = cc
+  same_once x (transfers (deliver p)) s = cc
+  same_once x (transfers (send_sack c)) s = cc
+  same_once x (transfers (forward_comes f spared)) s = cc
+  same_once x (transfers (forget s c)) h = cc
+  same_once x (reset_stream t) s = record { receiver = refl; sacks = refl; performed = refl; base = refl }
+  same_once x (send_request t) s = record { receiver = refl; sacks = refl; performed = refl; base = refl }
+  same_once x (perform r) s = cc
+  same_once x (commit t) s = record { receiver = refl; sacks = refl; performed = refl; base = refl }
 
-  same_along : (es : List Event) (x : Transfer) → list_all is_sending es ≡ true → SameReceiver x (run message mixed x es)
-  same_along [] x s = record { receiver = refl; sacks = refl }
+  same_along : (es : List ResetEvent) (x : Epochs) → list_all goes_out es ≡ true → SameReceiver x (go_all message mixed x es)
+  same_along [] x s = record { receiver = refl; sacks = refl; performed = refl; base = refl }
   same_along (e ∷ es) x s =
-      let parts = and_parts (is_sending e) (list_all is_sending es) s in
+      let parts = and_parts (goes_out e) (list_all goes_out es) s in
       let one = same_once x e parts.0 in
-      let rest = same_along es (after message mixed x e) parts.1 in
-      record { receiver = rest.receiver ∙ one.receiver; sacks = rest.sacks ∙ one.sacks }
+      let rest = same_along es (goes message mixed x e) parts.1 in
+      record { receiver = rest.receiver ∙ one.receiver; sacks = rest.sacks ∙ one.sacks; performed = rest.performed ∙ one.performed; base = rest.base ∙ one.base }
 
-  pub receiver_stays : (x y : Transfer) → GoesOn message mixed is_sending x y → SameReceiver x y
-  receiver_stays x y g = subst (λ (z : Transfer). SameReceiver x z) g.leads (same_along g.events x g.all)
+  pub receiver_stays : (x y : Direction) → GoesOn message mixed goes_out x y → SameReceiver x.rules y.rules
+  receiver_stays x y g = subst (λ (z : Epochs). SameReceiver x.rules z) g.leads (same_along g.events x.rules g.all)
 
 -- ---- what is told lightly are no packets
 
