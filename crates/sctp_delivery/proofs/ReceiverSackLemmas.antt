@@ -24,10 +24,10 @@ module _ (message : ℕ → Message) (mixed : Bool) (x : Direction) (kept : IsKe
       sack_allowed message mixed shown.shift (base_now x.rules) (transfer_of x) handed t.tracker.tracker t.reassembly shown.receives kept.epochs.order.kept point
       (front_at message mixed (base_now x.rules) shown.shift (transfer_of x) kept.epochs.order.kept handed t.tracker.tracker t.reassembly shown.receives shown.is_tracker)
 
-  abbrev pub sack_sent : Direction
+  abbrev sack_sent : Direction
   sack_sent = led message mixed x (send_sack point ∷ [])
 
-  pub sack_leads : Leads message mixed handed x t
+  abbrev sack_leads : Leads message mixed handed x t
   sack_leads = record {
     to = sack_sent;
     goes = receiving_goes message mixed x (send_sack point ∷ []) ((may, tt), tt) refl;
@@ -49,7 +49,7 @@ module _ (message : ℕ → Message) (mixed : Bool) (x : Direction) (kept : IsKe
     };
   }
 
-  pub sack_says : SaysIn t.tracker.first (transfer_of x).acknowledged (count (transfer_of x).sender) sack_sent (selective_ack t)
+  sack_says : SaysIn t.tracker.first (transfer_of x).acknowledged (count (transfer_of x).sender) sack_sent (selective_ack t)
   sack_says =
       let at = front_at message mixed (base_now x.rules) shown.shift (transfer_of x) kept.epochs.order.kept handed t.tracker.tracker t.reassembly shown.receives shown.is_tracker in
       let between = front_between message mixed (base_now x.rules) shown.shift (transfer_of x) kept.epochs.order.kept handed t.tracker.tracker t.reassembly shown.receives shown.is_tracker in
@@ -61,3 +61,7 @@ module _ (message : ℕ → Message) (mixed : Bool) (x : Direction) (kept : IsKe
         from = between.0;
         to = between.1;
       }
+
+  -- it leads on, and says what is true then
+  pub sack_made : (l : Leads message mixed handed x t) × SaysIn t.tracker.first (transfer_of x).acknowledged (count (transfer_of x).sender) l.to (selective_ack t)
+  sack_made = (sack_leads, sack_says)
