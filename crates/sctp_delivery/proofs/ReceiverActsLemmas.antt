@@ -36,7 +36,7 @@ use Rattle.sctp_delivery.proofs.ReceiverToolLemmas.{SameSender, sender_stays, no
 use Rattle.sctp_delivery.proofs.ResetEventsLemmas.{resets_in, none_behind}
 use Rattle.sctp_delivery.proofs.ReceiverDataLemmas.{Leads, taken_leads, passed_leads}
 use Rattle.sctp_delivery.proofs.ReceiverSackLemmas.{sack_made}
-use Rattle.sctp_delivery.proofs.ReceiverStepLemmas.{plain_says, acknowledging_changes, step_claims, stays_by, goes_through, goes_same, goes_led, goes_adding, goes_begun, goes_emitted}
+use Rattle.sctp_delivery.proofs.ReceiverStepLemmas.{plain_says, told_same, acknowledging_changes, step_claims, stays_by, goes_through, goes_same, goes_led, goes_adding, goes_begun, goes_emitted}
 
 -- an event that is no packet
 pub one_more : (es : List (events.Event Carried)) (e : events.Event Carried) → packets_in (e ∷ []) ≡ [] → packets_in (es ++ e ∷ []) ≡ packets_in es
@@ -95,7 +95,7 @@ module _ (message : ℕ → Message) (lifecycle : ℕ → Option ℕ) (mixed : B
       let other : ℕ = first_in b.state in
       let least : ℕ = (transfer_of from).acknowledged in
       let most : ℕ = count (transfer_of from).sender in
-      stays_by message lifecycle mixed from handed a b x claim (shown x fresh) resets
+      stays_by message lifecycle mixed from handed a b x claim (shown x fresh) (λ s. told_same s a.context.told.events b.context.told.events resets)
       (λ h. subst (λ (ps : List Carried). All (λ (q : Carried). All (SaysIn other least most x) q.chunks) ps) (sym packets)
       (no_packets_said x fresh.no_sacks fresh.none_done one other least most (packets_in a.context.told.events) h))
       (λ h. subst (λ (cs : List ChunkTree). All (SaysIn other least most x) cs) (sym chunks) (no_chunks_said x fresh.no_sacks fresh.none_done one other least most a.packet.chunks h))

@@ -1,9 +1,9 @@
 -- Requests to reset streams at the end that performs them: each that is due is the next ask, which is deferred or performed; and
 -- what is answered is true.
-use Rattle.std.proofs.Common.{◌≡◌, ◌≢◌, ℕ, suc, ◌+◌, ◌-◌, ◌^◌, ◌<◌, ◌≤◌, Bool, true, false, cond, ltb, inl, inr, Option, Some, None, is_some, List, [], ◌∷◌, ◌++◌, length, map, slice_get, All, refl, sym, ap, ◌∙◌, subst, arith}
+use Rattle.std.proofs.Common.{◌≡◌, ◌≢◌, ℕ, suc, ◌+◌, ◌-◌, ◌^◌, ◌<◌, ◌≤◌, Bool, true, false, cond, ltb, inl, inr, Option, Some, None, is_some, List, [], ◌∷◌, ◌++◌, length, map, slice_get, All, refl, sym, ap, ◌∙◌, subst, arith, append-nil}
 use Rattle.std.specs.Prelude.{◌||◌, ◌==◌, not, unwrap_or}
 use Rattle.std.specs.List.{list_all}
-use Rattle.std.proofs.lemmas.Bool.{cases_eq, both_ways, eqb-true, eq-eqb, ne_eqb, ltb-false}
+use Rattle.std.proofs.lemmas.Bool.{cases_eq, both_ways, eqb-true, eq-eqb, ne_eqb, ltb-true, ltb-false}
 use Rattle.std.proofs.lemmas.Bool.Decides.{nat_tests}
 use Rattle.std.proofs.lemmas.List.Elements.{All-weaker}
 use Rattle.sctp_serial.specs.Messages as messages
@@ -29,6 +29,7 @@ use Rattle.sctp_table.specs.Association.{Tcb}
 use Rattle.sctp_table.specs.Requests.{Requests, ids, in_progress, performed, nothing_to_do, bad_number, is_final, is_last, is_next, is_known, processed}
 use Rattle.sctp_table.specs.Resets.{is_ahead}
 use Rattle.sctp_table.specs.Laws.{Call}
+use Rattle.sctp_table_laws.specs.Mapped.{Carried}
 use Rattle.sctp_course.specs.Acts.{IsDue, IsAnswer, HasRequest, AsksNoIncoming, Answers}
 use Rattle.sctp_delivery.specs.Asks as asks
 use Rattle.sctp_delivery.specs.Asks.{Ask, named_in, request_for, AreAsked, SaysDone, SaysIncoming, HasPerformed, HasDeferred, IsAnswering}
@@ -65,6 +66,15 @@ told_behind s (OnIncomingStreamReset streams ∷ es) ss = by (are_named streams 
     by true e = omega (arith, e)
     by false e = e
 told_behind s (e ∷ es) ss = told_behind s es ss
+
+-- streams are reset and told, and these values show the state
+pub record ResetsOn (message : ℕ → Message) (mixed : Bool) (handed : List messages.Message) (x : Direction) (t : Tcb) (ss : List ℕ) : Type 0 where
+  pub to : Direction
+  pub goes : GoesOn message mixed goes_in x to
+  pub kept : IsKept message mixed to
+  pub stay : AsksStay x to
+  pub performed : (s : ℕ) (es : List (events.Event Carried)) → to.rules.performed s + resets_told s es ≡ x.rules.performed s + resets_told s (es ++ OnIncomingStreamReset ss ∷ [])
+  pub shown : IsReceiving message mixed handed t to
 
 -- ---- the requests of an ask, as they are performed
 
@@ -175,3 +185,187 @@ module _ (message : ℕ → Message) (mixed : Bool) (handed : List messages.Mess
 
     names : streams ≡ named_by rs
     names = h.streams_are ∙ sym (next_names x.asks x.done h.ask.upto h.ask.streams)
+
+    -- they are some
+    some : (q : rules.Request) × (more : List rules.Request) × (rs ≡ q ∷ more)
+    some = go h.ask.streams refl
+      where
+        go : (ss : List ℕ) → h.ask.streams ≡ ss → (q : rules.Request) × (more : List rules.Request)
+            × (requests_of x.rules x.asks x.done x.answered kept.asked h.ask there ss ≡ q ∷ more)
+        go [] e = absurd ((kept.asked.fine x.done h.ask there).some e)
+        go (s ∷ ss) e = (request_for s x.done h.ask.upto x.asks, requests_of x.rules x.asks x.done x.answered kept.asked h.ask there ss, refl)
+
+    some_named : streams ≡ named_by (some.0 ∷ some.1)
+    some_named = names ∙ ap named_by some.2
+
+    to_peer : (q : Requests) (d : Option Deferred) (done : ℕ) → IsAnswering t.tracker.first done x.asks q d → IsAnswering t.identity.peer_first done x.asks q d
+    to_peer q d done a = subst (λ (m : ℕ). IsAnswering m done x.asks q d) shown.first a
+
+    front_is : origin + front_of t.tracker.tracker ≡ suc t.tracker.tracker.seen.front
+    front_is = front_at message mixed (base_now x.rules) shown.shift (transfer_of x) kept.epochs.order.kept handed t.tracker.tracker t.reassembly shown.receives shown.is_tracker
+
+    -- ---- it is deferred
+
+    abbrev deferred_at : Reassembly → Tcb
+    deferred_at r = record t { reassembly = r; requests = processed n in_progress t.requests }
+
+    leads_here : (u : Tcb) → IsReceiving message mixed handed u x → Leads message mixed handed x u
+    leads_here u s = record { to = x; goes = goes_none message mixed goes_in x; kept = kept; stay = (refl, refl); performed = λ s. refl; shown = s }
+
+    -- where it was before
+    again_leads : HasDeferred t.tracker.first x.done x.asks t.requests t.reassembly.deferred → Leads message mixed handed x (deferred_at (defer last_tsn streams t.reassembly))
+    again_leads d =
+        subst (λ (r : Reassembly). Leads message mixed handed x (deferred_at r)) (sym (deferred_again last_tsn streams t.reassembly d.reset d.is))
+        (leads_here (deferred_at t.reassembly)
+        (record {
+          shift = shown.shift;
+          receives = shown.receives;
+          near = shown.near;
+          is_tracker = shown.is_tracker;
+          waiting = shown.waiting;
+          first = shown.first;
+          answers = to_peer (processed n in_progress t.requests) t.reassembly.deferred x.done
+              (inr (record { ask = d.ask; there = d.there; last = number_now; result = refl; reset = d.reset; is = d.is; streams = d.streams }));
+        }))
+
+    module _ (window : IsInWindow (transfer_of x)) where
+      module _ (ahead : is_ahead last_tsn t ≡ true) where
+        front_before : front_of t.tracker.tracker < h.ask.upto
+        front_before =
+            let l = ltb-true t.tracker.tracker.seen.front (number_of t.tracker last_tsn) ahead in
+            let e = front_is in
+            let last = h.last_is in
+            omega (arith, l, e, last)
+
+        -- the fragment with its last TSN
+        abbrev at : ℕ
+        at = h.ask.upto - 1
+
+        upto_is : h.ask.upto ≡ suc at
+        upto_is = let l = front_before in omega (arith, l)
+
+        within : at < count (transfer_of x).sender
+        within = let l = front_before in let w = h.within in omega (arith, l, w)
+
+        tsn_is : last_tsn ≡ wire words t.tracker.first (origin + at)
+        tsn_is = h.tsn_is ∙ ap (λ (m : ℕ). wire words t.tracker.first m) (let l = front_before in omega (arith, l))
+
+        postponed : t.reassembly.deferred ≡ None
+            → Comes message mixed t.tracker.first (shift_after t.reassembly.first shown.shift at) x.rules [] handed t.tracker.tracker (defer last_tsn streams t.reassembly)
+        postponed none =
+            let asked : AreNextTo x.rules (suc at) (some.0 ∷ some.1) = subst (AreNextTo x.rules (suc at)) some.2 (subst (λ (m : ℕ). AreNextTo x.rules m rs) upto_is next) in
+            let l = front_before in
+            subst (λ (is : List StreamId). Comes message mixed t.tracker.first (shift_after t.reassembly.first shown.shift at) x.rules [] handed t.tracker.tracker (defer last_tsn is t.reassembly))
+            (sym some_named)
+            (deferred_row message mixed t.tracker.first shown.shift x.rules kept.epochs window handed t.tracker.tracker t.reassembly shown.receives shown.near shown.waiting none at last_tsn some.0 some.1
+            asked within (front_of t.tracker.tracker) (omega (arith, l))
+            (front_unseen message mixed (base_now x.rules) shown.shift (transfer_of x) kept.epochs.order.kept handed t.tracker.tracker t.reassembly shown.receives shown.is_tracker) tsn_is)
+
+        abbrev waits : Deferred
+        waits = record { last = queue.number_of t.reassembly last_tsn; streams = streams; waiting = [] }
+
+        new_leads : HasPerformed t.tracker.first x.done t.requests t.reassembly.deferred → Leads message mixed handed x (deferred_at (defer last_tsn streams t.reassembly))
+        new_leads p =
+            let c = postponed p.none in
+            leads_here (deferred_at (defer last_tsn streams t.reassembly))
+            (record {
+              shift = shift_after t.reassembly.first shown.shift at;
+              receives = c.receives;
+              near = c.near;
+              is_tracker = shown.is_tracker;
+              waiting = c.waiting;
+              first = shown.first;
+              answers = to_peer (processed n in_progress t.requests) (defer last_tsn streams t.reassembly).deferred x.done
+                  (inr
+                  (record {
+                    ask = h.ask;
+                    there = there;
+                    last = number_now;
+                    result = refl;
+                    reset = waits;
+                    is = ap (λ (o : Option Deferred). cond (is_some o) o (Some waits)) p.none;
+                    streams = h.streams_are;
+                  }));
+            })
+
+        pub deferred_leads : Leads message mixed handed x (deferred_at (defer last_tsn streams t.reassembly))
+        deferred_leads = elim answering [ inl p ↦ new_leads p | inr d ↦ again_leads d ]
+
+      -- ---- it is performed
+
+      module _ (come : is_ahead last_tsn t ≡ false) where
+        all_seen : (k : ℕ) → k < h.ask.upto → (transfer_of x).receiver.seen k ≡ true
+        all_seen k l =
+            let m = ltb-false t.tracker.tracker.seen.front (number_of t.tracker last_tsn) come in
+            let e = front_is in
+            let last = h.last_is in
+            sym (shown.receives.seen k)
+            ∙ below_front message mixed (base_now x.rules) shown.shift (transfer_of x) kept.epochs.order.kept handed t.tracker.tracker t.reassembly shown.receives shown.is_tracker k (omega (arith, l, m, e, last))
+
+        row : Performs message mixed t.tracker.first shown.shift x.rules rs handed t.tracker.tracker t.reassembly
+        row =
+            subst (λ (qs : List rules.Request). Performs message mixed t.tracker.first shown.shift x.rules qs handed t.tracker.tracker t.reassembly) (sym some.2)
+            (reset_row message mixed t.tracker.first shown.shift x.rules kept.epochs handed t.tracker.tracker t.reassembly shown.receives shown.near some.0 some.1
+            (subst (AreNext x.rules) some.2 (next_once_seen x.rules h.ask.upto rs next all_seen))
+            (none_waits shown.shift x.rules t.reassembly.first t.reassembly.deferred shown.waiting))
+
+        abbrev to : Direction
+        to = record x { rules = go_all message mixed x.rules (performs rs); done = suc x.done }
+
+        asked_then : AreAsked to.rules x.asks (suc x.done) x.answered
+        asked_then =
+            subst (λ (es : List ResetEvent). AreAsked (go_all message mixed x.rules es) x.asks (suc x.done) x.answered)
+            (sym (performs_are (λ s. request_for s x.done h.ask.upto x.asks) h.ask.streams))
+            (ask_is_performed message mixed x.asks x.done h.ask there x.rules x.answered kept.asked)
+
+        one_more : (b : Bool) (m : ℕ) → cond b (suc m) m ≡ m + cond b 1 0
+        one_more true m = omega arith
+        one_more false m = omega arith
+
+        told_more : (s : ℕ) (es : List (events.Event Carried))
+            → to.rules.performed s + resets_told s es ≡ x.rules.performed s + resets_told s (es ++ OnIncomingStreamReset (numbers_of streams) ∷ [])
+        told_more s es =
+            let a = asked_then.performed s in
+            let b = named_next s x.done x.asks h.ask there in
+            let c = kept.asked.performed s in
+            let d = told_behind s es (numbers_of streams) in
+            let e : are_named (numbers_of streams) s ≡ has s h.ask.streams = ap (λ (is : List StreamId). are_named (numbers_of is) s) h.streams_are ∙ named_has h.ask.streams s in
+            let f = ap {B = ℕ} (λ (b : Bool). cond b 1 0) e in
+            let g = one_more (has s h.ask.streams) (named_in s x.done x.asks) in
+            omega (arith, a, b, c, d, f, g)
+
+        abbrev reset_at : Reassembly → Tcb
+        reset_at r = record t { reassembly = r; requests = processed n performed t.requests }
+
+        shown_then : IsReceiving message mixed handed (reset_at (reset (named_by rs) t.reassembly)) to
+        shown_then = record {
+          shift = shown.shift;
+          receives = row.receives;
+          near = row.near;
+          is_tracker = shown.is_tracker;
+          waiting = waits_none shown.shift to.rules (reset (named_by rs) t.reassembly) row.none_deferred;
+          first = shown.first;
+          answers = to_peer (processed n performed t.requests) (reset (named_by rs) t.reassembly).deferred (suc x.done)
+              (inl (record { last = number_now ∙ ap (λ (m : ℕ). wire words t.tracker.first m) (omega arith); result = inl refl; none = row.none_deferred }));
+        }
+
+        pub performed_on : ResetsOn message mixed handed x (reset_at (reset streams t.reassembly)) (numbers_of streams)
+        performed_on = record {
+          to = to;
+          goes = record {
+            events = performs rs;
+            may = row.may;
+            all = all_in rs;
+            leads = refl;
+            more = [];
+            asks = sym (append-nil x.asks);
+            further = 1;
+            done = omega arith;
+            answered = omega arith;
+          };
+          kept = record { epochs = all_in_epochs message mixed (performs rs) x.rules kept.epochs row.may; asked = asked_then };
+          stay = (refl, refl);
+          performed = told_more;
+          shown = subst (λ (is : List StreamId). IsReceiving message mixed handed (reset_at (reset is t.reassembly)) to) (sym names) shown_then;
+        }
+

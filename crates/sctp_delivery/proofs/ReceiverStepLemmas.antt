@@ -1,6 +1,6 @@
 -- For an act of a receiver: its claim after it, where the rules stay or go on, where a chunk is put into the packet, and where
 -- the packet goes out.
-use Rattle.std.proofs.Common.{◌≡◌, ℕ, ◌+◌, Bool, true, inl, inr, Option, List, [], ◌∷◌, All, refl, sym, ap, ◌∙◌, subst, arith}
+use Rattle.std.proofs.Common.{◌≡◌, ℕ, ◌+◌, Bool, true, inl, inr, Option, List, [], ◌∷◌, ◌++◌, All, refl, sym, ap, ◌∙◌, subst, arith}
 use Rattle.std.proofs.lemmas.List.Elements.{All-nil, All-push}
 use Rattle.sctp_serial.specs.Messages as messages
 use Rattle.sctp_serial.specs.Unwrapped.{origin}
@@ -35,7 +35,7 @@ plain_says first least most x (re_config_chunk parameters) e = cc
 plain_says first least most x chunk e = tt
 
 -- what else tells of no reset
-told_same : (s : ℕ) (es fs : List (events.Event Carried)) → resets_in fs ≡ resets_in es → resets_told s fs ≡ resets_told s es
+pub told_same : (s : ℕ) (es fs : List (events.Event Carried)) → resets_in fs ≡ resets_in es → resets_told s fs ≡ resets_told s es
 told_same s es fs e = sym (told_counts s fs) ∙ (ap (λ (xs : List (events.Event Carried)). resets_told s xs) e ∙ told_counts s es)
 
 -- with the same last request of the peer
@@ -128,7 +128,8 @@ module _ (message : ℕ → Message) (lifecycle : ℕ → Option ℕ) (mixed : B
   goes_through a b c g h x claim = let y = g x claim in h y.0 y.1
 
   -- to the same state of the rules, with chunks in the packet or packets told
-  pub stays_by : (a b : Making Carried) (x : Direction) → Claim a x → ReceivesIn message mixed b.state handed x → resets_in b.context.told.events ≡ resets_in a.context.told.events
+  pub stays_by : (a b : Making Carried) (x : Direction) → Claim a x → ReceivesIn message mixed b.state handed x
+      → ((s : ℕ) → resets_told s b.context.told.events ≡ resets_told s a.context.told.events)
       → (SaysAll (first_in a.state) x (packets_in a.context.told.events) → SaysAll (first_in b.state) x (packets_in b.context.told.events))
       → (Says (first_in a.state) x a.packet.chunks → Says (first_in b.state) x b.packet.chunks) → (y : Direction) × Claim b y
   stays_by a b x claim shown resets told made = (
@@ -139,7 +140,7 @@ module _ (message : ℕ → Message) (lifecycle : ℕ → Option ℕ) (mixed : B
           kept = claim.kept;
           stay = (refl, refl);
           shown = shown;
-          performed = λ s. let e = told_same s a.context.told.events b.context.told.events resets in omega (arith, e);
+          performed = λ s. let e = resets s in omega (arith, e);
           told = told;
           made = made;
         }),
@@ -149,7 +150,7 @@ module _ (message : ℕ → Message) (lifecycle : ℕ → Option ℕ) (mixed : B
       → first_in b.state ≡ first_in a.state → packets_in b.context.told.events ≡ packets_in a.context.told.events
       → resets_in b.context.told.events ≡ resets_in a.context.told.events → b.packet.chunks ≡ a.packet.chunks → Goes a b
   goes_same a b shown first packets resets chunks x claim =
-      stays_by a b x claim (shown x claim.shown) resets
+      stays_by a b x claim (shown x claim.shown) (λ s. told_same s a.context.told.events b.context.told.events resets)
       (λ h. subst (λ (n : ℕ). SaysAll n x (packets_in b.context.told.events)) (sym first) (subst (SaysAll (first_in a.state) x) (sym packets) h))
       (λ h. subst (λ (n : ℕ). Says n x b.packet.chunks) (sym first) (subst (Says (first_in a.state) x) (sym chunks) h))
 
@@ -176,18 +177,18 @@ module _ (message : ℕ → Message) (lifecycle : ℕ → Option ℕ) (mixed : B
   pub goes_adding : (m : Making Carried) (chunk : ChunkTree)
       → ((x : Direction) → Claim m x → SaysIn (first_in m.state) least most x chunk) → Goes m (with_chunk chunk m)
   goes_adding m chunk says x claim =
-      stays_by m (with_chunk chunk m) x claim claim.shown refl (λ h. h)
+      stays_by m (with_chunk chunk m) x claim claim.shown (λ s. refl) (λ h. h)
       (λ h. holds_added (λ tag. SaysIn (first_in m.state) least most x) m.packet chunk h (says x claim))
 
   pub goes_adding_all : (m : Making Carried) (chunks : List ChunkTree)
       → ((x : Direction) → Says (first_in m.state) x chunks) → Goes m (with_packet (add_all chunks m.packet) m)
   goes_adding_all m chunks says x claim =
-      stays_by m (with_packet (add_all chunks m.packet) m) x claim claim.shown refl (λ h. h)
+      stays_by m (with_packet (add_all chunks m.packet) m) x claim claim.shown (λ s. refl) (λ h. h)
       (λ h. holds_all_added (λ tag. SaysIn (first_in m.state) least most x) chunks m.packet h (λ tag. says x))
 
   pub goes_begun : (p : Packet) (m : Making Carried) → p.chunks ≡ [] → Goes m (with_packet p m)
   goes_begun p m new x claim =
-      stays_by m (with_packet p m) x claim claim.shown refl (λ h. h)
+      stays_by m (with_packet p m) x claim claim.shown (λ s. refl) (λ h. h)
       (λ h. subst (Says (first_in m.state) x) (sym new) (All-nil (SaysIn (first_in m.state) least most x)))
 
   pub goes_emitted : (m : Making Carried) → m.context.pack ≡ as_carried
@@ -200,6 +201,6 @@ module _ (message : ℕ → Message) (lifecycle : ℕ → Option ℕ) (mixed : B
       let Q : Carried → Type 0 = λ q. Says first x q.chunks in
       let says : Q p = subst Q (sym is) claim.made in
       stays_by m (record m { context = emit_if true m.packet m.context; packet = record m.packet { chunks = [] } }) x claim claim.shown
-      (none_behind m.context.told.events (SendPacket p ∷ []) refl)
+      (λ s. told_same s m.context.told.events (m.context.told.events ++ SendPacket p ∷ []) (none_behind m.context.told.events (SendPacket p ∷ []) refl))
       (λ h. subst (SaysAll first x) (sym (packets_both m.context.told.events (SendPacket p ∷ []))) (All-push Q (packets_in m.context.told.events) p h says))
       (λ h. All-nil (SaysIn first least most x))
