@@ -9,6 +9,7 @@ pub mod ReadingDataLemmas
 pub mod ReadingSackLemmas
 pub mod ResetEventsLemmas
 pub mod SenderToolLemmas
+pub mod SenderAsksLemmas
 pub mod SenderHeavyLemmas
 pub mod SenderLightLemmas
 pub mod SenderOpeningLemmas
