@@ -142,13 +142,9 @@ module _ (message : ℕ → Message) (lifecycle : ℕ → Option ℕ) (mixed : B
   waits_again (Open phase t) (CookieWait tag first t1) q r x y a h k f there = absurd (none_stands (f _ refl))
   waits_again (Open phase t) (Open next u) q r x y a h k f there = same_out message lifecycle mixed phase t next u q r x y h k f
 
-  -- it goes out soon
-  asks_soon : (s : State) (q : Queue) (x : Direction) (asked : ℕ) → SendsIn message lifecycle mixed s q x → IsAnswered s asked
-      → (a : Ask) → slice_get x.asks x.answered ≡ Some a → asked ≤ a.upto → count (transfer_of x).sender < a.upto + 2 ^ 30
-  asks_soon s q x asked sends soon a there below =
-      let l = soon (number_of (first_out s) x.answered) (waits s q x a sends there) in
-      let c = numbered_is message lifecycle mixed s q x sends in
-      omega (arith, l, c, below)
+-- it goes out soon
+abbrev pub AsksSoon : Direction → Type 0
+AsksSoon x = (a : Ask) → slice_get x.asks x.answered ≡ Some a → count (transfer_of x).sender < a.upto + 2 ^ 30
 
 -- ---- both ends
 
@@ -157,6 +153,13 @@ module _ (message : ℕ → Message) (lifecycle : ℕ → Option ℕ) (mixed : B
     (f : Flows message lifecycle mixed of s r accepted handed stamps_s stamps_r so_far x) where
   pub holds_of : IsWithin (state_of s) (queue_of s) → Holds message lifecycle mixed x (queue_of s) f.kept
   holds_of w = within message lifecycle mixed x (queue_of s) f.kept (state_of s) f.sends w
+
+  pub asks_soon : IsAnswered (state_of s) so_far.asked → AsksSoon x
+  asks_soon soon a there =
+      let l = soon (number_of (first_out (state_of s)) x.answered) (waits message lifecycle mixed (state_of s) (queue_of s) x a f.sends there) in
+      let c = numbered_is message lifecycle mixed (state_of s) (queue_of s) x f.sends in
+      let below = f.asked a there in
+      omega (arith, l, c, below)
 
   -- fewer asks than their numbers tell apart
   pub few_asks : performed_in s.told < 2 ^ 32 - 1 → length x.asks < 2 ^ 32
@@ -200,7 +203,7 @@ module _ (message : ℕ → Message) (lifecycle : ℕ → Option ℕ) (mixed : B
     goes = goes_none message mixed goes_out x;
     done = refl;
     shown = f.sends;
-    near = λ a there. asks_soon message lifecycle mixed (state_of s) (queue_of s) x so_far.asked f.sends soon a there (f.asked a there);
+    near = asks_soon soon;
     since = λ a there. inl there;
     gone = ap (λ (t : Told Carried). recorded t) q.told;
     reported = reports_none lifecycle (transfer_of x) (transfer_of x) [] s.end.standing.context.told.events refl (ap (λ (t : Told Carried). delivered t.events) q.told);
