@@ -7,7 +7,9 @@ pub mod FlowLemmas
 pub mod ReadingLemmas
 pub mod ReadingDataLemmas
 pub mod ReadingSackLemmas
+pub mod ResetEventsLemmas
 pub mod SenderToolLemmas
+pub mod SenderAsksLemmas
 pub mod SenderHeavyLemmas
 pub mod SenderLightLemmas
 pub mod SenderOpeningLemmas
