@@ -1,12 +1,13 @@
 -- The messages that the rules gave up are those that records of their sender name, and what they reported is what it told.
 use Rattle.std.proofs.Common.{◌≡◌, ℕ, ◌||◌, Bool, true, false, Option, List, [], ◌∷◌, ◌++◌, refl, sym, ap, ◌∙◌, subst, append-nil}
-use Rattle.std.specs.List.{list_all}
-use Rattle.std.proofs.lemmas.Bool.{and_parts}
-use Rattle.sctp_rules.specs.State.{Message, Transfer, has}
-use Rattle.sctp_rules.specs.Rules.{Event, give_up, leave, after, run}
-use Rattle.sctp_tx_rules.specs.Led.{given_up_by, given_ups, recorded, delivered, ids_at}
+use Rattle.std.proofs.lemmas.Bool.{or_parts}
+use Rattle.sctp_rules.specs.State.{Message, has}
+use Rattle.sctp_rules.specs.Rules.{Event, after}
+use Rattle.sctp_rules.specs.Resets.{Epochs, ResetEvent, transfers, reset_stream, send_request, perform, commit, goes, MayAll, go_all}
+use Rattle.sctp_tx_rules.specs.Led.{given_ups, recorded, delivered, ids_at}
 use Rattle.sctp_tx_rules.specs.Records.{are_distinct}
-use Rattle.sctp_tx_rules.proofs.RecordLemmas.{one_more}
+use Rattle.sctp_tx_rules.proofs.LedLemmas.{given_more}
+use Rattle.sctp_tx_rules.proofs.RecordLemmas.{distinct_more, GivesOnce, gives_once}
 use Rattle.sctp_tx_rules.proofs.RestLemmas.{has_more, all_records}
 use Rattle.sctp_tx_rules.proofs.SackLemmas.{delivered_more, ids_more}
 use Rattle.sctp_table.specs.Association.{Endpoint}
@@ -14,43 +15,70 @@ use Rattle.sctp_table_laws.specs.Mapped.{Carried}
 use Rattle.sctp_course.specs.Acts.{calm}
 use Rattle.sctp_course.specs.Course.{Side}
 use Rattle.sctp_delivery.specs.GivenUp.{told_of}
-use Rattle.sctp_delivery.proofs.ClaimLemmas.{is_receiving, GoesOn, SenderClaim}
+use Rattle.sctp_delivery.proofs.ClaimLemmas.{Direction, transfer_of, of_transfer, goes_out, goes_in, GoesOn, SenderClaim}
+use Rattle.sctp_delivery.proofs.SenderToolLemmas.{SameSender, sender_stays}
 use Rattle.sctp_delivery.proofs.TurnLemmas.{Offers, after_turn}
 
--- ---- what rules give up, and report
-
-none_given : (es : List Event) → list_all is_receiving es ≡ true → given_ups es ≡ []
-none_given [] h = refl
-none_given (e ∷ es) h =
-    let parts = and_parts (is_receiving e) (list_all is_receiving es) h in
-    ap (λ (ps : List ℕ). ps ++ given_ups es) (once e parts.0) ∙ none_given es parts.1
-  where
-    once : (e : Event) → is_receiving e ≡ true → given_up_by e ≡ []
-    once (give_up p) h = cc
-    once e h = refl
+-- ---- what rules give up
 
 module _ (message : ℕ → Message) (mixed : Bool) where
-  goes_gone : (kind : Event → Bool) (x y : Transfer) → (g : GoesOn message mixed kind x y) → (p : ℕ)
-      → y.sender.given_up p ≡ (has p (given_ups g.events) || x.sender.given_up p)
-  goes_gone kind x y g p = ap (λ (z : Transfer). z.sender.given_up p) (sym g.leads) ∙ all_records message mixed g.events x p
+  -- in front of others
+  first_given : (e : Event) (es : List ResetEvent) → given_ups (of_transfer (transfers e ∷ es)) ≡ given_ups (e ∷ []) ++ given_ups (of_transfer es)
+  first_given e es = given_more message mixed (e ∷ []) (of_transfer es)
 
-  none_reported : (es : List Event) (x : Transfer) → list_all is_receiving es ≡ true → (run message mixed x es).reports ≡ x.reports
-  none_reported [] x h = refl
-  none_reported (e ∷ es) x h =
-      let parts = and_parts (is_receiving e) (list_all is_receiving es) h in
-      none_reported es (after message mixed x e) parts.1 ∙ once e parts.0
+  all_gone : (es : List ResetEvent) (x : Epochs) (p : ℕ) → (go_all message mixed x es).transfer.sender.given_up p ≡ (has p (given_ups (of_transfer es)) || x.transfer.sender.given_up p)
+  all_gone [] x p = refl
+  all_gone (transfers e ∷ es) x p =
+      all_gone es (goes message mixed x (transfers e)) p
+      ∙ (ap (λ (b : Bool). has p (given_ups (of_transfer es)) || b) (all_records message mixed (e ∷ []) x.transfer p)
+      ∙ (swapped (has p (given_ups (of_transfer es))) (has p (given_ups (e ∷ []))) (x.transfer.sender.given_up p)
+      ∙ ap (λ (b : Bool). b || x.transfer.sender.given_up p) (sym (ap (has p) (first_given e es) ∙ has_more p (given_ups (e ∷ [])) (given_ups (of_transfer es))))))
     where
-      once : (e : Event) → is_receiving e ≡ true → (after message mixed x e).reports ≡ x.reports
-      once (leave c) h = cc
-      once e h = refl
+      swapped : (a b c : Bool) → (a || (b || c)) ≡ ((b || a) || c)
+      swapped true true c = refl
+      swapped true false c = refl
+      swapped false true c = refl
+      swapped false false c = refl
+  all_gone (reset_stream s ∷ es) x p = all_gone es (goes message mixed x (reset_stream s)) p
+  all_gone (send_request s ∷ es) x p = all_gone es (goes message mixed x (send_request s)) p
+  all_gone (perform r ∷ es) x p = all_gone es (goes message mixed x (perform r)) p
+  all_gone (commit s ∷ es) x p = all_gone es (goes message mixed x (commit s)) p
+
+  goes_gone : (kind : ResetEvent → Bool) (x y : Direction) → (g : GoesOn message mixed kind x y) → (p : ℕ)
+      → (transfer_of y).sender.given_up p ≡ (has p (given_ups (of_transfer g.events)) || (transfer_of x).sender.given_up p)
+  goes_gone kind x y g p = ap (λ (z : Epochs). z.transfer.sender.given_up p) (sym g.leads) ∙ all_gone g.events x.rules p
+
+  -- each once
+  each_once : (es : List ResetEvent) (x : Epochs) → MayAll message mixed x es → GivesOnce message mixed x.transfer (of_transfer es)
+  each_once [] x may = gives_once message mixed [] x.transfer tt
+  each_once (transfers e ∷ es) x may =
+      let one = gives_once message mixed (e ∷ []) x.transfer (may.0.0, tt) in
+      let rest = each_once es (goes message mixed x (transfers e)) may.1 in
+      let before : (p : ℕ) → has p (given_ups (of_transfer es)) ≡ true → (has p (given_ups (e ∷ [])) ≡ false) × (x.transfer.sender.given_up p ≡ false) =
+      (λ p h. or_parts (has p (given_ups (e ∷ []))) (x.transfer.sender.given_up p) (sym (all_records message mixed (e ∷ []) x.transfer p) ∙ rest.fresh p h)) in
+      record {
+        once = ap are_distinct (first_given e es) ∙ distinct_more (given_ups (e ∷ [])) (given_ups (of_transfer es)) one.once rest.once (λ p h. (before p h).0);
+        fresh = λ p h. by p (has p (given_ups (e ∷ []))) refl one.fresh (λ g. (before p g).1)
+            (sym (ap (has p) (first_given e es) ∙ has_more p (given_ups (e ∷ [])) (given_ups (of_transfer es))) ∙ h);
+      }
+    where
+      by : (p : ℕ) (b : Bool) → has p (given_ups (e ∷ [])) ≡ b → ((p : ℕ) → has p (given_ups (e ∷ [])) ≡ true → x.transfer.sender.given_up p ≡ false)
+          → (has p (given_ups (of_transfer es)) ≡ true → x.transfer.sender.given_up p ≡ false)
+          → (has p (given_ups (e ∷ [])) || has p (given_ups (of_transfer es))) ≡ true → x.transfer.sender.given_up p ≡ false
+      by p true e now later h = now p e
+      by p false e now later h = later (sym (ap (λ (b : Bool). b || has p (given_ups (of_transfer es))) e) ∙ h)
+  each_once (reset_stream s ∷ es) x may = let rest = each_once es (goes message mixed x (reset_stream s)) may.1 in record { once = rest.once; fresh = rest.fresh }
+  each_once (send_request s ∷ es) x may = let rest = each_once es (goes message mixed x (send_request s)) may.1 in record { once = rest.once; fresh = rest.fresh }
+  each_once (perform r ∷ es) x may = let rest = each_once es (goes message mixed x (perform r)) may.1 in record { once = rest.once; fresh = rest.fresh }
+  each_once (commit s ∷ es) x may = let rest = each_once es (goes message mixed x (commit s)) may.1 in record { once = rest.once; fresh = rest.fresh }
 
 -- ---- what an end tells
 
 -- where its records named these so far
-pub record Accounted (lifecycle : ℕ → Option ℕ) (s : Side) (gone : List ℕ) (x : Transfer) : Type 0 where
-  pub gone_is : (p : ℕ) → x.sender.given_up p ≡ has p gone
+pub record Accounted (lifecycle : ℕ → Option ℕ) (s : Side) (gone : List ℕ) (x : Direction) : Type 0 where
+  pub gone_is : (p : ℕ) → (transfer_of x).sender.given_up p ≡ has p gone
   pub once : are_distinct gone ≡ true
-  pub told_is : delivered s.told ≡ ids_at lifecycle x.reports
+  pub told_is : delivered s.told ≡ ids_at lifecycle (transfer_of x).reports
 
 has_behind : (p : ℕ) (gone more : List ℕ) → has p (gone ++ more) ≡ (has p more || has p gone)
 has_behind p gone more = has_more p gone more ∙ swapped (has p gone) (has p more)
@@ -61,33 +89,38 @@ has_behind p gone more = has_more p gone more ∙ swapped (has p gone) (has p mo
     swapped false true = refl
     swapped false false = refl
 
-pub accounts_still : (lifecycle : ℕ → Option ℕ) (s : Side) (gone : List ℕ) (x : Transfer) → Accounted lifecycle s gone x → Accounted lifecycle s (gone ++ []) x
+pub accounts_still : (lifecycle : ℕ → Option ℕ) (s : Side) (gone : List ℕ) (x : Direction) → Accounted lifecycle s gone x → Accounted lifecycle s (gone ++ []) x
 accounts_still lifecycle s gone x a = subst (λ (ps : List ℕ). Accounted lifecycle s ps x) (sym (append-nil gone)) a
 
-module _ (message : ℕ → Message) (lifecycle : ℕ → Option ℕ) (mixed : Bool) (s : Side) (gone : List ℕ) (x : Transfer) (a : Accounted lifecycle s gone x) where
+module _ (message : ℕ → Message) (lifecycle : ℕ → Option ℕ) (mixed : Bool) (s : Side) (gone : List ℕ) (x : Direction) (a : Accounted lifecycle s gone x) where
   -- a turn of the sender
-  pub accounts_out : (n : ℕ) (mid y : Transfer) (e : Endpoint Carried) (asked : Bool) → Offers message mixed n x mid → SenderClaim message lifecycle mixed mid (calm e) y
-      → Accounted lifecycle (after_turn asked e s) (gone ++ recorded (told_of e)) y
-  accounts_out n mid y e asked offers c = record {
-    gone_is = λ p.
-        goes_gone message mixed _ mid y c.goes p
-        ∙ (ap (λ (ps : List ℕ). has p ps || mid.sender.given_up p) (sym c.gone)
-        ∙ (ap (λ (b : Bool). has p (recorded (told_of e)) || b) (ap (λ (f : ℕ → Bool). f p) offers.given_up ∙ a.gone_is p) ∙ sym (has_behind p gone (recorded (told_of e)))));
-    once =
-        ap (λ (ps : List ℕ). are_distinct (gone ++ ps)) c.gone
-        ∙ one_more message mixed gone c.goes.events mid c.goes.may a.once (λ p. ap (λ (f : ℕ → Bool). f p) offers.given_up ∙ a.gone_is p);
-    told_is =
-        delivered_more s.told (told_of e).events
-        ∙ (ap (λ (ids : List ℕ). ids ++ delivered (told_of e).events) a.told_is
-        ∙ (ap (λ (ids : List ℕ). ids_at lifecycle x.reports ++ ids) c.reported.told_of
-        ∙ (sym (ids_more lifecycle x.reports c.reported.places)
-        ∙ ap (λ (ps : List ℕ). ids_at lifecycle ps) (ap (λ (ps : List ℕ). ps ++ c.reported.places) (sym offers.reports) ∙ sym c.reported.more))));
-  }
+  pub accounts_out : (n : ℕ) (prepared : List ℕ) (mid y : Direction) (e : Endpoint Carried) (asked : Bool) → Offers message mixed n x mid
+      → SenderClaim message lifecycle mixed mid prepared (calm e) y → Accounted lifecycle (after_turn asked e s) (gone ++ recorded (told_of e)) y
+  accounts_out n prepared mid y e asked offers c =
+      let now : (p : ℕ) → (transfer_of mid).sender.given_up p ≡ has p gone = (λ p. ap (λ (f : ℕ → Bool). f p) offers.given_up ∙ a.gone_is p) in
+      let once = each_once message mixed c.goes.events mid.rules c.goes.may in
+      record {
+        gone_is = λ p.
+            goes_gone message mixed _ mid y c.goes p
+            ∙ (ap (λ (ps : List ℕ). has p ps || (transfer_of mid).sender.given_up p) (sym c.gone)
+            ∙ (ap (λ (b : Bool). has p (recorded (told_of e)) || b) (now p) ∙ sym (has_behind p gone (recorded (told_of e)))));
+        once =
+            ap (λ (ps : List ℕ). are_distinct (gone ++ ps)) c.gone
+            ∙ distinct_more gone (given_ups (of_transfer c.goes.events)) a.once once.once (λ p h. sym (now p) ∙ once.fresh p h);
+        told_is =
+            delivered_more s.told (told_of e).events
+            ∙ (ap (λ (ids : List ℕ). ids ++ delivered (told_of e).events) a.told_is
+            ∙ (ap (λ (ids : List ℕ). ids_at lifecycle (transfer_of x).reports ++ ids) c.reported.told_of
+            ∙ (sym (ids_more lifecycle (transfer_of x).reports c.reported.places)
+            ∙ ap (λ (ps : List ℕ). ids_at lifecycle ps) (ap (λ (ps : List ℕ). ps ++ c.reported.places) (sym offers.reports) ∙ sym c.reported.more))));
+      }
 
   -- a turn of the receiver
-  pub accounts_in : (y : Transfer) → GoesOn message mixed is_receiving x y → Accounted lifecycle s (gone ++ []) y
-  accounts_in y g = accounts_still lifecycle s gone y (record {
-    gone_is = λ p. goes_gone message mixed is_receiving x y g p ∙ (ap (λ (ps : List ℕ). has p ps || x.sender.given_up p) (none_given g.events g.all) ∙ a.gone_is p);
-    once = a.once;
-    told_is = a.told_is ∙ ap (λ (ps : List ℕ). ids_at lifecycle ps) (sym (ap (λ (z : Transfer). z.reports) (sym g.leads) ∙ none_reported message mixed g.events x g.all));
-  })
+  pub accounts_in : (y : Direction) → GoesOn message mixed goes_in x y → Accounted lifecycle s (gone ++ []) y
+  accounts_in y g =
+      let same : SameSender message mixed x.rules y.rules = sender_stays message mixed x y g in
+      accounts_still lifecycle s gone y (record {
+        gone_is = λ p. ap (λ o. o.given_up p) same.sender ∙ a.gone_is p;
+        once = a.once;
+        told_is = a.told_is ∙ ap (λ (ps : List ℕ). ids_at lifecycle ps) (sym same.reports);
+      })
