@@ -9,7 +9,8 @@ use Rattle.sctp_course.specs.Course.{Pair, Turn, goes, run, side_of, FollowsTheR
 use Rattle.sctp_course.specs.Handing.{readied}
 use Rattle.sctp_delivery.specs.Accepted.{accepted}
 use Rattle.sctp_delivery.specs.GivenUp.{told_by}
-use Rattle.sctp_delivery.specs.Windows.{stamp, Stamps, no_stamps, stamps_after, stamps_for, IsTimely, KeepsWindows, KeepsStreams, KeepsLimits}
+use Rattle.sctp_delivery.specs.Windows.{stamp, Stamps, no_stamps, stamps_after, stamps_for, IsTimely, KeepsWindows, KeepsLimits}
+use Rattle.sctp_delivery.specs.Answered.{KeepsResets}
 use Rattle.sctp_delivery.specs.Delivery.{ReportsAreTrue, Delivers}
 
 -- the stamps of all packets behind these turns
@@ -17,11 +18,11 @@ abbrev pub stamps_along : List (Bool × Turn) → Pair → Stamps → Stamps
 stamps_along [] w s = s
 stamps_along (e ∷ es) w s = stamps_along es (goes e.0 e.1 w) (stamps_after e.0 e.1 w s)
 
--- what a course has to keep, and one more turn of this end; behind it the windows are asked for no more
+-- what a course has to keep, and one more turn of this end; behind it the windows and the requests are asked for no more
 pub record IsInBoundsThen (from_a : Bool) (turns : List (Bool × Turn)) (last : Turn) (w : Pair) : Type 0 where
   pub windows : KeepsWindows turns w no_stamps
   pub timely : IsTimely last (stamp (run turns w)) (stamps_for from_a (stamps_along turns w no_stamps))
-  pub streams : KeepsStreams (turns ++ (from_a, last) ∷ [])
+  pub resets : KeepsResets turns w
   pub few : length (accepted from_a (turns ++ (from_a, last) ∷ []) w) < 2 ^ 32
   pub limits : KeepsLimits (turns ++ (from_a, last) ∷ [])
 
