@@ -7,6 +7,7 @@ pub mod FlowLemmas
 pub mod ReadingLemmas
 pub mod ReadingDataLemmas
 pub mod ReadingSackLemmas
+pub mod ResetEventsLemmas
 pub mod SenderToolLemmas
 pub mod SenderHeavyLemmas
 pub mod SenderLightLemmas

@@ -1,6 +1,6 @@
 -- Rules that lead on: what an end says stays true, and what one end's rules leave of the other's part. For an act of a sender:
 -- its claim after it.
-use Rattle.std.proofs.Common.{◌≡◌, ℕ, ◌+◌, ◌≤◌, ◌&&◌, Bool, true, Option, inr, List, [], ◌∷◌, ◌++◌, length, map, All, refl, sym, ap, ◌∙◌, subst, arith, append-nil, append_assoc, length-append}
+use Rattle.std.proofs.Common.{◌≡◌, ℕ, suc, ◌+◌, ◌^◌, ◌<◌, ◌≤◌, ◌&&◌, Bool, true, false, Option, Some, slice_get, inr, List, [], ◌∷◌, ◌++◌, length, map, All, refl, sym, ap, ◌∙◌, subst, arith, append-nil, append_assoc, length-append}
 use Rattle.std.specs.List.{list_all}
 use Rattle.std.proofs.lemmas.List.Folds.{list_all-append}
 use Rattle.std.proofs.lemmas.List.Elements.{All-weaker}
@@ -11,7 +11,7 @@ use Rattle.sctp_state.specs.Events as events
 use Rattle.sctp_state.specs.Events.{Told, SendPacket, OnLifecycleMessageDelivered}
 use Rattle.sctp_rules.specs.State.{Message, ForwardPoint, Transfer, IsAmong, count}
 use Rattle.sctp_rules.specs.Rules.{Event, accept, begin, number, close, give_up, data_comes, late_comes, deliver, send_sack, leave, send_forward, forward_comes, forget, after}
-use Rattle.sctp_rules.specs.Resets.{Epochs, ResetEvent, transfers, reset_stream, send_request, perform, commit, MayReset, goes, MayAll, go_all}
+use Rattle.sctp_rules.specs.Resets.{Request, Epochs, ResetEvent, transfers, reset_stream, send_request, perform, commit, MayReset, goes, MayAll, go_all}
 use Rattle.sctp_rules.specs.Based.{InEpochs}
 use Rattle.sctp_rules.proofs.BasedLemmas.{keeps_epochs, all_in_epochs}
 use Rattle.sctp_rules.proofs.StepLemmas.{later}
@@ -25,9 +25,12 @@ use Rattle.sctp_course.specs.Acts.{Making}
 use Rattle.sctp_course.specs.Course.{packets_in}
 use Rattle.sctp_course.proofs.ToldLemmas.{is_light, is_quiet, TellsLightly, TellsQuietly}
 use Rattle.sctp_course.proofs.JoinActsLemmas.{packets_both}
-use Rattle.sctp_delivery.specs.Asks.{Ask, SaysOutgoing, SaysIncoming}
+use Rattle.sctp_delivery.specs.Asks.{Ask, request_for, AreAsked, SaysOutgoing, SaysIncoming}
+use Rattle.sctp_delivery.specs.Answered.{performed_in}
+use Rattle.sctp_delivery.specs.StreamEpochs.{StreamEpoch, shut, reopened, performed_of, failed_in}
 use Rattle.sctp_delivery.proofs.AsksLemmas.{asks_said, answers_said}
-use Rattle.sctp_delivery.proofs.ClaimLemmas.{Direction, transfer_of, of_transfer, goes_out, GoesOn, SaysData, SaysPoint, SaysOut, SaysIn, first_out, SendsIn, Reports, SenderClaim}
+use Rattle.sctp_delivery.proofs.ClaimLemmas.{Direction, transfer_of, of_transfer, goes_out, GoesOn, SaysData, SaysPoint, SaysOut, SaysIn, first_out, SendsIn, Reports, AreSo, SenderClaim}
+use Rattle.sctp_delivery.proofs.ResetEventsLemmas.{resets_in, performed_counts, performed_names, failed_still}
 
 -- ---- one run after another
 
@@ -359,35 +362,104 @@ module _ (lifecycle : ℕ → Option ℕ) where
         ∙ ap (λ (ids : List ℕ). delivered es ++ ids) (sym (ids_more lifecycle a.places b.places))));
   }
 
+-- ---- the asks, where none is sent, performed or answered
+
+-- and the transfer, and what is raised, may go on
+pub asked_still : (x y : Epochs) (asks : List Ask) (done answered : ℕ) → y.opened ≡ x.opened → y.performed ≡ x.performed → y.requests ≡ x.requests → count x.transfer.sender ≤ count y.transfer.sender
+    → AreAsked x asks done answered → AreAsked y asks done answered
+asked_still x y asks done answered opened performed requests grows are = record {
+  opened = λ s. ap (λ (f : ℕ → ℕ). f s) opened ∙ are.opened s;
+  performed = λ s. ap (λ (f : ℕ → ℕ). f s) performed ∙ are.performed s;
+  fine = λ j a g. let f = are.fine j a g in let w = f.within in record { some = f.some; distinct = f.distinct; within = omega (arith, w, grows) };
+  sent = λ j a g s h. subst (λ (rs : List Request). IsAmong (request_for s j a.upto asks) rs) (sym requests) (are.sent j a g s h);
+  order = are.order;
+}
+
 -- ---- the claim after an act
 
-module _ (message : ℕ → Message) (lifecycle : ℕ → Option ℕ) (mixed : Bool) (from : Transfer) where
+-- the ask that waits goes out before 2^30 fragments more are numbered
+abbrev pub IsNear : (from x : Direction) → Type 0
+IsNear from x = (a : Ask) → slice_get x.asks x.answered ≡ Some a → count (transfer_of from).sender < a.upto + 2 ^ 30
+
+pub so_still : (f : ℕ → StreamEpoch) (x y : Epochs) → y.raised ≡ x.raised → y.opened ≡ x.opened → AreSo f x → AreSo f y
+so_still f x y raised opened h s =
+    let i = h s in
+    let r : y.raised s ≡ x.raised s = ap (λ (g : ℕ → ℕ). g s) raised in
+    let o : y.opened s ≡ x.opened s = ap (λ (g : ℕ → ℕ). g s) opened in
+    (i.0 ∙ sym r, λ e. r ∙ (i.1 e ∙ sym o), λ e. r ∙ (i.2 e ∙ ap suc (sym o)))
+
+-- What is told of resets as the rules go from x to y, where these streams were to be reset in the turn before, and these now: each answer,
+-- so that streams stand as the rules say, and none as failed.
+pub record TellsResets (prepared later : List ℕ) (es fs : List (events.Event Carried)) (x y : Direction) : Type 0 where
+  pub performed : y.answered + performed_in es ≡ x.answered + performed_in fs
+  pub epochs : (f : ℕ → StreamEpoch) → AreSo (reopened (performed_of es) (shut prepared f)) x.rules → AreSo (reopened (performed_of fs) (shut later f)) y.rules
+  pub none_failed : failed_in es ≡ false → failed_in fs ≡ false
+
+pub same_named : (es fs : List (events.Event Carried)) → resets_in fs ≡ resets_in es → performed_of fs ≡ performed_of es
+same_named es fs same = sym (performed_names fs) ∙ (ap performed_of same ∙ performed_names es)
+
+pub same_counted : (es fs : List (events.Event Carried)) → resets_in fs ≡ resets_in es → performed_in fs ≡ performed_in es
+same_counted es fs same = sym (performed_counts fs) ∙ (ap performed_in same ∙ performed_counts es)
+
+pub same_failed : (es fs : List (events.Event Carried)) → resets_in fs ≡ resets_in es → failed_in fs ≡ failed_in es
+same_failed es fs same = sym (failed_still fs) ∙ (ap failed_in same ∙ failed_still es)
+
+-- nothing of them
+pub tells_no_resets : (prepared : List ℕ) (es fs : List (events.Event Carried)) (x y : Direction) → resets_in fs ≡ resets_in es → y.answered ≡ x.answered → y.rules.raised ≡ x.rules.raised
+    → y.rules.opened ≡ x.rules.opened → TellsResets prepared prepared es fs x y
+tells_no_resets prepared es fs x y same answered raised opened =
+    let n = same_counted es fs same in
+    record {
+      performed = omega (arith, n, answered);
+      epochs = λ f h. subst (λ (ns : List ℕ). AreSo (reopened ns (shut prepared f)) y.rules) (sym (same_named es fs same)) (so_still (reopened (performed_of es) (shut prepared f)) x.rules y.rules raised opened h);
+      none_failed = λ e. same_failed es fs same ∙ e;
+    }
+
+module _ (message : ℕ → Message) (lifecycle : ℕ → Option ℕ) (mixed : Bool) (from : Direction) where
+  -- what is said in these chunks, and packets
+  abbrev pub SaysAll : (first : ℕ) → Direction → List ChunkTree → Type 0
+  SaysAll first x chunks = All (SaysOut message mixed first (transfer_of from).acknowledged (count (transfer_of from).sender) x) chunks
+
+  abbrev pub SaysPackets : (first : ℕ) → Direction → List Carried → Type 0
+  SaysPackets first x packets = All (λ (p : Carried). All (SaysOut message mixed first (transfer_of from).acknowledged (count (transfer_of from).sender) x) p.chunks) packets
+
   -- where an act leads the rules from x to y, with what it gives up
-  pub record SenderStep (a b : Making Carried) (x y : Transfer) : Type 0 where
-    pub goes : GoesOn message mixed is_sending x y
+  pub record SenderStep (prepared later : List ℕ) (a b : Making Carried) (x y : Direction) : Type 0 where
+    pub goes : GoesOn message mixed goes_out x y
+    pub asked : AreAsked y.rules y.asks y.done y.answered
+    pub done : y.done ≡ x.done
     pub shown : SendsIn message lifecycle mixed b.state b.context.queue y
-    pub flows : IsFlowing a.context.queue → IsFlowing b.context.queue
-    pub gone : recorded b.context.told ≡ recorded a.context.told ++ given_ups goes.events
-    pub reported : Reports lifecycle x y a.context.told.events b.context.told.events
+    pub near : IsNear from x → IsNear from y
+    pub gone : recorded b.context.told ≡ recorded a.context.told ++ given_ups (of_transfer goes.events)
+    pub reported : Reports lifecycle (transfer_of x) (transfer_of y) a.context.told.events b.context.told.events
+    pub resets : TellsResets prepared later a.context.told.events b.context.told.events x y
     pub first : first_out b.state ≡ first_out a.state
     pub packets : packets_in b.context.told.events ≡ packets_in a.context.told.events
-    pub made : All (SaysOut message mixed (first_out a.state) from.acknowledged y) a.packet.chunks → All (SaysOut message mixed (first_out a.state) from.acknowledged y) b.packet.chunks
+    pub made : SaysAll (first_out a.state) y a.packet.chunks → SaysAll (first_out a.state) y b.packet.chunks
 
-  pub step_claims : (a b : Making Carried) (x y : Transfer) → SenderClaim message lifecycle mixed from a x → SenderStep a b x y
-      → SenderClaim message lifecycle mixed from b y
-  step_claims a b x y c s =
-      let g = goes_given message mixed is_sending from x y c.goes s.goes in
+  pub step_claims : (prepared later : List ℕ) (a b : Making Carried) (x y : Direction) → SenderClaim message lifecycle mixed from prepared a x → SenderStep prepared later a b x y
+      → SenderClaim message lifecycle mixed from later b y
+  step_claims prepared later a b x y c s =
+      let least : ℕ = (transfer_of from).acknowledged in
+      let most : ℕ = count (transfer_of from).sender in
+      let g = goes_given message mixed goes_out from x y c.goes s.goes in
       let first = first_out a.state in
-      let made = s.made (all_out_stay message mixed is_sending x y c.kept s.goes first from.acknowledged a.packet.chunks c.made) in
-      let told = told_out_stays message mixed is_sending x y c.kept s.goes first from.acknowledged (packets_in a.context.told.events) c.told in
+      let made = s.made (all_out_stay message mixed goes_out x y c.kept.epochs s.goes first least most a.packet.chunks c.made) in
+      let told = told_out_stays message mixed goes_out x y c.kept.epochs s.goes first least most (packets_in a.context.told.events) c.told in
+      let so_far = c.performed in
+      let now = s.resets.performed in
       record {
-        kept = goes_kept message mixed is_sending x y c.kept s.goes;
+        kept = record { epochs = goes_epochs message mixed goes_out x y c.kept.epochs s.goes; asked = s.asked };
         goes = g.0;
+        done = s.done ∙ c.done;
         shown = s.shown;
-        flows = s.flows c.flows;
-        gone = s.gone ∙ (ap (λ (ps : List ℕ). ps ++ given_ups s.goes.events) c.gone ∙ sym g.1);
-        reported = reports_then lifecycle from x y [] a.context.told.events b.context.told.events c.reported s.reported;
-        told = subst (λ (n : ℕ). All (λ (p : Carried). All (SaysOut message mixed n from.acknowledged y) p.chunks) (packets_in b.context.told.events)) (sym s.first)
-            (subst (λ (ps : List Carried). All (λ (p : Carried). All (SaysOut message mixed first from.acknowledged y) p.chunks) ps) (sym s.packets) told);
-        made = subst (λ (n : ℕ). All (SaysOut message mixed n from.acknowledged y) b.packet.chunks) (sym s.first) made;
+        near = s.near c.near;
+        gone = s.gone ∙ (ap (λ (ps : List ℕ). ps ++ given_ups (of_transfer s.goes.events)) c.gone ∙ sym g.1);
+        reported = reports_then lifecycle (transfer_of from) (transfer_of x) (transfer_of y) [] a.context.told.events b.context.told.events c.reported s.reported;
+        performed = omega (arith, so_far, now);
+        epochs = λ f h. s.resets.epochs f (c.epochs f h);
+        none_failed = s.resets.none_failed c.none_failed;
+        told = subst (λ (n : ℕ). SaysPackets n y (packets_in b.context.told.events)) (sym s.first)
+            (subst (λ (ps : List Carried). SaysPackets first y ps) (sym s.packets) told);
+        made = subst (λ (n : ℕ). SaysAll n y b.packet.chunks) (sym s.first) made;
       }
