@@ -54,7 +54,7 @@ all_transfers kind only each (e ∷ es) h =
     ap (λ b. b && list_all kind (map transfers es)) (each e hs.0) ∙ all_transfers kind only each es hs.1
 
 module _ (message : ℕ → Message) (mixed : Bool) where
-  pub goes_none : (kind : ResetEvent → Bool) (x : Direction) → GoesOn message mixed kind x x
+  abbrev pub goes_none : (kind : ResetEvent → Bool) (x : Direction) → GoesOn message mixed kind x x
   goes_none kind x = record {
     events = [];
     may = tt;
