@@ -10,6 +10,7 @@ pub mod ReadingSackLemmas
 pub mod ResetEventsLemmas
 pub mod CourseResetLemmas
 pub mod SenderToolLemmas
+pub mod SenderAsksLemmas
 pub mod SenderHeavyLemmas
 pub mod SenderLightLemmas
 pub mod SenderOpeningLemmas

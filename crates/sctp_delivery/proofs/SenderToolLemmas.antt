@@ -395,24 +395,28 @@ pub record TellsResets (prepared later : List ℕ) (es fs : List (events.Event C
   pub epochs : (f : ℕ → StreamEpoch) → AreSo (reopened (performed_of es) (shut prepared f)) x.rules → AreSo (reopened (performed_of fs) (shut later f)) y.rules
   pub none_failed : failed_in es ≡ false → failed_in fs ≡ false
 
-pub same_named : (es fs : List (events.Event Carried)) → resets_in fs ≡ resets_in es → performed_of fs ≡ performed_of es
-same_named es fs same = sym (performed_names fs) ∙ (ap performed_of same ∙ performed_names es)
+-- no answer
+pub record TellsNoAnswer (es fs : List (events.Event Carried)) : Type 0 where
+  pub counted : performed_in fs ≡ performed_in es
+  pub named : performed_of fs ≡ performed_of es
+  pub failed : failed_in fs ≡ failed_in es
 
-pub same_counted : (es fs : List (events.Event Carried)) → resets_in fs ≡ resets_in es → performed_in fs ≡ performed_in es
-same_counted es fs same = sym (performed_counts fs) ∙ (ap performed_in same ∙ performed_counts es)
+-- nor anything of resets
+pub no_answer : (es fs : List (events.Event Carried)) → resets_in fs ≡ resets_in es → TellsNoAnswer es fs
+no_answer es fs same = record {
+  counted = sym (performed_counts fs) ∙ (ap performed_in same ∙ performed_counts es);
+  named = sym (performed_names fs) ∙ (ap performed_of same ∙ performed_names es);
+  failed = sym (failed_still fs) ∙ (ap failed_in same ∙ failed_still es);
+}
 
-pub same_failed : (es fs : List (events.Event Carried)) → resets_in fs ≡ resets_in es → failed_in fs ≡ failed_in es
-same_failed es fs same = sym (failed_still fs) ∙ (ap failed_in same ∙ failed_still es)
-
--- nothing of them
-pub tells_no_resets : (prepared : List ℕ) (es fs : List (events.Event Carried)) (x y : Direction) → resets_in fs ≡ resets_in es → y.answered ≡ x.answered → y.rules.raised ≡ x.rules.raised
+pub tells_no_answer : (prepared : List ℕ) (es fs : List (events.Event Carried)) (x y : Direction) → TellsNoAnswer es fs → y.answered ≡ x.answered → y.rules.raised ≡ x.rules.raised
     → y.rules.opened ≡ x.rules.opened → TellsResets prepared prepared es fs x y
-tells_no_resets prepared es fs x y same answered raised opened =
-    let n = same_counted es fs same in
+tells_no_answer prepared es fs x y none answered raised opened =
+    let n = none.counted in
     record {
       performed = omega (arith, n, answered);
-      epochs = λ f h. subst (λ (ns : List ℕ). AreSo (reopened ns (shut prepared f)) y.rules) (sym (same_named es fs same)) (so_still (reopened (performed_of es) (shut prepared f)) x.rules y.rules raised opened h);
-      none_failed = λ e. same_failed es fs same ∙ e;
+      epochs = λ f h. subst (λ (ns : List ℕ). AreSo (reopened ns (shut prepared f)) y.rules) (sym none.named) (so_still (reopened (performed_of es) (shut prepared f)) x.rules y.rules raised opened h);
+      none_failed = λ e. none.failed ∙ e;
     }
 
 module _ (message : ℕ → Message) (lifecycle : ℕ → Option ℕ) (mixed : Bool) (from : Direction) where
