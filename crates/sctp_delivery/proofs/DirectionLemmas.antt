@@ -180,7 +180,7 @@ initial mine None = 0
 initial true (Some a) = a.my_initial_tsn
 initial false (Some a) = a.peer_initial_tsn
 
-none_stands : {a : Association} → None ≡ Some a → ⊥
+pub none_stands : {a : Association} → None ≡ Some a → ⊥
 none_stands e = cc
 
 -- of the sender: its first TSN is the same

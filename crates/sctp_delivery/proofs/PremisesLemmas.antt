@@ -23,7 +23,7 @@ use Rattle.sctp_course.specs.Course.{Side, packets_in, as_heard, AreGiven, state
 use Rattle.sctp_course.proofs.AddedLemmas.{all_at}
 use Rattle.sctp_course.proofs.CourseLemmas.{setting}
 use Rattle.sctp_delivery.specs.Answered.{waiting_number, IsAnswered, performed_in}
-use Rattle.sctp_delivery.specs.Asks.{Ask}
+use Rattle.sctp_delivery.specs.Asks.{Ask, number_of}
 use Rattle.sctp_delivery.specs.StreamEpochs.{StreamEpoch, shut, reopened, performed_of, resets_told, failed_in}
 use Rattle.sctp_delivery.specs.Windows.{Stamp, IsWithin, queue_of}
 use Rattle.sctp_delivery.proofs.ClaimLemmas.{Direction, transfer_of, goes_out, goes_in, SaysOut, SaysIn, first_out, first_in, WasSaid, AreSo, SendsIn, SenderClaim, ReceiverClaim, HearsSacks, HearsData, SenderPremises, ReceiverPremises}
@@ -31,7 +31,7 @@ use Rattle.sctp_delivery.proofs.AsksLemmas.{get_below}
 use Rattle.sctp_delivery.proofs.SenderToolLemmas.{goes_none, reports_none}
 use Rattle.sctp_delivery.proofs.WithinLemmas.{numbered_is, Holds, within}
 use Rattle.sctp_delivery.proofs.FilledLemmas.{short_index}
-use Rattle.sctp_delivery.proofs.DirectionLemmas.{IsUnderWay, says_out, says_in, SoFar, Flows, IsSilent}
+use Rattle.sctp_delivery.proofs.DirectionLemmas.{IsUnderWay, says_out, says_in, Stands, none_stands, same_out, SoFar, Flows, IsSilent}
 
 -- ---- chunks that are heard
 
@@ -109,25 +109,42 @@ module _ (message : ℕ → Message) (mixed : Bool) (first : ℕ) (x : Direction
 
 -- ---- an own request that waits
 
--- it goes out soon
-asks_soon : (message : ℕ → Message) (lifecycle : ℕ → Option ℕ) (mixed : Bool) (s : State) (q : Queue) (x : Direction) (asked : ℕ) → SendsIn message lifecycle mixed s q x → IsAnswered s asked
-    → (a : Ask) → slice_get x.asks x.answered ≡ Some a → asked ≤ a.upto → count (transfer_of x).sender < a.upto + 2 ^ 30
-asks_soon message lifecycle mixed s q x asked sends soon a there below =
-    let n = waits s sends in
-    let l = soon n.0 n.1 in
-    let c = numbered_is message lifecycle mixed s q x sends in
-    omega (arith, l, c, below)
-  where
-    none_here : x.asks ≡ [] → ⊥
-    none_here none = let e = ap (λ (l : List Ask). slice_get l x.answered) (sym none) ∙ there in cc
+module _ (message : ℕ → Message) (lifecycle : ℕ → Option ℕ) (mixed : Bool) where
+  none_there : (x : Direction) (a : Ask) → x.asks ≡ [] → slice_get x.asks x.answered ≡ Some a → ⊥
+  none_there x a none there = let e = ap (λ (l : List Ask). slice_get l x.answered) (sym none) ∙ there in cc
 
-    waits : (s : State) → SendsIn message lifecycle mixed s q x → (n : ℕ) × (waiting_number s ≡ Some n)
-    waits Closed h = absurd (none_here h.none_asked)
-    waits (CookieWait tag first t1) h = absurd (none_here h.none_asked)
-    waits (Open phase t) h = elim h.asks.current [
-      | inl n ↦ let l = get_below x.asks x.answered a there in let e = n.0 in absurd (omega (arith, l, e))
-      | inr c ↦ (c.1.request.number, ap (λ (o : Option Request). option_map (λ (r : Request). r.number) o) c.1.is)
-    ]
+  -- it is the ask that waits
+  pub waits : (s : State) (q : Queue) (x : Direction) (a : Ask) → SendsIn message lifecycle mixed s q x → slice_get x.asks x.answered ≡ Some a
+      → waiting_number s ≡ Some (number_of (first_out s) x.answered)
+  waits Closed q x a h there = absurd (none_there x a h.none_asked there)
+  waits (CookieWait tag first t1) q x a h there = absurd (none_there x a h.none_asked there)
+  waits (Open phase t) q x a h there = elim h.asks.current [
+    | inl n ↦ let l = get_below x.asks x.answered a there in let e = n.0 in absurd (omega (arith, l, e))
+    | inr c ↦
+        ap (λ (o : Option Request). option_map (λ (r : Request). r.number) o) c.1.is
+        ∙ (ap (λ (n : ℕ). Some n) c.1.says.number ∙ ap (λ (n : ℕ). Some (number_of n x.answered)) (sym h.first))
+  ]
+
+  pub is_asked : (s : State) (q : Queue) (x : Direction) (n : ℕ) → SendsIn message lifecycle mixed s q x → waiting_number s ≡ Some n → (a : Ask) × (slice_get x.asks x.answered ≡ Some a)
+  is_asked Closed q x n h w = cc
+  is_asked (CookieWait tag first t1) q x n h w = cc
+  is_asked (Open phase t) q x n h w = elim h.asks.current [
+    | inl none ↦ let e = ap (λ (o : Option Request). option_map (λ (r : Request). r.number) o) (sym none.1.none) ∙ w in cc
+    | inr c ↦ (c.1.ask, c.1.there)
+  ]
+
+  -- with the first TSN of an association that stands
+  pub waits_again : (s t : State) (q r : Queue) (x y : Direction) (a : Ask) → SendsIn message lifecycle mixed s q x → SendsIn message lifecycle mixed t r y → Stands s t
+      → slice_get x.asks x.answered ≡ Some a → first_out s ≡ first_out t
+  waits_again Closed t q r x y a h k f there = absurd (none_there x a h.none_asked there)
+  waits_again (CookieWait tag first t1) t q r x y a h k f there = absurd (none_there x a h.none_asked there)
+  waits_again (Open phase t) Closed q r x y a h k f there = absurd (none_stands (f _ refl))
+  waits_again (Open phase t) (CookieWait tag first t1) q r x y a h k f there = absurd (none_stands (f _ refl))
+  waits_again (Open phase t) (Open next u) q r x y a h k f there = same_out message lifecycle mixed phase t next u q r x y h k f
+
+-- it goes out soon
+abbrev pub AsksSoon : Direction → Type 0
+AsksSoon x = (a : Ask) → slice_get x.asks x.answered ≡ Some a → count (transfer_of x).sender < a.upto + 2 ^ 30
 
 -- ---- both ends
 
@@ -136,6 +153,13 @@ module _ (message : ℕ → Message) (lifecycle : ℕ → Option ℕ) (mixed : B
     (f : Flows message lifecycle mixed of s r accepted handed stamps_s stamps_r so_far x) where
   pub holds_of : IsWithin (state_of s) (queue_of s) → Holds message lifecycle mixed x (queue_of s) f.kept
   holds_of w = within message lifecycle mixed x (queue_of s) f.kept (state_of s) f.sends w
+
+  pub asks_soon : IsAnswered (state_of s) so_far.asked → AsksSoon x
+  asks_soon soon a there =
+      let l = soon (number_of (first_out (state_of s)) x.answered) (waits message lifecycle mixed (state_of s) (queue_of s) x a f.sends there) in
+      let c = numbered_is message lifecycle mixed (state_of s) (queue_of s) x f.sends in
+      let below = f.asked a there in
+      omega (arith, l, c, below)
 
   -- fewer asks than their numbers tell apart
   pub few_asks : performed_in s.told < 2 ^ 32 - 1 → length x.asks < 2 ^ 32
@@ -179,7 +203,7 @@ module _ (message : ℕ → Message) (lifecycle : ℕ → Option ℕ) (mixed : B
     goes = goes_none message mixed goes_out x;
     done = refl;
     shown = f.sends;
-    near = λ a there. asks_soon message lifecycle mixed (state_of s) (queue_of s) x so_far.asked f.sends soon a there (f.asked a there);
+    near = asks_soon soon;
     since = λ a there. inl there;
     gone = ap (λ (t : Told Carried). recorded t) q.told;
     reported = reports_none lifecycle (transfer_of x) (transfer_of x) [] s.end.standing.context.told.events refl (ap (λ (t : Told Carried). delivered t.events) q.told);
