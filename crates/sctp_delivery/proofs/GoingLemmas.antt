@@ -86,7 +86,7 @@ pub record Parts (message : ℕ → Message) (lifecycle : ℕ → Option ℕ) (m
   pub sender_keeps : (g : Setting) (call : Call) (from : Direction) → SenderPremises message lifecycle mixed g call from
       → KeepsJoined g call (SenderGoes message lifecycle mixed from)
   pub receiver_keeps : (g : Setting) (call : Call) (from : Direction) (handed : List messages.Message) → ReceiverPremises message lifecycle mixed g call from
-      → KeepsJoined g call (ReceiverGoes message mixed from handed)
+      → KeepsJoined g call (ReceiverGoes message lifecycle mixed from handed)
   -- a message is handed out
   pub taken_out : (s : State) (q : Queue) (x : Direction) → SendsIn message lifecycle mixed s q x → SendsIn message lifecycle mixed (taken_in s) q x
   pub taken_in_turn : (s : State) (handed : List messages.Message) (x : Direction) → ReceivesIn message mixed s handed x
@@ -98,7 +98,7 @@ pub record Parts (message : ℕ → Message) (lifecycle : ℕ → Option ℕ) (m
       → OffersOut message lifecycle mixed x (accepted_by call s) (calm (called call s.end))
   pub offered_in : (g : Setting) (call : Call) (x : Direction) (s : Side) (handed : List messages.Message) → Rules g call → is_offer call ≡ true
       → ReceiverPremises message lifecycle mixed g call x → HasNoEnd (calm (called call s.end)) → InvAt g (calm s.end)
-      → ReceiverGoes message mixed x handed (calm s.end) (calm (called call s.end))
+      → ReceiverGoes message lifecycle mixed x handed (calm s.end) (calm (called call s.end))
   -- streams are to be reset
   pub prepares_one : (from : Direction) → calls.PreparesOne message lifecycle mixed from
 
@@ -497,7 +497,7 @@ module _ (message : ℕ → Message) (lifecycle : ℕ → Option ℕ) (mixed : B
   pub turn_until : (t : Turn) → MayTurn t s → IsTimely t now stamps_r → endings s.told ≡ 0
       → AreOffered message lifecycle accepted (accepted_in t s) → accepted + length (accepted_in t s) < 2 ^ 32
       → (early late : List (Event Carried)) → (told_by t s r).events ≡ early ++ late → endings early ≡ 0 → IsUntil early (accepted_in t s)
-  turn_until t may timely so_far are few early late is none = by_turn t may timely are few is
+  turn_until t may timely ended are few early late is none = by_turn t may timely are few is
     where
       -- a turn that ends nothing
       whole : (t : Turn) → MayTurn t s → IsTimely t now stamps_r → AreOffered message lifecycle accepted (accepted_in t s)
@@ -511,7 +511,7 @@ module _ (message : ℕ → Message) (lifecycle : ℕ → Option ℕ) (mixed : B
             side = turned t s r;
             then = so_far_turned t s r so_far;
             by = given_up_by t s r;
-            out = turn_out t may timely (omega (arith, sum, both, so_far, quiet)) are few;
+            out = turn_out t may timely (omega (arith, sum, both, ended, quiet)) are few;
             rest = late;
             told = told ∙ ap (λ (es : List (Event Carried)). s.told ++ es) is;
           }
