@@ -34,6 +34,7 @@ pub mod DeliveryLemmas
 pub mod TakenLemmas
 pub mod OfferingLemmas
 pub mod OfferedLemmas
+pub mod LeavesLemmas
 pub mod BesideLemmas
 pub mod LawLemmas
 pub mod ProperQueueLemmas

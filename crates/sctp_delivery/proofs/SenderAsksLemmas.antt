@@ -1,6 +1,6 @@
 -- What an end that asks for resets of its streams holds, as its queue or its requests change; and how its streams stand once it has told an
 -- answer.
-use Rattle.std.proofs.Common.{◌≡◌, ℕ, zero, suc, ◌+◌, ◌<◌, ◌≤◌, Bool, true, false, cond, inl, inr, Option, Some, None, List, [], ◌∷◌, ◌++◌, refl, sym, ap, ◌∙◌, subst, arith, append-nil, append_assoc}
+use Rattle.std.proofs.Common.{◌≡◌, ℕ, zero, suc, ◌+◌, ◌<◌, ◌≤◌, Bool, true, false, cond, inl, inr, Option, Some, None, List, [], ◌∷◌, ◌++◌, refl, sym, ap, ◌∙◌, subst, arith, append_assoc}
 use Rattle.std.specs.Prelude.{◌||◌, ◌==◌, option_map, slice_get}
 use Rattle.std.proofs.lemmas.Bool.{cases_eq, eq-eqb, ne_eqb}
 use Rattle.std.proofs.lemmas.Bool.Decides.{nat_tests}
@@ -8,9 +8,8 @@ use Rattle.sctp_state.specs.Events.{Event, OnStreamsResetFailed, OnStreamsResetP
 use Rattle.sctp_send_queue.specs.Queue.{Queue}
 use Rattle.sctp_rules.specs.State.{has}
 use Rattle.sctp_rules.specs.Resets.{Epochs}
-use Rattle.sctp_rules.proofs.ToolsLemmas.{not_both}
 use Rattle.sctp_tx_rules.specs.Asked.{AreSameAsked}
-use Rattle.sctp_table.specs.Requests.{Request, Requests, Outcome, Unsettled, Done, outcome, outcome_by, outcome_if, is_final, is_success, awake, woken, put_off, answered_by, answered_if, answered_in}
+use Rattle.sctp_table.specs.Requests.{Request, Requests, Unsettled, Done, outcome, outcome_by, outcome_if, is_final, is_success, awake, woken, put_off, answered_by, answered_if, answered_in}
 use Rattle.sctp_table.specs.Requests as requests
 use Rattle.sctp_course.proofs.JoinLemmas.{some_same}
 use Rattle.sctp_delivery.specs.Asks.{Ask, named_in, IsRequestOf, IsAsking}

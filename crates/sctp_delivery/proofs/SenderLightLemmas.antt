@@ -1,6 +1,6 @@
 -- Acts that leave the rules of a sender where they are: what it shows stays, no message is given up, and what is put into a
 -- packet says nothing of the transfer, nor of a reset.
-use Rattle.std.proofs.Common.{◌≡◌, ℕ, ◌++◌, ◌≤◌, ◌*◌, ◌-◌, Bool, true, false, Option, Some, None, List, [], ◌∷◌, All, refl, sym, ap, ◌∙◌, subst, arith, append-nil}
+use Rattle.std.proofs.Common.{◌≡◌, ℕ, ◌++◌, ◌≤◌, ◌*◌, ◌-◌, Bool, true, false, Option, List, [], ◌∷◌, All, refl, sym, ap, ◌∙◌, subst, arith, append-nil}
 use Rattle.std.specs.Prelude.{◌/◌}
 use Rattle.std.specs.List.{list_all}
 use Rattle.std.proofs.lemmas.Bool.{and_parts}
@@ -25,9 +25,9 @@ use Rattle.sctp_tx_rules.proofs.AskedLemmas.{calls_keep_asked, watch_asked}
 use Rattle.sctp_tx_rules.proofs.KeyLemmas.{written_keyed}
 use Rattle.sctp_tx_rules.proofs.LineRowLemmas.{calls_keep_line}
 use Rattle.sctp_tx_rules.proofs.PauseRowLemmas.{settings_pause}
-use Rattle.sctp_table.specs.Association.{Identity, Tcb, Phase, ShutdownPending, State, Closed, CookieWait, Open, Context, Packing}
+use Rattle.sctp_table.specs.Association.{Identity, Tcb, Phase, ShutdownPending, State, Closed, CookieWait, Open, Packing}
 use Rattle.sctp_table.specs.Packets.{Packet, emptied, header_to, say, emit_if}
-use Rattle.sctp_table.specs.Requests.{Requests, nothing_to_do, performed, in_progress, processed}
+use Rattle.sctp_table.specs.Requests.{nothing_to_do, performed, in_progress, processed}
 use Rattle.sctp_table.specs.Data.{taken, forwarded}
 use Rattle.sctp_table.specs.Input.{at_end}
 use Rattle.sctp_table.specs.Laws.{Call}
@@ -102,6 +102,7 @@ module _ (message : ℕ → Message) (lifecycle : ℕ → Option ℕ) (mixed : B
           done = claim.done;
           shown = shown x claim.shown;
           near = claim.near;
+          since = claim.since;
           gone = gone ∙ claim.gone;
           reported = reports_then lifecycle (transfer_of from) (transfer_of x) (transfer_of x) [] es fs claim.reported
               (reports_none lifecycle (transfer_of x) (transfer_of x) es fs refl reports);
@@ -141,6 +142,7 @@ module _ (message : ℕ → Message) (lifecycle : ℕ → Option ℕ) (mixed : B
       done = claim.done;
       shown = claim.shown;
       near = claim.near;
+      since = claim.since;
       gone = claim.gone;
       reported = claim.reported;
       performed = claim.performed;
@@ -208,6 +210,7 @@ module _ (message : ℕ → Message) (lifecycle : ℕ → Option ℕ) (mixed : B
           done = claim.done;
           shown = claim.shown;
           near = claim.near;
+          since = claim.since;
           gone = claim.gone;
           reported = reports_then lifecycle (transfer_of from) (transfer_of x) (transfer_of x) [] es fs claim.reported
               (reports_none lifecycle (transfer_of x) (transfer_of x) es fs refl (delivered_more es (SendPacket _ ∷ []) ∙ append-nil (delivered es)));
@@ -229,6 +232,7 @@ module _ (message : ℕ → Message) (lifecycle : ℕ → Option ℕ) (mixed : B
       done = claim.done;
       shown = claim.shown;
       near = claim.near;
+      since = claim.since;
       gone = claim.gone;
       reported = claim.reported;
       performed = claim.performed;
