@@ -51,7 +51,7 @@ use Rattle.sctp_delivery.proofs.CourseResetLemmas.{told_turned, asked_again}
 use Rattle.sctp_delivery.proofs.ResetCallLemmas as calls
 use Rattle.sctp_delivery.proofs.WithinLemmas.{numbered_is, Holds}
 use Rattle.sctp_delivery.proofs.DirectionLemmas.{AtStamp, each_at, IsUnderWay, says_in, Stands, SoFar, Flows, IsSilent}
-use Rattle.sctp_delivery.proofs.PremisesLemmas.{in_window, IsNoPacket, hears_no_sacks, hears_sacks, holds_of, sender_premises, begins_out}
+use Rattle.sctp_delivery.proofs.PremisesLemmas.{AsksSoon, in_window, IsNoPacket, hears_no_sacks, hears_sacks, holds_of, sender_premises, begins_out}
 use Rattle.sctp_delivery.proofs.TurnLemmas.{message_in, AreOffered, Offers, offers_none, Stay, is_outgoing, outgoing, so_again, after_turn, so_far_then, ends_out}
 use Rattle.sctp_delivery.proofs.AccountLemmas.{Accounted, accounts_still, accounts_out}
 
@@ -74,10 +74,6 @@ pub record OffersOut (message : ℕ → Message) (lifecycle : ℕ → Option ℕ
   pub offers : Offers message mixed (length os) x mid
   pub to : Direction
   pub claim : SenderClaim message lifecycle mixed mid [] m to
-
--- a request that waits goes out soon
-abbrev pub AsksSoon : Direction → Type 0
-AsksSoon x = (a : Ask) → slice_get x.asks x.answered ≡ Some a → count (transfer_of x).sender < a.upto + 2 ^ 30
 
 -- ---- what each act keeps
 
