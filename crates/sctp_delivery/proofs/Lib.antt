@@ -13,6 +13,7 @@ pub mod SenderToolLemmas
 pub mod SenderAsksLemmas
 pub mod SenderHeavyLemmas
 pub mod SenderLightLemmas
+pub mod SenderResetLemmas
 pub mod SenderOpeningLemmas
 pub mod SenderKeepsLemmas
 pub mod TrackerStaysLemmas

@@ -2,11 +2,11 @@
 -- answer.
 use Rattle.std.proofs.Common.{◌≡◌, ℕ, zero, suc, ◌+◌, ◌<◌, ◌≤◌, Bool, true, false, cond, inl, inr, Option, Some, None, List, [], ◌∷◌, ◌++◌, refl, sym, ap, ◌∙◌, subst, arith, append_assoc}
 use Rattle.std.specs.Prelude.{◌||◌, ◌==◌, option_map, slice_get}
-use Rattle.std.proofs.lemmas.Bool.{cases_eq, eq-eqb, ne_eqb}
+use Rattle.std.proofs.lemmas.Bool.{cases_eq, eq-eqb, ne_eqb, or_right}
 use Rattle.std.proofs.lemmas.Bool.Decides.{nat_tests}
 use Rattle.sctp_state.specs.Events.{Event, OnStreamsResetFailed, OnStreamsResetPerformed}
 use Rattle.sctp_send_queue.specs.Queue.{Queue}
-use Rattle.sctp_rules.specs.State.{has}
+use Rattle.sctp_rules.specs.State.{IsAmong, has}
 use Rattle.sctp_rules.specs.Resets.{Epochs}
 use Rattle.sctp_tx_rules.specs.Asked.{AreSameAsked}
 use Rattle.sctp_table.specs.Requests.{Request, Requests, Unsettled, Done, outcome, outcome_by, outcome_if, is_final, is_success, awake, woken, put_off, answered_by, answered_if, answered_in}
@@ -152,6 +152,11 @@ named_later s n m asks a there named l =
     let one : named_in s (suc n) asks ≡ suc (named_in s n asks) = named_next s n asks a there ∙ ap (λ (b : Bool). cond b (suc (named_in s n asks)) (named_in s n asks)) named in
     let up = named_up s (suc n) m asks (omega (arith, l)) in
     omega (arith, one, up)
+
+pub has_from : (k : ℕ) (ids : List ℕ) → IsAmong k ids → has k ids ≡ true
+has_from k [] a = absurd a
+has_from k (id ∷ ids) (inl e) = ap (λ (b : Bool). b || has k ids) (eq-eqb k id e)
+has_from k (id ∷ ids) (inr a) = or_right (k == id) (has k ids) (has_from k ids a)
 
 -- ---- what is told
 

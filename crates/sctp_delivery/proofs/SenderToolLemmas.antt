@@ -34,7 +34,7 @@ use Rattle.sctp_delivery.proofs.ResetEventsLemmas.{resets_in, performed_counts, 
 
 -- ---- one run after another
 
-transfer_more : (es fs : List ResetEvent) → of_transfer (es ++ fs) ≡ of_transfer es ++ of_transfer fs
+pub transfer_more : (es fs : List ResetEvent) → of_transfer (es ++ fs) ≡ of_transfer es ++ of_transfer fs
 transfer_more [] fs = refl
 transfer_more (transfers e ∷ es) fs = ap (λ (gs : List Event). e ∷ gs) (transfer_more es fs)
 transfer_more (reset_stream s ∷ es) fs = transfer_more es fs
