@@ -6,6 +6,7 @@ use Rattle.sctp_serial.specs.Messages as messages
 use Rattle.sctp_send_queue.specs.Queue.{Queue, is_empty}
 use Rattle.sctp_rules.specs.State.{Message, has}
 use Rattle.sctp_rules.specs.Claims.{AtRest, Claims}
+use Rattle.sctp_rules.specs.Kept.{Kept}
 use Rattle.sctp_rules.proofs.ClaimsLemmas.{claimed}
 use Rattle.sctp_rx_rules.specs.View.{ready_of}
 use Rattle.sctp_outstanding.specs.Items.{no_items}
@@ -18,7 +19,7 @@ use Rattle.sctp_delivery.specs.Accepted.{Offer}
 use Rattle.sctp_delivery.specs.GivenUp.{kept_in, IsAtRest}
 use Rattle.sctp_delivery.specs.Windows.{queue_of}
 use Rattle.sctp_delivery.specs.Delivery.{Fits, SkippedAreGivenUp, ReportsAreTrue, AllAreDone}
-use Rattle.sctp_delivery.proofs.ClaimLemmas.{Direction, transfer_of, IsKept, SendsIn}
+use Rattle.sctp_delivery.proofs.ClaimLemmas.{Direction, transfer_of, SendsIn}
 use Rattle.sctp_delivery.proofs.AccountLemmas.{Accounted}
 use Rattle.sctp_delivery.proofs.TurnLemmas.{message_in}
 use Rattle.sctp_delivery.proofs.FitsLemmas.{places_fit, first_places}
@@ -63,22 +64,20 @@ offer_at offers p l =
 
 -- ---- rest
 
-pub rests : (message : ℕ → Message) (lifecycle : ℕ → Option ℕ) (mixed : Bool) (s : State) (q : Queue) (x : Direction) → IsKept message mixed x
+pub rests : (message : ℕ → Message) (lifecycle : ℕ → Option ℕ) (mixed : Bool) (s : State) (q : Queue) (x : Direction) → Kept message mixed (transfer_of x)
     → SendsIn message lifecycle mixed s q x → is_empty q ≡ true → kept_in s ≡ [] → AtRest (transfer_of x)
-rests message lifecycle mixed Closed q x k h empty none = rest_outgoing message lifecycle false (transfer_of x) q (no_items false false) k.epochs.order.kept.outgoing h.shows empty refl
-rests message lifecycle mixed (CookieWait tag first t1) q x k h empty none =
-    rest_outgoing message lifecycle false (transfer_of x) q (no_items false false) k.epochs.order.kept.outgoing h.shows empty refl
-rests message lifecycle mixed (Open phase t) q x k h empty none =
-    rest_outgoing message lifecycle mixed (transfer_of x) q t.sender.outstanding.items k.epochs.order.kept.outgoing h.shows empty none
+rests message lifecycle mixed Closed q x k h empty none = rest_outgoing message lifecycle false (transfer_of x) q (no_items false false) k.outgoing h.shows empty refl
+rests message lifecycle mixed (CookieWait tag first t1) q x k h empty none = rest_outgoing message lifecycle false (transfer_of x) q (no_items false false) k.outgoing h.shows empty refl
+rests message lifecycle mixed (Open phase t) q x k h empty none = rest_outgoing message lifecycle mixed (transfer_of x) q t.sender.outstanding.items k.outgoing h.shows empty none
 
 -- ---- the point
 
 module _ (message : ℕ → Message) (lifecycle : ℕ → Option ℕ) (mixed : Bool) (offers : List Offer)
     (there : (p : ℕ) (o : Offer) → slice_get offers p ≡ Some o → message p ≡ message_in o)
     (ids : (p : ℕ) (o : Offer) → slice_get offers p ≡ Some o → lifecycle p ≡ o.options.lifecycle_id)
-    (s : Side) (x : Direction) (kept : IsKept message mixed x) (few : (transfer_of x).sender.accepted ≡ length offers) where
+    (s : Side) (x : Direction) (kept : Kept message mixed (transfer_of x)) (few : (transfer_of x).sender.accepted ≡ length offers) where
   claims : Claims message (transfer_of x)
-  claims = claimed message mixed (transfer_of x) kept.epochs.order.kept
+  claims = claimed message mixed (transfer_of x) kept
 
   its_id : (p : ℕ) (o : Offer) (id : ℕ) → slice_get offers p ≡ Some o → lifecycle p ≡ Some id → o.options.lifecycle_id ≡ Some id
   its_id p o id at_p e = sym (ids p o at_p) ∙ e
@@ -96,7 +95,7 @@ module _ (message : ℕ → Message) (lifecycle : ℕ → Option ℕ) (mixed : B
     reports_now id h =
         let r : Reported lifecycle (transfer_of x).reports id = reported_at lifecycle (transfer_of x).reports id (sym (ap (λ (z : List ℕ). has id z) a.told_is) ∙ h) in
         let ready : has r.place (transfer_of x).receiver.places ≡ true = claims.reports r.place r.among in
-        let below = kept.epochs.order.kept.outgoing.begun_below r.place (kept.epochs.order.kept.incoming.ready_begun r.place ready) in
+        let below = kept.outgoing.begun_below r.place (kept.incoming.ready_begun r.place ready) in
         let o : (o : Offer) × (slice_get offers r.place ≡ Some o) = offer_at offers r.place (omega (arith, below, few)) in
         record { place = r.place; offer = o.0; there = o.1; its_id = its_id r.place o.0 id o.1 r.its_id; is_ready = ready }
 
@@ -110,9 +109,9 @@ module _ (message : ℕ → Message) (lifecycle : ℕ → Option ℕ) (mixed : B
     pub point : SendsIn message lifecycle mixed (state_of s) (queue_of s) x → (ready : List messages.Message) → (transfer_of x).receiver.ready ≡ map ready_of ready
         → (places more : List ℕ) → places ≡ (transfer_of x).receiver.places ++ more → Point s offers ready gone places
     point sends ready is places more e =
-        let first : take (length ready) places ≡ (transfer_of x).receiver.places = first_places message offers there mixed (transfer_of x) ready kept.epochs.order.kept is places more e in
+        let first : take (length ready) places ≡ (transfer_of x).receiver.places = first_places message offers there mixed (transfer_of x) ready kept is places more e in
         record {
-          fits = subst (λ (ps : List ℕ). Fits offers ready ps) (sym first) (places_fit message offers there mixed (transfer_of x) ready kept.epochs.order.kept few is);
+          fits = subst (λ (ps : List ℕ). Fits offers ready ps) (sym first) (places_fit message offers there mixed (transfer_of x) ready kept few is);
           skipped = subst (λ (ps : List ℕ). SkippedAreGivenUp offers gone ps) (sym first) skipped_now;
           reports = subst (λ (ps : List ℕ). ReportsAreTrue offers s.told ps) (sym first) reports_now;
           once = a.once;

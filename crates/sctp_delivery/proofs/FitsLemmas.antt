@@ -75,16 +75,21 @@ module _ (all : List Offer) where
 
 -- ---- what the values show of what became ready
 
-module _ (message : ℕ → Message) (mixed : Bool) (handed : List messages.Message) (x : Direction) where
-  fresh_ready : IsFresh message mixed handed x → (transfer_of x).receiver.ready ≡ map ready_of (handed ++ [])
-  fresh_ready h =
-      let r = h.receives defaults 0 in
-      subst (λ (ms : List messages.Message). (transfer_of x).receiver.ready ≡ map ready_of (ms ++ [])) (sym h.none_handed) (sym r.shows.ready_is ∙ r.seen_as.ready)
-
-  pub ready_is : (s : State) → ReceivesIn message mixed s handed x → (transfer_of x).receiver.ready ≡ map ready_of (handed ++ ready_in s)
-  ready_is Closed h = fresh_ready h
-  ready_is (CookieWait tag first t1) h = fresh_ready h
-  ready_is (Open phase t) h = sym h.receives.shows.ready_is ∙ h.receives.seen_as.ready
+pub ready_is : (message : ℕ → Message) (mixed : Bool) (s : State) (handed : List messages.Message) (x : Direction) → ReceivesIn message mixed s handed x
+    → (transfer_of x).receiver.ready ≡ map ready_of (handed ++ ready_in s)
+ready_is message mixed Closed handed x h = fresh_ready handed h
+  where
+    fresh_ready : (handed : List messages.Message) → IsFresh message mixed handed x → (transfer_of x).receiver.ready ≡ map ready_of (handed ++ [])
+    fresh_ready handed h =
+        let r = h.receives defaults 0 in
+        subst (λ (ms : List messages.Message). (transfer_of x).receiver.ready ≡ map ready_of (ms ++ [])) (sym h.none_handed) (sym r.shows.ready_is ∙ r.seen_as.ready)
+ready_is message mixed (CookieWait tag first t1) handed x h = fresh_ready handed h
+  where
+    fresh_ready : (handed : List messages.Message) → IsFresh message mixed handed x → (transfer_of x).receiver.ready ≡ map ready_of (handed ++ [])
+    fresh_ready handed h =
+        let r = h.receives defaults 0 in
+        subst (λ (ms : List messages.Message). (transfer_of x).receiver.ready ≡ map ready_of (ms ++ [])) (sym h.none_handed) (sym r.shows.ready_is ∙ r.seen_as.ready)
+ready_is message mixed (Open phase t) handed x h = sym h.receives.shows.ready_is ∙ h.receives.seen_as.ready
 
 -- ---- it fits
 

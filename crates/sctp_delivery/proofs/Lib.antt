@@ -8,6 +8,7 @@ pub mod ReadingLemmas
 pub mod ReadingDataLemmas
 pub mod ReadingSackLemmas
 pub mod ResetEventsLemmas
+pub mod CourseResetLemmas
 pub mod SenderToolLemmas
 pub mod SenderAsksLemmas
 pub mod SenderHeavyLemmas

@@ -168,7 +168,7 @@ outgoing_has (send_request s) h = refl
 outgoing_has (perform r) h = refl
 outgoing_has (commit s) h = refl
 
-outgoing : (message : ℕ → Message) (mixed : Bool) (x y : Direction) → GoesOn message mixed goes_out x y → GoesOn message mixed is_outgoing x y
+pub outgoing : (message : ℕ → Message) (mixed : Bool) (x y : Direction) → GoesOn message mixed goes_out x y → GoesOn message mixed is_outgoing x y
 outgoing message mixed x y g = record {
   events = g.events;
   may = g.may;
