@@ -28,7 +28,7 @@ less m n l d = elim (cases_lt m n) [ inl k ↦ k | inr g ↦ absurd (d (omega (a
 -- ---- the end that asked
 
 -- The answer settles nothing, or it is to the last ask, which was performed, and its streams go on. None is denied.
-module _ (first answered done : ℕ) (asks : List Ask) (q : Queue) (r : Requests) (asking : IsAsking first answered asks q r) (below : done ≤ length asks) (few : length asks < 2 ^ 32) where
+module _ (first answered done : ℕ) (asks : List Ask) (q : Queue) (r : Requests) (asking : IsAsking first answered asks q r) (below : answered ≤ done) (few : done < 2 ^ 32) where
   abbrev Settles : (number result : ℕ) → Type 0
   Settles number result =
       (outcome number result r.current ≡ Unsettled)
@@ -44,7 +44,7 @@ module _ (first answered done : ℕ) (asks : List Ask) (q : Queue) (r : Requests
       | inr d ↦
           let s = said (ap not (ne_eqb result in_progress d)) in
           let at_below = s.below in
-          let at_is : s.at ≡ answered = number_once first s.at answered (omega (arith, at_below, below, few)) (omega (arith, long, few)) (sym s.number_is ∙ sym same) in
+          let at_is : s.at ≡ answered = number_once first s.at answered (omega (arith, at_below, few)) (omega (arith, below, few)) (sym s.number_is ∙ sym same) in
           elim s.told [
             | inl p ↦ inr (c.ask, c.there, omega (arith, at_below, at_is), whole ∙ (ap by_result p ∙ ap Done c.says.streams))
             | inr m ↦ absurd (omega (arith, m, at_is, long))

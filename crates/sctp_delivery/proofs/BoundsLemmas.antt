@@ -1,5 +1,5 @@
--- Whether a course keeps the windows, computed; and a course that does, in which two messages are delivered.
-use Rattle.std.proofs.Common.{◌≡◌, ℕ, ◌+◌, ◌^◌, ◌<◌, ◌&&◌, ◌||◌, Bool, true, false, Option, Some, None, List, [], ◌∷◌, length, slice_get, All, refl, ap, subst}
+-- Whether a course keeps the windows, and whether its requests are answered in time, computed; and a course that does, in which two messages are delivered.
+use Rattle.std.proofs.Common.{◌≡◌, ℕ, ◌+◌, ◌-◌, ◌^◌, ◌<◌, ◌&&◌, ◌||◌, Bool, true, false, Option, Some, None, List, [], ◌∷◌, length, slice_get, All, refl, ap, subst}
 use Rattle.std.specs.Prelude.{nat_lt, nat_le}
 use Rattle.std.proofs.lemmas.Bool.{and_parts, leb-true, ltb-true}
 use Rattle.std.proofs.lemmas.List.Elements.{All-nil, All-cons}
@@ -18,12 +18,13 @@ use Rattle.sctp_outstanding.specs.Item.{Item}
 use Rattle.sctp_outstanding.specs.Items.{next_number}
 use Rattle.sctp_table.specs.Association.{Tcb, State, Closed, CookieWait, Open}
 use Rattle.sctp_table.specs.Time.{ticked}
-use Rattle.sctp_course.specs.Course.{Pair, Turn, Calls, Gives, Refuses, goes, state_of}
+use Rattle.sctp_course.specs.Course.{Pair, Turn, Calls, Gives, Refuses, goes, run, side_of, state_of}
 use Rattle.sctp_course.specs.Opens.{at_first}
 use Rattle.sctp_course.specs.Handing.{two_come}
 use Rattle.sctp_course.proofs.HandedCourseLemmas.{one_handed}
-use Rattle.sctp_delivery.specs.Windows.{IsNearNext, KeepsWithin, IsWithin, AreWithin, queue_of, Stamp, stamp, Stamps, no_stamps, stamps_after, stamps_for, IsYoung, IsTimely, KeepsWindows}
+use Rattle.sctp_delivery.specs.Windows.{numbered, IsNearNext, KeepsWithin, IsWithin, AreWithin, queue_of, Stamp, stamp, Stamps, no_stamps, stamps_after, stamps_for, IsYoung, IsTimely, KeepsWindows}
 use Rattle.sctp_delivery.specs.Accepted.{accepted}
+use Rattle.sctp_delivery.specs.Answered.{Asked, none_asked, asked_after, AreAnswered, KeepsRequests, performed_in, KeepsResets}
 use Rattle.sctp_delivery.specs.Delivery.{plain, TwoAreDelivered}
 
 -- ---- an end
@@ -133,6 +134,31 @@ windows_kept (e ∷ es) w s h =
     let rest = and_parts (is_timely e.1 (stamp w) (stamps_for e.0 s)) (keeps_windows es (goes e.0 e.1 w) (stamps_after e.0 e.1 w s)) first.1 in
     (both_within_true w first.0, timely_true e.1 (stamp w) (stamps_for e.0 s) rest.0, windows_kept es (goes e.0 e.1 w) (stamps_after e.0 e.1 w s) rest.1)
 
+-- ---- requests
+
+-- few enough were numbered, whatever waits
+abbrev pub is_few : State → ℕ → Bool
+is_few s n = nat_lt (numbered s) (n + 2 ^ 30)
+
+abbrev pub both_few : Pair → Asked → Bool
+both_few w k = is_few (state_of w.a) k.a && is_few (state_of w.b) k.b
+
+unfoldable pub keeps_requests : List (Bool × Turn) → Pair → Asked → Bool
+keeps_requests [] w k = both_few w k
+keeps_requests (e ∷ es) w k = both_few w k && keeps_requests es (goes e.0 e.1 w) (asked_after e.0 e.1 w k)
+
+few_answered : (w : Pair) (k : Asked) → both_few w k ≡ true → AreAnswered w k
+few_answered w k h =
+    let p = and_parts (is_few (state_of w.a) k.a) (is_few (state_of w.b) k.b) h in
+    record { a = λ n e. ltb-true (numbered (state_of w.a)) (k.a + 2 ^ 30) p.0; b = λ n e. ltb-true (numbered (state_of w.b)) (k.b + 2 ^ 30) p.1 }
+
+pub requests_kept : (es : List (Bool × Turn)) (w : Pair) (k : Asked) → keeps_requests es w k ≡ true → KeepsRequests es w k
+unfolding keeps_requests
+requests_kept [] w k h = few_answered w k h
+requests_kept (e ∷ es) w k h =
+    let p = and_parts (both_few w k) (keeps_requests es (goes e.0 e.1 w) (asked_after e.0 e.1 w k)) h in
+    (few_answered w k p.0, requests_kept es (goes e.0 e.1 w) (asked_after e.0 e.1 w k) p.1)
+
 -- ---- the course, computed
 
 windows_are : keeps_windows two_come at_first no_stamps ≡ true
@@ -144,6 +170,18 @@ unfolding next_u32 next_u64 be16 be32 be64 padded_item inner_items parameter_val
 few_accepted true = ltb-true 2 (2 ^ 32) refl
 few_accepted false = ltb-true 0 (2 ^ 32) refl
 
+requests_are : keeps_requests two_come at_first none_asked ≡ true
+unfolding keeps_requests next_u32 next_u64 be16 be32 be64 padded_item inner_items parameter_value cause_value cause_text joined chunk_bytes chunks_bytes chunk_value data_value idata_value init_fields block_bytes sack_value skip_bytes forward_value cookie_bytes capability_bytes cookie_from read_cookie ticked
+requests_are = refl
+
+few_performed : (x : Bool) → performed_in (side_of x (run two_come at_first)).told < 2 ^ 32 - 1
+unfolding next_u32 next_u64 be16 be32 be64 padded_item inner_items parameter_value cause_value cause_text joined chunk_bytes chunks_bytes chunk_value data_value idata_value init_fields block_bytes sack_value skip_bytes forward_value cookie_bytes capability_bytes cookie_from read_cookie ticked
+few_performed true = ltb-true 0 (2 ^ 32 - 1) refl
+few_performed false = ltb-true 0 (2 ^ 32 - 1) refl
+
+resets_kept : KeepsResets two_come at_first
+resets_kept = record { answered = requests_kept two_come at_first none_asked requests_are; few = few_performed }
+
 two_accepted : accepted true two_come at_first ≡ plain 97 ∷ plain 98 ∷ []
 unfolding next_u32 next_u64 be16 be32 be64 padded_item inner_items parameter_value cause_value cause_text joined chunk_bytes chunks_bytes chunk_value data_value idata_value init_fields block_bytes sack_value skip_bytes forward_value cookie_bytes capability_bytes cookie_from read_cookie ticked
 two_accepted = refl
@@ -154,7 +192,7 @@ two_delivered = record {
   not_ended = one_handed.not_ended;
   bounds = record {
     windows = windows_kept two_come at_first no_stamps windows_are;
-    streams = refl;
+    resets = resets_kept;
     few = few_accepted;
     limits = refl;
   };

@@ -1,7 +1,7 @@
 -- What an end's values and packets say of one direction of an association, by the rules with epochs: as its sender, and as its receiver.
 -- One end acts, and the state that the rules had before its turn is `from`.
 use Rattle.std.proofs.Common.{◌≡◌, ℕ, suc, ◌+◌, ◌-◌, ◌^◌, ◌<◌, ◌≤◌, Bool, true, false, Option, Some, List, [], ◌∷◌, ◌++◌, length, slice_get, All}
-use Rattle.std.specs.Prelude.{⊤}
+use Rattle.std.specs.Prelude.{◌⊎◌, ⊤}
 use Rattle.std.specs.List.{list_all}
 use Rattle.sctp_serial.specs.Messages as messages
 use Rattle.sctp_serial.specs.Unwrapped.{origin, words, wire}
@@ -206,13 +206,15 @@ module _ (message : ℕ → Message) (lifecycle : ℕ → Option ℕ) (mixed : B
   SendsIn (Open phase t) q x = IsSending t q x
 
   -- Each chunk that it puts into a packet or tells, now and behind what was told before. These streams were to be reset in the turn. A
-  -- request that waits goes out before 2^30 fragments more are numbered. Each answer is told, and none as failed.
+  -- request that waits goes out before 2^30 fragments more are numbered; it waited before, or is of this turn. Each answer is told, and
+  -- none as failed.
   pub record SenderClaim (from : Direction) (prepared : List ℕ) (m : Making Carried) (x : Direction) : Type 0 where
     pub kept : IsKept message mixed x
     pub goes : GoesOn message mixed goes_out from x
     pub done : x.done ≡ from.done
     pub shown : SendsIn m.state m.context.queue x
     pub near : (a : Ask) → slice_get x.asks x.answered ≡ Some a → count (transfer_of from).sender < a.upto + 2 ^ 30
+    pub since : (a : Ask) → slice_get x.asks x.answered ≡ Some a → (slice_get from.asks x.answered ≡ Some a) ⊎ (count (transfer_of from).sender ≤ a.upto)
     pub gone : recorded m.context.told ≡ given_ups (of_transfer goes.events)
     pub reported : Reports lifecycle (transfer_of from) (transfer_of x) [] m.context.told.events
     pub performed : x.answered ≡ from.answered + performed_in m.context.told.events

@@ -5,18 +5,22 @@ use Rattle.std.proofs.lemmas.List.{length-append}
 use Rattle.std.proofs.lemmas.List.Elements.{All-head, All-tail, All-weaker}
 use Rattle.std.specs.Prelude.{⊤}
 use Rattle.sctp_serial.specs.Messages as messages
+use Rattle.sctp_wire.specs.Parameter.{ParameterTree, outgoing_reset_request, incoming_reset_request, reset_response}
 use Rattle.sctp_packet.specs.Chunk.{ChunkTree, data_chunk, idata_chunk, sack_chunk, re_config_chunk, forward_tsn_chunk, i_forward_tsn_chunk}
 use Rattle.sctp_state.specs.Events.{silent}
-use Rattle.sctp_rules.specs.State.{Message, Transfer, IsAmong, count}
-use Rattle.sctp_rules.specs.Rules.{Event}
-use Rattle.sctp_rules.specs.Kept.{Kept}
-use Rattle.sctp_rules.specs.Written.{AreTheirOwn}
+use Rattle.sctp_rules.specs.State.{Message, IsAmong, count}
+use Rattle.sctp_rules.specs.Resets.{ResetEvent}
+use Rattle.sctp_rules.specs.Based.{InEpochs}
 use Rattle.sctp_table.specs.Association.{State, Closed, CookieWait, Open}
+use Rattle.sctp_table.specs.Requests.{is_final}
 use Rattle.sctp_table.specs.Shown.{Association, association_in}
 use Rattle.sctp_table_laws.specs.Mapped.{Carried}
 use Rattle.sctp_course.specs.Course.{Side, emitted, state_of}
+use Rattle.sctp_delivery.specs.Answered.{performed_in}
+use Rattle.sctp_delivery.specs.Asks.{Ask, SaysOutgoing, SaysIncoming}
+use Rattle.sctp_delivery.specs.StreamEpochs.{StreamEpoch, resets_told, failed_in}
 use Rattle.sctp_delivery.specs.Windows.{Stamp, queue_of}
-use Rattle.sctp_delivery.proofs.ClaimLemmas.{GoesOn, SaysOut, SaysIn, first_out, first_in, IsFlowing, SendsIn, ReceivesIn}
+use Rattle.sctp_delivery.proofs.ClaimLemmas.{Direction, transfer_of, IsKept, GoesOn, SaysOut, SaysIn, first_out, first_in, AreSo, SendsIn, ReceivesIn}
 use Rattle.sctp_delivery.proofs.FilledLemmas.{IsFilled}
 use Rattle.sctp_delivery.proofs.SenderToolLemmas.{Grows, goes_grows, all_out_stay, all_in_stay}
 
@@ -73,26 +77,26 @@ each_at P (q ∷ ps) (s ∷ ss) (suc n) p e h = let r = each_at P ps ss n p e h.
 
 -- of what was acknowledged, and numbered, when a packet was emitted
 abbrev pub Saying : Type 1
-Saying = (least most : ℕ) → Transfer → ChunkTree → Type 0
+Saying = (least most : ℕ) → Direction → ChunkTree → Type 0
 
-pub record IsUnderWay (Says : Saying) (x : Transfer) (most : ℕ) (p : Carried) : Type 0 where
+pub record IsUnderWay (Says : Saying) (x : Direction) (most : ℕ) (p : Carried) : Type 0 where
   pub least : ℕ
-  pub past : least ≤ x.acknowledged
+  pub past : least ≤ (transfer_of x).acknowledged
   pub near : most ≤ least + 2 ^ 30
-  pub below : most ≤ count x.sender
+  pub below : most ≤ count (transfer_of x).sender
   pub says : All (Says least most x) p.chunks
 
-abbrev pub AllUnderWay : Saying → (of : Stamp → ℕ) → Transfer → List Carried → List Stamp → Type 0
+abbrev pub AllUnderWay : Saying → (of : Stamp → ℕ) → Direction → List Carried → List Stamp → Type 0
 AllUnderWay Says of x ps ss = Each (λ stamp p. IsUnderWay Says x (of stamp) p) ps ss
 
 module _ (message : ℕ → Message) (mixed : Bool) where
   abbrev pub says_out : (first : ℕ) → Saying
-  says_out first = λ least most x chunk. SaysOut message mixed first least x chunk
+  says_out first = λ least most x chunk. SaysOut message mixed first least most x chunk
 
   abbrev pub says_in : (first : ℕ) → Saying
   says_in first = λ least most x chunk. SaysIn first least most x chunk
 
-  under_way_on : (Says New : Saying) (x y : Transfer) → Grows message mixed x y
+  under_way_on : (Says New : Saying) (x y : Direction) → Grows message mixed x y
       → ((least most : ℕ) (chunks : List ChunkTree) → All (Says least most x) chunks → All (New least most y) chunks) → (most : ℕ) (p : Carried)
       → IsUnderWay Says x most p → IsUnderWay New y most p
   under_way_on Says New x y g f most p h =
@@ -109,14 +113,14 @@ module _ (message : ℕ → Message) (mixed : Bool) where
       }
 
   -- what was said stays true along rules
-  pub out_on : (kind : Event → Bool) (x y : Transfer) → Kept message mixed x → GoesOn message mixed kind x y → (first : ℕ) (of : Stamp → ℕ) (ps : List Carried) (ss : List Stamp)
+  pub out_on : (kind : ResetEvent → Bool) (x y : Direction) → InEpochs message mixed x.rules → GoesOn message mixed kind x y → (first : ℕ) (of : Stamp → ℕ) (ps : List Carried) (ss : List Stamp)
       → AllUnderWay (says_out first) of x ps ss → AllUnderWay (says_out first) of y ps ss
   out_on kind x y k g first of ps ss h =
       each_weaker (λ stamp p. IsUnderWay (says_out first) x (of stamp) p) (λ stamp p. IsUnderWay (says_out first) y (of stamp) p)
       (λ stamp p. under_way_on (says_out first) (says_out first) x y (goes_grows message mixed kind x y k g)
-      (λ least most chunks. all_out_stay message mixed kind x y k g first least chunks) (of stamp) p) ps ss h
+      (λ least most chunks. all_out_stay message mixed kind x y k g first least most chunks) (of stamp) p) ps ss h
 
-  pub in_on : (kind : Event → Bool) (x y : Transfer) → Kept message mixed x → GoesOn message mixed kind x y → (first : ℕ) (of : Stamp → ℕ) (ps : List Carried) (ss : List Stamp)
+  pub in_on : (kind : ResetEvent → Bool) (x y : Direction) → InEpochs message mixed x.rules → GoesOn message mixed kind x y → (first : ℕ) (of : Stamp → ℕ) (ps : List Carried) (ss : List Stamp)
       → AllUnderWay (says_in first) of x ps ss → AllUnderWay (says_in first) of y ps ss
   in_on kind x y k g first of ps ss h =
       each_weaker (λ stamp p. IsUnderWay (says_in first) x (of stamp) p) (λ stamp p. IsUnderWay (says_in first) y (of stamp) p)
@@ -126,20 +130,36 @@ module _ (message : ℕ → Message) (mixed : Bool) where
   -- ---- the first TSN is that of the association, which stands
 
   -- where nothing was sent, whichever it is
-  out_anew : (x : Transfer) → count x.sender ≡ 0 → x.forward_points ≡ [] → (first new least : ℕ) (chunk : ChunkTree)
-      → SaysOut message mixed first least x chunk → SaysOut message mixed new least x chunk
-  out_anew x none no_points first new least (data_chunk tsn is_immediate f) h = let b = h.1.carries.below in absurd (omega (arith, none, b))
-  out_anew x none no_points first new least (idata_chunk tsn is_immediate f) h = let b = h.1.carries.below in absurd (omega (arith, none, b))
-  out_anew x none no_points first new least (forward_tsn_chunk tsn skipped) h = absurd (subst (λ z. IsAmong h.point z) no_points h.sent)
-  out_anew x none no_points first new least (i_forward_tsn_chunk tsn skipped) h = absurd (subst (λ z. IsAmong h.point z) no_points h.sent)
-  out_anew x none no_points first new least (re_config_chunk parameters) h = h
-  out_anew x none no_points first new least chunk h = h
+  asks_anew : (asks : List Ask) → asks ≡ [] → (first new most : ℕ) (p : ParameterTree) → SaysOutgoing first most asks p → SaysOutgoing new most asks p
+  asks_anew asks none first new most (outgoing_reset_request number response last_tsn streams) h =
+      absurd (none_some h.ask (ap (λ (l : List Ask). slice_get l h.at) (sym none) ∙ h.there))
+    where
+      none_some : (a : Ask) → None ≡ Some a → ⊥
+      none_some a e = cc
+  asks_anew asks none first new most (incoming_reset_request number streams) h = h
+  asks_anew asks none first new most p h = tt
 
-  in_anew : (x : Transfer) → x.sacks ≡ [] → (first new least most : ℕ) (chunk : ChunkTree) → SaysIn first least most x chunk → SaysIn new least most x chunk
-  in_anew x no_sacks first new least most (sack_chunk k) h = absurd (subst (λ z. IsAmong h.point z) no_sacks h.sent)
-  in_anew x no_sacks first new least most chunk h = h
+  answers_anew : (done asked : ℕ) → done ≡ 0 → (first new : ℕ) (p : ParameterTree) → SaysIncoming first done asked p → SaysIncoming new done asked p
+  answers_anew done asked none first new (reset_response number result sender receiver) h = λ final. let l = (h final).below in absurd (omega (arith, none, l))
+  answers_anew done asked none first new p h = tt
 
-  anew : (Says New : Saying) (x : Transfer) → ((least most : ℕ) (chunk : ChunkTree) → Says least most x chunk → New least most x chunk) → (of : Stamp → ℕ)
+  out_anew : (x : Direction) → count (transfer_of x).sender ≡ 0 → (transfer_of x).forward_points ≡ [] → x.asks ≡ [] → (first new least most : ℕ) (chunk : ChunkTree)
+      → SaysOut message mixed first least most x chunk → SaysOut message mixed new least most x chunk
+  out_anew x none no_points no_asks first new least most (data_chunk tsn is_immediate f) h = let b = h.1.carries.below in absurd (omega (arith, none, b))
+  out_anew x none no_points no_asks first new least most (idata_chunk tsn is_immediate f) h = let b = h.1.carries.below in absurd (omega (arith, none, b))
+  out_anew x none no_points no_asks first new least most (forward_tsn_chunk tsn skipped) h = absurd (subst (λ z. IsAmong h.point z) no_points h.sent)
+  out_anew x none no_points no_asks first new least most (i_forward_tsn_chunk tsn skipped) h = absurd (subst (λ z. IsAmong h.point z) no_points h.sent)
+  out_anew x none no_points no_asks first new least most (re_config_chunk parameters) h =
+      All-weaker (SaysOutgoing first most x.asks) (SaysOutgoing new most x.asks) (λ p. asks_anew x.asks no_asks first new most p) parameters h
+  out_anew x none no_points no_asks first new least most chunk h = h
+
+  in_anew : (x : Direction) → (transfer_of x).sacks ≡ [] → x.done ≡ 0 → (first new least most : ℕ) (chunk : ChunkTree) → SaysIn first least most x chunk → SaysIn new least most x chunk
+  in_anew x no_sacks none first new least most (sack_chunk k) h = absurd (subst (λ z. IsAmong h.point z) no_sacks h.sent)
+  in_anew x no_sacks none first new least most (re_config_chunk parameters) h =
+      All-weaker (SaysIncoming first x.done (length x.asks)) (SaysIncoming new x.done (length x.asks)) (λ p. answers_anew x.done (length x.asks) none first new p) parameters h
+  in_anew x no_sacks none first new least most chunk h = h
+
+  anew : (Says New : Saying) (x : Direction) → ((least most : ℕ) (chunk : ChunkTree) → Says least most x chunk → New least most x chunk) → (of : Stamp → ℕ)
       (ps : List Carried) (ss : List Stamp) → AllUnderWay Says of x ps ss → AllUnderWay New of x ps ss
   anew Says New x f of ps ss h =
       each_weaker (λ stamp p. IsUnderWay Says x (of stamp) p) (λ stamp p. IsUnderWay New x (of stamp) p)
@@ -160,59 +180,71 @@ initial mine None = 0
 initial true (Some a) = a.my_initial_tsn
 initial false (Some a) = a.peer_initial_tsn
 
-module _ (message : ℕ → Message) (lifecycle : ℕ → Option ℕ) (mixed : Bool) (of : Stamp → ℕ) (x : Transfer) where
+pub none_stands : {a : Association} → None ≡ Some a → ⊥
+none_stands e = cc
+
+-- of the sender: its first TSN is the same
+pub same_out : (message : ℕ → Message) (lifecycle : ℕ → Option ℕ) (mixed : Bool) (p : _) (t : _) (next : _) (u : _) (q r : _) (x y : Direction) → SendsIn message lifecycle mixed (Open p t) q x
+    → SendsIn message lifecycle mixed (Open next u) r y → Stands (Open p t) (Open next u) → t.sender.outstanding.first ≡ u.sender.outstanding.first
+same_out message lifecycle mixed p t next u q r x y h k f = h.first ∙ (sym (ap (initial true) (f _ refl)) ∙ sym k.first)
+
+module _ (message : ℕ → Message) (lifecycle : ℕ → Option ℕ) (mixed : Bool) (of : Stamp → ℕ) (x : Direction) where
   -- after a turn of the sender
-  pub out_first : (s t : State) (q r : _) (y : Transfer) → SendsIn message lifecycle mixed s q x → SendsIn message lifecycle mixed t r y → Stands s t
+  pub out_first : (s t : State) (q r : _) (y : Direction) → SendsIn message lifecycle mixed s q x → SendsIn message lifecycle mixed t r y → Stands s t
       → (ps : List Carried) (ss : List Stamp) → AllUnderWay (says_out message mixed (first_out s)) of x ps ss → AllUnderWay (says_out message mixed (first_out t)) of x ps ss
   out_first Closed t q r y h k f ps ss a =
-      anew message mixed (says_out message mixed 0) (says_out message mixed (first_out t)) x (λ least most. out_anew message mixed x (ap count h.sender) h.no_points 0 (first_out t) least) of ps ss a
+      anew message mixed (says_out message mixed 0) (says_out message mixed (first_out t)) x
+      (λ least most. out_anew message mixed x (ap count h.sender) h.no_points h.none_asked 0 (first_out t) least most) of ps ss a
   out_first (CookieWait tag first t1) t q r y h k f ps ss a =
-      anew message mixed (says_out message mixed 0) (says_out message mixed (first_out t)) x (λ least most. out_anew message mixed x (ap count h.sender) h.no_points 0 (first_out t) least) of ps ss a
-  out_first (Open phase t) Closed q r y h k f ps ss a = absurd (none_some (f _ refl))
-    where
-      none_some : {a : Association} → None ≡ Some a → ⊥
-      none_some e = cc
-  out_first (Open phase t) (CookieWait tag first t1) q r y h k f ps ss a = absurd (none_some (f _ refl))
-    where
-      none_some : {a : Association} → None ≡ Some a → ⊥
-      none_some e = cc
+      anew message mixed (says_out message mixed 0) (says_out message mixed (first_out t)) x
+      (λ least most. out_anew message mixed x (ap count h.sender) h.no_points h.none_asked 0 (first_out t) least most) of ps ss a
+  out_first (Open phase t) Closed q r y h k f ps ss a = absurd (none_stands (f _ refl))
+  out_first (Open phase t) (CookieWait tag first t1) q r y h k f ps ss a = absurd (none_stands (f _ refl))
   out_first (Open phase t) (Open next u) q r y h k f ps ss a =
-      subst (λ (n : ℕ). AllUnderWay (says_out message mixed n) of x ps ss) (h.first ∙ (sym (ap (initial true) (f _ refl)) ∙ sym k.first)) a
+      subst (λ (n : ℕ). AllUnderWay (says_out message mixed n) of x ps ss) (same_out message lifecycle mixed phase t next u q r x y h k f) a
 
   -- and of the receiver
-  pub in_first : (s t : State) (before after : List messages.Message) (y : Transfer) → ReceivesIn message mixed s before x → ReceivesIn message mixed t after y → Stands s t
+  pub in_first : (s t : State) (before after : List messages.Message) (y : Direction) → ReceivesIn message mixed s before x → ReceivesIn message mixed t after y → Stands s t
       → (ps : List Carried) (ss : List Stamp) → AllUnderWay (says_in message mixed (first_in s)) of x ps ss → AllUnderWay (says_in message mixed (first_in t)) of x ps ss
   in_first Closed t before after y h k f ps ss a =
-      anew message mixed (says_in message mixed 0) (says_in message mixed (first_in t)) x (λ least most. in_anew message mixed x h.no_sacks 0 (first_in t) least most) of ps ss a
+      anew message mixed (says_in message mixed 0) (says_in message mixed (first_in t)) x
+      (λ least most. in_anew message mixed x h.no_sacks h.none_done 0 (first_in t) least most) of ps ss a
   in_first (CookieWait tag first t1) t before after y h k f ps ss a =
-      anew message mixed (says_in message mixed 0) (says_in message mixed (first_in t)) x (λ least most. in_anew message mixed x h.no_sacks 0 (first_in t) least most) of ps ss a
-  in_first (Open phase t) Closed before after y h k f ps ss a = absurd (none_some (f _ refl))
-    where
-      none_some : {a : Association} → None ≡ Some a → ⊥
-      none_some e = cc
-  in_first (Open phase t) (CookieWait tag first t1) before after y h k f ps ss a = absurd (none_some (f _ refl))
-    where
-      none_some : {a : Association} → None ≡ Some a → ⊥
-      none_some e = cc
+      anew message mixed (says_in message mixed 0) (says_in message mixed (first_in t)) x
+      (λ least most. in_anew message mixed x h.no_sacks h.none_done 0 (first_in t) least most) of ps ss a
+  in_first (Open phase t) Closed before after y h k f ps ss a = absurd (none_stands (f _ refl))
+  in_first (Open phase t) (CookieWait tag first t1) before after y h k f ps ss a = absurd (none_stands (f _ refl))
   in_first (Open phase t) (Open next u) before after y h k f ps ss a =
       subst (λ (n : ℕ). AllUnderWay (says_in message mixed n) of x ps ss) (h.first ∙ (sym (ap (initial false) (f _ refl)) ∙ sym k.first)) a
 
 -- ---- the direction from s to r
 
+-- What the course so far says of its resets: how the streams stand, the epoch of each message that was accepted, and how many
+-- fragments were numbered before the turn in which the ask that waits was sent.
+pub record SoFar : Type 0 where
+  pub streams : ℕ → StreamEpoch
+  pub epochs : List ℕ
+  pub asked : ℕ
+
 module _ (message : ℕ → Message) (lifecycle : ℕ → Option ℕ) (mixed : Bool) (of : Stamp → ℕ) where
   -- Where so many messages were accepted, these were handed out, and all packets have these stamps. Each message is shorter than
-  -- an FSN tells.
-  pub record Flows (s r : Side) (accepted : ℕ) (handed : List messages.Message) (stamps_s stamps_r : List Stamp) (x : Transfer) : Type 0 where
-    pub kept : Kept message mixed x
-    pub written : AreTheirOwn x.sender x.forward_points
-    pub filled : IsFilled message x.sender
+  -- an FSN tells. Each reset that was performed was told, by both ends.
+  pub record Flows (s r : Side) (accepted : ℕ) (handed : List messages.Message) (stamps_s stamps_r : List Stamp) (so_far : SoFar) (x : Direction) : Type 0 where
+    pub kept : IsKept message mixed x
+    pub filled : IsFilled message (transfer_of x).sender
     pub short : (p : ℕ) → length (message p).payload < 2 ^ 32
     pub sends : SendsIn message lifecycle mixed (state_of s) (queue_of s) x
-    pub flows : IsFlowing (queue_of s)
     pub receives : ReceivesIn message mixed (state_of r) handed x
-    pub accepted_is : x.sender.accepted ≡ accepted
+    pub accepted_is : (transfer_of x).sender.accepted ≡ accepted
     pub out : AllUnderWay (says_out message mixed (first_out (state_of s))) of x (emitted s) stamps_s
     pub answers : AllUnderWay (says_in message mixed (first_in (state_of r))) of x (emitted r) stamps_r
+    pub streams : AreSo so_far.streams x.rules
+    pub many : length so_far.epochs ≡ accepted
+    pub epochs : (p n : ℕ) → slice_get so_far.epochs p ≡ Some n → x.rules.epoch p ≡ n
+    pub asked : (a : Ask) → slice_get x.asks x.answered ≡ Some a → so_far.asked ≤ a.upto
+    pub answered : x.answered ≡ performed_in s.told
+    pub performed : (k : ℕ) → x.rules.performed k ≡ resets_told k r.told
+    pub none_failed : failed_in s.told ≡ false
 
 -- what it told was taken
 pub record IsSilent (x : Side) : Type 0 where

@@ -17,8 +17,8 @@ use Rattle.sctp_table.specs.Association.{State, Closed, CookieWait, Open}
 use Rattle.sctp_table.specs.Calls.{ready_in}
 use Rattle.sctp_delivery.specs.Accepted.{Offer}
 use Rattle.sctp_delivery.specs.Delivery.{message_at, Fits}
-use Rattle.sctp_delivery.proofs.ClaimLemmas.{ReceivesIn, IsFresh}
-use Rattle.sctp_delivery.proofs.GoingLemmas.{message_in, AreOffered}
+use Rattle.sctp_delivery.proofs.ClaimLemmas.{Direction, transfer_of, ReceivesIn, IsFresh}
+use Rattle.sctp_delivery.proofs.TurnLemmas.{message_in, AreOffered}
 
 -- ---- what was accepted, by place
 
@@ -75,20 +75,20 @@ module _ (all : List Offer) where
 
 -- ---- what the values show of what became ready
 
-pub ready_is : (message : ℕ → Message) (mixed : Bool) (s : State) (handed : List messages.Message) (x : Transfer) → ReceivesIn message mixed s handed x
-    → x.receiver.ready ≡ map ready_of (handed ++ ready_in s)
+pub ready_is : (message : ℕ → Message) (mixed : Bool) (s : State) (handed : List messages.Message) (x : Direction) → ReceivesIn message mixed s handed x
+    → (transfer_of x).receiver.ready ≡ map ready_of (handed ++ ready_in s)
 ready_is message mixed Closed handed x h = fresh_ready handed h
   where
-    fresh_ready : (handed : List messages.Message) → IsFresh message mixed handed x → x.receiver.ready ≡ map ready_of (handed ++ [])
+    fresh_ready : (handed : List messages.Message) → IsFresh message mixed handed x → (transfer_of x).receiver.ready ≡ map ready_of (handed ++ [])
     fresh_ready handed h =
         let r = h.receives defaults 0 in
-        subst (λ (ms : List messages.Message). x.receiver.ready ≡ map ready_of (ms ++ [])) (sym h.none_handed) (sym r.shows.ready_is ∙ r.seen_as.ready)
+        subst (λ (ms : List messages.Message). (transfer_of x).receiver.ready ≡ map ready_of (ms ++ [])) (sym h.none_handed) (sym r.shows.ready_is ∙ r.seen_as.ready)
 ready_is message mixed (CookieWait tag first t1) handed x h = fresh_ready handed h
   where
-    fresh_ready : (handed : List messages.Message) → IsFresh message mixed handed x → x.receiver.ready ≡ map ready_of (handed ++ [])
+    fresh_ready : (handed : List messages.Message) → IsFresh message mixed handed x → (transfer_of x).receiver.ready ≡ map ready_of (handed ++ [])
     fresh_ready handed h =
         let r = h.receives defaults 0 in
-        subst (λ (ms : List messages.Message). x.receiver.ready ≡ map ready_of (ms ++ [])) (sym h.none_handed) (sym r.shows.ready_is ∙ r.seen_as.ready)
+        subst (λ (ms : List messages.Message). (transfer_of x).receiver.ready ≡ map ready_of (ms ++ [])) (sym h.none_handed) (sym r.shows.ready_is ∙ r.seen_as.ready)
 ready_is message mixed (Open phase t) handed x h = sym h.receives.shows.ready_is ∙ h.receives.seen_as.ready
 
 -- ---- it fits

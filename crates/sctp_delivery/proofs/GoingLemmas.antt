@@ -1,4 +1,4 @@
--- Each turn of a course leaves one direction at a later state of the rules.
+-- Each turn of the sender's end leaves one direction at a later state of the rules.
 use Rattle.std.proofs.Common.{◌≡◌, inl, inr, ℕ, ◌+◌, ◌-◌, ◌^◌, ◌<◌, ◌≤◌, ◌==◌, ◌||◌, not, Bool, true, false, Option, Some, None, List, [], ◌∷◌, ◌++◌, length, replicate, take, slice_get, All, refl, sym, ap, subst, ◌∙◌, append-nil, append_assoc, arith}
 use Rattle.std.specs.Prelude.{⊤}
 use Rattle.std.proofs.lemmas.List.Elements.{All-nil}
@@ -10,20 +10,22 @@ use Rattle.sctp_state.specs.declared.api.ErrorKind.TheVariants.{ParseFailed}
 use Rattle.sctp_state.specs.Options.{Options}
 use Rattle.sctp_capabilities.specs.Capabilities.{agreed}
 use Rattle.sctp_state.specs.declared.api.errors.SendError.{SendError}
+use Rattle.sctp_state.specs.declared.api.errors.ResetStreamsError.{ResetStreamsError}
 use Rattle.sctp_state.specs.Events.{Event, Told, OnError}
 use Rattle.sctp_capabilities.proofs.CapabilitiesLemmas.{agreed-exchanged}
 use Rattle.sctp_send_queue.specs.Queue.{Queue}
-use Rattle.sctp_rules.specs.State.{Message, Transfer, count}
-use Rattle.sctp_rules.specs.Rules as rules
-use Rattle.sctp_rules.specs.Claims.{Grows}
-use Rattle.sctp_rules.proofs.GrowsLemmas.{one}
-use Rattle.sctp_tx_rules.specs.Led.{recorded, is_sending, delivered}
+use Rattle.sctp_rules.specs.State.{Message, count}
+use Rattle.sctp_rules.specs.Resets.{Epochs, ResetEvent}
+use Rattle.sctp_rules.specs.Based.{InEpochs, Bracketed}
+use Rattle.sctp_rules.proofs.EpochLawsLemmas.{bracketed}
+use Rattle.sctp_tx_rules.specs.Led.{recorded, delivered}
 use Rattle.sctp_table.specs.Association.{State, Closed, CookieWait, Open, Context, Endpoint, where_open}
 use Rattle.sctp_table.specs.Calls.{ready_in, taken_in, refusal_of, sent_if}
 use Rattle.sctp_table.specs.Opening.{complains}
 use Rattle.sctp_table.specs.Input.{refusal, counts, taken_if}
 use Rattle.sctp_table.specs.Laws.{Call, Connect, Close, Shutdown, Send, SendMany, ResetStreams, TakeMessage, SetLowThreshold, SetPriority, SetMaxMessageSize, Advance, HandOver, Restore, Packet, NoPacket, called, ending, endings, ends, ended_in_call}
 use Rattle.sctp_table.specs.Sending.{send_in}
+use Rattle.sctp_table.specs.Resets.{reset_refusal, reset_if}
 use Rattle.sctp_table_laws.specs.Mapped.{Carried}
 use Rattle.sctp_table_laws.proofs.LawsLemmas.{tells_endings}
 use Rattle.sctp_course.specs.Acts.{Making, calm, end_of, HasNoEnd, KeepsUntilEnd}
@@ -36,88 +38,105 @@ use Rattle.sctp_course.proofs.HandingActsLemmas.{Readies, readies}
 use Rattle.sctp_course.proofs.HandingLemmas.{hands}
 use Rattle.sctp_delivery.specs.Accepted.{Offer, accepted_by, accepted_in}
 use Rattle.sctp_delivery.specs.GivenUp.{told_of, told_given, told_foreign, told_by, given_up_by}
-use Rattle.sctp_delivery.specs.Windows.{Stamp, IsYoung, IsTimely, IsWithin, queue_of, numbered, stamped, resets}
-use Rattle.sctp_delivery.proofs.ClaimLemmas.{GoesOn, IsFlowing, SaysOut, first_out, first_in, SendsIn, ReceivesIn, SenderClaim, HearsSacks, SenderGoes, SenderPremises, ReceiverGoes, ReceiverPremises}
+use Rattle.sctp_delivery.specs.Windows.{Stamp, IsYoung, IsTimely, IsWithin, queue_of, numbered, stamped}
+use Rattle.sctp_delivery.specs.Proper.{reset_unless, reset_by}
+use Rattle.sctp_delivery.specs.Asks.{Ask}
+use Rattle.sctp_delivery.specs.Answered.{asked_by, IsAnswered, performed_in}
+use Rattle.sctp_delivery.specs.StreamEpochs.{StreamEpoch, shut, reopened, performed_of, epochs_of, failed_in}
+use Rattle.sctp_delivery.proofs.ClaimLemmas.{Direction, transfer_of, goes_out, GoesOn, SaysOut, first_out, first_in, AreSo, SendsIn, ReceivesIn, SenderClaim, HearsSacks, SenderGoes, SenderPremises, ReceiverGoes, ReceiverPremises}
 use Rattle.sctp_delivery.proofs.FrameLemmas.{is_other, KeepsJoined, Joined, not_other, frame, joined_call}
-use Rattle.sctp_delivery.proofs.SenderToolLemmas.{reports_none}
+use Rattle.sctp_delivery.proofs.SenderToolLemmas.{goes_none, goes_on, reports_none}
+use Rattle.sctp_delivery.proofs.ResetEventsLemmas.{resets_in, performed_counts, performed_names, failed_still}
+use Rattle.sctp_delivery.proofs.CourseResetLemmas.{told_turned, asked_again}
+use Rattle.sctp_delivery.proofs.ResetCallLemmas as calls
 use Rattle.sctp_delivery.proofs.WithinLemmas.{numbered_is, Holds}
-use Rattle.sctp_delivery.proofs.DirectionLemmas.{AtStamp, each_at, IsUnderWay, says_in, Stands, Flows, IsSilent}
-use Rattle.sctp_delivery.proofs.PremisesLemmas.{in_window, IsNoPacket, hears_no_sacks, hears_sacks, holds_of, sender_premises, begins_out}
-use Rattle.sctp_delivery.proofs.TurnLemmas.{Offers, offers_none, Stay, is_outgoing, after_turn, ends_out}
+use Rattle.sctp_delivery.proofs.DirectionLemmas.{AtStamp, each_at, IsUnderWay, says_in, Stands, SoFar, Flows, IsSilent}
+use Rattle.sctp_delivery.proofs.PremisesLemmas.{AsksSoon, in_window, IsNoPacket, hears_no_sacks, hears_sacks, holds_of, sender_premises, begins_out}
+use Rattle.sctp_delivery.proofs.TurnLemmas.{message_in, AreOffered, Offers, offers_none, Stay, is_outgoing, outgoing, so_again, after_turn, so_far_then, ends_out}
 use Rattle.sctp_delivery.proofs.AccountLemmas.{Accounted, accounts_still, accounts_out}
 
--- ---- what becomes ready only grows
+-- ---- what becomes ready is of its epoch
 
 module _ (message : ℕ → Message) (mixed : Bool) where
-  places_grow : (es : List rules.Event) (x : Transfer) → Grows x (rules.run message mixed x es)
-  places_grow [] x = ([], sym (append-nil x.receiver.places))
-  places_grow (e ∷ es) x =
-      let a = one message mixed x e in
-      let b = places_grow es (rules.after message mixed x e) in
-      (a.0 ++ b.0, b.1 ∙ (ap (λ (z : List ℕ). z ++ b.0) a.1 ∙ append_assoc x.receiver.places a.0 b.0))
-
-  pub goes_places : (kind : rules.Event → Bool) (x y : Transfer) → GoesOn message mixed kind x y → Grows x y
-  goes_places kind x y g = subst (λ (z : Transfer). Grows x z) g.leads (places_grow g.events x)
-
-pub grow_both : (x y z : Transfer) → Grows x y → Grows y z → Grows x z
-grow_both x y z a b = (a.0 ++ b.0, b.1 ∙ (ap (λ (l : List ℕ). l ++ b.0) a.1 ∙ append_assoc x.receiver.places a.0 b.0))
-
-pub grow_none : (x : Transfer) → Grows x x
-grow_none x = ([], sym (append-nil x.receiver.places))
+  pub goes_bracketed : (kind : ResetEvent → Bool) (x y : Direction) → InEpochs message mixed x.rules → GoesOn message mixed kind x y → Bracketed message x.rules y.rules
+  goes_bracketed kind x y k g = subst (λ (z : Epochs). Bracketed message x.rules z) g.leads (bracketed message mixed g.events x.rules k g.may)
 
 -- ---- what is offered
-
--- the messages of these places, from this one on
-abbrev pub message_in : Offer → Message
-message_in o = record { stream = o.message.stream; ordered = not o.options.unordered; protocol_id = o.message.ppid; payload = o.message.payload }
-
-abbrev pub AreOffered : (ℕ → Message) → (ℕ → Option ℕ) → ℕ → List Offer → Type 0
-AreOffered message lifecycle p [] = ⊤
-AreOffered message lifecycle p (o ∷ os) = (message p ≡ message_in o) × (lifecycle p ≡ o.options.lifecycle_id) × AreOffered message lifecycle (p + 1) os
 
 abbrev pub is_offer : Call → Bool
 is_offer (Send m o) = true
 is_offer (SendMany ms o) = true
 is_offer call = false
 
--- so many are accepted, and fragments go out
-pub record OffersOut (message : ℕ → Message) (lifecycle : ℕ → Option ℕ) (mixed : Bool) (x : Transfer) (n : ℕ) (m : Making Carried) : Type 0 where
-  pub mid : Transfer
-  pub offers : Offers message mixed n x mid
-  pub same : count mid.sender ≡ count x.sender
-  pub to : Transfer
-  pub claim : SenderClaim message lifecycle mixed mid m to
+-- these are accepted, and fragments go out
+pub record OffersOut (message : ℕ → Message) (lifecycle : ℕ → Option ℕ) (mixed : Bool) (x : Direction) (os : List Offer) (m : Making Carried) : Type 0 where
+  pub mid : Direction
+  pub offers : Offers message mixed (length os) x mid
+  pub to : Direction
+  pub claim : SenderClaim message lifecycle mixed mid [] m to
 
 -- ---- what each act keeps
 
 pub record Parts (message : ℕ → Message) (lifecycle : ℕ → Option ℕ) (mixed : Bool) : Type 0 where
   pub stay : Stay message lifecycle mixed
-  pub sender_keeps : (g : Setting) (call : Call) (from : Transfer) → SenderPremises message lifecycle mixed g call from
+  pub sender_keeps : (g : Setting) (call : Call) (from : Direction) → SenderPremises message lifecycle mixed g call from
       → KeepsJoined g call (SenderGoes message lifecycle mixed from)
-  pub receiver_keeps : (g : Setting) (call : Call) (from : Transfer) (handed : List messages.Message) → ReceiverPremises message lifecycle mixed g call from
+  pub receiver_keeps : (g : Setting) (call : Call) (from : Direction) (handed : List messages.Message) → ReceiverPremises message lifecycle mixed g call from
       → KeepsJoined g call (ReceiverGoes message lifecycle mixed from handed)
   -- a message is handed out
-  pub taken_out : (s : State) (q : Queue) (x : Transfer) → SendsIn message lifecycle mixed s q x → SendsIn message lifecycle mixed (taken_in s) q x
-  pub taken_in_turn : (s : State) (handed : List messages.Message) (x : Transfer) → ReceivesIn message mixed s handed x
+  pub taken_out : (s : State) (q : Queue) (x : Direction) → SendsIn message lifecycle mixed s q x → SendsIn message lifecycle mixed (taken_in s) q x
+  pub taken_in_turn : (s : State) (handed : List messages.Message) (x : Direction) → ReceivesIn message mixed s handed x
       → ReceivesIn message mixed (taken_in s) (handed ++ take 1 (ready_in s)) x
   -- messages are offered
-  pub offered_out : (g : Setting) (call : Call) (x : Transfer) (s : Side) → Rules g call → is_offer call ≡ true → SenderPremises message lifecycle mixed g call x
-      → AreOffered message lifecycle x.sender.accepted (accepted_by call s) → x.sender.accepted + length (accepted_by call s) < 2 ^ 32
-      → HasNoEnd (calm (called call s.end)) → InvAt g (calm s.end) → IsSilent s → SendsIn message lifecycle mixed (state_of s) (queue_of s) x → IsFlowing (queue_of s)
-      → OffersOut message lifecycle mixed x (length (accepted_by call s)) (calm (called call s.end))
-  pub offered_in : (g : Setting) (call : Call) (x : Transfer) (s : Side) (handed : List messages.Message) → Rules g call → is_offer call ≡ true
+  pub offered_out : (g : Setting) (call : Call) (x : Direction) (s : Side) → Rules g call → is_offer call ≡ true → SenderPremises message lifecycle mixed g call x
+      → AreOffered message lifecycle (transfer_of x).sender.accepted (accepted_by call s) → (transfer_of x).sender.accepted + length (accepted_by call s) < 2 ^ 32
+      → HasNoEnd (calm (called call s.end)) → InvAt g (calm s.end) → IsSilent s → SendsIn message lifecycle mixed (state_of s) (queue_of s) x → AsksSoon x
+      → OffersOut message lifecycle mixed x (accepted_by call s) (calm (called call s.end))
+  pub offered_in : (g : Setting) (call : Call) (x : Direction) (s : Side) (handed : List messages.Message) → Rules g call → is_offer call ≡ true
       → ReceiverPremises message lifecycle mixed g call x → HasNoEnd (calm (called call s.end)) → InvAt g (calm s.end)
       → ReceiverGoes message lifecycle mixed x handed (calm s.end) (calm (called call s.end))
+  -- streams are to be reset
+  pub prepares_one : (from : Direction) → calls.PreparesOne message lifecycle mixed from
 
 -- ---- where a turn leads
 
 -- of the sender, which told before what `before` did, and gave these up meanwhile
 pub record Turned (message : ℕ → Message) (lifecycle : ℕ → Option ℕ) (mixed : Bool) (of : Stamp → ℕ) (s r : Side) (accepted : ℕ)
-    (handed : List messages.Message) (stamps_s stamps_r : List Stamp) (x : Transfer) (before : Side) (by : List ℕ) : Type 0 where
-  pub to : Transfer
-  pub flows : Flows message lifecycle mixed of s r accepted handed stamps_s stamps_r to
-  pub grows : Grows x to
+    (handed : List messages.Message) (stamps_s stamps_r : List Stamp) (so_far : SoFar) (x : Direction) (before : Side) (by : List ℕ) : Type 0 where
+  pub to : Direction
+  pub flows : Flows message lifecycle mixed of s r accepted handed stamps_s stamps_r so_far to
+  pub bracketed : Bracketed message x.rules to.rules
   pub accounts : (gone : List ℕ) → Accounted lifecycle before gone x → Accounted lifecycle s (gone ++ by) to
+
+-- what the course says then
+abbrev pub so_far_turned : Turn → (s r : Side) → SoFar → SoFar
+so_far_turned t s r k = record {
+  streams = reopened (performed_of (told_by t s r).events) (shut (reset_by t s) k.streams);
+  epochs = k.epochs ++ epochs_of (accepted_in t s) k.streams;
+  asked = asked_by (state_of s) (state_of (turned t s r)) k.asked;
+}
+
+-- it may say the same in other words
+pub flows_again : (message : ℕ → Message) (lifecycle : ℕ → Option ℕ) (mixed : Bool) (of : Stamp → ℕ) (s r : Side) (accepted : ℕ) (handed : List messages.Message)
+    (stamps_s stamps_r : List Stamp) (k l : SoFar) (x : Direction) → ((n : ℕ) → l.streams n ≡ k.streams n) → l.epochs ≡ k.epochs → l.asked ≡ k.asked
+    → Flows message lifecycle mixed of s r accepted handed stamps_s stamps_r k x → Flows message lifecycle mixed of s r accepted handed stamps_s stamps_r l x
+flows_again message lifecycle mixed of s r accepted handed stamps_s stamps_r k l x streams epochs asked f = record {
+  kept = f.kept;
+  filled = f.filled;
+  short = f.short;
+  sends = f.sends;
+  receives = f.receives;
+  accepted_is = f.accepted_is;
+  out = f.out;
+  answers = f.answers;
+  streams = so_again k.streams l.streams x.rules streams f.streams;
+  many = ap (λ (ns : List ℕ). length ns) epochs ∙ f.many;
+  epochs = λ p n h. f.epochs p n (sym (ap (λ (ns : List ℕ). slice_get ns p) epochs) ∙ h);
+  asked = λ a h. subst (λ (n : ℕ). n ≤ a.upto) (sym asked) (f.asked a h);
+  answered = f.answered;
+  performed = f.performed;
+  none_failed = f.none_failed;
+}
 
 pub none_more : (ps : List Carried) (now : Stamp) (ss : List Stamp) → ss ++ replicate (length ps - length ps) now ≡ ss
 none_more ps now ss = ap (λ (n : ℕ). ss ++ replicate n now) (zero_less (length ps)) ∙ append-nil ss
@@ -161,20 +180,6 @@ both_kept k l = record {
   input = λ act none. (k.input act none, l.input act none);
 }
 
--- what a turn tells stands behind what was told
-pub told_turned : (t : Turn) (x y : Side) → (turned t x y).told ≡ x.told ++ (told_by t x y).events
-told_turned (Calls call) x y = refl
-told_turned (Gives which checksum) x y = go (slice_get (emitted y) which)
-  where
-    go : (p : Option Carried) → (given p checksum x).told ≡ x.told ++ (told_given p checksum x).events
-    go None = sym (append-nil x.told)
-    go (Some p) = refl
-told_turned (Refuses p) x y = go (refusal p.header.verification_tag p.chunks (state_of x))
-  where
-    go : (text : Option (List ℕ)) → (foreign_if text p x).told ≡ x.told ++ (told_foreign text p x).events
-    go None = sym (append-nil x.told)
-    go (Some text) = refl
-
 -- a call that leaves an end open, or closed as it was, ends nothing
 none_told : (call : Call) (x : Side) → IsSilent x → ended_in_call call x.end ≡ 0 → endings (told_of (called call x.end)).events ≡ 0
 none_told call x quiet none =
@@ -197,150 +202,210 @@ taken_stays Closed = refl
 taken_stays (CookieWait tag first t1) = refl
 taken_stays (Open phase t) = refl
 
+reset_stays : (o : Option ResetStreamsError) (ids : List ℕ) (s : State) (c : Context Carried) → ends s (reset_if o ids (record { state = s; context = c })).state ≡ 0
+reset_stays None ids s c = open_stays s _
+reset_stays (Some e) ids Closed c = refl
+reset_stays (Some e) ids (CookieWait tag first t1) c = refl
+reset_stays (Some e) ids (Open phase t) c = refl
+
+-- what names no reset
+none_performed : (es : List (Event Carried)) → resets_in es ≡ [] → performed_in es ≡ 0
+none_performed es none = sym (performed_counts es) ∙ ap (λ (fs : List (Event Carried)). performed_in fs) none
+
+none_named : (es : List (Event Carried)) → resets_in es ≡ [] → performed_of es ≡ []
+none_named es none = sym (performed_names es) ∙ ap (λ (fs : List (Event Carried)). performed_of fs) none
+
+none_fails : (es : List (Event Carried)) → resets_in es ≡ [] → failed_in es ≡ false
+none_fails es none = sym (failed_still es) ∙ ap (λ (fs : List (Event Carried)). failed_in fs) none
+
 module _ (message : ℕ → Message) (lifecycle : ℕ → Option ℕ) (mixed : Bool) (of : Stamp → ℕ) (parts : Parts message lifecycle mixed) (o q : Options) (own : AreGiven o)
     (other : AreGiven q) (mode : mixed ≡ (agreed o q).message_interleaving) (s r : Side) (h : Halves o q s r) (quiet_s : IsSilent s) (quiet_r : IsSilent r)
-    (within : IsWithin (state_of s) (queue_of s)) (accepted : ℕ) (handed : List messages.Message) (stamps_s stamps_r : List Stamp) (x : Transfer)
-    (f : Flows message lifecycle mixed of s r accepted handed stamps_s stamps_r x) (now : Stamp) (at_now : of now ≡ numbered (state_of s))
-    (young : (old : Stamp) → IsYoung now old → of now < of old + 2 ^ 30) where
+    (within : IsWithin (state_of s) (queue_of s)) (accepted : ℕ) (handed : List messages.Message) (stamps_s stamps_r : List Stamp) (so_far : SoFar) (x : Direction)
+    (f : Flows message lifecycle mixed of s r accepted handed stamps_s stamps_r so_far x) (soon : IsAnswered (state_of s) so_far.asked) (few_told : performed_in s.told < 2 ^ 32 - 1)
+    (now : Stamp) (at_now : of now ≡ numbered (state_of s)) (young : (old : Stamp) → IsYoung now old → of now < of old + 2 ^ 30) where
   pub holds : Holds message lifecycle mixed x (queue_of s) f.kept
-  holds = holds_of message lifecycle mixed of o q s r accepted handed stamps_s stamps_r x f within
+  holds = holds_of message lifecycle mixed of o q s r accepted handed stamps_s stamps_r so_far x f within
 
-  pub counted : of now ≡ count x.sender
+  pub counted : of now ≡ count (transfer_of x).sender
   counted = at_now ∙ numbered_is message lifecycle mixed (state_of s) (queue_of s) x f.sends
 
-  pub near : count x.sender ≤ x.acknowledged + 2 ^ 30
+  pub near : count (transfer_of x).sender ≤ (transfer_of x).acknowledged + 2 ^ 30
   near = in_window message x holds.windows
 
   pub mode_back : mixed ≡ (agreed q o).message_interleaving
   mode_back = mode ∙ sym (ap (λ c. c.message_interleaving) (agreed-exchanged o q))
 
-  pub young_now : (old : Stamp) → IsYoung now old → count x.sender < of old + 2 ^ 30
+  pub young_now : (old : Stamp) → IsYoung now old → count (transfer_of x).sender < of old + 2 ^ 30
   young_now old y = let l = young old y in omega (arith, counted, l)
 
   -- ---- the sender's turn
 
-  abbrev pub Out : Side → ℕ → List ℕ → Type 0
-  Out t n by = Turned message lifecycle mixed of t r (accepted + n) handed (stamped s t now stamps_s) stamps_r x s by
+  abbrev pub Out : Side → List Offer → SoFar → List ℕ → Type 0
+  Out t os then by = Turned message lifecycle mixed of t r (accepted + length os) handed (stamped s t now stamps_s) stamps_r then x s by
 
-  still_out : Out s 0 []
-  still_out = record {
+  -- nothing is done yet
+  start : SenderClaim message lifecycle mixed x [] (calm s.end) x
+  start = begins_out message lifecycle mixed of o q s r accepted handed stamps_s stamps_r so_far x f quiet_s soon
+
+  premises_out : (asked : Bool) (call : Call) → HearsSacks call (first_in (state_of r)) x → SenderPremises message lifecycle mixed (setting o q s r asked) call x
+  premises_out asked call hears = sender_premises message lifecycle mixed of o q s r accepted handed stamps_s stamps_r so_far x f asked call own mode few_told hears
+
+  none_heard : (call : Call) → IsNoPacket call → HearsSacks call (first_in (state_of r)) x
+  none_heard call plain = hears_no_sacks message mixed (first_in (state_of r)) x call plain holds.windows
+
+  still_out : (n : ℕ) → n ≡ so_far.asked → Out s [] (record { streams = reopened [] (shut [] so_far.streams); epochs = so_far.epochs ++ []; asked = n }) []
+  still_out n same = record {
     to = x;
-    flows = subst (λ (ss : List Stamp). Flows message lifecycle mixed of s r (accepted + 0) handed ss stamps_r x) (sym (none_more (emitted s) now stamps_s))
-        (subst (λ (n : ℕ). Flows message lifecycle mixed of s r n handed stamps_s stamps_r x) (plus_none accepted) f);
-    grows = grow_none x;
+    flows = flows_again message lifecycle mixed of s r (accepted + 0) handed (stamped s s now stamps_s) stamps_r so_far
+        (record { streams = reopened [] (shut [] so_far.streams); epochs = so_far.epochs ++ []; asked = n }) x (λ k. refl) (append-nil so_far.epochs) same
+        (subst (λ (ss : List Stamp). Flows message lifecycle mixed of s r (accepted + 0) handed ss stamps_r so_far x) (sym (none_more (emitted s) now stamps_s))
+        (subst (λ (n : ℕ). Flows message lifecycle mixed of s r n handed stamps_s stamps_r so_far x) (plus_none accepted) f));
+    bracketed = goes_bracketed message mixed is_outgoing x x f.kept.epochs (goes_none message mixed is_outgoing x);
     accounts = λ gone a. accounts_still lifecycle s gone x a;
   }
     where
       plus_none : (n : ℕ) → n ≡ n + 0
       plus_none n = omega arith
 
-  claim_out : (asked : Bool) (e : Endpoint Carried) (y : Transfer) → SenderClaim message lifecycle mixed x (calm e) y → Stands (state_of s) e.standing.state
-      → Out (after_turn asked e s) 0 (recorded (told_of e))
-  claim_out asked e y c stands = record {
-    to = y;
-    flows = ends_out message lifecycle mixed of parts.stay s r accepted handed stamps_s stamps_r x f now counted near asked 0 x y e (offers_none message mixed x f.kept) refl c stands;
-    grows = goes_places message mixed is_sending x y c.goes;
-    accounts = λ gone a. accounts_out message lifecycle mixed s gone x a 0 x y e asked (offers_none message mixed x f.kept) c;
-  }
+  -- where these streams were to be reset
+  claim_out : (asked : Bool) (prepared : List ℕ) (e : Endpoint Carried) (y : Direction) → SenderClaim message lifecycle mixed x prepared (calm e) y → Stands (state_of s) e.standing.state
+      → Out (after_turn asked e s) [] (so_far_then so_far s e [] prepared) (recorded (told_of e))
+  claim_out asked prepared e y c stands =
+      let none : Offers message mixed 0 x x = offers_none message mixed x f.kept in
+      record {
+        to = y;
+        flows = ends_out message lifecycle mixed of parts.stay s r accepted handed stamps_s stamps_r so_far x f now counted near asked [] prepared x y e none tt c stands;
+        bracketed = goes_bracketed message mixed goes_out x y f.kept.epochs c.goes;
+        accounts = λ gone a. accounts_out message lifecycle mixed s gone x a 0 prepared x y e asked none c;
+      }
 
   joined_out : (asked : Bool) (call : Call) → Rules (setting o q s r asked) call → is_other call ≡ true → (s.is_asked ≡ true → asked ≡ true)
       → HasNoEnd (calm (called call s.end)) → HearsSacks call (first_in (state_of r)) x → Stands (state_of s) (called call s.end).standing.state
-      → Out (after_turn asked (called call s.end) s) 0 (recorded (told_of (called call s.end)))
+      → Out (after_turn asked (called call s.end) s) [] (so_far_then so_far s (called call s.end) [] []) (recorded (told_of (called call s.end)))
   joined_out asked call rules other_call le none hears stands =
       let g : Setting = setting o q s r asked in
-      let premises : SenderPremises message lifecycle mixed g call x =
-      sender_premises message lifecycle mixed of o q s r accepted handed stamps_s stamps_r x f asked call own mode hears in
       let goes : SenderGoes message lifecycle mixed x (calm s.end) (calm (called call s.end)) =
-      (joined_call g call rules other_call (parts.sender_keeps g call x premises) s.end none (begins o q s r asked le h.own h.other)).1 in
-      let c = goes x (begins_out message lifecycle mixed of o q s r accepted handed stamps_s stamps_r x f quiet_s) in
-      claim_out asked (called call s.end) c.0 c.1 stands
+      (joined_call g call rules other_call (parts.sender_keeps g call x (premises_out asked call hears)) s.end none (begins o q s r asked le h.own h.other)).1 in
+      let c = goes [] x start in
+      claim_out asked [] (called call s.end) c.0 c.1 stands
 
   offered_out : (call : Call) → Rules (setting o q s r s.is_asked) call → is_offer call ≡ true → IsNoPacket call
       → AreOffered message lifecycle accepted (accepted_by call s) → accepted + length (accepted_by call s) < 2 ^ 32
       → HasNoEnd (calm (called call s.end)) → Stands (state_of s) (called call s.end).standing.state
-      → Out (after_turn s.is_asked (called call s.end) s) (length (accepted_by call s)) (recorded (told_of (called call s.end)))
+      → Out (after_turn s.is_asked (called call s.end) s) (accepted_by call s) (so_far_then so_far s (called call s.end) (accepted_by call s) []) (recorded (told_of (called call s.end)))
   offered_out call rules offer plain are few none stands =
       let g : Setting = setting o q s r s.is_asked in
       let os : List Offer = accepted_by call s in
-      let premises : SenderPremises message lifecycle mixed g call x =
-      sender_premises message lifecycle mixed of o q s r accepted handed stamps_s stamps_r x f s.is_asked call own mode
-      (hears_no_sacks message mixed (first_in (state_of r)) x call plain holds.windows) in
-      let c : OffersOut message lifecycle mixed x (length os) (calm (called call s.end)) =
-      parts.offered_out g call x s rules offer premises
+      let c : OffersOut message lifecycle mixed x os (calm (called call s.end)) =
+      parts.offered_out g call x s rules offer (premises_out s.is_asked call (none_heard call plain))
       (subst (λ (n : ℕ). AreOffered message lifecycle n os) (sym f.accepted_is) are) (subst (λ (n : ℕ). n + length os < 2 ^ 32) (sym f.accepted_is) few)
-      none (begins o q s r s.is_asked (λ z. z) h.own h.other) quiet_s f.sends f.flows in
+      none (begins o q s r s.is_asked (λ z. z) h.own h.other) quiet_s f.sends start.near in
       record {
         to = c.to;
-        flows = ends_out message lifecycle mixed of parts.stay s r accepted handed stamps_s stamps_r x f now counted near s.is_asked (length os) c.mid c.to (called call s.end)
-            c.offers c.same c.claim stands;
-        grows = grow_both x c.mid c.to (goes_places message mixed is_outgoing x c.mid c.offers.goes) (goes_places message mixed is_sending c.mid c.to c.claim.goes);
-        accounts = λ gone a. accounts_out message lifecycle mixed s gone x a (length os) c.mid c.to (called call s.end) s.is_asked c.offers c.claim;
+        flows = ends_out message lifecycle mixed of parts.stay s r accepted handed stamps_s stamps_r so_far x f now counted near s.is_asked os [] c.mid c.to (called call s.end)
+            c.offers are c.claim stands;
+        bracketed = goes_bracketed message mixed is_outgoing x c.to f.kept.epochs (goes_on message mixed is_outgoing x c.mid c.to c.offers.goes (outgoing message mixed c.mid c.to c.claim.goes));
+        accounts = λ gone a. accounts_out message lifecycle mixed s gone x a (length os) [] c.mid c.to (called call s.end) s.is_asked c.offers c.claim;
       }
 
   -- nothing happens that the rules see
-  quietly_out : (m : Making Carried) → SendsIn message lifecycle mixed m.state m.context.queue x → m.context.queue ≡ queue_of s → recorded m.context.told ≡ []
-      → delivered m.context.told.events ≡ [] → packets_in m.context.told.events ≡ [] → m.packet.chunks ≡ [] → SenderClaim message lifecycle mixed x m x
-  quietly_out m shown queue gone reports told made = record {
+  quietly_out : (m : Making Carried) → SendsIn message lifecycle mixed m.state m.context.queue x → recorded m.context.told ≡ []
+      → delivered m.context.told.events ≡ [] → packets_in m.context.told.events ≡ [] → resets_in m.context.told.events ≡ [] → m.packet.chunks ≡ [] → SenderClaim message lifecycle mixed x [] m x
+  quietly_out m shown gone reports told resets made = record {
     kept = f.kept;
-    goes = record { events = []; may = tt; all = refl; leads = refl };
+    goes = goes_none message mixed goes_out x;
+    done = refl;
     shown = shown;
-    flows = subst (λ (z : Queue). IsFlowing z) (sym queue) f.flows;
+    near = start.near;
+    since = start.since;
     gone = gone;
-    reported = reports_none lifecycle x x [] m.context.told.events refl reports;
-    told = subst (λ (ps : List Carried). All (λ (p : Carried). All (SaysOut message mixed (first_out m.state) x.acknowledged x) p.chunks) ps) (sym told) (All-nil _);
-    made = subst (λ (cs : List ChunkTree). All (SaysOut message mixed (first_out m.state) x.acknowledged x) cs) (sym made) (All-nil _);
+    reported = reports_none lifecycle (transfer_of x) (transfer_of x) [] m.context.told.events refl reports;
+    performed = let none = none_performed m.context.told.events resets in omega (arith, none);
+    epochs = λ k so. subst (λ (ns : List ℕ). AreSo (reopened ns (shut [] k)) x.rules) (sym (none_named m.context.told.events resets)) so;
+    none_failed = none_fails m.context.told.events resets;
+    told = subst (λ (ps : List Carried). All (λ (p : Carried). All (SaysOut message mixed (first_out m.state) (transfer_of x).acknowledged (count (transfer_of x).sender) x) p.chunks) ps) (sym told) (All-nil _);
+    made = subst (λ (cs : List ChunkTree). All (SaysOut message mixed (first_out m.state) (transfer_of x).acknowledged (count (transfer_of x).sender) x) cs) (sym made) (All-nil _);
   }
 
-  taken_out : Stands (state_of s) (taken_in (state_of s)) → Out (turned (Calls TakeMessage) s r) 0 (given_up_by (Calls TakeMessage) s r)
+  taken_out : Stands (state_of s) (taken_in (state_of s)) → Out (turned (Calls TakeMessage) s r) [] (so_far_turned (Calls TakeMessage) s r so_far) (given_up_by (Calls TakeMessage) s r)
   taken_out stands =
-      claim_out s.is_asked (called TakeMessage s.end) x
-      (quietly_out (calm (called TakeMessage s.end)) (parts.taken_out (state_of s) (queue_of s) x f.sends) refl (ap (λ (t : Told Carried). recorded t) quiet_s.told)
-      (ap (λ (t : Told Carried). delivered t.events) quiet_s.told) (ap (λ (t : Told Carried). packets_in t.events) quiet_s.told) refl) stands
+      claim_out s.is_asked [] (called TakeMessage s.end) x
+      (quietly_out (calm (called TakeMessage s.end)) (parts.taken_out (state_of s) (queue_of s) x f.sends) (ap (λ (t : Told Carried). recorded t) quiet_s.told)
+      (ap (λ (t : Told Carried). delivered t.events) quiet_s.told) (ap (λ (t : Told Carried). packets_in t.events) quiet_s.told)
+      (ap (λ (t : Told Carried). resets_in t.events) quiet_s.told) refl) stands
 
-  refused_out : (p : PacketTree) (text : List ℕ) → Stands (state_of s) (state_of s) → called (Packet p) s.end ≡ complains text (counts s.end)
-      → Out (after_turn s.is_asked (called (Packet p) s.end) s) 0 (recorded (told_of (called (Packet p) s.end)))
-  refused_out p text stands same =
+  -- a packet is not taken for one
+  refused_out : (p : PacketTree) (text : List ℕ) → called (Packet p) s.end ≡ complains text (counts s.end)
+      → Out (after_turn s.is_asked (called (Packet p) s.end) s) [] (so_far_then so_far s (called (Packet p) s.end) [] []) (recorded (told_of (called (Packet p) s.end)))
+  refused_out p text same =
       let e : Endpoint Carried = complains text (counts s.end) in
-      subst (λ (z : Endpoint Carried). Out (after_turn s.is_asked z s) 0 (recorded (told_of z))) (sym same)
-      (claim_out s.is_asked e x
-      (quietly_out (calm e) f.sends refl (ap (λ (t : Told Carried). recorded t) quiet_s.told)
+      subst (λ (z : Endpoint Carried). Out (after_turn s.is_asked z s) [] (so_far_then so_far s z [] []) (recorded (told_of z))) (sym same)
+      (claim_out s.is_asked [] e x
+      (quietly_out (calm e) f.sends (ap (λ (t : Told Carried). recorded t) quiet_s.told)
       (ap (λ (t : Told Carried). delivered (t.events ++ OnError ParseFailed text ∷ [])) quiet_s.told)
-      (ap (λ (t : Told Carried). packets_in (t.events ++ OnError ParseFailed text ∷ [])) quiet_s.told) refl) stands)
+      (ap (λ (t : Told Carried). packets_in (t.events ++ OnError ParseFailed text ∷ [])) quiet_s.told)
+      (ap (λ (t : Told Carried). resets_in (t.events ++ OnError ParseFailed text ∷ [])) quiet_s.told) refl) (λ a e. e))
+
+  -- streams are to be reset, unless the end refuses
+  reset_out : (ids : List ℕ) (refusal : Option ResetStreamsError) → reset_refusal (state_of s) ≡ refusal → MayCall (ResetStreams ids) s
+      → HasNoEnd (calm (calls.reset_by refusal ids s.end)) → Stands (state_of s) (calls.reset_by refusal ids s.end).standing.state
+      → Out (after_turn s.is_asked (calls.reset_by refusal ids s.end) s) [] (so_far_then so_far s (calls.reset_by refusal ids s.end) [] (reset_unless refusal ids))
+      (recorded (told_of (calls.reset_by refusal ids s.end)))
+  reset_out ids (Some e) fine may none stands = claim_out s.is_asked [] (calls.reset_by (Some e) ids s.end) x start stands
+  reset_out ids None fine may none stands =
+      let g : Setting = setting o q s r s.is_asked in
+      let quiet : Rules g NoPacket = rules_call o q s r own other NoPacket tt in
+      let first = calls.claim_prepared message lifecycle mixed x (parts.prepares_one x) (state_of s) s.end.standing.context s.end.words ids fine x start in
+      let goes : SenderGoes message lifecycle mixed x (calls.preparing ids s.end) (calm (calls.reset_by None ids s.end)) =
+      calls.then_reset g quiet (parts.sender_keeps g NoPacket x (premises_out s.is_asked NoPacket (none_heard NoPacket (λ p e. cc)))) s.end ids
+      (rules_call o q s r own other (ResetStreams ids) may) fine none (begins o q s r s.is_asked (λ z. z) h.own h.other) in
+      let c = goes ids first.0 first.1 in
+      claim_out s.is_asked ids (calls.reset_by None ids s.end) c.0 c.1 stands
 
   -- any call
-  call_out : (call : Call) → MayCall call s → resets (Calls call) ≡ false → endings (turned (Calls call) s r).told ≡ 0
+  call_out : (call : Call) → MayCall call s → endings (turned (Calls call) s r).told ≡ 0
       → AreOffered message lifecycle accepted (accepted_by call s) → accepted + length (accepted_by call s) < 2 ^ 32
-      → Stands (state_of s) (state_of (turned (Calls call) s r)) → Out (turned (Calls call) s r) (length (accepted_by call s)) (given_up_by (Calls call) s r)
-  call_out call may none_reset none are few stands = by_call call may none_reset are few stands (none_of s.told (called call s.end).standing.context.told.events none)
+      → Stands (state_of s) (state_of (turned (Calls call) s r))
+      → Out (turned (Calls call) s r) (accepted_by call s) (so_far_turned (Calls call) s r so_far) (given_up_by (Calls call) s r)
+  call_out call may none are few stands = by_call call may are few stands (none_of s.told (called call s.end).standing.context.told.events none)
     where
       other_call : (call : Call) → is_other call ≡ true → IsNoPacket call → MayCall call s → Stands (state_of s) (state_of (turned (Calls call) s r))
-          → HasNoEnd (calm (called call s.end)) → Out (turned (Calls call) s r) 0 (given_up_by (Calls call) s r)
+          → HasNoEnd (calm (called call s.end)) → Out (turned (Calls call) s r) [] (so_far_then so_far s (called call s.end) [] []) (given_up_by (Calls call) s r)
       other_call call is plain may stands none =
-          joined_out s.is_asked call (rules_call o q s r own other call may) is (λ z. z) none (hears_no_sacks message mixed (first_in (state_of r)) x call plain holds.windows) stands
+          joined_out s.is_asked call (rules_call o q s r own other call may) is (λ z. z) none (none_heard call plain) stands
 
-      by_call : (call : Call) → MayCall call s → resets (Calls call) ≡ false → AreOffered message lifecycle accepted (accepted_by call s)
+      by_call : (call : Call) → MayCall call s → AreOffered message lifecycle accepted (accepted_by call s)
           → accepted + length (accepted_by call s) < 2 ^ 32 → Stands (state_of s) (state_of (turned (Calls call) s r)) → HasNoEnd (calm (called call s.end))
-          → Out (turned (Calls call) s r) (length (accepted_by call s)) (given_up_by (Calls call) s r)
-      by_call Connect may none_reset are few stands none = other_call Connect refl (λ p e. cc) may stands none
-      by_call Close may none_reset are few stands none = other_call Close refl (λ p e. cc) may stands none
-      by_call Shutdown may none_reset are few stands none = other_call Shutdown refl (λ p e. cc) may stands none
-      by_call (Send m how) may none_reset are few stands none = offered_out (Send m how) (rules_call o q s r own other (Send m how) may) refl (λ p e. cc) are few none stands
-      by_call (SendMany ms how) may none_reset are few stands none =
+          → Out (turned (Calls call) s r) (accepted_by call s) (so_far_turned (Calls call) s r so_far) (given_up_by (Calls call) s r)
+      by_call Connect may are few stands none = other_call Connect refl (λ p e. cc) may stands none
+      by_call Close may are few stands none = other_call Close refl (λ p e. cc) may stands none
+      by_call Shutdown may are few stands none = other_call Shutdown refl (λ p e. cc) may stands none
+      by_call (Send m how) may are few stands none = offered_out (Send m how) (rules_call o q s r own other (Send m how) may) refl (λ p e. cc) are few none stands
+      by_call (SendMany ms how) may are few stands none =
           offered_out (SendMany ms how) (rules_call o q s r own other (SendMany ms how) may) refl (λ p e. cc) are few none stands
-      by_call (ResetStreams streams) may none_reset are few stands none = cc
-      by_call TakeMessage may none_reset are few stands none = taken_out stands
-      by_call (SetLowThreshold stream bytes) may none_reset are few stands none = other_call (SetLowThreshold stream bytes) refl (λ p e. cc) may stands none
-      by_call (SetPriority stream priority) may none_reset are few stands none = other_call (SetPriority stream priority) refl (λ p e. cc) may stands none
-      by_call (SetMaxMessageSize bytes) may none_reset are few stands none = other_call (SetMaxMessageSize bytes) refl (λ p e. cc) may stands none
-      by_call (Advance n) may none_reset are few stands none = other_call (Advance n) refl (λ p e. cc) may stands none
-      by_call HandOver may none_reset are few stands none = other_call HandOver refl (λ p e. cc) may stands none
-      by_call (Restore k) may none_reset are few stands none = absurd may
-      by_call (Packet p) may none_reset are few stands none = absurd may
-      by_call NoPacket may none_reset are few stands none = other_call NoPacket refl (λ p e. cc) may stands none
+      by_call (ResetStreams ids) may are few stands none = reset_out ids (reset_refusal (state_of s)) refl may none stands
+      by_call TakeMessage may are few stands none = taken_out stands
+      by_call (SetLowThreshold stream bytes) may are few stands none = other_call (SetLowThreshold stream bytes) refl (λ p e. cc) may stands none
+      by_call (SetPriority stream priority) may are few stands none = other_call (SetPriority stream priority) refl (λ p e. cc) may stands none
+      by_call (SetMaxMessageSize bytes) may are few stands none = other_call (SetMaxMessageSize bytes) refl (λ p e. cc) may stands none
+      by_call (Advance n) may are few stands none = other_call (Advance n) refl (λ p e. cc) may stands none
+      by_call HandOver may are few stands none = other_call HandOver refl (λ p e. cc) may stands none
+      by_call (Restore k) may are few stands none = absurd may
+      by_call (Packet p) may are few stands none = absurd may
+      by_call NoPacket may are few stands none = other_call NoPacket refl (λ p e. cc) may stands none
+
+  -- what the course says, where that was told and the end is so
+  abbrev so_told : Side → Told Carried → SoFar
+  so_told t told = record {
+    streams = reopened (performed_of told.events) (shut [] so_far.streams);
+    epochs = so_far.epochs ++ [];
+    asked = asked_by (state_of s) (state_of t) so_far.asked;
+  }
 
   given_out : (p : Option Carried) (checksum n : ℕ) → slice_get (emitted r) n ≡ p → ((old : Stamp) → slice_get stamps_r n ≡ Some old → IsYoung now old)
-      → endings (given p checksum s).told ≡ 0 → Stands (state_of s) (state_of (given p checksum s)) → Out (given p checksum s) 0 (recorded (told_given p checksum s))
-  given_out None checksum n there timely none stands = still_out
+      → endings (given p checksum s).told ≡ 0 → Stands (state_of s) (state_of (given p checksum s))
+      → Out (given p checksum s) [] (so_told (given p checksum s) (told_given p checksum s)) (recorded (told_given p checksum s))
+  given_out None checksum n there timely none stands = still_out (asked_by (state_of s) (state_of s) so_far.asked) (asked_again (state_of s) so_far.asked)
   given_out (Some p) checksum n there timely none stands =
       let a : AtStamp (λ stamp p. IsUnderWay (says_in message mixed (first_in (state_of r))) x (of stamp) p) stamps_r n p =
       each_at (λ stamp p. IsUnderWay (says_in message mixed (first_in (state_of r))) x (of stamp) p) (emitted r) stamps_r n p there f.answers in
@@ -349,46 +414,50 @@ module _ (message : ℕ → Message) (lifecycle : ℕ → Option ℕ) (mixed : B
       (hears_sacks message mixed (first_in (state_of r)) x (of a.stamp) p checksum a.holds (young_now a.stamp (timely a.stamp a.there))) stands
 
   foreign_out : (text : Option (List ℕ)) (p : PacketTree) → refusal p.header.verification_tag p.chunks (state_of s) ≡ text
-      → Stands (state_of s) (state_of (foreign_if text p s)) → Out (foreign_if text p s) 0 (recorded (told_foreign text p s))
-  foreign_out None p is stands = still_out
-  foreign_out (Some text) p is stands =
-      refused_out p text (λ a e. e) (ap (λ (r : Option (List ℕ)). taken_if r p.header.verification_tag p.chunks (counts s.end)) is)
+      → Out (foreign_if text p s) [] (so_told (foreign_if text p s) (told_foreign text p s)) (recorded (told_foreign text p s))
+  foreign_out None p is = still_out (asked_by (state_of s) (state_of s) so_far.asked) (asked_again (state_of s) so_far.asked)
+  foreign_out (Some text) p is = refused_out p text (ap (λ (r : Option (List ℕ)). taken_if r p.header.verification_tag p.chunks (counts s.end)) is)
 
-  pub turn_out : (t : Turn) → MayTurn t s → resets t ≡ false → IsTimely t now stamps_r → endings (turned t s r).told ≡ 0
-      → AreOffered message lifecycle accepted (accepted_in t s) → accepted + length (accepted_in t s) < 2 ^ 32 → Out (turned t s r) (length (accepted_in t s)) (given_up_by t s r)
-  turn_out (Calls call) may none_reset timely none are few =
-      call_out call may none_reset none are few (hands o q s r own other h (Calls call) may none).stands
-  turn_out (Gives which checksum) may none_reset timely none are few =
+  pub turn_out : (t : Turn) → MayTurn t s → IsTimely t now stamps_r → endings (turned t s r).told ≡ 0
+      → AreOffered message lifecycle accepted (accepted_in t s) → accepted + length (accepted_in t s) < 2 ^ 32
+      → Out (turned t s r) (accepted_in t s) (so_far_turned t s r so_far) (given_up_by t s r)
+  turn_out (Calls call) may timely none are few = call_out call may none are few (hands o q s r own other h (Calls call) may none).stands
+  turn_out (Gives which checksum) may timely none are few =
       given_out (slice_get (emitted r) which) checksum which refl timely none (hands o q s r own other h (Gives which checksum) may none).stands
-  turn_out (Refuses p) may none_reset timely none are few =
-      foreign_out (refusal p.header.verification_tag p.chunks (state_of s)) p refl (hands o q s r own other h (Refuses p) may none).stands
+  turn_out (Refuses p) may timely none are few = foreign_out (refusal p.header.verification_tag p.chunks (state_of s)) p refl
 
   -- ---- where it ends an association, up to there
 
   -- a side that told what the turn tells in front of an end, and maybe more
-  pub record IsUntil (early : List (Event Carried)) (n : ℕ) : Type 0 where
+  pub record IsUntil (early : List (Event Carried)) (os : List Offer) : Type 0 where
     pub side : Side
+    pub then : SoFar
     pub by : List ℕ
-    pub out : Out side n by
+    pub out : Out side os then by
     pub rest : List (Event Carried)
     pub told : side.told ≡ s.told ++ (early ++ rest)
 
   -- the packet that is put together isn't told
-  set_aside : (m : Making Carried) (y : Transfer) → SenderClaim message lifecycle mixed x m y → SenderClaim message lifecycle mixed x (calm (end_of m)) y
+  set_aside : (m : Making Carried) (y : Direction) → SenderClaim message lifecycle mixed x [] m y → SenderClaim message lifecycle mixed x [] (calm (end_of m)) y
   set_aside m y c = record {
     kept = c.kept;
     goes = c.goes;
+    done = c.done;
     shown = c.shown;
-    flows = c.flows;
+    near = c.near;
+    since = c.since;
     gone = c.gone;
     reported = c.reported;
+    performed = c.performed;
+    epochs = c.epochs;
+    none_failed = c.none_failed;
     told = c.told;
     made = All-nil _;
   }
 
   joined_until : (asked : Bool) (call : Call) → Rules (setting o q s r asked) call → is_other call ≡ true → (s.is_asked ≡ true → asked ≡ true)
       → HearsSacks call (first_in (state_of r)) x → (early late : List (Event Carried)) → (told_of (called call s.end)).events ≡ early ++ late → endings early ≡ 0
-      → IsUntil early 0
+      → IsUntil early []
   joined_until asked call rules other_call le hears early late is none =
       elim (until_first_end call both s.end (ap (λ (t : Told Carried). endings t.events) quiet_s.told)) [
         | inl whole ↦ here (calm (called call s.end)) whole.1 late is
@@ -399,7 +468,7 @@ module _ (message : ℕ → Message) (lifecycle : ℕ → Option ℕ) (mixed : B
       g = setting o q s r asked
 
       premises : SenderPremises message lifecycle mixed g call x
-      premises = sender_premises message lifecycle mixed of o q s r accepted handed stamps_s stamps_r x f asked call own mode hears
+      premises = premises_out asked call hears
 
       takes_none : call ≡ TakeMessage → ⊥
       takes_none e = not_other call TakeMessage other_call e refl
@@ -408,50 +477,53 @@ module _ (message : ℕ → Message) (lifecycle : ℕ → Option ℕ) (mixed : B
       both = both_kept (frame g call rules other_call (parts.sender_keeps g call x premises)) (readies g call rules takes_none)
 
       here : (m : Making Carried) → Joined g (SenderGoes message lifecycle mixed x) (calm s.end) m × Readies g call rules takes_none (calm s.end) m
-          → (rest : List (Event Carried)) → m.context.told.events ≡ early ++ rest → IsUntil early 0
+          → (rest : List (Event Carried)) → m.context.told.events ≡ early ++ rest → IsUntil early []
       here m kept rest told =
           let inv : InvAt g (calm s.end) = begins o q s r asked le h.own h.other in
-          let c = (kept.0 inv).1 x (begins_out message lifecycle mixed of o q s r accepted handed stamps_s stamps_r x f quiet_s) in
+          let c = (kept.0 inv).1 [] x start in
           record {
             side = after_turn asked (end_of m) s;
+            then = so_far_then so_far s (end_of m) [] [];
             by = recorded m.context.told;
-            out = claim_out asked (end_of m) c.0 (set_aside m c.0 c.1) (kept.1 inv).1.stands;
+            out = claim_out asked [] (end_of m) c.0 (set_aside m c.0 c.1) (kept.1 inv).1.stands;
             rest = rest;
             told = ap (λ (es : List (Event Carried)). s.told ++ es) told;
           }
 
-  pub turn_until : (t : Turn) → MayTurn t s → resets t ≡ false → IsTimely t now stamps_r → endings s.told ≡ 0
+  pub turn_until : (t : Turn) → MayTurn t s → IsTimely t now stamps_r → endings s.told ≡ 0
       → AreOffered message lifecycle accepted (accepted_in t s) → accepted + length (accepted_in t s) < 2 ^ 32
-      → (early late : List (Event Carried)) → (told_by t s r).events ≡ early ++ late → endings early ≡ 0 → IsUntil early (length (accepted_in t s))
-  turn_until t may none_reset timely so_far are few early late is none = by_turn t may none_reset timely are few is
+      → (early late : List (Event Carried)) → (told_by t s r).events ≡ early ++ late → endings early ≡ 0 → IsUntil early (accepted_in t s)
+  turn_until t may timely ended are few early late is none = by_turn t may timely are few is
     where
       -- a turn that ends nothing
-      whole : (t : Turn) → MayTurn t s → resets t ≡ false → IsTimely t now stamps_r → AreOffered message lifecycle accepted (accepted_in t s)
+      whole : (t : Turn) → MayTurn t s → IsTimely t now stamps_r → AreOffered message lifecycle accepted (accepted_in t s)
           → accepted + length (accepted_in t s) < 2 ^ 32 → (told_by t s r).events ≡ early ++ late → endings (told_by t s r).events ≡ 0
-          → IsUntil early (length (accepted_in t s))
-      whole t may none_reset timely are few is quiet =
+          → IsUntil early (accepted_in t s)
+      whole t may timely are few is quiet =
           let told : (turned t s r).told ≡ s.told ++ (told_by t s r).events = told_turned t s r in
           let both = endings_both s.told (told_by t s r).events in
           let sum = ap (λ (es : List (Event Carried)). endings es) told in
           record {
             side = turned t s r;
+            then = so_far_turned t s r so_far;
             by = given_up_by t s r;
-            out = turn_out t may none_reset timely (omega (arith, sum, both, so_far, quiet)) are few;
+            out = turn_out t may timely (omega (arith, sum, both, ended, quiet)) are few;
             rest = late;
             told = told ∙ ap (λ (es : List (Event Carried)). s.told ++ es) is;
           }
 
-      other_call : (call : Call) → is_other call ≡ true → IsNoPacket call → MayCall call s → (told_of (called call s.end)).events ≡ early ++ late → IsUntil early 0
+      other_call : (call : Call) → is_other call ≡ true → IsNoPacket call → MayCall call s → (told_of (called call s.end)).events ≡ early ++ late → IsUntil early []
       other_call call kind plain may is =
           joined_until s.is_asked call (rules_call o q s r own other call may) kind (λ z. z)
-          (hears_no_sacks message mixed (first_in (state_of r)) x call plain holds.windows) early late is none
+          (none_heard call plain) early late is none
 
       by_packet : (p : Option Carried) (checksum n : ℕ) → slice_get (emitted r) n ≡ p → ((old : Stamp) → slice_get stamps_r n ≡ Some old → IsYoung now old)
-          → (told_given p checksum s).events ≡ early ++ late → IsUntil early 0
+          → (told_given p checksum s).events ≡ early ++ late → IsUntil early []
       by_packet None checksum n there timely is = record {
         side = s;
+        then = record { streams = reopened [] (shut [] so_far.streams); epochs = so_far.epochs ++ []; asked = so_far.asked };
         by = [];
-        out = still_out;
+        out = still_out so_far.asked refl;
         rest = late;
         told = sym (append-nil s.told) ∙ ap (λ (es : List (Event Carried)). s.told ++ es) is;
       }
@@ -468,26 +540,27 @@ module _ (message : ℕ → Message) (lifecycle : ℕ → Option ℕ) (mixed : B
           ap (λ (e : Endpoint Carried). endings (told_of e).events) (ap (λ (r : Option (List ℕ)). taken_if r p.header.verification_tag p.chunks (counts s.end)) is)
           ∙ ap (λ (t : Told Carried). endings (t.events ++ OnError ParseFailed text ∷ [])) quiet_s.told
 
-      by_turn : (t : Turn) → MayTurn t s → resets t ≡ false → IsTimely t now stamps_r → AreOffered message lifecycle accepted (accepted_in t s)
-          → accepted + length (accepted_in t s) < 2 ^ 32 → (told_by t s r).events ≡ early ++ late → IsUntil early (length (accepted_in t s))
-      by_turn (Gives which checksum) may none_reset timely are few is = by_packet (slice_get (emitted r) which) checksum which refl timely is
-      by_turn (Refuses p) may none_reset timely are few is =
-          whole (Refuses p) may none_reset timely are few is (by_foreign (refusal p.header.verification_tag p.chunks (state_of s)) p refl)
-      by_turn (Calls (Send m how)) may none_reset timely are few is =
-          whole (Calls (Send m how)) may none_reset timely are few is (none_told (Send m how) s quiet_s (sent_stays (refusal_of m s.end.standing) (state_of s) _))
-      by_turn (Calls (SendMany ms how)) may none_reset timely are few is =
-          whole (Calls (SendMany ms how)) may none_reset timely are few is (none_told (SendMany ms how) s quiet_s (open_stays (state_of s) _))
-      by_turn (Calls TakeMessage) may none_reset timely are few is =
-          whole (Calls TakeMessage) may none_reset timely are few is (none_told TakeMessage s quiet_s (taken_stays (state_of s)))
-      by_turn (Calls (ResetStreams streams)) may none_reset timely are few is = cc
-      by_turn (Calls (Restore k)) may none_reset timely are few is = absurd may
-      by_turn (Calls (Packet p)) may none_reset timely are few is = absurd may
-      by_turn (Calls Connect) may none_reset timely are few is = other_call Connect refl (λ p e. cc) may is
-      by_turn (Calls Close) may none_reset timely are few is = other_call Close refl (λ p e. cc) may is
-      by_turn (Calls Shutdown) may none_reset timely are few is = other_call Shutdown refl (λ p e. cc) may is
-      by_turn (Calls (SetLowThreshold stream bytes)) may none_reset timely are few is = other_call (SetLowThreshold stream bytes) refl (λ p e. cc) may is
-      by_turn (Calls (SetPriority stream priority)) may none_reset timely are few is = other_call (SetPriority stream priority) refl (λ p e. cc) may is
-      by_turn (Calls (SetMaxMessageSize bytes)) may none_reset timely are few is = other_call (SetMaxMessageSize bytes) refl (λ p e. cc) may is
-      by_turn (Calls (Advance n)) may none_reset timely are few is = other_call (Advance n) refl (λ p e. cc) may is
-      by_turn (Calls HandOver) may none_reset timely are few is = other_call HandOver refl (λ p e. cc) may is
-      by_turn (Calls NoPacket) may none_reset timely are few is = other_call NoPacket refl (λ p e. cc) may is
+      by_turn : (t : Turn) → MayTurn t s → IsTimely t now stamps_r → AreOffered message lifecycle accepted (accepted_in t s)
+          → accepted + length (accepted_in t s) < 2 ^ 32 → (told_by t s r).events ≡ early ++ late → IsUntil early (accepted_in t s)
+      by_turn (Gives which checksum) may timely are few is = by_packet (slice_get (emitted r) which) checksum which refl timely is
+      by_turn (Refuses p) may timely are few is =
+          whole (Refuses p) may timely are few is (by_foreign (refusal p.header.verification_tag p.chunks (state_of s)) p refl)
+      by_turn (Calls (Send m how)) may timely are few is =
+          whole (Calls (Send m how)) may timely are few is (none_told (Send m how) s quiet_s (sent_stays (refusal_of m s.end.standing) (state_of s) _))
+      by_turn (Calls (SendMany ms how)) may timely are few is =
+          whole (Calls (SendMany ms how)) may timely are few is (none_told (SendMany ms how) s quiet_s (open_stays (state_of s) _))
+      by_turn (Calls TakeMessage) may timely are few is =
+          whole (Calls TakeMessage) may timely are few is (none_told TakeMessage s quiet_s (taken_stays (state_of s)))
+      by_turn (Calls (ResetStreams ids)) may timely are few is =
+          whole (Calls (ResetStreams ids)) may timely are few is (none_told (ResetStreams ids) s quiet_s (reset_stays (reset_refusal (state_of s)) ids (state_of s) _))
+      by_turn (Calls (Restore k)) may timely are few is = absurd may
+      by_turn (Calls (Packet p)) may timely are few is = absurd may
+      by_turn (Calls Connect) may timely are few is = other_call Connect refl (λ p e. cc) may is
+      by_turn (Calls Close) may timely are few is = other_call Close refl (λ p e. cc) may is
+      by_turn (Calls Shutdown) may timely are few is = other_call Shutdown refl (λ p e. cc) may is
+      by_turn (Calls (SetLowThreshold stream bytes)) may timely are few is = other_call (SetLowThreshold stream bytes) refl (λ p e. cc) may is
+      by_turn (Calls (SetPriority stream priority)) may timely are few is = other_call (SetPriority stream priority) refl (λ p e. cc) may is
+      by_turn (Calls (SetMaxMessageSize bytes)) may timely are few is = other_call (SetMaxMessageSize bytes) refl (λ p e. cc) may is
+      by_turn (Calls (Advance n)) may timely are few is = other_call (Advance n) refl (λ p e. cc) may is
+      by_turn (Calls HandOver) may timely are few is = other_call HandOver refl (λ p e. cc) may is
+      by_turn (Calls NoPacket) may timely are few is = other_call NoPacket refl (λ p e. cc) may is

@@ -8,9 +8,12 @@ pub mod ReadingLemmas
 pub mod ReadingDataLemmas
 pub mod ReadingSackLemmas
 pub mod ResetEventsLemmas
+pub mod CourseResetLemmas
 pub mod SenderToolLemmas
+pub mod SenderAsksLemmas
 pub mod SenderHeavyLemmas
 pub mod SenderLightLemmas
+pub mod SenderResetLemmas
 pub mod SenderOpeningLemmas
 pub mod SenderKeepsLemmas
 pub mod TrackerStaysLemmas
@@ -33,6 +36,7 @@ pub mod DeliveryLemmas
 pub mod TakenLemmas
 pub mod OfferingLemmas
 pub mod OfferedLemmas
+pub mod LeavesLemmas
 pub mod BesideLemmas
 pub mod LawLemmas
 pub mod ProperQueueLemmas

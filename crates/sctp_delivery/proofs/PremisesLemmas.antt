@@ -1,5 +1,6 @@
 -- What a turn begins with: the claim that nothing is done yet, and what is heard, of packets that are under way.
-use Rattle.std.proofs.Common.{◌≡◌, ℕ, ◌+◌, ◌^◌, ◌<◌, ◌≤◌, Bool, Option, inl, inr, List, [], ◌∷◌, map, All, refl, sym, ap, subst, arith}
+use Rattle.std.proofs.Common.{◌≡◌, ℕ, suc, ◌+◌, ◌-◌, ◌^◌, ◌<◌, ◌≤◌, Bool, Option, Some, None, inl, inr, List, [], ◌∷◌, length, map, slice_get, All, refl, sym, ap, subst, ◌∙◌, arith}
+use Rattle.std.specs.Prelude.{option_map}
 use Rattle.std.proofs.lemmas.Bool.{cases_lt}
 use Rattle.std.proofs.lemmas.List.Elements.{All-nil, All-cons, All-head, All-tail}
 use Rattle.sctp_serial.specs.Messages as messages
@@ -9,8 +10,11 @@ use Rattle.sctp_packet.specs.Packet.{PacketTree}
 use Rattle.sctp_state.specs.Options.{Options}
 use Rattle.sctp_capabilities.specs.Capabilities.{agreed}
 use Rattle.sctp_state.specs.Events.{Told}
-use Rattle.sctp_rules.specs.State.{Message, Transfer, place_of, count}
-use Rattle.sctp_rules.specs.Windows.{Windows}
+use Rattle.sctp_rules.specs.State.{Message, place_of, count}
+use Rattle.sctp_rules.specs.Based.{EpochWindows}
+use Rattle.sctp_send_queue.specs.Queue.{Queue}
+use Rattle.sctp_table.specs.Association.{State, Closed, CookieWait, Open}
+use Rattle.sctp_table.specs.Requests.{Request}
 use Rattle.sctp_tx_rules.specs.Led.{recorded, delivered}
 use Rattle.sctp_table.specs.Laws.{Call, Packet}
 use Rattle.sctp_table_laws.specs.Mapped.{Carried}
@@ -18,12 +22,16 @@ use Rattle.sctp_course.specs.Acts.{calm, IsHeard}
 use Rattle.sctp_course.specs.Course.{Side, packets_in, as_heard, AreGiven, state_of}
 use Rattle.sctp_course.proofs.AddedLemmas.{all_at}
 use Rattle.sctp_course.proofs.CourseLemmas.{setting}
+use Rattle.sctp_delivery.specs.Answered.{waiting_number, IsAnswered, performed_in}
+use Rattle.sctp_delivery.specs.Asks.{Ask, number_of}
+use Rattle.sctp_delivery.specs.StreamEpochs.{StreamEpoch, shut, reopened, performed_of, resets_told, failed_in}
 use Rattle.sctp_delivery.specs.Windows.{Stamp, IsWithin, queue_of}
-use Rattle.sctp_delivery.proofs.ClaimLemmas.{SaysOut, SaysIn, first_out, first_in, WasSaid, SenderClaim, ReceiverClaim, HearsSacks, HearsData, SenderPremises, ReceiverPremises}
-use Rattle.sctp_delivery.proofs.SenderToolLemmas.{reports_none}
-use Rattle.sctp_delivery.proofs.WithinLemmas.{Holds, within}
+use Rattle.sctp_delivery.proofs.ClaimLemmas.{Direction, transfer_of, goes_out, goes_in, SaysOut, SaysIn, first_out, first_in, WasSaid, AreSo, SendsIn, SenderClaim, ReceiverClaim, HearsSacks, HearsData, SenderPremises, ReceiverPremises}
+use Rattle.sctp_delivery.proofs.AsksLemmas.{get_below}
+use Rattle.sctp_delivery.proofs.SenderToolLemmas.{goes_none, reports_none, IsNear}
+use Rattle.sctp_delivery.proofs.WithinLemmas.{numbered_is, Holds, within}
 use Rattle.sctp_delivery.proofs.FilledLemmas.{short_index}
-use Rattle.sctp_delivery.proofs.DirectionLemmas.{IsUnderWay, says_out, says_in, Flows, IsSilent}
+use Rattle.sctp_delivery.proofs.DirectionLemmas.{IsUnderWay, says_out, says_in, Stands, none_stands, same_out, SoFar, Flows, IsSilent}
 
 -- ---- chunks that are heard
 
@@ -45,9 +53,9 @@ heard_was_said P p checksum all tag chunk h =
 
 -- ---- the windows
 
-pub in_window : (message : ℕ → Message) (x : Transfer) → Windows message x → count x.sender ≤ x.acknowledged + 2 ^ 30
+pub in_window : (message : ℕ → Message) (x : Direction) → EpochWindows message x.rules → count (transfer_of x).sender ≤ (transfer_of x).acknowledged + 2 ^ 30
 in_window message x w =
-    elim (cases_lt x.acknowledged (count x.sender)) [
+    elim (cases_lt (transfer_of x).acknowledged (count (transfer_of x).sender)) [
       | inl ahead ↦ w.items ahead
       | inr rest ↦ omega (arith, rest)
     ]
@@ -56,28 +64,28 @@ in_window message x w =
 abbrev pub IsNoPacket : Call → Type 0
 IsNoPacket call = (p : PacketTree) → call ≡ Packet p → ⊥
 
-module _ (message : ℕ → Message) (mixed : Bool) (first : ℕ) (x : Transfer) where
-  pub hears_no_sacks : (call : Call) → IsNoPacket call → Windows message x → HearsSacks call first x
+module _ (message : ℕ → Message) (mixed : Bool) (first : ℕ) (x : Direction) where
+  pub hears_no_sacks : (call : Call) → IsNoPacket call → EpochWindows message x.rules → HearsSacks call first x
   hears_no_sacks call not w = record {
-    least = x.acknowledged;
-    most = count x.sender;
+    least = (transfer_of x).acknowledged;
+    most = count (transfer_of x).sender;
     past = omega arith;
     near = in_window message x w;
     young = omega arith;
     says = λ tag chunk h. absurd (not h.packet h.given);
   }
 
-  pub hears_no_data : (call : Call) → IsNoPacket call → Windows message x → HearsData message mixed call first x
+  pub hears_no_data : (call : Call) → IsNoPacket call → EpochWindows message x.rules → HearsData message mixed call first x
   hears_no_data call not w = record {
-    least = x.acknowledged;
-    most = count x.sender;
+    least = (transfer_of x).acknowledged;
+    most = count (transfer_of x).sender;
     near = in_window message x w;
     below = omega arith;
     young = omega arith;
     says = λ tag chunk h. absurd (not h.packet h.given);
   }
 
-  pub hears_sacks : (most : ℕ) (p : Carried) (checksum : ℕ) → IsUnderWay (says_in message mixed first) x most p → count x.sender < most + 2 ^ 30
+  pub hears_sacks : (most : ℕ) (p : Carried) (checksum : ℕ) → IsUnderWay (says_in message mixed first) x most p → count (transfer_of x).sender < most + 2 ^ 30
       → HearsSacks (Packet (as_heard p checksum)) first x
   hears_sacks most p checksum u young = record {
     least = u.least;
@@ -88,7 +96,7 @@ module _ (message : ℕ → Message) (mixed : Bool) (first : ℕ) (x : Transfer)
     says = heard_was_said (SaysIn first u.least most x) p checksum u.says;
   }
 
-  pub hears_data : (most : ℕ) (p : Carried) (checksum : ℕ) → IsUnderWay (says_out message mixed first) x most p → count x.sender < most + 2 ^ 30
+  pub hears_data : (most : ℕ) (p : Carried) (checksum : ℕ) → IsUnderWay (says_out message mixed first) x most p → count (transfer_of x).sender < most + 2 ^ 30
       → HearsData message mixed (Packet (as_heard p checksum)) first x
   hears_data most p checksum u young = record {
     least = u.least;
@@ -96,61 +104,125 @@ module _ (message : ℕ → Message) (mixed : Bool) (first : ℕ) (x : Transfer)
     near = u.near;
     below = u.below;
     young = young;
-    says = heard_was_said (SaysOut message mixed first u.least x) p checksum u.says;
+    says = heard_was_said (SaysOut message mixed first u.least most x) p checksum u.says;
   }
+
+-- ---- an own request that waits
+
+module _ (message : ℕ → Message) (lifecycle : ℕ → Option ℕ) (mixed : Bool) where
+  none_there : (x : Direction) (a : Ask) → x.asks ≡ [] → slice_get x.asks x.answered ≡ Some a → ⊥
+  none_there x a none there = let e = ap (λ (l : List Ask). slice_get l x.answered) (sym none) ∙ there in cc
+
+  -- it is the ask that waits
+  pub waits : (s : State) (q : Queue) (x : Direction) (a : Ask) → SendsIn message lifecycle mixed s q x → slice_get x.asks x.answered ≡ Some a
+      → waiting_number s ≡ Some (number_of (first_out s) x.answered)
+  waits Closed q x a h there = absurd (none_there x a h.none_asked there)
+  waits (CookieWait tag first t1) q x a h there = absurd (none_there x a h.none_asked there)
+  waits (Open phase t) q x a h there = elim h.asks.current [
+    | inl n ↦ let l = get_below x.asks x.answered a there in let e = n.0 in absurd (omega (arith, l, e))
+    | inr c ↦
+        ap (λ (o : Option Request). option_map (λ (r : Request). r.number) o) c.1.is
+        ∙ (ap (λ (n : ℕ). Some n) c.1.says.number ∙ ap (λ (n : ℕ). Some (number_of n x.answered)) (sym h.first))
+  ]
+
+  pub is_asked : (s : State) (q : Queue) (x : Direction) (n : ℕ) → SendsIn message lifecycle mixed s q x → waiting_number s ≡ Some n → (a : Ask) × (slice_get x.asks x.answered ≡ Some a)
+  is_asked Closed q x n h w = cc
+  is_asked (CookieWait tag first t1) q x n h w = cc
+  is_asked (Open phase t) q x n h w = elim h.asks.current [
+    | inl none ↦ let e = ap (λ (o : Option Request). option_map (λ (r : Request). r.number) o) (sym none.1.none) ∙ w in cc
+    | inr c ↦ (c.1.ask, c.1.there)
+  ]
+
+  -- with the first TSN of an association that stands
+  pub waits_again : (s t : State) (q r : Queue) (x y : Direction) (a : Ask) → SendsIn message lifecycle mixed s q x → SendsIn message lifecycle mixed t r y → Stands s t
+      → slice_get x.asks x.answered ≡ Some a → first_out s ≡ first_out t
+  waits_again Closed t q r x y a h k f there = absurd (none_there x a h.none_asked there)
+  waits_again (CookieWait tag first t1) t q r x y a h k f there = absurd (none_there x a h.none_asked there)
+  waits_again (Open phase t) Closed q r x y a h k f there = absurd (none_stands (f _ refl))
+  waits_again (Open phase t) (CookieWait tag first t1) q r x y a h k f there = absurd (none_stands (f _ refl))
+  waits_again (Open phase t) (Open next u) q r x y a h k f there = same_out message lifecycle mixed phase t next u q r x y h k f
+
+-- it goes out soon
+abbrev pub AsksSoon : Direction → Type 0
+AsksSoon x = IsNear x x
 
 -- ---- both ends
 
 module _ (message : ℕ → Message) (lifecycle : ℕ → Option ℕ) (mixed : Bool) (of : Stamp → ℕ) (own other : Options) (s r : Side)
-    (accepted : ℕ) (handed : List messages.Message) (stamps_s stamps_r : List Stamp) (x : Transfer) (f : Flows message lifecycle mixed of s r accepted handed stamps_s stamps_r x) where
+    (accepted : ℕ) (handed : List messages.Message) (stamps_s stamps_r : List Stamp) (so_far : SoFar) (x : Direction)
+    (f : Flows message lifecycle mixed of s r accepted handed stamps_s stamps_r so_far x) where
   pub holds_of : IsWithin (state_of s) (queue_of s) → Holds message lifecycle mixed x (queue_of s) f.kept
-  holds_of w = within message lifecycle mixed x (queue_of s) f.kept f.written (state_of s) f.sends w
+  holds_of w = within message lifecycle mixed x (queue_of s) f.kept (state_of s) f.sends w
 
-  pub sender_premises : (asked : Bool) (call : Call) → AreGiven own → mixed ≡ (agreed own other).message_interleaving → HearsSacks call (first_in (state_of r)) x
-      → SenderPremises message lifecycle mixed (setting own other s r asked) call x
-  sender_premises asked call given mode hears = record {
+  pub asks_soon : IsAnswered (state_of s) so_far.asked → AsksSoon x
+  asks_soon soon a there =
+      let l = soon (number_of (first_out (state_of s)) x.answered) (waits message lifecycle mixed (state_of s) (queue_of s) x a f.sends there) in
+      let c = numbered_is message lifecycle mixed (state_of s) (queue_of s) x f.sends in
+      let below = f.asked a there in
+      omega (arith, l, c, below)
+
+  -- fewer asks than their numbers tell apart
+  pub few_asks : performed_in s.told < 2 ^ 32 - 1 → length x.asks < 2 ^ 32
+  few_asks few =
+      let a = f.answered in
+      let o = f.kept.asked.order.2 in
+      omega (arith, few, a, o)
+
+  pub sender_premises : (asked : Bool) (call : Call) → AreGiven own → mixed ≡ (agreed own other).message_interleaving → performed_in s.told < 2 ^ 32 - 1
+      → HearsSacks call (first_in (state_of r)) x → SenderPremises message lifecycle mixed (setting own other s r asked) call x
+  sender_premises asked call given mode few hears = record {
     kept = f.kept;
     own = given;
     mode = mode;
+    few = few_asks few;
     handed = handed;
     beside = f.receives;
     hears = hears;
   }
 
-  pub receiver_premises : (asked : Bool) (call : Call) → AreGiven other → mixed ≡ (agreed other own).message_interleaving
+  pub receiver_premises : (asked : Bool) (call : Call) → AreGiven other → mixed ≡ (agreed other own).message_interleaving → performed_in s.told < 2 ^ 32 - 1
       → Holds message lifecycle mixed x (queue_of s) f.kept → HearsData message mixed call (first_out (state_of s)) x
       → ReceiverPremises message lifecycle mixed (setting other own r s asked) call x
-  receiver_premises asked call given mode holds hears = record {
+  receiver_premises asked call given mode few holds hears = record {
     kept = f.kept;
     own = given;
     mode = mode;
+    few_asks = few_asks few;
     queue = queue_of s;
     beside = f.sends;
     windows = holds.windows;
-    written = f.written;
     few = holds.few;
-    short = short_index message (2 ^ 32) x.sender f.filled (λ t below. f.short (place_of x.sender t));
+    short = short_index message (2 ^ 32) (transfer_of x).sender f.filled (λ t below. f.short (place_of (transfer_of x).sender t));
     hears = hears;
   }
 
   -- nothing is done yet
-  pub begins_out : IsSilent s → SenderClaim message lifecycle mixed x (calm s.end) x
-  begins_out q = record {
+  pub begins_out : IsSilent s → IsAnswered (state_of s) so_far.asked → SenderClaim message lifecycle mixed x [] (calm s.end) x
+  begins_out q soon = record {
     kept = f.kept;
-    goes = record { events = []; may = tt; all = refl; leads = refl };
+    goes = goes_none message mixed goes_out x;
+    done = refl;
     shown = f.sends;
-    flows = f.flows;
+    near = asks_soon soon;
+    since = λ a there. inl there;
     gone = ap (λ (t : Told Carried). recorded t) q.told;
-    reported = reports_none lifecycle x x [] s.end.standing.context.told.events refl (ap (λ (t : Told Carried). delivered t.events) q.told);
-    told = subst (λ (t : Told Carried). All (λ (p : Carried). All (SaysOut message mixed (first_out (state_of s)) x.acknowledged x) p.chunks) (packets_in t.events)) (sym q.told) (All-nil _);
+    reported = reports_none lifecycle (transfer_of x) (transfer_of x) [] s.end.standing.context.told.events refl (ap (λ (t : Told Carried). delivered t.events) q.told);
+    performed = let none = ap (λ (t : Told Carried). performed_in t.events) q.told in omega (arith, none);
+    epochs = λ g so. subst (λ (t : Told Carried). AreSo (reopened (performed_of t.events) (shut [] g)) x.rules) (sym q.told) so;
+    none_failed = ap (λ (t : Told Carried). failed_in t.events) q.told;
+    told = subst (λ (t : Told Carried). All (λ (p : Carried). All (SaysOut message mixed (first_out (state_of s)) (transfer_of x).acknowledged (count (transfer_of x).sender) x) p.chunks) (packets_in t.events))
+        (sym q.told) (All-nil _);
     made = All-nil _;
   }
 
   pub begins_in : IsSilent r → ReceiverClaim message mixed x handed (calm r.end) x
   begins_in q = record {
     kept = f.kept;
-    goes = record { events = []; may = tt; all = refl; leads = refl };
+    goes = goes_none message mixed goes_in x;
+    stay = (refl, refl);
     shown = f.receives;
-    told = subst (λ (t : Told Carried). All (λ (p : Carried). All (SaysIn (first_in (state_of r)) x.acknowledged (count x.sender) x) p.chunks) (packets_in t.events)) (sym q.told) (All-nil _);
+    performed = λ k. let none = ap (λ (t : Told Carried). resets_told k t.events) q.told in omega (arith, none);
+    told = subst (λ (t : Told Carried). All (λ (p : Carried). All (SaysIn (first_in (state_of r)) (transfer_of x).acknowledged (count (transfer_of x).sender) x) p.chunks) (packets_in t.events))
+        (sym q.told) (All-nil _);
     made = All-nil _;
   }

@@ -1,7 +1,6 @@
 -- The course in which a stream is reset, computed.
-use Rattle.std.proofs.Common.{◌≡◌, ℕ, ◌+◌, ◌-◌, ◌^◌, ◌<◌, Bool, true, false, Option, Some, None, List, [], ◌∷◌, refl, inr, sym, ◌∙◌, ap}
-use Rattle.std.specs.Prelude.{◌&&◌, nat_lt}
-use Rattle.std.proofs.lemmas.Bool.{ltb-true, and_parts}
+use Rattle.std.proofs.Common.{◌≡◌, ◌-◌, ◌^◌, ◌<◌, Bool, true, false, length, refl, inr}
+use Rattle.std.proofs.lemmas.Bool.{ltb-true}
 use Rattle.rand_core.specs.Stream.{next_u32, next_u64}
 use Rattle.sctp_wire.specs.Fields.{be16, be32, be64}
 use Rattle.sctp_wire.specs.Serialize.{padded_item, inner_items}
@@ -11,36 +10,24 @@ use Rattle.sctp_wire.specs.CauseText.{cause_text}
 use Rattle.sctp_wire.specs.Show.{joined}
 use Rattle.sctp_packet.specs.Written.{chunk_bytes, chunks_bytes, chunk_value, data_value, idata_value, init_fields, block_bytes, sack_value, skip_bytes, forward_value}
 use Rattle.sctp_capabilities.specs.Cookie.{cookie_bytes, capability_bytes, cookie_from, read_cookie}
-use Rattle.sctp_table.specs.Association.{State}
 use Rattle.sctp_table.specs.Time.{ticked}
-use Rattle.sctp_course.specs.Course.{Pair, Turn, goes, run, side_of, state_of}
+use Rattle.sctp_course.specs.Course.{run, side_of}
 use Rattle.sctp_course.specs.Opens.{at_first}
-use Rattle.sctp_delivery.specs.Windows.{numbered}
-use Rattle.sctp_delivery.specs.Answered.{Asked, none_asked, asked_after, IsAnswered, AreAnswered, KeepsRequests, performed_in}
-use Rattle.sctp_delivery.specs.StreamEpochs.{NoneIsRefused, one_is_reset, OneIsReset}
+use Rattle.sctp_delivery.specs.Answered.{none_asked, performed_in}
+use Rattle.sctp_delivery.specs.StreamEpochs.{NoneIsRefused}
+use Rattle.sctp_delivery.specs.Accepted.{accepted}
+use Rattle.sctp_delivery.specs.Windows.{no_stamps}
+use Rattle.sctp_delivery.specs.Resetting.{one_is_reset, OneIsReset}
+use Rattle.sctp_delivery.proofs.BoundsLemmas.{near_next, all_near, keeps_within, is_within, is_young, young_if, is_timely, both_within, keeps_windows, windows_kept, keeps_requests, requests_kept}
 
--- few enough were numbered, whatever waits
-abbrev pub is_few : State → ℕ → Bool
-is_few s n = nat_lt (numbered s) (n + 2 ^ 30)
+windows_are : keeps_windows one_is_reset at_first no_stamps ≡ true
+unfolding keeps_windows both_within is_within keeps_within all_near near_next is_timely young_if is_young next_u32 next_u64 be16 be32 be64 padded_item inner_items parameter_value cause_value cause_text joined chunk_bytes chunks_bytes chunk_value data_value idata_value init_fields block_bytes sack_value skip_bytes forward_value cookie_bytes capability_bytes cookie_from read_cookie ticked
+windows_are = refl
 
-abbrev pub both_few : Pair → Asked → Bool
-both_few w k = is_few (state_of w.a) k.a && is_few (state_of w.b) k.b
-
-unfoldable pub keeps_requests : List (Bool × Turn) → Pair → Asked → Bool
-keeps_requests [] w k = both_few w k
-keeps_requests (e ∷ es) w k = both_few w k && keeps_requests es (goes e.0 e.1 w) (asked_after e.0 e.1 w k)
-
-few_answered : (w : Pair) (k : Asked) → both_few w k ≡ true → AreAnswered w k
-few_answered w k h =
-    let p = and_parts (is_few (state_of w.a) k.a) (is_few (state_of w.b) k.b) h in
-    record { a = λ n e. ltb-true (numbered (state_of w.a)) (k.a + 2 ^ 30) p.0; b = λ n e. ltb-true (numbered (state_of w.b)) (k.b + 2 ^ 30) p.1 }
-
-requests_kept : (es : List (Bool × Turn)) (w : Pair) (k : Asked) → keeps_requests es w k ≡ true → KeepsRequests es w k
-unfolding keeps_requests
-requests_kept [] w k h = few_answered w k h
-requests_kept (e ∷ es) w k h =
-    let p = and_parts (both_few w k) (keeps_requests es (goes e.0 e.1 w) (asked_after e.0 e.1 w k)) h in
-    (few_answered w k p.0, requests_kept es (goes e.0 e.1 w) (asked_after e.0 e.1 w k) p.1)
+few_accepted : (from_a : Bool) → length (accepted from_a one_is_reset at_first) < 2 ^ 32
+unfolding next_u32 next_u64 be16 be32 be64 padded_item inner_items parameter_value cause_value cause_text joined chunk_bytes chunks_bytes chunk_value data_value idata_value init_fields block_bytes sack_value skip_bytes forward_value cookie_bytes capability_bytes cookie_from read_cookie ticked
+few_accepted true = ltb-true 2 (2 ^ 32) refl
+few_accepted false = ltb-true 0 (2 ^ 32) refl
 
 requests_are : keeps_requests one_is_reset at_first none_asked ≡ true
 unfolding keeps_requests next_u32 next_u64 be16 be32 be64 padded_item inner_items parameter_value cause_value cause_text joined chunk_bytes chunks_bytes chunk_value data_value idata_value init_fields block_bytes sack_value skip_bytes forward_value cookie_bytes capability_bytes cookie_from read_cookie ticked
@@ -61,7 +48,12 @@ unfolding next_u32 next_u64 be16 be32 be64 padded_item inner_items parameter_val
 one_reset = record {
   follows = (inr refl, (tt, (tt, (tt, (tt, (tt, (tt, (tt, (tt, (tt, (tt, (tt, (tt, (tt, tt))))))))))))));
   not_ended = record { a = refl; b = refl };
-  resets = record { answered = requests_kept one_is_reset at_first none_asked requests_are; few = few_performed };
+  bounds = record {
+    windows = windows_kept one_is_reset at_first no_stamps windows_are;
+    resets = record { answered = requests_kept one_is_reset at_first none_asked requests_are; few = few_performed };
+    few = few_accepted;
+    limits = refl;
+  };
   epochs = refl;
   readies = refl;
   told = refl;

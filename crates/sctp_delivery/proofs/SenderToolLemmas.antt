@@ -1,6 +1,6 @@
 -- Rules that lead on: what an end says stays true, and what one end's rules leave of the other's part. For an act of a sender:
 -- its claim after it.
-use Rattle.std.proofs.Common.{◌≡◌, ℕ, suc, ◌+◌, ◌^◌, ◌<◌, ◌≤◌, ◌&&◌, Bool, true, false, Option, Some, slice_get, inr, List, [], ◌∷◌, ◌++◌, length, map, All, refl, sym, ap, ◌∙◌, subst, arith, append-nil, append_assoc, length-append}
+use Rattle.std.proofs.Common.{◌≡◌, ℕ, suc, ◌+◌, ◌^◌, ◌<◌, ◌≤◌, ◌&&◌, ◌⊎◌, Bool, true, false, Option, Some, slice_get, inr, List, [], ◌∷◌, ◌++◌, length, map, All, refl, sym, ap, ◌∙◌, subst, arith, append-nil, append_assoc, length-append}
 use Rattle.std.specs.List.{list_all}
 use Rattle.std.proofs.lemmas.List.Folds.{list_all-append}
 use Rattle.std.proofs.lemmas.List.Elements.{All-weaker}
@@ -15,7 +15,7 @@ use Rattle.sctp_rules.specs.Resets.{Request, Epochs, ResetEvent, transfers, rese
 use Rattle.sctp_rules.specs.Based.{InEpochs}
 use Rattle.sctp_rules.proofs.BasedLemmas.{keeps_epochs, all_in_epochs}
 use Rattle.sctp_rules.proofs.StepLemmas.{later}
-use Rattle.sctp_tx_rules.specs.Led.{given_ups, recorded, is_sending, delivered, ids_at}
+use Rattle.sctp_tx_rules.specs.Led.{given_ups, recorded, delivered, ids_at}
 use Rattle.sctp_tx_rules.proofs.LedLemmas.{given_more}
 use Rattle.sctp_tx_rules.proofs.PausedLemmas.{go_more, may_more}
 use Rattle.sctp_tx_rules.proofs.SackLemmas.{delivered_more, ids_more}
@@ -29,12 +29,12 @@ use Rattle.sctp_delivery.specs.Asks.{Ask, request_for, AreAsked, SaysOutgoing, S
 use Rattle.sctp_delivery.specs.Answered.{performed_in}
 use Rattle.sctp_delivery.specs.StreamEpochs.{StreamEpoch, shut, reopened, performed_of, failed_in}
 use Rattle.sctp_delivery.proofs.AsksLemmas.{asks_said, answers_said}
-use Rattle.sctp_delivery.proofs.ClaimLemmas.{Direction, transfer_of, of_transfer, goes_out, GoesOn, SaysData, SaysPoint, SaysOut, SaysIn, first_out, SendsIn, Reports, AreSo, SenderClaim}
+use Rattle.sctp_delivery.proofs.ClaimLemmas.{Direction, transfer_of, of_transfer, goes_out, goes_in, GoesOn, SaysData, SaysPoint, SaysOut, SaysIn, first_out, SendsIn, Reports, AreSo, SenderClaim}
 use Rattle.sctp_delivery.proofs.ResetEventsLemmas.{resets_in, performed_counts, performed_names, failed_still}
 
 -- ---- one run after another
 
-transfer_more : (es fs : List ResetEvent) → of_transfer (es ++ fs) ≡ of_transfer es ++ of_transfer fs
+pub transfer_more : (es fs : List ResetEvent) → of_transfer (es ++ fs) ≡ of_transfer es ++ of_transfer fs
 transfer_more [] fs = refl
 transfer_more (transfers e ∷ es) fs = ap (λ (gs : List Event). e ∷ gs) (transfer_more es fs)
 transfer_more (reset_stream s ∷ es) fs = transfer_more es fs
@@ -54,7 +54,7 @@ all_transfers kind only each (e ∷ es) h =
     ap (λ b. b && list_all kind (map transfers es)) (each e hs.0) ∙ all_transfers kind only each es hs.1
 
 module _ (message : ℕ → Message) (mixed : Bool) where
-  pub goes_none : (kind : ResetEvent → Bool) (x : Direction) → GoesOn message mixed kind x x
+  abbrev pub goes_none : (kind : ResetEvent → Bool) (x : Direction) → GoesOn message mixed kind x x
   goes_none kind x = record {
     events = [];
     may = tt;
@@ -99,7 +99,7 @@ module _ (message : ℕ → Message) (mixed : Bool) where
   abbrev pub with_transfer : Direction → Transfer → Direction
   with_transfer x t = record x { rules = record x.rules { transfer = t } }
 
-  pub transfers_go : (kind : ResetEvent → Bool) (x : Direction) (t : Transfer) (es : List Event) → MayAll message mixed x.rules (map transfers es) → list_all kind (map transfers es) ≡ true
+  abbrev pub transfers_go : (kind : ResetEvent → Bool) (x : Direction) (t : Transfer) (es : List Event) → MayAll message mixed x.rules (map transfers es) → list_all kind (map transfers es) ≡ true
       → go_all message mixed x.rules (map transfers es) ≡ record x.rules { transfer = t } → GoesOn message mixed kind x (with_transfer x t)
   transfers_go kind x t es may all leads = record {
     events = map transfers es;
@@ -328,6 +328,57 @@ module _ (message : ℕ → Message) (mixed : Bool) where
   pub receiver_stays : (x y : Direction) → GoesOn message mixed goes_out x y → SameReceiver x.rules y.rules
   receiver_stays x y g = subst (λ (z : Epochs). SameReceiver x.rules z) g.leads (same_along g.events x.rules g.all)
 
+  -- ---- a receiver's rules leave the sender as it is
+
+  pub record SameSender (x y : Epochs) : Type 0 where
+    pub sender : y.transfer.sender ≡ x.transfer.sender
+    pub acknowledged : y.transfer.acknowledged ≡ x.transfer.acknowledged
+    pub reports : y.transfer.reports ≡ x.transfer.reports
+    pub forward_points : y.transfer.forward_points ≡ x.transfer.forward_points
+    pub epoch : y.epoch ≡ x.epoch
+    pub raised : y.raised ≡ x.raised
+    pub opened : y.opened ≡ x.opened
+    pub requests : y.requests ≡ x.requests
+
+  sender_once : (x : Epochs) (e : ResetEvent) → goes_in e ≡ true → SameSender x (goes message mixed x e)
+  sender_once x (transfers (data_comes t)) s = record { sender = refl; acknowledged = refl; reports = refl; forward_points = refl; epoch = refl; raised = refl; opened = refl; requests = refl }
+  sender_once x (transfers (late_comes t)) s = record { sender = refl; acknowledged = refl; reports = refl; forward_points = refl; epoch = refl; raised = refl; opened = refl; requests = refl }
+  sender_once x (transfers (deliver p)) s = record { sender = refl; acknowledged = refl; reports = refl; forward_points = refl; epoch = refl; raised = refl; opened = refl; requests = refl }
+  sender_once x (transfers (send_sack c)) s = record { sender = refl; acknowledged = refl; reports = refl; forward_points = refl; epoch = refl; raised = refl; opened = refl; requests = refl }
+  sender_once x (transfers (forward_comes f spared)) s = record { sender = refl; acknowledged = refl; reports = refl; forward_points = refl; epoch = refl; raised = refl; opened = refl; requests = refl }
+  sender_once x (transfers (forget t c)) s = record { sender = refl; acknowledged = refl; reports = refl; forward_points = refl; epoch = refl; raised = refl; opened = refl; requests = refl }
+  sender_once x (transfers accept) s = cc
+  sender_once x (transfers (begin p)) s = cc
+  sender_once x (transfers (number p bytes more)) s = cc
+  sender_once x (transfers (close p)) s = cc
+  sender_once x (transfers (give_up p)) s = cc
+  sender_once x (transfers (leave c)) s = cc
+  sender_once x (transfers (send_forward f)) s = cc
+  sender_once x (reset_stream t) s = cc
+  sender_once x (send_request t) s = cc
+  sender_once x (perform r) s = record { sender = refl; acknowledged = refl; reports = refl; forward_points = refl; epoch = refl; raised = refl; opened = refl; requests = refl }
+  sender_once x (commit t) s = cc
+
+  sender_along : (es : List ResetEvent) (x : Epochs) → list_all goes_in es ≡ true → SameSender x (go_all message mixed x es)
+  sender_along [] x s = record { sender = refl; acknowledged = refl; reports = refl; forward_points = refl; epoch = refl; raised = refl; opened = refl; requests = refl }
+  sender_along (e ∷ es) x s =
+      let parts = and_parts (goes_in e) (list_all goes_in es) s in
+      let one = sender_once x e parts.0 in
+      let rest = sender_along es (goes message mixed x e) parts.1 in
+      record {
+        sender = rest.sender ∙ one.sender;
+        acknowledged = rest.acknowledged ∙ one.acknowledged;
+        reports = rest.reports ∙ one.reports;
+        forward_points = rest.forward_points ∙ one.forward_points;
+        epoch = rest.epoch ∙ one.epoch;
+        raised = rest.raised ∙ one.raised;
+        opened = rest.opened ∙ one.opened;
+        requests = rest.requests ∙ one.requests;
+      }
+
+  pub sender_stays : (x y : Direction) → GoesOn message mixed goes_in x y → SameSender x.rules y.rules
+  sender_stays x y g = subst (λ (z : Epochs). SameSender x.rules z) g.leads (sender_along g.events x.rules g.all)
+
 -- ---- what is told lightly are no packets
 
 light_packets : (es : List (events.Event Carried)) → list_all is_light es ≡ true → packets_in es ≡ []
@@ -381,6 +432,10 @@ asked_still x y asks done answered opened performed requests grows are = record 
 abbrev pub IsNear : (from x : Direction) → Type 0
 IsNear from x = (a : Ask) → slice_get x.asks x.answered ≡ Some a → count (transfer_of from).sender < a.upto + 2 ^ 30
 
+-- it waited before this turn, or is of this turn
+abbrev pub IsSince : (from x : Direction) → Type 0
+IsSince from x = (a : Ask) → slice_get x.asks x.answered ≡ Some a → (slice_get from.asks x.answered ≡ Some a) ⊎ (count (transfer_of from).sender ≤ a.upto)
+
 pub so_still : (f : ℕ → StreamEpoch) (x y : Epochs) → y.raised ≡ x.raised → y.opened ≡ x.opened → AreSo f x → AreSo f y
 so_still f x y raised opened h s =
     let i = h s in
@@ -395,24 +450,28 @@ pub record TellsResets (prepared later : List ℕ) (es fs : List (events.Event C
   pub epochs : (f : ℕ → StreamEpoch) → AreSo (reopened (performed_of es) (shut prepared f)) x.rules → AreSo (reopened (performed_of fs) (shut later f)) y.rules
   pub none_failed : failed_in es ≡ false → failed_in fs ≡ false
 
-pub same_named : (es fs : List (events.Event Carried)) → resets_in fs ≡ resets_in es → performed_of fs ≡ performed_of es
-same_named es fs same = sym (performed_names fs) ∙ (ap performed_of same ∙ performed_names es)
+-- no answer
+pub record TellsNoAnswer (es fs : List (events.Event Carried)) : Type 0 where
+  pub counted : performed_in fs ≡ performed_in es
+  pub named : performed_of fs ≡ performed_of es
+  pub failed : failed_in fs ≡ failed_in es
 
-pub same_counted : (es fs : List (events.Event Carried)) → resets_in fs ≡ resets_in es → performed_in fs ≡ performed_in es
-same_counted es fs same = sym (performed_counts fs) ∙ (ap performed_in same ∙ performed_counts es)
+-- nor anything of resets
+pub no_answer : (es fs : List (events.Event Carried)) → resets_in fs ≡ resets_in es → TellsNoAnswer es fs
+no_answer es fs same = record {
+  counted = sym (performed_counts fs) ∙ (ap performed_in same ∙ performed_counts es);
+  named = sym (performed_names fs) ∙ (ap performed_of same ∙ performed_names es);
+  failed = sym (failed_still fs) ∙ (ap failed_in same ∙ failed_still es);
+}
 
-pub same_failed : (es fs : List (events.Event Carried)) → resets_in fs ≡ resets_in es → failed_in fs ≡ failed_in es
-same_failed es fs same = sym (failed_still fs) ∙ (ap failed_in same ∙ failed_still es)
-
--- nothing of them
-pub tells_no_resets : (prepared : List ℕ) (es fs : List (events.Event Carried)) (x y : Direction) → resets_in fs ≡ resets_in es → y.answered ≡ x.answered → y.rules.raised ≡ x.rules.raised
+pub tells_no_answer : (prepared : List ℕ) (es fs : List (events.Event Carried)) (x y : Direction) → TellsNoAnswer es fs → y.answered ≡ x.answered → y.rules.raised ≡ x.rules.raised
     → y.rules.opened ≡ x.rules.opened → TellsResets prepared prepared es fs x y
-tells_no_resets prepared es fs x y same answered raised opened =
-    let n = same_counted es fs same in
+tells_no_answer prepared es fs x y none answered raised opened =
+    let n = none.counted in
     record {
       performed = omega (arith, n, answered);
-      epochs = λ f h. subst (λ (ns : List ℕ). AreSo (reopened ns (shut prepared f)) y.rules) (sym (same_named es fs same)) (so_still (reopened (performed_of es) (shut prepared f)) x.rules y.rules raised opened h);
-      none_failed = λ e. same_failed es fs same ∙ e;
+      epochs = λ f h. subst (λ (ns : List ℕ). AreSo (reopened ns (shut prepared f)) y.rules) (sym none.named) (so_still (reopened (performed_of es) (shut prepared f)) x.rules y.rules raised opened h);
+      none_failed = λ e. none.failed ∙ e;
     }
 
 module _ (message : ℕ → Message) (lifecycle : ℕ → Option ℕ) (mixed : Bool) (from : Direction) where
@@ -430,6 +489,7 @@ module _ (message : ℕ → Message) (lifecycle : ℕ → Option ℕ) (mixed : B
     pub done : y.done ≡ x.done
     pub shown : SendsIn message lifecycle mixed b.state b.context.queue y
     pub near : IsNear from x → IsNear from y
+    pub since : IsSince from x → IsSince from y
     pub gone : recorded b.context.told ≡ recorded a.context.told ++ given_ups (of_transfer goes.events)
     pub reported : Reports lifecycle (transfer_of x) (transfer_of y) a.context.told.events b.context.told.events
     pub resets : TellsResets prepared later a.context.told.events b.context.told.events x y
@@ -454,6 +514,7 @@ module _ (message : ℕ → Message) (lifecycle : ℕ → Option ℕ) (mixed : B
         done = s.done ∙ c.done;
         shown = s.shown;
         near = s.near c.near;
+        since = s.since c.since;
         gone = s.gone ∙ (ap (λ (ps : List ℕ). ps ++ given_ups (of_transfer s.goes.events)) c.gone ∙ sym g.1);
         reported = reports_then lifecycle (transfer_of from) (transfer_of x) (transfer_of y) [] a.context.told.events b.context.told.events c.reported s.reported;
         performed = omega (arith, so_far, now);

@@ -1,154 +1,316 @@
 -- A turn of either end leaves one direction at a later state of the rules.
-use Rattle.std.proofs.Common.{◌≡◌, ℕ, ◌+◌, ◌-◌, ◌^◌, ◌≤◌, Bool, true, Option, List, [], ◌∷◌, ◌++◌, length, replicate, All, refl, sym, ap, subst, ◌∙◌, arith}
+use Rattle.std.proofs.Common.{◌≡◌, ℕ, zero, suc, ◌+◌, ◌-◌, ◌==◌, ◌^◌, ◌<◌, ◌≤◌, not, Bool, true, false, cond, ◌⊎◌, inl, inr, Option, Some, None, List, [], ◌∷◌, ◌++◌, length, replicate, slice_get, All, refl, sym, ap, subst, ◌∙◌, arith}
+use Rattle.std.specs.Prelude.{⊤}
 use Rattle.std.specs.List.{list_all}
+use Rattle.std.proofs.lemmas.List.{length-append, length-map}
 use Rattle.std.proofs.lemmas.List.Elements.{All-weaker}
-use Rattle.std.proofs.lemmas.Bool.{and_parts, and_from}
+use Rattle.std.proofs.lemmas.Bool.{and_parts, and_from, cases_lt, eq-eqb}
 use Rattle.sctp_serial.specs.Messages as messages
-use Rattle.sctp_rules.specs.State.{Message, Transfer, count}
-use Rattle.sctp_rules.specs.Rules.{Event, accept, begin, number, close, give_up, data_comes, late_comes, deliver, send_sack, leave, send_forward, forward_comes, forget, after, run}
-use Rattle.sctp_rules.specs.Kept.{Kept}
-use Rattle.sctp_rules.specs.Written.{AreTheirOwn}
-use Rattle.sctp_rules.proofs.WrittenLemmas.{own_along}
-use Rattle.sctp_tx_rules.specs.Led.{is_sending}
+use Rattle.sctp_state.specs.Events.{Event, OnStreamsResetPerformed, OnStreamsResetFailed, OnIncomingStreamReset}
+use Rattle.sctp_rules.specs.State.{Message, count, stream_of}
+use Rattle.sctp_rules.specs.Rules.{accept, begin, number, close, give_up, data_comes, late_comes, deliver, send_sack, leave, send_forward, forward_comes, forget}
+use Rattle.sctp_rules.specs.Resets.{Epochs, ResetEvent, transfers, reset_stream, send_request, perform, commit, goes, go_all}
 use Rattle.sctp_send_queue.specs.Queue.{Queue}
 use Rattle.sctp_table.specs.Association.{State, Endpoint}
 use Rattle.sctp_table_laws.specs.Mapped.{Carried}
 use Rattle.sctp_course.specs.Acts.{calm}
 use Rattle.sctp_course.specs.Course.{Side, packets_in, emitted, took, state_of}
 use Rattle.sctp_course.proofs.JoinActsLemmas.{packets_both}
-use Rattle.sctp_delivery.specs.Windows.{Stamp, queue_of, stamped}
-use Rattle.sctp_delivery.proofs.ClaimLemmas.{is_receiving, GoesOn, first_out, first_in, SendsIn, ReceivesIn, SenderClaim, ReceiverClaim}
-use Rattle.sctp_delivery.proofs.FilledLemmas.{has_bytes, filled_goes, receives_filled}
-use Rattle.sctp_delivery.proofs.SenderToolLemmas.{Grows, goes_grows}
-use Rattle.sctp_delivery.proofs.DirectionLemmas.{Saying, IsUnderWay, AllUnderWay, each_behind, says_out, says_in, out_on, in_on, out_first, in_first, Stands, Flows}
+use Rattle.sctp_delivery.specs.Accepted.{Offer}
+use Rattle.sctp_delivery.specs.Answered.{waiting_number, is_same, asked_by, performed_in}
+use Rattle.sctp_delivery.specs.Asks.{Ask, number_of}
+use Rattle.sctp_delivery.specs.StreamEpochs.{StreamEpoch, are_named, shut, reopened, performed_of, epochs_of, resets_told, failed_in}
+use Rattle.sctp_delivery.specs.Windows.{Stamp, numbered, queue_of, stamped}
+use Rattle.sctp_delivery.proofs.AsksLemmas.{get_below}
+use Rattle.sctp_delivery.proofs.ClaimLemmas.{Direction, transfer_of, goes_out, goes_in, IsKept, GoesOn, AsksStay, first_out, first_in, AreSo, SendsIn, ReceivesIn, SenderClaim, ReceiverClaim}
+use Rattle.sctp_delivery.proofs.FilledLemmas.{fills, filled_goes, receives_filled}
+use Rattle.sctp_delivery.proofs.SenderToolLemmas.{Grows, goes_grows, goes_none, receiver_stays, SameSender, sender_stays, so_still}
+use Rattle.sctp_delivery.proofs.WithinLemmas.{numbered_is}
+use Rattle.sctp_delivery.proofs.DirectionLemmas.{Saying, IsUnderWay, AllUnderWay, each_behind, says_out, says_in, out_on, in_on, out_first, in_first, Stands, SoFar, Flows}
+use Rattle.sctp_delivery.proofs.PremisesLemmas.{waits, is_asked, waits_again}
 
--- ---- what no rule of this kind changes
+-- ---- what no rule of a sender changes
 
-accepted_once : (message : ℕ → Message) (mixed : Bool) (x : Transfer) (e : Event) → is_sending e ≡ true → (after message mixed x e).sender.accepted ≡ x.sender.accepted
-accepted_once message mixed x accept s = cc
-accepted_once message mixed x (begin p) s = refl
-accepted_once message mixed x (number p bytes more) s = refl
-accepted_once message mixed x (close p) s = refl
-accepted_once message mixed x (give_up p) s = refl
-accepted_once message mixed x (leave c) s = refl
-accepted_once message mixed x (send_forward f) s = refl
-accepted_once message mixed x (data_comes t) s = cc
-accepted_once message mixed x (late_comes t) s = cc
-accepted_once message mixed x (deliver p) s = cc
-accepted_once message mixed x (send_sack c) s = cc
-accepted_once message mixed x (forward_comes f spared) s = cc
-accepted_once message mixed x (forget s c) h = cc
+module _ (message : ℕ → Message) (mixed : Bool) where
+  record SameAccepted (x y : Epochs) : Type 0 where
+    accepted : y.transfer.sender.accepted ≡ x.transfer.sender.accepted
+    epoch : y.epoch ≡ x.epoch
 
-received_once : (message : ℕ → Message) (mixed : Bool) (x : Transfer) (e : Event) → is_receiving e ≡ true → (after message mixed x e).sender.accepted ≡ x.sender.accepted
-received_once message mixed x accept s = cc
-received_once message mixed x (begin p) s = cc
-received_once message mixed x (number p bytes more) s = cc
-received_once message mixed x (close p) s = cc
-received_once message mixed x (give_up p) s = cc
-received_once message mixed x (leave c) s = cc
-received_once message mixed x (send_forward f) s = cc
-received_once message mixed x (data_comes t) s = refl
-received_once message mixed x (late_comes t) s = refl
-received_once message mixed x (deliver p) s = refl
-received_once message mixed x (send_sack c) s = refl
-received_once message mixed x (forward_comes f spared) s = refl
-received_once message mixed x (forget s c) h = refl
+  accepted_once : (x : Epochs) (e : ResetEvent) → goes_out e ≡ true → SameAccepted x (goes message mixed x e)
+  accepted_once x (transfers accept) s = cc
+  accepted_once x (transfers (begin p)) s = record { accepted = refl; epoch = refl }
+  accepted_once x (transfers (number p bytes more)) s = record { accepted = refl; epoch = refl }
+  accepted_once x (transfers (close p)) s = record { accepted = refl; epoch = refl }
+  accepted_once x (transfers (give_up p)) s = record { accepted = refl; epoch = refl }
+  accepted_once x (transfers (leave c)) s = record { accepted = refl; epoch = refl }
+  accepted_once x (transfers (send_forward f)) s = record { accepted = refl; epoch = refl }
+  accepted_once x (transfers (data_comes t)) s = cc
+  accepted_once x (transfers (late_comes t)) s = cc
+  accepted_once x (transfers (deliver p)) s = cc
+  accepted_once x (transfers (send_sack c)) s = cc
+  accepted_once x (transfers (forward_comes f spared)) s = cc
+  accepted_once x (transfers (forget s c)) h = cc
+  accepted_once x (reset_stream t) s = record { accepted = refl; epoch = refl }
+  accepted_once x (send_request t) s = record { accepted = refl; epoch = refl }
+  accepted_once x (perform r) s = cc
+  accepted_once x (commit t) s = record { accepted = refl; epoch = refl }
 
-module _ (message : ℕ → Message) (mixed : Bool) (kind : Event → Bool)
-    (once : (x : Transfer) (e : Event) → kind e ≡ true → (after message mixed x e).sender.accepted ≡ x.sender.accepted) where
-  accepted_along : (es : List Event) (x : Transfer) → list_all kind es ≡ true → (run message mixed x es).sender.accepted ≡ x.sender.accepted
-  accepted_along [] x s = refl
+  accepted_along : (es : List ResetEvent) (x : Epochs) → list_all goes_out es ≡ true → SameAccepted x (go_all message mixed x es)
+  accepted_along [] x s = record { accepted = refl; epoch = refl }
   accepted_along (e ∷ es) x s =
-      let parts = and_parts (kind e) (list_all kind es) s in
-      accepted_along es (after message mixed x e) parts.1 ∙ once x e parts.0
+      let parts = and_parts (goes_out e) (list_all goes_out es) s in
+      let one = accepted_once x e parts.0 in
+      let rest = accepted_along es (goes message mixed x e) parts.1 in
+      record { accepted = rest.accepted ∙ one.accepted; epoch = rest.epoch ∙ one.epoch }
 
-  accepted_stays : (x y : Transfer) → GoesOn message mixed kind x y → y.sender.accepted ≡ x.sender.accepted
-  accepted_stays x y g = ap (λ (z : Transfer). z.sender.accepted) (sym g.leads) ∙ accepted_along g.events x g.all
-
--- nor does any write other numbers than those of the rules
-own_goes : (message : ℕ → Message) (mixed : Bool) (kind : Event → Bool) (x y : Transfer) → GoesOn message mixed kind x y → AreTheirOwn x.sender x.forward_points
-    → AreTheirOwn y.sender y.forward_points
-own_goes message mixed kind x y g h = subst (λ (z : Transfer). AreTheirOwn z.sender z.forward_points) g.leads (own_along message mixed g.events x g.may h)
+  accepted_stays : (x y : Direction) → GoesOn message mixed goes_out x y → SameAccepted x.rules y.rules
+  accepted_stays x y g = subst (λ (z : Epochs). SameAccepted x.rules z) g.leads (accepted_along g.events x.rules g.all)
 
 -- ---- acceptance, and a sender's rules
 
-abbrev pub is_outgoing : Event → Bool
-is_outgoing accept = true
-is_outgoing e = is_sending e
+abbrev pub is_outgoing : ResetEvent → Bool
+is_outgoing (transfers accept) = true
+is_outgoing e = goes_out e
 
--- so many messages are accepted, and nothing else happens
-pub record Offers (message : ℕ → Message) (mixed : Bool) (n : ℕ) (x mid : Transfer) : Type 0 where
+-- so many messages are accepted, each of its stream's newest epoch, and nothing else happens
+pub record Offers (message : ℕ → Message) (mixed : Bool) (n : ℕ) (x mid : Direction) : Type 0 where
   pub goes : GoesOn message mixed is_outgoing x mid
-  pub kept : Kept message mixed mid
-  pub accepted : mid.sender.accepted ≡ x.sender.accepted + n
-  pub acknowledged : mid.acknowledged ≡ x.acknowledged
-  pub given_up : mid.sender.given_up ≡ x.sender.given_up
-  pub reports : mid.reports ≡ x.reports
+  pub kept : IsKept message mixed mid
+  pub accepted : (transfer_of mid).sender.accepted ≡ (transfer_of x).sender.accepted + n
+  pub acknowledged : (transfer_of mid).acknowledged ≡ (transfer_of x).acknowledged
+  pub given_up : (transfer_of mid).sender.given_up ≡ (transfer_of x).sender.given_up
+  pub reports : (transfer_of mid).reports ≡ (transfer_of x).reports
+  pub counted : count (transfer_of mid).sender ≡ count (transfer_of x).sender
+  pub asks : mid.asks ≡ x.asks
+  pub done : mid.done ≡ x.done
+  pub answered : mid.answered ≡ x.answered
+  pub raised : mid.rules.raised ≡ x.rules.raised
+  pub opened : mid.rules.opened ≡ x.rules.opened
+  pub performed : mid.rules.performed ≡ x.rules.performed
+  pub old : (p : ℕ) → p < (transfer_of x).sender.accepted → mid.rules.epoch p ≡ x.rules.epoch p
+  pub new : (p : ℕ) → (transfer_of x).sender.accepted ≤ p → p < (transfer_of mid).sender.accepted → mid.rules.epoch p ≡ x.rules.raised (stream_of message p)
 
-pub offers_none : (message : ℕ → Message) (mixed : Bool) (x : Transfer) → Kept message mixed x → Offers message mixed 0 x x
+pub offers_none : (message : ℕ → Message) (mixed : Bool) (x : Direction) → IsKept message mixed x → Offers message mixed 0 x x
 offers_none message mixed x k = record {
-  goes = record { events = []; may = tt; all = refl; leads = refl };
+  goes = goes_none message mixed is_outgoing x;
   kept = k;
   accepted = omega arith;
   acknowledged = refl;
   given_up = refl;
   reports = refl;
+  counted = refl;
+  asks = refl;
+  done = refl;
+  answered = refl;
+  raised = refl;
+  opened = refl;
+  performed = refl;
+  old = λ p l. refl;
+  new = λ p a b. absurd (omega (arith, a, b));
 }
+
+-- the messages of these places, from this one on
+abbrev pub message_in : Offer → Message
+message_in o = record { stream = o.message.stream; ordered = not o.options.unordered; protocol_id = o.message.ppid; payload = o.message.payload }
+
+abbrev pub AreOffered : (ℕ → Message) → (ℕ → Option ℕ) → ℕ → List Offer → Type 0
+AreOffered message lifecycle p [] = ⊤
+AreOffered message lifecycle p (o ∷ os) = (message p ≡ message_in o) × (lifecycle p ≡ o.options.lifecycle_id) × AreOffered message lifecycle (p + 1) os
 
 -- ---- what the rules of one end leave of the other
 
 pub record Stay (message : ℕ → Message) (lifecycle : ℕ → Option ℕ) (mixed : Bool) : Type 0 where
-  pub receives : (s : State) (handed : List messages.Message) (x y : Transfer) → Kept message mixed x → GoesOn message mixed is_outgoing x y
+  pub receives : (s : State) (handed : List messages.Message) (x y : Direction) → IsKept message mixed x → GoesOn message mixed is_outgoing x y → y.done ≡ x.done
       → ReceivesIn message mixed s handed x → ReceivesIn message mixed s handed y
-  pub sends : (s : State) (q : Queue) (x y : Transfer) → Kept message mixed x → GoesOn message mixed is_receiving x y
+  pub sends : (s : State) (q : Queue) (x y : Direction) → IsKept message mixed x → GoesOn message mixed goes_in x y → AsksStay x y
       → SendsIn message lifecycle mixed s q x → SendsIn message lifecycle mixed s q y
 
-outgoing_all : (es : List Event) → list_all is_sending es ≡ true → list_all is_outgoing es ≡ true
+outgoing_one : (e : ResetEvent) → goes_out e ≡ true → is_outgoing e ≡ true
+outgoing_one (transfers accept) h = refl
+outgoing_one (transfers (begin p)) h = refl
+outgoing_one (transfers (number p bytes more)) h = h
+outgoing_one (transfers (close p)) h = refl
+outgoing_one (transfers (give_up p)) h = refl
+outgoing_one (transfers (leave c)) h = refl
+outgoing_one (transfers (send_forward f)) h = refl
+outgoing_one (transfers (data_comes t)) h = h
+outgoing_one (transfers (late_comes t)) h = h
+outgoing_one (transfers (deliver p)) h = h
+outgoing_one (transfers (send_sack c)) h = h
+outgoing_one (transfers (forward_comes f spared)) h = h
+outgoing_one (transfers (forget s c)) h = h
+outgoing_one (reset_stream s) h = refl
+outgoing_one (send_request s) h = refl
+outgoing_one (perform r) h = h
+outgoing_one (commit s) h = refl
+
+outgoing_all : (es : List ResetEvent) → list_all goes_out es ≡ true → list_all is_outgoing es ≡ true
 outgoing_all [] h = refl
-outgoing_all (e ∷ es) h = let parts = and_parts (is_sending e) (list_all is_sending es) h in and_from (is_outgoing e) (list_all is_outgoing es) (one e parts.0) (outgoing_all es parts.1)
-  where
-    one : (e : Event) → is_sending e ≡ true → is_outgoing e ≡ true
-    one accept h = refl
-    one (begin p) h = refl
-    one (number p bytes more) h = h
-    one (close p) h = refl
-    one (give_up p) h = refl
-    one (leave c) h = refl
-    one (send_forward f) h = refl
-    one (data_comes t) h = h
-    one (late_comes t) h = h
-    one (deliver p) h = h
-    one (send_sack c) h = h
-    one (forward_comes f spared) h = h
-    one (forget s c) h = h
+outgoing_all (e ∷ es) h =
+    let parts = and_parts (goes_out e) (list_all goes_out es) h in and_from (is_outgoing e) (list_all is_outgoing es) (outgoing_one e parts.0) (outgoing_all es parts.1)
 
-outgoing_has : (e : Event) → is_outgoing e ≡ true → has_bytes e ≡ true
-outgoing_has (number p bytes more) h = h
-outgoing_has e h = refl
+outgoing_has : (e : ResetEvent) → is_outgoing e ≡ true → fills e ≡ true
+outgoing_has (transfers (number p bytes more)) h = h
+outgoing_has (transfers accept) h = refl
+outgoing_has (transfers (begin p)) h = refl
+outgoing_has (transfers (close p)) h = refl
+outgoing_has (transfers (give_up p)) h = refl
+outgoing_has (transfers (data_comes t)) h = refl
+outgoing_has (transfers (late_comes t)) h = refl
+outgoing_has (transfers (deliver p)) h = refl
+outgoing_has (transfers (send_sack c)) h = refl
+outgoing_has (transfers (leave c)) h = refl
+outgoing_has (transfers (send_forward f)) h = refl
+outgoing_has (transfers (forward_comes f spared)) h = refl
+outgoing_has (transfers (forget s c)) h = refl
+outgoing_has (reset_stream s) h = refl
+outgoing_has (send_request s) h = refl
+outgoing_has (perform r) h = refl
+outgoing_has (commit s) h = refl
 
-outgoing : (message : ℕ → Message) (mixed : Bool) (x y : Transfer) → GoesOn message mixed is_sending x y → GoesOn message mixed is_outgoing x y
-outgoing message mixed x y g = record { events = g.events; may = g.may; all = outgoing_all g.events g.all; leads = g.leads }
+pub outgoing : (message : ℕ → Message) (mixed : Bool) (x y : Direction) → GoesOn message mixed goes_out x y → GoesOn message mixed is_outgoing x y
+outgoing message mixed x y g = record {
+  events = g.events;
+  may = g.may;
+  all = outgoing_all g.events g.all;
+  leads = g.leads;
+  more = g.more;
+  asks = g.asks;
+  further = g.further;
+  done = g.done;
+  answered = g.answered;
+}
 
 -- ---- more packets
 
 -- those of a turn, where at its beginning so much was acknowledged and numbered
-more_under_way : (Says : Saying) (of : Stamp → ℕ) (now : Stamp) (from y : Transfer) (past told : _) (ss : List Stamp) → of now ≡ count from.sender
-    → count from.sender ≤ from.acknowledged + 2 ^ 30 → from.acknowledged ≤ y.acknowledged → count from.sender ≤ count y.sender
-    → All (λ (p : Carried). All (Says from.acknowledged (count from.sender) y) p.chunks) (packets_in told) → AllUnderWay Says of y (packets_in past) ss
+more_under_way : (Says : Saying) (of : Stamp → ℕ) (now : Stamp) (from y : Direction) (past told : _) (ss : List Stamp) → of now ≡ count (transfer_of from).sender
+    → count (transfer_of from).sender ≤ (transfer_of from).acknowledged + 2 ^ 30 → (transfer_of from).acknowledged ≤ (transfer_of y).acknowledged
+    → count (transfer_of from).sender ≤ count (transfer_of y).sender
+    → All (λ (p : Carried). All (Says (transfer_of from).acknowledged (count (transfer_of from).sender) y) p.chunks) (packets_in told) → AllUnderWay Says of y (packets_in past) ss
     → AllUnderWay Says of y (packets_in (past ++ told)) (ss ++ replicate (length (packets_in (past ++ told)) - length (packets_in past)) now)
 more_under_way Says of now from y past told ss is near left numbered says h =
     let P : Stamp → Carried → Type 0 = λ stamp p. IsUnderWay Says y (of stamp) p in
     let new : All (P now) (packets_in told) =
-    All-weaker (λ (p : Carried). All (Says from.acknowledged (count from.sender) y) p.chunks) (P now)
+    All-weaker (λ (p : Carried). All (Says (transfer_of from).acknowledged (count (transfer_of from).sender) y) p.chunks) (P now)
     (λ p u. record {
-      least = from.acknowledged;
+      least = (transfer_of from).acknowledged;
       past = left;
       near = omega (arith, is, near);
       below = omega (arith, is, numbered);
-      says = subst (λ (n : ℕ). All (Says from.acknowledged n y) p.chunks) (sym is) u;
+      says = subst (λ (n : ℕ). All (Says (transfer_of from).acknowledged n y) p.chunks) (sym is) u;
     }) (packets_in told) says in
     subst (λ (ps : List Carried). AllUnderWay Says of y ps (ss ++ replicate (length ps - length (packets_in past)) now)) (sym (packets_both past told))
     (each_behind P now (packets_in past) (packets_in told) ss h new)
+
+-- ---- what is told of resets
+
+module _ {P : Type 0} where
+  pub performed_more : (es fs : List (Event P)) → performed_in (es ++ fs) ≡ performed_in es + performed_in fs
+  performed_more [] fs = omega arith
+  performed_more (OnStreamsResetPerformed streams ∷ es) fs = let e = performed_more es fs in omega (arith, e)
+  performed_more (e ∷ es) fs = performed_more es fs
+
+  pub resets_more : (s : ℕ) (es fs : List (Event P)) → resets_told s (es ++ fs) ≡ resets_told s es + resets_told s fs
+  resets_more s [] fs = omega arith
+  resets_more s (OnIncomingStreamReset streams ∷ es) fs = go (are_named streams s) (resets_more s es fs)
+    where
+      go : (b : Bool) → resets_told s (es ++ fs) ≡ resets_told s es + resets_told s fs
+          → cond b (1 + resets_told s (es ++ fs)) (resets_told s (es ++ fs)) ≡ cond b (1 + resets_told s es) (resets_told s es) + resets_told s fs
+      go true e = omega (arith, e)
+      go false e = e
+  resets_more s (e ∷ es) fs = resets_more s es fs
+
+  pub none_failed_more : (es fs : List (Event P)) → failed_in es ≡ false → failed_in fs ≡ false → failed_in (es ++ fs) ≡ false
+  none_failed_more [] fs h k = k
+  none_failed_more (OnStreamsResetFailed streams ∷ es) fs h k = cc
+  none_failed_more (e ∷ es) fs h k = none_failed_more es fs h k
+
+-- ---- how the streams stand
+
+pub so_again : (f g : ℕ → StreamEpoch) (x : Epochs) → ((s : ℕ) → g s ≡ f s) → AreSo f x → AreSo g x
+so_again f g x same so s =
+    subst (λ (e : StreamEpoch). (e.epoch ≡ x.raised s) × (e.is_open ≡ true → x.raised s ≡ x.opened s) × (e.is_open ≡ false → x.raised s ≡ suc (x.opened s))) (sym (same s)) (so s)
+
+-- ---- the epochs of messages
+
+-- one of a list, or one of those behind it
+get_behind : (xs ys : List ℕ) (p n : ℕ) → slice_get (xs ++ ys) p ≡ Some n → (slice_get xs p ≡ Some n) ⊎ ((k : ℕ) × (p ≡ length xs + k) × (slice_get ys k ≡ Some n))
+get_behind [] ys p n e = inr (p, omega arith, e)
+get_behind (x ∷ xs) ys zero n e = inl e
+get_behind (x ∷ xs) ys (suc p) n e = elim (get_behind xs ys p n e) [ inl a ↦ inl a | inr b ↦ let at = b.1 in inr (b.0, omega (arith, at), b.2) ]
+
+module _ (message : ℕ → Message) (lifecycle : ℕ → Option ℕ) (f : ℕ → StreamEpoch) where
+  offered_epochs : (os : List Offer) (p k n : ℕ) → AreOffered message lifecycle p os → slice_get (epochs_of os f) k ≡ Some n
+      → ((f (stream_of message (p + k))).epoch ≡ n) × (k < length os)
+  offered_epochs [] p k n h e = cc
+  offered_epochs (o ∷ os) p zero n h e =
+      let here : (f o.message.stream).epoch ≡ n = some_same e in
+      (subst (λ (m : ℕ). (f (stream_of message m)).epoch ≡ n) (omega arith) (ap (λ (m : Message). (f m.stream).epoch) h.0 ∙ here), omega arith)
+    where
+      some_same : {a b : ℕ} → Some a ≡ Some b → a ≡ b
+      some_same {a} {b} e = ap (λ (o : Option ℕ). elim o [ None ↦ a | Some z ↦ z ]) e
+  offered_epochs (o ∷ os) p (suc k) n h e =
+      let r = offered_epochs os (p + 1) k n h.2 e in
+      let l = r.1 in
+      (subst (λ (m : ℕ). (f (stream_of message m)).epoch ≡ n) (omega arith) r.0, omega (arith, l))
+
+  -- of those that were accepted, and of those that are offered
+  offers_epochs : (mixed : Bool) (x mid : Direction) (os : List Offer) (before : List ℕ) → Offers message mixed (length os) x mid → AreSo f x.rules
+      → AreOffered message lifecycle (transfer_of x).sender.accepted os → length before ≡ (transfer_of x).sender.accepted
+      → ((p n : ℕ) → slice_get before p ≡ Some n → x.rules.epoch p ≡ n) → (p n : ℕ) → slice_get (before ++ epochs_of os f) p ≡ Some n → mid.rules.epoch p ≡ n
+  offers_epochs mixed x mid os before offers so are many are_so p n e = elim (get_behind before (epochs_of os f) p n e) [
+    | inl a ↦ let l = get_below before p n a in offers.old p (omega (arith, l, many)) ∙ are_so p n a
+    | inr b ↦
+        let at : p ≡ (transfer_of x).sender.accepted + b.0 = b.1 ∙ ap (λ (m : ℕ). m + b.0) many in
+        let r = offered_epochs os (transfer_of x).sender.accepted b.0 n are b.2 in
+        let l = r.1 in
+        let more = offers.accepted in
+        offers.new p (omega (arith, at)) (omega (arith, at, l, more))
+        ∙ (sym (so (stream_of message p)).0 ∙ subst (λ (m : ℕ). (f (stream_of message m)).epoch ≡ n) (sym at) r.0)
+  ]
+
+-- ---- the ask that waits
+
+same_some : (o p : Option ℕ) (n : ℕ) → is_same o p ≡ true → p ≡ Some n → (m : ℕ) × (o ≡ Some m)
+same_some None None n h e = cc
+same_some None (Some m) n h e = cc
+same_some (Some k) p n h e = (k, refl)
+
+module _ (message : ℕ → Message) (lifecycle : ℕ → Option ℕ) (mixed : Bool) (s t : State) (q r : Queue) (x y : Direction) (sends : SendsIn message lifecycle mixed s q x)
+    (shown : SendsIn message lifecycle mixed t r y) (stands : Stands s t) (kept : IsKept message mixed x) (answered : x.answered ≤ y.answered)
+    (since : (a : Ask) → slice_get y.asks y.answered ≡ Some a → (slice_get x.asks y.answered ≡ Some a) ⊎ (count (transfer_of x).sender ≤ a.upto))
+    (n : ℕ) (asked : (a : Ask) → slice_get x.asks x.answered ≡ Some a → n ≤ a.upto) where
+  -- it waited before
+  asked_still : (a : Ask) → slice_get y.asks y.answered ≡ Some a → slice_get x.asks y.answered ≡ Some a → asked_by s t n ≤ a.upto
+  asked_still a there before =
+      let l = get_below x.asks y.answered a before in
+      let o = kept.asked.order.2 in
+      let same : y.answered ≡ x.answered = omega (arith, l, o, answered) in
+      let was : slice_get x.asks x.answered ≡ Some a = ap (λ (k : ℕ). slice_get x.asks k) (sym same) ∙ before in
+      let first = waits_again message lifecycle mixed s t q r x y a sends shown stands was in
+      let now : waiting_number t ≡ Some (number_of (first_out s) x.answered) =
+      waits message lifecycle mixed t r y a shown there ∙ (ap (λ (k : ℕ). Some (number_of k y.answered)) (sym first) ∙ ap (λ (k : ℕ). Some (number_of (first_out s) k)) same) in
+      let is : is_same (waiting_number s) (waiting_number t) ≡ true =
+      ap (λ (o : Option ℕ). is_same o (waiting_number t)) (waits message lifecycle mixed s q x a sends was)
+      ∙ (ap (λ (o : Option ℕ). is_same (Some (number_of (first_out s) x.answered)) o) now ∙ eq-eqb (number_of (first_out s) x.answered) (number_of (first_out s) x.answered) refl) in
+      subst (λ (b : Bool). cond b n (numbered s) ≤ a.upto) (sym is) (asked a was)
+
+  -- it is new: it ends at what was numbered before, or later
+  asked_newly : (a : Ask) → slice_get y.asks y.answered ≡ Some a → count (transfer_of x).sender ≤ a.upto → asked_by s t n ≤ a.upto
+  asked_newly a there l = by (is_same (waiting_number s) (waiting_number t)) refl
+    where
+      by : (b : Bool) → is_same (waiting_number s) (waiting_number t) ≡ b → cond b n (numbered s) ≤ a.upto
+      by false e = let c = numbered_is message lifecycle mixed s q x sends in omega (arith, c, l)
+      by true e =
+          let w = same_some (waiting_number s) (waiting_number t) (number_of (first_out t) y.answered) e (waits message lifecycle mixed t r y a shown there) in
+          let was = is_asked message lifecycle mixed s q x w.0 sends w.1 in
+          let up = asked was.0 was.1 in
+          let within = (kept.asked.fine x.answered was.0 was.1).within in
+          omega (arith, up, within, l)
+
+  asked_then : (a : Ask) → slice_get y.asks y.answered ≡ Some a → asked_by s t n ≤ a.upto
+  asked_then a there = elim (since a there) [ inl before ↦ asked_still a there before | inr l ↦ asked_newly a there l ]
 
 -- ---- turns
 
@@ -156,63 +318,92 @@ more_under_way Says of now from y past told ss is near left numbered says h =
 abbrev pub after_turn : (asked : Bool) → Endpoint Carried → Side → Side
 after_turn asked e z = record (took e z) { is_asked = asked }
 
+-- what the course says then: the end accepted these, told that, and these streams were to be reset
+abbrev pub so_far_then : SoFar → (s : Side) → Endpoint Carried → List Offer → (prepared : List ℕ) → SoFar
+so_far_then k s e os prepared = record {
+  streams = reopened (performed_of e.standing.context.told.events) (shut prepared k.streams);
+  epochs = k.epochs ++ epochs_of os k.streams;
+  asked = asked_by (state_of s) e.standing.state k.asked;
+}
+
 module _ (message : ℕ → Message) (lifecycle : ℕ → Option ℕ) (mixed : Bool) (of : Stamp → ℕ) (stay : Stay message lifecycle mixed) (s r : Side) (accepted : ℕ)
-    (handed : List messages.Message) (stamps_s stamps_r : List Stamp) (x : Transfer) (f : Flows message lifecycle mixed of s r accepted handed stamps_s stamps_r x)
-    (now : Stamp) (at_now : of now ≡ count x.sender) (near : count x.sender ≤ x.acknowledged + 2 ^ 30) (asked : Bool) where
-  -- of the sender, which accepts so many
-  pub ends_out : (n : ℕ) (mid y : Transfer) (e : Endpoint Carried) → Offers message mixed n x mid → count mid.sender ≡ count x.sender
-      → SenderClaim message lifecycle mixed mid (calm e) y → Stands (state_of s) e.standing.state
-      → Flows message lifecycle mixed of (after_turn asked e s) r (accepted + n) handed (stamped s (after_turn asked e s) now stamps_s) stamps_r y
-  ends_out n mid y e offers same c stands =
+    (handed : List messages.Message) (stamps_s stamps_r : List Stamp) (so_far : SoFar) (x : Direction)
+    (f : Flows message lifecycle mixed of s r accepted handed stamps_s stamps_r so_far x)
+    (now : Stamp) (at_now : of now ≡ count (transfer_of x).sender) (near : count (transfer_of x).sender ≤ (transfer_of x).acknowledged + 2 ^ 30) (asked : Bool) where
+  -- of the sender, which accepts these
+  pub ends_out : (os : List Offer) (prepared : List ℕ) (mid y : Direction) (e : Endpoint Carried) → Offers message mixed (length os) x mid
+      → AreOffered message lifecycle accepted os → SenderClaim message lifecycle mixed mid prepared (calm e) y → Stands (state_of s) e.standing.state
+      → Flows message lifecycle mixed of (after_turn asked e s) r (accepted + length os) handed (stamped s (after_turn asked e s) now stamps_s) stamps_r (so_far_then so_far s e os prepared) y
+  ends_out os prepared mid y e offers are c stands =
       let went : GoesOn message mixed is_outgoing mid y = outgoing message mixed mid y c.goes in
-      let first : ℕ = first_out (state_of s) in
       let there : AllUnderWay (says_out message mixed (first_out e.standing.state)) of x (emitted s) stamps_s =
       out_first message lifecycle mixed of x (state_of s) e.standing.state (queue_of s) e.standing.context.queue y f.sends c.shown stands (emitted s) stamps_s f.out in
       let old : AllUnderWay (says_out message mixed (first_out e.standing.state)) of y (emitted s) stamps_s =
-      out_on message mixed is_outgoing mid y offers.kept went (first_out e.standing.state) of (emitted s) stamps_s
-      (out_on message mixed is_outgoing x mid f.kept offers.goes (first_out e.standing.state) of (emitted s) stamps_s there) in
+      out_on message mixed is_outgoing mid y offers.kept.epochs went (first_out e.standing.state) of (emitted s) stamps_s
+      (out_on message mixed is_outgoing x mid f.kept.epochs offers.goes (first_out e.standing.state) of (emitted s) stamps_s there) in
       let answers : AllUnderWay (says_in message mixed (first_in (state_of r))) of y (emitted r) stamps_r =
-      in_on message mixed is_outgoing mid y offers.kept went (first_in (state_of r)) of (emitted r) stamps_r
-      (in_on message mixed is_outgoing x mid f.kept offers.goes (first_in (state_of r)) of (emitted r) stamps_r f.answers) in
-      let grows : Grows message mixed mid y = goes_grows message mixed is_outgoing mid y offers.kept went in
-      let few = accepted_stays message mixed is_sending (accepted_once message mixed) mid y c.goes in
+      in_on message mixed is_outgoing mid y offers.kept.epochs went (first_in (state_of r)) of (emitted r) stamps_r
+      (in_on message mixed is_outgoing x mid f.kept.epochs offers.goes (first_in (state_of r)) of (emitted r) stamps_r f.answers) in
+      let grows : Grows message mixed mid y = goes_grows message mixed is_outgoing mid y offers.kept.epochs went in
+      let same = accepted_stays message mixed mid y c.goes in
+      let few = same.accepted in
       let were = offers.accepted in
       let is = f.accepted_is in
       let acked = offers.acknowledged in
+      let counted = offers.counted in
+      let many = f.many in
+      let told : List (Event Carried) = e.standing.context.told.events in
       record {
         kept = c.kept;
-        written = own_goes message mixed is_outgoing mid y went (own_goes message mixed is_outgoing x mid offers.goes f.written);
-        filled = filled_goes message mixed is_outgoing outgoing_has mid y offers.kept went
-            (filled_goes message mixed is_outgoing outgoing_has x mid f.kept offers.goes f.filled);
+        filled = filled_goes message mixed is_outgoing outgoing_has mid y offers.kept.epochs went
+            (filled_goes message mixed is_outgoing outgoing_has x mid f.kept.epochs offers.goes f.filled);
         short = f.short;
         sends = c.shown;
-        flows = c.flows;
-        receives = stay.receives (state_of r) handed mid y offers.kept went (stay.receives (state_of r) handed x mid f.kept offers.goes f.receives);
+        receives = stay.receives (state_of r) handed mid y offers.kept went c.done (stay.receives (state_of r) handed x mid f.kept offers.goes offers.done f.receives);
         accepted_is = omega (arith, few, were, is);
-        out = more_under_way (says_out message mixed (first_out e.standing.state)) of now mid y s.told e.standing.context.told.events stamps_s
-            (at_now ∙ sym same) (omega (arith, near, same, acked)) grows.left grows.numbered c.told old;
+        out = more_under_way (says_out message mixed (first_out e.standing.state)) of now mid y s.told told stamps_s
+            (at_now ∙ sym counted) (omega (arith, near, counted, acked)) grows.left grows.numbered c.told old;
         answers = answers;
+        streams = c.epochs so_far.streams (so_still so_far.streams x.rules mid.rules offers.raised offers.opened f.streams);
+        many = length-append so_far.epochs (epochs_of os so_far.streams) ∙ (ap (λ (n : ℕ). n + length (epochs_of os so_far.streams)) many
+            ∙ ap (λ (n : ℕ). accepted + n) (length-map os (λ (o : Offer). (so_far.streams o.message.stream).epoch)));
+        epochs = λ p n h. ap (λ (g : ℕ → ℕ). g p) same.epoch
+            ∙ offers_epochs message lifecycle so_far.streams mixed x mid os so_far.epochs offers f.streams (subst (λ (n : ℕ). AreOffered message lifecycle n os) (sym is) are) (many ∙ sym is) f.epochs p n h;
+        asked = asked_then message lifecycle mixed (state_of s) e.standing.state (queue_of s) e.standing.context.queue x y f.sends c.shown stands f.kept
+            (let a = offers.answered in let b = c.goes.answered in omega (arith, a, b))
+            (λ a h. elim (c.since a h) [ inl g ↦ inl (subst (λ (l : List Ask). slice_get l y.answered ≡ Some a) offers.asks g) | inr l ↦ inr (omega (arith, l, counted)) ])
+            so_far.asked f.asked;
+        answered = let a = f.answered in let b = offers.answered in let d = c.performed in let g = performed_more s.told told in omega (arith, a, b, d, g);
+        performed = λ k. ap (λ (g : ℕ → ℕ). g k) ((receiver_stays message mixed mid y c.goes).performed ∙ offers.performed) ∙ f.performed k;
+        none_failed = none_failed_more s.told told f.none_failed c.none_failed;
       }
 
   -- of the receiver, which hands out these
-  pub ends_in : (out : List messages.Message) (y : Transfer) (e : Endpoint Carried) → ReceiverClaim message mixed x (handed ++ out) (calm e) y → Stands (state_of r) e.standing.state
-      → Flows message lifecycle mixed of s (after_turn asked e r) accepted (handed ++ out) stamps_s (stamped r (after_turn asked e r) now stamps_r) y
+  pub ends_in : (out : List messages.Message) (y : Direction) (e : Endpoint Carried) → ReceiverClaim message mixed x (handed ++ out) (calm e) y → Stands (state_of r) e.standing.state
+      → Flows message lifecycle mixed of s (after_turn asked e r) accepted (handed ++ out) stamps_s (stamped r (after_turn asked e r) now stamps_r) so_far y
   ends_in out y e c stands =
       let there : AllUnderWay (says_in message mixed (first_in e.standing.state)) of x (emitted r) stamps_r =
       in_first message lifecycle mixed of x (state_of r) e.standing.state handed (handed ++ out) y f.receives c.shown stands (emitted r) stamps_r f.answers in
       let old : AllUnderWay (says_in message mixed (first_in e.standing.state)) of y (emitted r) stamps_r =
-      in_on message mixed is_receiving x y f.kept c.goes (first_in e.standing.state) of (emitted r) stamps_r there in
-      let grows : Grows message mixed x y = goes_grows message mixed is_receiving x y f.kept c.goes in
+      in_on message mixed goes_in x y f.kept.epochs c.goes (first_in e.standing.state) of (emitted r) stamps_r there in
+      let grows : Grows message mixed x y = goes_grows message mixed goes_in x y f.kept.epochs c.goes in
+      let same : SameSender message mixed x.rules y.rules = sender_stays message mixed x y c.goes in
+      let told : List (Event Carried) = e.standing.context.told.events in
       record {
         kept = c.kept;
-        written = own_goes message mixed is_receiving x y c.goes f.written;
-        filled = receives_filled message mixed x y f.kept c.goes f.filled;
+        filled = receives_filled message mixed x y f.kept.epochs c.goes f.filled;
         short = f.short;
-        sends = stay.sends (state_of s) (queue_of s) x y f.kept c.goes f.sends;
-        flows = f.flows;
+        sends = stay.sends (state_of s) (queue_of s) x y f.kept c.goes c.stay f.sends;
         receives = c.shown;
-        accepted_is = accepted_stays message mixed is_receiving (received_once message mixed) x y c.goes ∙ f.accepted_is;
-        out = out_on message mixed is_receiving x y f.kept c.goes (first_out (state_of s)) of (emitted s) stamps_s f.out;
-        answers = more_under_way (says_in message mixed (first_in e.standing.state)) of now x y r.told e.standing.context.told.events stamps_r
+        accepted_is = ap (λ o. o.accepted) same.sender ∙ f.accepted_is;
+        out = out_on message mixed goes_in x y f.kept.epochs c.goes (first_out (state_of s)) of (emitted s) stamps_s f.out;
+        answers = more_under_way (says_in message mixed (first_in e.standing.state)) of now x y r.told told stamps_r
             at_now near grows.left grows.numbered c.told old;
+        streams = so_still so_far.streams x.rules y.rules same.raised same.opened f.streams;
+        many = f.many;
+        epochs = λ p n h. ap (λ (g : ℕ → ℕ). g p) same.epoch ∙ f.epochs p n h;
+        asked = λ a h. f.asked a (sym (ap (λ (l : List Ask). slice_get l y.answered) c.stay.0 ∙ ap (λ (n : ℕ). slice_get x.asks n) c.stay.1) ∙ h);
+        answered = c.stay.1 ∙ f.answered;
+        performed = λ k. let a = c.performed k in let b = f.performed k in let d = resets_more k r.told told in omega (arith, a, b, d);
+        none_failed = f.none_failed;
       }

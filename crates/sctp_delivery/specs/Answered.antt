@@ -1,6 +1,6 @@
 -- Along a course: no request to reset streams stays unanswered while its end numbers 2^30 fragments, and an end starts fewer than 2^32 of
 -- them: one is started once the one before it is answered.
-use Rattle.std.specs.Prelude.{◌≡◌, ℕ, suc, ◌+◌, ◌-◌, ◌^◌, ◌<◌, ◌==◌, Bool, true, false, cond, Option, Some, None, option_map, List, [], ◌∷◌, ◌++◌}
+use Rattle.std.specs.Prelude.{◌≡◌, ℕ, suc, ◌+◌, ◌-◌, ◌^◌, ◌<◌, ◌==◌, Bool, true, false, cond, Option, Some, None, option_map, List, [], ◌∷◌}
 use Rattle.sctp_state.specs.Events.{Event, OnStreamsResetPerformed}
 use Rattle.sctp_table.specs.Requests.{Request}
 use Rattle.sctp_table.specs.Association.{State, Closed, CookieWait, Open}

@@ -13,7 +13,9 @@ use Rattle.sctp_course.specs.Handing.{readied, text, two_come}
 use Rattle.sctp_course.specs.Opens.{at_first}
 use Rattle.sctp_delivery.specs.Accepted.{Offer, accepted}
 use Rattle.sctp_delivery.specs.GivenUp.{given_up, IsAtRest}
-use Rattle.sctp_delivery.specs.Windows.{no_stamps, KeepsWindows, KeepsStreams, KeepsLimits}
+use Rattle.sctp_delivery.specs.Windows.{no_stamps, KeepsWindows, KeepsLimits}
+use Rattle.sctp_delivery.specs.Answered.{KeepsResets}
+use Rattle.sctp_delivery.specs.StreamEpochs.{AreInTheirEpochs, NoneIsRefused}
 
 -- ---- the judge
 
@@ -71,13 +73,15 @@ pub record Delivers (from_a : Bool) (turns : List (Bool × Turn)) (w : Pair) : T
   pub once : (early late : List (Bool × Turn)) → turns ≡ early ++ late → are_distinct (given_up from_a early w) ≡ true
   pub rest : (early late : List (Bool × Turn)) → turns ≡ early ++ late → IsAtRest (side_of from_a (run early w))
       → AllAreDone (accepted from_a early w) (given_up from_a early w) (take (length (readied (not from_a) early w)) places)
+  -- each message becomes ready in its epoch
+  pub epochs : AreInTheirEpochs from_a turns w places
 
 -- ---- the law
 
 -- what a course has to keep
 pub record IsInBounds (turns : List (Bool × Turn)) (w : Pair) : Type 0 where
   pub windows : KeepsWindows turns w no_stamps
-  pub streams : KeepsStreams turns
+  pub resets : KeepsResets turns w
   pub few : (from_a : Bool) → length (accepted from_a turns w) < 2 ^ 32
   -- so that each message has fewer than 2^32 bytes, hence fragments: I-DATA counts them by 32 bits (RFC 8260 section 2.1)
   pub limits : KeepsLimits turns
@@ -88,6 +92,13 @@ MessagesAreDelivered =
     (a b : Options) (words_a words_b : Stream) (turns : List (Bool × Turn)) → AreGiven a → AreGiven b
     → FollowsTheRules turns (start a b words_a words_b) → HasNotEnded (run turns (start a b words_a words_b))
     → IsInBounds turns (start a b words_a words_b) → (from_a : Bool) → Delivers from_a turns (start a b words_a words_b)
+
+-- and no end tells that a reset failed
+abbrev pub NoResetIsRefused : Type 0
+NoResetIsRefused =
+    (a b : Options) (words_a words_b : Stream) (turns : List (Bool × Turn)) → AreGiven a → AreGiven b
+    → FollowsTheRules turns (start a b words_a words_b) → HasNotEnded (run turns (start a b words_a words_b))
+    → IsInBounds turns (start a b words_a words_b) → NoneIsRefused turns (start a b words_a words_b)
 
 -- ---- such a course, computed: two messages are accepted, and become ready
 

@@ -1,5 +1,5 @@
 -- Where one more turn of a course may end an association: what the end tells before that.
-use Rattle.std.specs.Prelude.{◌≡◌, ◌^◌, ◌<◌, not, Bool, List, [], ◌∷◌, ◌++◌, length, take}
+use Rattle.std.specs.Prelude.{◌≡◌, ◌^◌, ◌<◌, not, Bool, false, List, [], ◌∷◌, ◌++◌, length, take}
 use Rattle.rand_core.specs.Stream.{Stream}
 use Rattle.sctp_state.specs.Events.{Event}
 use Rattle.sctp_state.specs.Options.{Options}
@@ -9,7 +9,9 @@ use Rattle.sctp_course.specs.Course.{Pair, Turn, goes, run, side_of, FollowsTheR
 use Rattle.sctp_course.specs.Handing.{readied}
 use Rattle.sctp_delivery.specs.Accepted.{accepted}
 use Rattle.sctp_delivery.specs.GivenUp.{told_by}
-use Rattle.sctp_delivery.specs.Windows.{stamp, Stamps, no_stamps, stamps_after, stamps_for, IsTimely, KeepsWindows, KeepsStreams, KeepsLimits}
+use Rattle.sctp_delivery.specs.Windows.{stamp, Stamps, no_stamps, stamps_after, stamps_for, IsTimely, KeepsWindows, KeepsLimits}
+use Rattle.sctp_delivery.specs.Answered.{KeepsResets}
+use Rattle.sctp_delivery.specs.StreamEpochs.{failed_in}
 use Rattle.sctp_delivery.specs.Delivery.{ReportsAreTrue, Delivers}
 
 -- the stamps of all packets behind these turns
@@ -17,21 +19,24 @@ abbrev pub stamps_along : List (Bool × Turn) → Pair → Stamps → Stamps
 stamps_along [] w s = s
 stamps_along (e ∷ es) w s = stamps_along es (goes e.0 e.1 w) (stamps_after e.0 e.1 w s)
 
--- what a course has to keep, and one more turn of this end; behind it the windows are asked for no more
+-- what a course has to keep, and one more turn of this end; behind it the windows and the requests are asked for no more
 pub record IsInBoundsThen (from_a : Bool) (turns : List (Bool × Turn)) (last : Turn) (w : Pair) : Type 0 where
   pub windows : KeepsWindows turns w no_stamps
   pub timely : IsTimely last (stamp (run turns w)) (stamps_for from_a (stamps_along turns w no_stamps))
-  pub streams : KeepsStreams (turns ++ (from_a, last) ∷ [])
+  pub resets : KeepsResets turns w
   pub few : length (accepted from_a (turns ++ (from_a, last) ∷ []) w) < 2 ^ 32
   pub limits : KeepsLimits (turns ++ (from_a, last) ∷ [])
 
--- The list of places that serves the course serves what the sender tells at that turn too, up to the first end of an association.
+-- The list of places that serves the course serves what the sender tells at that turn too, up to the first end of an association; nor
+-- does it tell up to there that a reset failed.
 pub record DeliversThen (from_a : Bool) (turns : List (Bool × Turn)) (last : Turn) (w : Pair) : Type 0 where
   pub delivers : Delivers from_a turns w
   pub reports : (early late : List (Event Carried)) → (told_by last (side_of from_a (run turns w)) (side_of (not from_a) (run turns w))).events ≡ early ++ late
       → endings early ≡ 0
       → ReportsAreTrue (accepted from_a (turns ++ (from_a, last) ∷ []) w) ((side_of from_a (run turns w)).told ++ early)
       (take (length (readied (not from_a) turns w)) delivers.places)
+  pub none_refused : (early late : List (Event Carried)) → (told_by last (side_of from_a (run turns w)) (side_of (not from_a) (run turns w))).events ≡ early ++ late
+      → endings early ≡ 0 → failed_in ((side_of from_a (run turns w)).told ++ early) ≡ false
 
 -- Along each course that follows the rules, and one more turn, which may end an association.
 abbrev pub MessagesAreDeliveredThen : Type 0

@@ -8,3 +8,4 @@ pub mod Ending
 pub mod Asks
 pub mod Answered
 pub mod StreamEpochs
+pub mod Resetting

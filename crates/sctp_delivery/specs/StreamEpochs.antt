@@ -4,16 +4,12 @@
 use Rattle.std.specs.Prelude.{◌≡◌, ℕ, ◌+◌, ◌<◌, ◌≤◌, ◌==◌, ◌&&◌, not, Bool, true, false, cond, Some, List, [], ◌∷◌, ◌++◌, length, map, slice_get, slice_index}
 use Rattle.std.specs.List.{list_any}
 use Rattle.sctp_state.specs.Events.{Event, OnStreamsResetPerformed, OnStreamsResetFailed, OnIncomingStreamReset}
-use Rattle.sctp_state.specs.Options.{plainly}
-use Rattle.sctp_table.specs.Laws.{Send, ResetStreams}
 use Rattle.sctp_table_laws.specs.Mapped.{Carried}
-use Rattle.sctp_course.specs.Course.{Side, Pair, Turn, Calls, Gives, goes, run, side_of, FollowsTheRules, HasNotEnded}
-use Rattle.sctp_course.specs.Handing.{readied, text}
-use Rattle.sctp_course.specs.Opens.{at_first, one_connects}
+use Rattle.sctp_course.specs.Course.{Pair, Turn, goes, run, side_of}
+use Rattle.sctp_course.specs.Handing.{readied}
 use Rattle.sctp_delivery.specs.Accepted.{Offer, accepted_at, accepted}
 use Rattle.sctp_delivery.specs.GivenUp.{told_by}
 use Rattle.sctp_delivery.specs.Proper.{reset_at}
-use Rattle.sctp_delivery.specs.Answered.{KeepsResets}
 
 pub record StreamEpoch : Type 0 where
   pub is_open : Bool
@@ -102,23 +98,3 @@ failed_in (e ∷ es) = failed_in es
 
 abbrev pub NoneIsRefused : List (Bool × Turn) → Pair → Type 0
 NoneIsRefused turns w = (x : Bool) → failed_in (told_of x turns w) ≡ false
-
--- ---- such courses, computed
-
--- A message is sent; its stream is reset twice at once, and another message is accepted; the packets come in order. The second call
--- finds the stream waiting, and raises no epoch.
-abbrev pub one_is_reset : List (Bool × Turn)
-one_is_reset =
-    one_connects
-    ++ ((true, Calls (Send (text 97) plainly)) ∷ (true, Calls (ResetStreams (1 ∷ []))) ∷ (true, Calls (ResetStreams (1 ∷ []))) ∷ (true, Calls (Send (text 98) plainly))
-    ∷ (false, Gives 2 0) ∷ (false, Gives 3 0) ∷ (true, Gives 2 0) ∷ (true, Gives 3 0) ∷ (false, Gives 4 0) ∷ [])
-
-pub record OneIsReset : Type 0 where
-  pub follows : FollowsTheRules one_is_reset at_first
-  pub not_ended : HasNotEnded (run one_is_reset at_first)
-  pub resets : KeepsResets one_is_reset at_first
-  pub epochs : offer_epochs true one_is_reset at_first all_open ≡ 0 ∷ 1 ∷ []
-  pub readies : readied false one_is_reset at_first ≡ text 97 ∷ text 98 ∷ []
-  pub told : resets_told 1 (told_of false one_is_reset at_first) ≡ 1
-  pub performed : performed_of (told_of true one_is_reset at_first) ≡ 1 ∷ []
-  pub none_refused : NoneIsRefused one_is_reset at_first

@@ -48,13 +48,14 @@ pub fn what_was_said_stays()
     ensures answers { (first done asked more further : ℕ) (p : ParameterTree) → SaysIncoming first done asked p → SaysIncoming first (done + more) (asked + further) p }
 {}
 
-/// An answer that was said settles nothing, or it is to the last request, which was performed; none is refused (`settles`).
+/// An answer that was said settles nothing, or it is to the last request, which was performed; none is refused (`settles`). Fewer than 2^32
+/// were performed.
 ///
 /// To the end that answers, a request with the next number is the next ask (`next`), one with the number of the last is the last that was
 /// performed or the one that is deferred (`last`), and any other was performed, and another one was sent since (`older`). Fewer than
 /// 2^32 are asked.
 pub fn requests_are_told_apart()
-    ensures settles { (first answered done : ℕ) (asks : List Ask) (q : Queue) (r : Requests) (number result : ℕ) → IsAsking first answered asks q r → done ≤ length asks → length asks < 2 ^ 32 →
+    ensures settles { (first answered done : ℕ) (asks : List Ask) (q : Queue) (r : Requests) (number result : ℕ) → IsAsking first answered asks q r → answered ≤ done → done < 2 ^ 32 →
         (is_final result ≡ true → SaysDone first done (length asks) number result) →
         (outcome number result r.current ≡ Unsettled)
         ⊎ ((a : Ask) × (slice_get asks answered ≡ Some a) × (answered < done) × (outcome number result r.current ≡ Done a.streams)) }

@@ -1,11 +1,11 @@
 //! What two ends deliver, along all that can happen to them: each direction of an association is a run of the transfer's rules.
 #![tactic(auto)]
 
-ghost use Rattle.sctp_delivery.specs.Delivery.{MessagesAreDelivered, TwoAreDelivered};
+ghost use Rattle.sctp_delivery.specs.Delivery.{MessagesAreDelivered, NoResetIsRefused, TwoAreDelivered};
 ghost use Rattle.sctp_delivery.specs.Ending.{MessagesAreDeliveredThen};
 ghost use Rattle.sctp_delivery.specs.Proper.{AcceptancesAreAccepted, RecordsAreProper, TwoAreGivenUp};
 ghost use Rattle.sctp_delivery.specs.Skipping.{OneIsSkipped};
-ghost use Rattle.sctp_delivery.specs.StreamEpochs.{OneIsReset};
+ghost use Rattle.sctp_delivery.specs.Resetting.{OneIsReset};
 
 pub mod asks;
 
@@ -15,6 +15,11 @@ pub mod asks;
 /// for byte, each at most once, with its stream and its protocol identifier; on each stream, ordered messages become ready in
 /// the order in which they were accepted (RFC 9260 sections 6.5, 6.6; RFC 8260 section 2.2; RFC 3758 section 3.6). What became
 /// ready stays ready or is handed out, and the places of the messages only grow at their back.
+///
+/// Streams may be reset (RFC 6525). A message is of the epoch that its stream is in at its acceptance; a reset of an open stream begins the
+/// next one. Each message becomes ready in its epoch: at the turn at which it does, its epoch lies between the resets of its stream that
+/// its end told before that turn, and those that it told up to its end (`epochs` of Delivers). No end tells that a reset failed
+/// (`none_refused`).
 ///
 /// Of the others, at each point: an ordered message that isn't ready, while a later one of its stream is, was given up, and a
 /// record of its sender names it (RFC 3758 section 3.5). No two records name the same message. A lifecycle id that the sender tells as delivered is that of a message
@@ -26,7 +31,8 @@ pub mod asks;
 /// - on each stream fewer than 32,000 ordered messages are numbered from one with a kept fragment on;
 /// - a packet is given while either end has numbered fewer than 2^30 fragments since the turn that emitted it;
 /// - each end accepts fewer than 2^32 messages, and a limit on their size is set below 2^32, as `set_max_message_size` asks;
-/// - no stream is reset.
+/// - each end has fewer than 2^32 - 1 requests to reset streams performed; and while one waits for its answer, its end has numbered fewer
+///   than 2^30 fragments since the turn that started it.
 ///
 /// A turn behind such a course may end an association. What its end tells before that is true too: a lifecycle id that it tells as
 /// delivered is that of a message that is ready (`ends`).
@@ -37,6 +43,7 @@ pub mod asks;
 /// rules.
 pub fn messages_are_delivered()
     ensures delivered { MessagesAreDelivered }
+    ensures none_refused { NoResetIsRefused }
     ensures ends { MessagesAreDeliveredThen }
     ensures goes { TwoAreDelivered }
 {}
@@ -60,9 +67,9 @@ pub fn records_are_proper()
     ensures goes { TwoAreGivenUp }
 {}
 
-/// In a course, computed, a message is sent, its stream is reset, twice, and another message is accepted before the answer comes. The
-/// first is of epoch 0, the second of epoch 1; both become ready; the reset is told once at either end, and none is refused. (Deliveries
-/// with resets are not proved yet: this shows what their epochs are.)
+/// There are such courses with resets. In one, computed, a message is sent, its stream is reset, twice, and another message is accepted
+/// before the answer comes. The first is of epoch 0, the second of epoch 1; both become ready; the reset is told once at either end, and
+/// none is refused.
 pub fn a_stream_is_reset()
     ensures { OneIsReset }
 {}
