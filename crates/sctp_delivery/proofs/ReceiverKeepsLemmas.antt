@@ -80,7 +80,6 @@ outcome_tells s Unsettled c = refl
 outcome_tells s (Done streams) c = none_told s c.told.events (OnStreamsResetPerformed streams) refl
 outcome_tells s (Denied streams) c = none_told s c.told.events (OnStreamsResetFailed streams) refl
 
-
 answered_leaves : (o : Option Request) (now rto n result : ℕ) (q : Requests)
     → ((answered_in o now rto n result q).last ≡ q.last) × ((answered_in o now rto n result q).result ≡ q.result)
 answered_leaves None now rto n result q = (refl, refl)
@@ -262,12 +261,12 @@ module _ (message : ℕ → Message) (lifecycle : ℕ → Option ℕ) (mixed : B
       let act : ResetAct Carried call = takes_response wait n result sender receiver phase t m asked in
       let same = answered_leaves t.requests.current m.context.now wait n result t.requests in
       λ x claim.
-          stays_by message lifecycle mixed from handed (in_open phase t m) (after_reset act) x claim
-          (rest_changes message mixed handed t t.sender t.rtt _ x same.0 same.1 claim.shown)
-          (λ s. outcome_tells s (outcome n result t.requests.current) m.context)
-          (λ h. subst (λ (ps : List Carried). All (λ (q : Carried). All (SaysIn t.tracker.first (transfer_of from).acknowledged (count (transfer_of from).sender) x) q.chunks) ps)
-          (sym (same_packets m.context.told (after_reset act).context.told (light_reset act))) h)
-          (λ h. h)
+      stays_by message lifecycle mixed from handed (in_open phase t m) (after_reset act) x claim
+      (rest_changes message mixed handed t t.sender t.rtt _ x same.0 same.1 claim.shown)
+      (λ s. outcome_tells s (outcome n result t.requests.current) m.context)
+      (λ h. subst (λ (ps : List Carried). All (λ (q : Carried). All (SaysIn t.tracker.first (transfer_of from).acknowledged (count (transfer_of from).sender) x) q.chunks) ps)
+      (sym (same_packets m.context.told (after_reset act).context.told (light_reset act))) h)
+      (λ h. h)
   goes_resets (adds_responses responses phase t m are answers) heard inv =
       goes_adding message lifecycle mixed from handed (in_open phase t m) (re_config_chunk responses) (λ x claim. responses_true phase t m inv x claim responses answers)
 

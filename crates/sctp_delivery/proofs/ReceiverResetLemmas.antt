@@ -368,4 +368,3 @@ module _ (message : ℕ → Message) (mixed : Bool) (handed : List messages.Mess
           performed = told_more;
           shown = subst (λ (is : List StreamId). IsReceiving message mixed handed (reset_at (reset is t.reassembly)) to) (sym names) shown_then;
         }
-
