@@ -88,16 +88,23 @@ impl OutstandingData {
         }
     }
 
-    // Gives each item its turn, up to the last one that waits.
+    // Gives each item that waits its turn, up to the last one; no other has one.
     fn resend(&mut self, fast: bool, filling: &mut Filling) -> Result<(), AllocError>
         ensures ok { OnOk result (resent_of self.new filling.new ≡ resent_below fast (length self.old.items.kept) (resent_of self.old filling.old)) }
         ensures err { OnErr result (SomeResent fast (resent_of self.old filling.old) self.new) }
     {
-        for place in 0..self.kept.len() {
+        let count = self.kept.len();
+        let mut place = 0;
+        while place < count {
+            let next = self.kept.next_waiting(place);
+            if count <= next {
+                return Ok(());
+            }
             if !self.has_waiting(fast) {
                 return Ok(());
             }
-            self.take_turn(place, fast, filling)?;
+            self.take_turn(next, fast, filling)?;
+            place = next + 1;
         }
         Ok(())
     }
