@@ -1,18 +1,20 @@
 -- The items that wait to be sent again, as items come, change and leave.
-use Rattle.std.proofs.Common.{◌≡◌, ℕ, zero, suc, ◌+◌, ◌-◌, ◌<◌, ◌≤◌, ◌==◌, Bool, true, false, cond, List, [], ◌∷◌, ◌++◌, length, refl, ap, sym, subst, ◌∙◌, arith}
+use Rattle.std.proofs.Common.{◌≡◌, ℕ, zero, suc, ◌+◌, ◌<◌, ◌≤◌, ◌==◌, Bool, true, false, cond, List, [], ◌∷◌, ◌++◌, length, slice_index_or, refl, ap, sym, subst, ◌∙◌, arith}
 use Rattle.std.specs.Prelude.{nat_lt}
-use Rattle.std.specs.List.{sum_by}
+use Rattle.std.specs.List.{sum_by, All}
 use Rattle.std.specs.Ordering.{nat_cmp}
 use Rattle.std.specs.BTreeMap.{is_at}
 use Rattle.std.proofs.lemmas.Bool.Decides.{nat_tests}
 use Rattle.std.proofs.lemmas.List.Sums.{sum_by-cons}
+use Rattle.std.proofs.lemmas.List.Elements.{All-head, All-tail, All-cons, All-nil}
 use Rattle.sctp_outstanding.specs.declared.totals.Totals.{Totals}
 use Rattle.sctp_outstanding.specs.declared.kept.Change.{Change}
-use Rattle.sctp_outstanding.specs.Item.{Item, should_be_retransmitted}
+use Rattle.sctp_outstanding.specs.declared.kept.Change.TheVariants as changes
+use Rattle.sctp_outstanding.specs.Item.{Item, should_be_retransmitted, header_size, chunk_size}
 use Rattle.sctp_outstanding.specs.Change.{changed}
 use Rattle.sctp_outstanding.specs.Items.{change_at, when, queued_part}
-use Rattle.sctp_outstanding.specs.Totals.{nothing, Exchanges}
-use Rattle.sctp_outstanding.specs.Waiting.{waits_at, waits_as, NoneWaits, is_listed, AreListed, Lists, Turns}
+use Rattle.sctp_outstanding.specs.Totals.{Exchanges}
+use Rattle.sctp_outstanding.specs.Waiting.{waits_at, waits_as, NoneWaits, is_listed, AreListed, IsAtLeast, Lists, HasSize, StaysAtLeast, Turns}
 use Rattle.sctp_outstanding.specs.declared.waiting.Waiting.{Waiting}
 
 -- ---- numbers as keys
@@ -177,3 +179,65 @@ none-listed first (i ∷ is) h n =
 
 pub lists-as : (w u : Waiting) (is js : List Item) → Lists w is → js ≡ is → u ≡ w → Lists u js
 lists-as w u is js h a b = subst (λ (ks : List Item). Lists u ks) (sym a) (subst (λ (v : Waiting). Lists v is) (sym b) h)
+
+-- ---- no item that waits is smaller
+
+pub has-beyond : (k size : ℕ) (is : List Item) → length is ≤ k → HasSize k size is
+has-beyond k size [] h = tt
+has-beyond zero size (i ∷ is) h = absurd (omega (arith, h))
+has-beyond (suc k) size (i ∷ is) h = has-beyond k size is (omega (arith, h))
+
+pub has-at : (k size : ℕ) (is : List Item) (i : Item) → k < length is → i ≡ slice_index_or is k i → size ≡ length i.fragment.payload → HasSize k size is
+has-at k size [] i h at e = absurd (omega (arith, h))
+has-at zero size (x ∷ is) i h at e = e ∙ ap (λ (j : Item). length j.fragment.payload) at
+has-at (suc k) size (x ∷ is) i h at e = has-at k size is i (omega (arith, h)) at e
+
+same-fragment : (x : Change) (i : Item) → (changed x i).fragment ≡ i.fragment
+same-fragment changes.Ack i = refl
+same-fragment changes.Uncover i = refl
+same-fragment (changes.Nack at_once fast) i = refl
+same-fragment changes.Retransmit i = refl
+same-fragment changes.MissFast i = refl
+same-fragment changes.Abandon i = refl
+
+less-too : (less least : ℕ) (i : Item) → less ≤ least → IsAtLeast least i → IsAtLeast less i
+less-too less least i le h = λ w. omega (arith, le, h w)
+
+all-less : (less least : ℕ) (is : List Item) → less ≤ least → All (IsAtLeast least) is → All (IsAtLeast less) is
+all-less less least [] le h = All-nil (IsAtLeast less)
+all-less less least (i ∷ is) le h =
+    All-cons (IsAtLeast less) i is (less-too less least i le (All-head (IsAtLeast least) i is h)) (all-less less least is le (All-tail (IsAtLeast least) i is h))
+
+pub stays-changed : (m : Bool) (x : Change) (k size : ℕ) (is : List Item) (old new : Totals) → Exchanges m k x is old new → HasSize k size is
+    → StaysAtLeast size (nat_lt 0 new.queued) is (change_at k (changed x) is)
+stays-changed m x k size [] old new e s least less le w h = All-nil (IsAtLeast less)
+stays-changed m x zero size (i ∷ is) old new e s least less le w h =
+    let waits : nat_lt 0 new.queued ≡ should_be_retransmitted (changed x i) = one-of (should_be_retransmitted (changed x i)) new.queued (ap (λ (t : Totals). t.queued) e.1) in
+    let same : length (changed x i).fragment.payload ≡ length i.fragment.payload = ap (λ f. length f.payload) (same-fragment x i) in
+    All-cons (IsAtLeast less) (changed x i) is (λ t. omega (arith, w (waits ∙ t), s, same)) (all-less less least is le (All-tail (IsAtLeast least) i is h))
+stays-changed m x (suc k) size (i ∷ is) old new e s least less le w h =
+    All-cons (IsAtLeast less) i (change_at k (changed x) is) (less-too less least i le (All-head (IsAtLeast least) i is h))
+    (stays-changed m x k size is old new e s least less le w (All-tail (IsAtLeast least) i is h))
+
+pub stays-pushed : (size : ℕ) (waits : Bool) (is : List Item) (i : Item) → waits ≡ should_be_retransmitted i → size ≡ length i.fragment.payload → StaysAtLeast size waits is (is ++ i ∷ [])
+stays-pushed size waits [] i e s least less le w h = All-cons (IsAtLeast less) i [] (λ t. omega (arith, w (e ∙ t), s)) (All-nil (IsAtLeast less))
+stays-pushed size waits (x ∷ is) i e s least less le w h =
+    All-cons (IsAtLeast less) x (is ++ i ∷ []) (less-too less least x le (All-head (IsAtLeast least) x is h)) (stays-pushed size waits is i e s least less le w (All-tail (IsAtLeast least) x is h))
+
+never : (b : Bool) → b ≡ false → b ≡ true → ⊥
+never true e t = cc
+never false e t = cc
+
+pub none-small : (least : ℕ) (is : List Item) → sum_by queued_part is ≤ 0 → All (IsAtLeast least) is
+none-small least [] h = All-nil (IsAtLeast least)
+none-small least (i ∷ is) h =
+    let sum = sum_by-cons queued_part i is in
+    All-cons (IsAtLeast least) i is (λ t. absurd (never (should_be_retransmitted i) (none-of (should_be_retransmitted i) (omega (arith, sum, h))) t)) (none-small least is (omega (arith, sum, h)))
+
+chunk-at-least : (m : Bool) (least size : ℕ) (i : Item) → size ≤ header_size m + least → IsAtLeast least i → should_be_retransmitted i ≡ true → size ≤ chunk_size m i
+chunk-at-least m least size i le h = λ t. omega (arith, le, h t)
+
+pub chunks-at-least : (m : Bool) (least size : ℕ) (is : List Item) → size ≤ header_size m + least → All (IsAtLeast least) is → All (λ i. should_be_retransmitted i ≡ true → size ≤ chunk_size m i) is
+chunks-at-least m least size [] le h = All-nil (λ i. should_be_retransmitted i ≡ true → size ≤ chunk_size m i)
+chunks-at-least m least size (i ∷ is) le h =
+    All-cons (λ j. should_be_retransmitted j ≡ true → size ≤ chunk_size m j) i is (chunk-at-least m least size i le (All-head (IsAtLeast least) i is h)) (chunks-at-least m least size is le (All-tail (IsAtLeast least) i is h))

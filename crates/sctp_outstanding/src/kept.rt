@@ -8,13 +8,13 @@ ghost use Rattle.sctp_outstanding.specs.Losses.{placeholder};
 ghost use Rattle.sctp_outstanding.specs.Views.{last_tree};
 ghost use Rattle.sctp_outstanding.specs.Heard.{Rest, RestBelow, RestFrom};
 ghost use Rattle.sctp_outstanding.specs.Sack.{reports};
-ghost use Rattle.sctp_outstanding.specs.Waiting.{Lists, NoneWaits};
+ghost use Rattle.sctp_outstanding.specs.Waiting.{HasSize, Lists, NoneWaits};
 ghost use Rattle.sctp_state.specs.Events.{tell_all, Grown};
 
 mod handover;
 
 use crate::heard::{Heard, alike, reach};
-use crate::item::Item;
+use crate::item::{Item, header_size};
 use crate::sack::highest_end;
 use crate::telling::tell_left;
 use crate::totals::Totals;
@@ -138,6 +138,16 @@ fn change_item(
     (old, new)
 }
 
+// The bytes of the payload of the item at the place.
+fn payload_at(items: &VecDeque<Item>, place: usize) -> usize
+    ensures { HasSize place result items.now.items }
+{
+    match items.get(place) {
+        Some(item) => item.payload_size(),
+        None => 0,
+    }
+}
+
 // Changes the item at the place, if there is one.
 fn change_one(
     items: &mut VecDeque<Item>,
@@ -154,8 +164,9 @@ fn change_one(
     ensures waiting { Lists waiting.new items.new.items }
 {
     let _count = items.len();
+    let size = payload_at(items, place);
     let (old, new) = change_item(items, is_interleaved, place, change);
-    waiting.follow(place, old.queued > 0, new.queued > 0);
+    waiting.follow(place, size, old.queued > 0, new.queued > 0);
     *totals = totals.exchanged(old, new);
 }
 
@@ -174,12 +185,12 @@ fn push_item(
     ensures waiting { Lists waiting.new items.new.items }
     ensures err { OnErr result (items.new.items ≡ items.old.items) }
 {
-    let _size = item.payload_size();
+    let size = item.payload_size();
     let part = Totals::of(&item, is_interleaved);
     let waits = item.should_be_retransmitted();
     let place = items.len();
     items.push_back(item)?;
-    waiting.follow(place, false, waits);
+    waiting.follow(place, size, false, waits);
     let _count = items.len();
     *totals = totals.exchanged(Totals::nothing(), part);
     Ok(())
@@ -270,7 +281,9 @@ impl Model for Kept {
 }
 
 impl Kept {
-    ghost use Rattle.std.specs.Prelude.{Bool, false};
+    ghost use Rattle.std.specs.Prelude.{Bool, false, true};
+    ghost use Rattle.std.specs.List.{All};
+    ghost use Rattle.sctp_outstanding.specs.Item.{chunk_size, should_be_retransmitted};
 
     /// No items. Takes no memory.
     pub fn new(alloc: Global, is_interleaved: bool) -> Kept
@@ -345,6 +358,13 @@ impl Kept {
         ensures none { NoneWaits place result self.now.items }
     {
         self.waiting.next(place)
+    }
+
+    /// No item that waits to be sent again has a chunk of fewer bytes.
+    pub fn least_waiting(&self) -> usize
+        ensures { All (λ i. should_be_retransmitted i ≡ true → result ≤ chunk_size self.now.is_interleaved i) self.now.items }
+    {
+        header_size(self.is_interleaved) + self.waiting.least.min(1 << 32)
     }
 
     /// How many of the first items are already as these blocks say.

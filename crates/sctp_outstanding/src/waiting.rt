@@ -14,6 +14,8 @@ pub struct Waiting {
     /// The first item's number.
     pub first: u64,
     pub is_known: bool,
+    /// No item that waits has a smaller payload.
+    pub least: usize,
 }
 
 // Lists the number or takes it out. Says whether there was memory.
@@ -25,6 +27,14 @@ fn put(numbers: &mut BTreeSet<u64>, number: u64, waits: bool) -> bool
     }
     numbers.remove(&number);
     true
+}
+
+// A bound of the sizes, if one more waits.
+fn lesser(least: usize, waits: bool, size: usize) -> usize
+    ensures less { result ≤ least }
+    ensures size { waits ≡ true → result ≤ size }
+{
+    if waits { least.min(size) } else { least }
 }
 
 // The least number from this one on.
@@ -44,7 +54,7 @@ impl Waiting {
     ghost use Rattle.std.specs.List.{sum_by};
     ghost use Rattle.sctp_outstanding.specs.Item.{Item, should_be_retransmitted};
     ghost use Rattle.sctp_outstanding.specs.Items.{queued_part};
-    ghost use Rattle.sctp_outstanding.specs.Waiting.{Lists, NoneWaits, Turns};
+    ghost use Rattle.sctp_outstanding.specs.Waiting.{IsIndex, Lists, NoneWaits, StaysAtLeast, Turns};
 
     /// No items. Takes no memory.
     pub fn new(alloc: Global) -> Waiting
@@ -54,12 +64,14 @@ impl Waiting {
             numbers: BTreeSet::new(alloc),
             first: 0,
             is_known: true,
+            least: usize::MAX,
         }
     }
 
-    /// The item at the place waited or not, and waits or not.
-    pub fn follow(&mut self, place: usize, was: bool, waits: bool)
-        ensures { (is js : List Item) → Turns self.old.first place was waits is js → Lists self.old is → Lists self.new js }
+    // The item at the place is listed, or taken out.
+    fn mark(&mut self, place: usize, was: bool, waits: bool)
+        ensures index { (is js : List Item) → Turns self.old.first place was waits is js → IsIndex self.old is → IsIndex self.new js }
+        ensures least { self.new.least ≡ self.old.least }
     {
         if was == waits {
             return;
@@ -74,9 +86,18 @@ impl Waiting {
         self.is_known = put(&mut self.numbers, number, waits);
     }
 
+    /// The item at the place, whose payload has `size` bytes, waited or not, and waits or not.
+    pub fn follow(&mut self, place: usize, size: usize, was: bool, waits: bool)
+        ensures { (is js : List Item) → Turns self.old.first place was waits is js → StaysAtLeast size waits is js → Lists self.old is → Lists self.new js }
+    {
+        self.least = lesser(self.least, waits, size);
+        self.mark(place, was, waits);
+    }
+
     /// The first item leaves.
     pub fn pass(&mut self, waited: bool)
-        ensures { (i : Item) (is : List Item) → should_be_retransmitted i ≡ waited → Lists self.old (i ∷ is) → Lists self.new is }
+        ensures index { (i : Item) (is : List Item) → should_be_retransmitted i ≡ waited → IsIndex self.old (i ∷ is) → IsIndex self.new is }
+        ensures least { self.new.least ≡ self.old.least }
     {
         if self.first >= 1 << 62 {
             self.is_known = false;
@@ -88,11 +109,15 @@ impl Waiting {
         self.first += 1;
     }
 
-    /// So many items wait: if none does, that is known.
+    /// So many items wait. If none does, that is known, and no size bounds theirs.
     pub fn count(&mut self, queued: usize)
         ensures { (is : List Item) → queued ≡ sum_by queued_part is → Lists self.old is → Lists self.new is }
     {
-        if self.is_known || queued > 0 {
+        if queued > 0 {
+            return;
+        }
+        self.least = usize::MAX;
+        if self.is_known {
             return;
         }
         self.numbers.clear();
@@ -103,7 +128,7 @@ impl Waiting {
     /// The place from this one on up to which no item waits.
     pub fn next(&self, place: usize) -> usize
         ensures onward { place ≤ result }
-        ensures none { (is : List Item) → Lists self.now is → NoneWaits place result is }
+        ensures none { (is : List Item) → IsIndex self.now is → NoneWaits place result is }
     {
         if !self.is_known {
             return place;

@@ -5,7 +5,7 @@ use Rattle.sctp_outstanding.specs.Items.{change_at}
 use Rattle.sctp_outstanding.specs.Totals.{exchanged}
 use Rattle.sctp_outstanding.specs.Waiting.{Lists}
 use Rattle.sctp_outstanding.proofs.TotalsLemmas.{totals-changed, totals-as}
-use Rattle.sctp_outstanding.proofs.WaitingLemmas.{turns-changed}
+use Rattle.sctp_outstanding.proofs.WaitingLemmas.{turns-changed, stays-changed}
 use Rattle.sctp_outstanding.proofs.kept.change_one.Goals as goal
 
 pub returns-clause-totals : goal.returns-clause-totals
@@ -21,4 +21,5 @@ returns-clause-waiting c =
     let is = c.args.items.now.items in
     let js = change_at c.args.place (changed c.args.change) is in
     subst (λ (ks : List Item). Lists c.follow.new.self ks) (sym c.change_item.ensures.items)
-    (c.follow.ensures is js (turns-changed c.args.is_interleaved c.args.change c.args.waiting.now.first c.args.place is c.change_item.result.0 c.change_item.result.1 c.change_item.ensures.parts) c.requires.waiting)
+    (c.follow.ensures is js (turns-changed c.args.is_interleaved c.args.change c.args.waiting.now.first c.args.place is c.change_item.result.0 c.change_item.result.1 c.change_item.ensures.parts)
+    (stays-changed c.args.is_interleaved c.args.change c.args.place c.payload_at-size.result is c.change_item.result.0 c.change_item.result.1 c.change_item.ensures.parts c.payload_at-size.ensures) c.requires.waiting)

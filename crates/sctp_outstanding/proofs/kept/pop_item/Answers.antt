@@ -2,7 +2,9 @@ use Rattle.std.proofs.Common.{◌<◌, ◌^◌, ◌≡◌, ◌∷◌, ap, ◌∙
 use Rattle.sctp_outstanding.specs.Item.{Item}
 use Rattle.sctp_outstanding.specs.declared.totals.Totals.{Totals}
 use Rattle.sctp_outstanding.specs.Totals.{exchanged, nothing, parts, AreTotals}
-use Rattle.sctp_outstanding.specs.Waiting.{Lists}
+use Rattle.std.specs.List.{All}
+use Rattle.std.proofs.lemmas.List.Elements.{All-tail}
+use Rattle.sctp_outstanding.specs.Waiting.{IsAtLeast, Lists}
 use Rattle.sctp_outstanding.proofs.TotalsLemmas.{totals-popped, totals-as}
 use Rattle.sctp_outstanding.proofs.kept.pop_item.Goals as goal
 
@@ -18,4 +20,7 @@ returns-clause-totals c =
 pub returns-clause-waiting : goal.returns-clause-waiting
 returns-clause-waiting c =
     let is : c.args.items.now.items ≡ c.in_ok-item.item ∷ c.pop_front.new.self.items = search rules in
-    c.pass.ensures c.in_ok-item.item c.pop_front.new.self.items (sym c.should_be_retransmitted.ensures) (subst (λ (js : List Item). Lists c.args.waiting.now js) is c.requires.waiting)
+    let known : Lists c.args.waiting.now (c.in_ok-item.item ∷ c.pop_front.new.self.items) = subst (λ (js : List Item). Lists c.args.waiting.now js) is c.requires.waiting in (
+      c.pass.ensures.index c.in_ok-item.item c.pop_front.new.self.items (sym c.should_be_retransmitted.ensures) known.0,
+      subst (λ l. All (IsAtLeast l) c.pop_front.new.self.items) (sym c.pass.ensures.least) (All-tail (IsAtLeast c.args.waiting.now.least) c.in_ok-item.item c.pop_front.new.self.items known.1),
+    )

@@ -4,7 +4,7 @@ use Rattle.sctp_outstanding.specs.Items.{Outstanding}
 use Rattle.sctp_outstanding.specs.Waiting.{NoneWaits}
 use Rattle.sctp_outstanding.specs.Resending.{Resent, waiting_for, step_at, resent_below}
 use Rattle.sctp_outstanding.proofs.RoomLemmas.{no-more, quiet-on}
-use Rattle.sctp_outstanding.proofs.IdleLemmas.{idle-at, none-less}
+use Rattle.sctp_outstanding.proofs.IdleLemmas.{idle-at, none-less, full-at}
 use Rattle.sctp_outstanding.proofs.outstanding_data.OutstandingData.resend.Goals as goal
 
 pub loop-place-preserved : goal.loop-place-preserved
@@ -42,6 +42,15 @@ returns-then-not-has_waiting-clause-ok c =
     let there : waiting_for fast (resent_below fast place x).outstanding.items ≤ 0 = subst (λ (y : Resent). waiting_for fast y.outstanding.items ≤ 0) c.loop-place.invariant.resent none in
     let all : length c.args.self.now.items.kept ≡ c.len-count.result = search rules in
     c.loop-place.invariant.resent ∙ sym (quiet-on fast x place (length c.args.self.now.items.kept) (omega (arith, all, c.loop-place.invariant.within)) there)
+
+pub returns-then-is_full-clause-ok : goal.returns-then-is_full-clause-ok
+returns-then-is_full-clause-ok c =
+    let fast = c.args.fast in
+    let x = resent_of c.args.self.now c.args.filling.now in
+    let now = resent_of c.loop-place.self c.loop-place.filling in
+    let all : c.len-count.result ≡ length c.args.self.now.items.kept = search rules in
+    full-at fast x now c.loop-place.place c.len-count.result (c.is_full.ensures.slow c.if-is_full.true) c.loop-place.invariant.resent c.loop-place.invariant.within (c.is_full.ensures.full c.if-is_full.true)
+    ∙ ap (λ n. resent_below fast n x) all
 
 pub returns-clause-ok : goal.returns-clause-ok
 returns-clause-ok c =

@@ -1,4 +1,4 @@
-use Rattle.std.proofs.Common.{◌≡◌, ◌+◌, ◌-◌, ◌≤◌, rules, arith}
+use Rattle.std.proofs.Common.{◌≡◌, ◌+◌, ◌-◌, rules, arith}
 use Rattle.sctp_outstanding.proofs.WaitingLemmas.{none-waits}
 use Rattle.sctp_outstanding.proofs.waiting.Waiting.next.Goals as goal
 

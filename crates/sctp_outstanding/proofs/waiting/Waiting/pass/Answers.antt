@@ -1,12 +1,11 @@
-use Rattle.std.proofs.Common.{◌≡◌, ◌+◌, ◌==◌, ◌∷◌, ℕ, true, false, cond, refl, ap, sym, subst, ◌∙◌, rules}
+use Rattle.std.proofs.Common.{◌≡◌, ◌+◌, ◌==◌, ◌∷◌, ℕ, false, cond, ap, ◌∙◌, rules}
 use Rattle.sctp_outstanding.specs.Waiting.{is_listed, AreListed}
-use Rattle.sctp_outstanding.specs.declared.waiting.Waiting.{Waiting}
 use Rattle.sctp_outstanding.proofs.WaitingLemmas.{listed-put, passed, passed-not}
 use Rattle.sctp_outstanding.proofs.waiting.Waiting.pass.Goals.{then-waited, else-waited}
 use Rattle.sctp_outstanding.proofs.waiting.Waiting.pass.Goals as goal
 
-pub returns : goal.returns
-returns c = λ i is e known yes.
+pub returns-clause-index : goal.returns-clause-index
+returns-clause-index c = λ i is e known yes.
     let old = c.args.self.now in
     elim c.if-waited.branch [
       | then-waited w ↦
