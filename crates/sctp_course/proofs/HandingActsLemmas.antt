@@ -9,7 +9,7 @@ use Rattle.sctp_state.specs.Events.{OnClosed}
 use Rattle.sctp_rx.specs.Tracker.{number_of as tsn_of, has_seen, moves_on}
 use Rattle.sctp_rx.specs.Delivery.{Extends}
 use Rattle.sctp_rx.specs.Streams.{is_far, entries_in}
-use Rattle.sctp_rx.specs.ReassemblyQueue.{Reassembly, Waiting, Added, Forwarded, number_of, came, add_now, forward_now, fragment_waits, point_waits, waits, add_or_wait, forward_or_wait, add, forward, apply, apply_each, waiting_in, reset, forward_in, wait_with, resetting}
+use Rattle.sctp_rx.specs.ReassemblyQueue.{Reassembly, Waiting, Added, Forwarded, number_of, came, add_now, forward_now, fragment_waits, point_waits, waits, add_or_wait, forward_or_wait, add, forward, apply, apply_each, waiting_in, reset, wait_with, resetting}
 use Rattle.sctp_rx.specs.Streams as streams
 use Rattle.sctp_reassembly.proofs.ExtendsLemmas.{extends_none, extends_by, extends_both}
 use Rattle.sctp_table.specs.Association.{State, Closed, CookieWait, Open}
@@ -40,12 +40,9 @@ module _ (r : Reassembly) where
   more_forward_now : (n : ℕ) (es : List SkippedStream) → Extends r.ready (forward_now n es r).ready
   more_forward_now n es = extends_by r.ready (forward_now n es r).ready (streams.forward n es r.streams).messages refl
 
-  more_forward_in : (named : Bool) (ids : List StreamId) (n : ℕ) (es : List SkippedStream) → Extends r.ready (forward_in named ids n es r).ready
-  more_forward_in named ids n es = extends_by r.ready (forward_in named ids n es r).ready (streams.forward_in named ids n es r.streams).messages refl
-
-  more_apply : (ids : List StreamId) (w : Waiting) → Extends r.ready (apply ids w r).ready
-  more_apply ids (Added n f) = more_add_now n f
-  more_apply ids (Forwarded n es) = more_forward_in true ids n es
+  more_apply : (w : Waiting) → Extends r.ready (apply w r).ready
+  more_apply (Added n f) = more_add_now n f
+  more_apply (Forwarded n es) = more_forward_now n es
 
   more_add : (tsn : ℕ) (f : FragmentTree) → Extends r.ready (add tsn f r).ready
   more_add tsn f =
@@ -61,8 +58,9 @@ module _ (r : Reassembly) where
       let q : Reassembly = came tsn r in
       let ids : List StreamId = resetting q.deferred in
       let named : List SkippedStream = entries_in true ids es in
-      let part : Reassembly = forward_in false ids n es q in
-      let in_part : Extends r.ready part.ready = extends_by r.ready part.ready (streams.forward_in false ids n es q.streams).messages refl in
+      let others : List SkippedStream = entries_in false ids es in
+      let part : Reassembly = forward_now n others q in
+      let in_part : Extends r.ready part.ready = extends_by r.ready part.ready (streams.forward n others q.streams).messages refl in
       more_if (is_far n) r.ready r (forward_or_wait n es q) (extends_none r.ready)
       (more_if (point_waits n q.deferred) r.ready (wait_with n named part) (forward_now n es q)
       (more_if ((length named == 0) && (length (waiting_in part.deferred) == 0)) r.ready part (waits (Forwarded n named) part) in_part in_part)
@@ -76,12 +74,12 @@ module _ (r : Reassembly) where
   more_skipped true tsn es = more_forward tsn es
   more_skipped false tsn es = extends_none r.ready
 
-more_each : (ids : List StreamId) (ws : List Waiting) (r : Reassembly) → Extends r.ready (apply_each ids ws r).ready
-more_each ids [] r = extends_none r.ready
-more_each ids (w ∷ ws) r = extends_both r.ready (apply ids w r).ready (apply_each ids ws (apply ids w r)).ready (more_apply r ids w) (more_each ids ws (apply ids w r))
+more_each : (ws : List Waiting) (r : Reassembly) → Extends r.ready (apply_each ws r).ready
+more_each [] r = extends_none r.ready
+more_each (w ∷ ws) r = extends_both r.ready (apply w r).ready (apply_each ws (apply w r)).ready (more_apply r w) (more_each ws (apply w r))
 
 more_reset : (ids : List StreamId) (r : Reassembly) → Extends r.ready (reset ids r).ready
-more_reset ids r = more_each (resetting r.deferred) (waiting_in r.deferred) (record r { streams = streams.reset ids r.streams; deferred = None })
+more_reset ids r = more_each (waiting_in r.deferred) (record r { streams = streams.reset ids r.streams; deferred = None })
 
 -- ---- the acts, but for the call that takes a message
 

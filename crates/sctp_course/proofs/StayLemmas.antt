@@ -10,9 +10,9 @@ use Rattle.sctp_state.specs.declared.api.GivenUpCause.TheVariants.{Retransmissio
 use Rattle.sctp_state.specs.Events.{Told}
 use Rattle.sctp_rx.specs.Held.{Held}
 use Rattle.sctp_rx.specs.Delivery.{fresh_ordered, fresh_unordered, ordered_arrival, ordered_forward, unordered_arrival, unordered_forward}
-use Rattle.sctp_rx.specs.Streams.{Streams, stream_at, changed, is_far, unchanged, with_ordered, with_unordered, add_in_order, ordered_number, unordered_number, held_as, skip_ordered, skip_unordered, skip_of, skip, skip_each, by_stream, dropped_to, entries_in, dropped_in}
+use Rattle.sctp_rx.specs.Streams.{Streams, stream_at, changed, is_far, unchanged, with_ordered, with_unordered, add_in_order, ordered_number, unordered_number, held_as, skip_ordered, skip_unordered, skip_of, skip, skip_each, by_stream, dropped_to, entries_in}
 use Rattle.sctp_rx.specs.Streams as streams
-use Rattle.sctp_rx.specs.ReassemblyQueue.{Waiting, Added, Forwarded, Reassembly, add_now, forward_now, waits, came, fragment_waits, add_or_wait, point_waits, forward_or_wait, apply, apply_each, waiting_in, forward_in, wait_with, resetting}
+use Rattle.sctp_rx.specs.ReassemblyQueue.{Waiting, Added, Forwarded, Reassembly, add_now, forward_now, waits, came, fragment_waits, add_or_wait, point_waits, forward_or_wait, apply, apply_each, waiting_in, wait_with, resetting}
 use Rattle.sctp_rx.specs.ReassemblyQueue as reassembly
 use Rattle.sctp_outstanding.specs.Item.{Item, nack, is_fast, should_be_retransmitted}
 use Rattle.sctp_outstanding.specs.Items.{Items, Outstanding}
@@ -182,9 +182,6 @@ skip_each_mode (e ∷ es) ss = skip_each_mode es (skip e ss).streams ∙ skip_of
 forward_mode : (n : ℕ) (es : List SkippedStream) (ss : Streams) → mode_of (streams.forward n es ss).streams ≡ mode_of ss
 forward_mode n es ss = skip_each_mode (by_stream es) (dropped_to n ss)
 
-part_mode : (named : Bool) (ids : List StreamId) (n : ℕ) (es : List SkippedStream) (ss : Streams) → mode_of (streams.forward_in named ids n es ss).streams ≡ mode_of ss
-part_mode named ids n es ss = skip_each_mode (by_stream (entries_in named ids es)) (dropped_in named ids n ss)
-
 -- ---- reassembly
 
 abbrev mode_in : Reassembly → Bool
@@ -219,12 +216,15 @@ forwarded_mode tsn es r = far (is_far (reassembly.number_of r tsn))
     named : List SkippedStream
     named = entries_in true (resetting q.deferred) es
 
+    others : List SkippedStream
+    others = entries_in false (resetting q.deferred) es
+
     part : Reassembly
-    part = forward_in false (resetting q.deferred) n es q
+    part = forward_now n others q
 
     kept : (b : Bool) → mode_in (cond b part (waits (Forwarded n named) part)) ≡ mode_in r
-    kept true = part_mode false (resetting q.deferred) n es r.streams
-    kept false = part_mode false (resetting q.deferred) n es r.streams
+    kept true = forward_mode n others r.streams
+    kept false = forward_mode n others r.streams
 
     late : (b : Bool) → mode_in (cond b (wait_with n named part) (forward_now n es q)) ≡ mode_in r
     late true = kept ((length named == 0) && (length (waiting_in part.deferred) == 0))
@@ -234,16 +234,16 @@ forwarded_mode tsn es r = far (is_far (reassembly.number_of r tsn))
     far true = refl
     far false = late (point_waits n q.deferred)
 
-apply_mode : (ids : List StreamId) (w : Waiting) (r : Reassembly) → mode_in (apply ids w r) ≡ mode_in r
-apply_mode ids (Added n f) r = add_mode n f r.streams
-apply_mode ids (Forwarded n es) r = part_mode true ids n es r.streams
+apply_mode : (w : Waiting) (r : Reassembly) → mode_in (apply w r) ≡ mode_in r
+apply_mode (Added n f) r = add_mode n f r.streams
+apply_mode (Forwarded n es) r = forward_mode n es r.streams
 
-apply_each_mode : (ids : List StreamId) (ws : List Waiting) (r : Reassembly) → mode_in (apply_each ids ws r) ≡ mode_in r
-apply_each_mode ids [] r = refl
-apply_each_mode ids (w ∷ ws) r = apply_each_mode ids ws (apply ids w r) ∙ apply_mode ids w r
+apply_each_mode : (ws : List Waiting) (r : Reassembly) → mode_in (apply_each ws r) ≡ mode_in r
+apply_each_mode [] r = refl
+apply_each_mode (w ∷ ws) r = apply_each_mode ws (apply w r) ∙ apply_mode w r
 
 pub reset_mode : (ids : List StreamId) (r : Reassembly) → mode_in (reassembly.reset ids r) ≡ mode_in r
-reset_mode ids r = apply_each_mode (resetting r.deferred) (waiting_in r.deferred) (record r { streams = streams.reset ids r.streams; deferred = None })
+reset_mode ids r = apply_each_mode (waiting_in r.deferred) (record r { streams = streams.reset ids r.streams; deferred = None })
 
 -- ---- the control block
 

@@ -74,7 +74,7 @@ module _ (n : Names) where
   -- the part of a forward point that is taken at once, and that which waits or has nothing to do
   abbrev taken_in_part : (none : Bool) (number : ℕ) → List SkippedStream → Reassembly → Reassembly
   taken_in_part none number es r =
-      let part : Reassembly = reassembly.forward_in false (reassembly.resetting r.deferred) number es r in
+      let part : Reassembly = reassembly.forward_now number (entries_in false (reassembly.resetting r.deferred) es) r in
       cond none part (reassembly.waits (reassembly.Forwarded number (entries_in true (reassembly.resetting r.deferred) es)) part)
 
   skipped_any : (far waits none : Bool) (number first : ℕ) (es : List SkippedStream) (r : Reassembly)

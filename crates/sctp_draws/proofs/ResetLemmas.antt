@@ -12,7 +12,7 @@ use Rattle.sctp_wire.specs.Parameter.{ParameterTree, outgoing_reset_request, inc
 use Rattle.sctp_packet.specs.Chunk.{re_config_chunk}
 use Rattle.sctp_state.specs.Events.{OnIncomingStreamReset, numbers_of}
 use Rattle.sctp_state.specs.Rtt.{rto}
-use Rattle.sctp_rx.specs.ReassemblyQueue.{Reassembly, Deferred, Waiting, Added, Forwarded, apply, apply_each, waiting_in, defer, reset, resetting}
+use Rattle.sctp_rx.specs.ReassemblyQueue.{Reassembly, Deferred, Waiting, Added, Forwarded, apply, apply_each, waiting_in, defer, reset}
 use Rattle.sctp_rx.specs.ReassemblyQueue as reassembly
 use Rattle.sctp_rx.specs.Streams as streams_of
 use Rattle.sctp_rx.specs.Tracker as tracker
@@ -73,16 +73,16 @@ module _ (n : Names) where
 
   -- ---- reassembly
 
-  apply_named : (ids : List StreamId) (w : Waiting) (r : Reassembly) → apply ids w (named_reassembly n r) ≡ named_reassembly n (apply ids w r)
-  apply_named ids (Added k f) r = refl
-  apply_named ids (Forwarded k es) r = refl
+  apply_named : (w : Waiting) (r : Reassembly) → apply w (named_reassembly n r) ≡ named_reassembly n (apply w r)
+  apply_named (Added k f) r = refl
+  apply_named (Forwarded k es) r = refl
 
-  each_named : (ids : List StreamId) (ws : List Waiting) (r : Reassembly) → apply_each ids ws (named_reassembly n r) ≡ named_reassembly n (apply_each ids ws r)
-  each_named ids [] r = refl
-  each_named ids (w ∷ ws) r = ap (λ (q : Reassembly). apply_each ids ws q) (apply_named ids w r) ∙ each_named ids ws (apply ids w r)
+  each_named : (ws : List Waiting) (r : Reassembly) → apply_each ws (named_reassembly n r) ≡ named_reassembly n (apply_each ws r)
+  each_named [] r = refl
+  each_named (w ∷ ws) r = ap (λ (q : Reassembly). apply_each ws q) (apply_named w r) ∙ each_named ws (apply w r)
 
   reset_named : (ids : List StreamId) (r : Reassembly) → reset ids (named_reassembly n r) ≡ named_reassembly n (reset ids r)
-  reset_named ids r = each_named (resetting r.deferred) (waiting_in r.deferred) (record r { streams = streams_of.reset ids r.streams; deferred = None })
+  reset_named ids r = each_named (waiting_in r.deferred) (record r { streams = streams_of.reset ids r.streams; deferred = None })
 
   deferred_by : (o : Option Deferred) (first number : ℕ) (ids : List StreamId) (r : Reassembly)
       → deferred_at o (moved n.peer first) number ids (named_reassembly n r) ≡ named_reassembly n (deferred_at o first number ids r)

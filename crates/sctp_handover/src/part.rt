@@ -33,7 +33,7 @@ pub(crate) trait Part: Sized + Drop {
     ghost has_bytes: { (x : Value) → HasBytes (bytes_of x) };
 }
 
-/// So many parts, and the bytes behind them.
+/// So many parts, and the bytes behind them; fewer, where a part takes no byte.
 fn parts_at<P: Part>(alloc: Global, count: u64, bytes: &[u8]) -> Result<(Vec<P>, &[u8]), AllocError>
     ensures { IfOk result (λ read. (xs : List P.Value) (after : List ℕ) → count ≡ length xs → All P.Fits xs → bytes.now ≡ flat_map P.bytes_of xs ++ after
         → (map P.value_of read.0.items ≡ xs) × (read.1.now ≡ after)) }
@@ -41,10 +41,11 @@ fn parts_at<P: Part>(alloc: Global, count: u64, bytes: &[u8]) -> Result<(Vec<P>,
     let mut parts = Vec::new(alloc);
     let mut rest = bytes;
     for place in 0..count {
-        if rest.is_empty() {
+        let (part, after) = P::part_at(alloc, rest)?;
+        if after.len() == rest.len() {
+            drop(part);
             return Ok((parts, rest));
         }
-        let (part, after) = P::part_at(alloc, rest)?;
         parts.push(part)?;
         rest = after;
     }

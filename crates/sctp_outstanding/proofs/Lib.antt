@@ -3,6 +3,7 @@ pub mod EntriesLemmas
 pub mod ExpiryLemmas
 pub mod ForwardLemmas
 pub mod HeardLemmas
+pub mod IdleLemmas
 pub mod KeepsLemmas
 pub mod LaidLemmas
 pub mod LossesLemmas
@@ -14,3 +15,4 @@ pub mod SkipLemmas
 pub mod TellingLemmas
 pub mod TotalsLemmas
 pub mod UncoveredLemmas
+pub mod WaitingLemmas

@@ -16,3 +16,4 @@ pub mod Resending
 pub mod Sack
 pub mod Totals
 pub mod Views
+pub mod Waiting

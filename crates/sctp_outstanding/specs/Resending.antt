@@ -1,6 +1,6 @@
 -- Items that are sent again (RFC 9260 sections 7.2.4 and 6.3.3).
-use Rattle.std.specs.Prelude.{◌≡◌, ℕ, zero, suc, ◌+◌, ◌-◌, ◌==◌, ◌&&◌, nat_le, min, Bool, if◌then◌else◌, Option, Some, None, List, [], ◌∷◌, ◌++◌, length, slice_get}
-use Rattle.std.specs.List.{sum_by}
+use Rattle.std.specs.Prelude.{◌≡◌, ℕ, zero, suc, ◌+◌, ◌-◌, ◌<◌, ◌==◌, ◌&&◌, nat_le, min, Bool, true, if◌then◌else◌, Option, Some, None, List, [], ◌∷◌, ◌++◌, length, slice_get}
+use Rattle.std.specs.List.{sum_by, All}
 use Rattle.sctp_chunk.specs.Chunk.{FragmentTree}
 use Rattle.sctp_outstanding.specs.declared.outstanding_data.Turn.{Turn}
 use Rattle.sctp_outstanding.specs.declared.outstanding_data.Turn.TheVariants.{Send, PassOver, Leave}
@@ -42,6 +42,10 @@ passed_over k x = record x { outstanding = record x.outstanding { items = change
 -- while something is in flight the peer's window counts too
 abbrev pub allowed : Resent → ℕ
 allowed x = if flight_items x.outstanding.items == 0 then x.room else min x.room x.window
+
+-- no item that waits may be sent now
+abbrev pub IsFull : Resent → Type 0
+IsFull x = All (λ i. should_be_retransmitted i ≡ true → allowed x < size_in x i) x.outstanding.items.kept
 
 -- how many wait for the fast packet, or for any
 abbrev pub waiting_for : (fast : Bool) → Items → ℕ

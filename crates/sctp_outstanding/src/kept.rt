@@ -8,15 +8,17 @@ ghost use Rattle.sctp_outstanding.specs.Losses.{placeholder};
 ghost use Rattle.sctp_outstanding.specs.Views.{last_tree};
 ghost use Rattle.sctp_outstanding.specs.Heard.{Rest, RestBelow, RestFrom};
 ghost use Rattle.sctp_outstanding.specs.Sack.{reports};
+ghost use Rattle.sctp_outstanding.specs.Waiting.{HasSize, Lists, NoneWaits};
 ghost use Rattle.sctp_state.specs.Events.{tell_all, Grown};
 
 mod handover;
 
 use crate::heard::{Heard, alike, reach};
-use crate::item::Item;
+use crate::item::{Item, header_size};
 use crate::sack::highest_end;
 use crate::telling::tell_left;
 use crate::totals::Totals;
+use crate::waiting::Waiting;
 use sctp_chunk::{Data, GapAckBlock, are_runs};
 use sctp_serial::{Fsn, Mid, OutgoingMessageId, PpId, Ssn, StreamKey};
 use sctp_state::Events;
@@ -136,20 +138,35 @@ fn change_item(
     (old, new)
 }
 
+// The bytes of the payload of the item at the place.
+fn payload_at(items: &VecDeque<Item>, place: usize) -> usize
+    ensures { HasSize place result items.now.items }
+{
+    match items.get(place) {
+        Some(item) => item.payload_size(),
+        None => 0,
+    }
+}
+
 // Changes the item at the place, if there is one.
 fn change_one(
     items: &mut VecDeque<Item>,
     totals: &mut Totals,
+    waiting: &mut Waiting,
     is_interleaved: bool,
     place: usize,
     change: Change,
 )
-    requires { AreTotals is_interleaved items.old.items totals.old }
+    requires totals { AreTotals is_interleaved items.old.items totals.old }
+    requires waiting { Lists waiting.old items.old.items }
     ensures items { items.new.items ≡ change_at place (changed change) items.old.items }
     ensures totals { AreTotals is_interleaved items.new.items totals.new }
+    ensures waiting { Lists waiting.new items.new.items }
 {
     let _count = items.len();
+    let size = payload_at(items, place);
     let (old, new) = change_item(items, is_interleaved, place, change);
+    waiting.follow(place, size, old.queued > 0, new.queued > 0);
     *totals = totals.exchanged(old, new);
 }
 
@@ -157,31 +174,45 @@ fn change_one(
 fn push_item(
     items: &mut VecDeque<Item>,
     totals: &mut Totals,
+    waiting: &mut Waiting,
     is_interleaved: bool,
     item: Item,
 ) -> Result<(), AllocError>
-    requires { AreTotals is_interleaved items.old.items totals.old }
+    requires totals { AreTotals is_interleaved items.old.items totals.old }
+    requires waiting { Lists waiting.old items.old.items }
     ensures ok { OnOk result (items.new.items ≡ items.old.items ++ item ∷ []) }
     ensures totals { AreTotals is_interleaved items.new.items totals.new }
+    ensures waiting { Lists waiting.new items.new.items }
     ensures err { OnErr result (items.new.items ≡ items.old.items) }
 {
-    let _size = item.payload_size();
+    let size = item.payload_size();
     let part = Totals::of(&item, is_interleaved);
+    let waits = item.should_be_retransmitted();
+    let place = items.len();
     items.push_back(item)?;
+    waiting.follow(place, size, false, waits);
     let _count = items.len();
     *totals = totals.exchanged(Totals::nothing(), part);
     Ok(())
 }
 
 // Takes the first item out.
-fn pop_item(items: &mut VecDeque<Item>, totals: &mut Totals, is_interleaved: bool) -> Option<Item>
-    requires { AreTotals is_interleaved items.old.items totals.old }
+fn pop_item(
+    items: &mut VecDeque<Item>,
+    totals: &mut Totals,
+    waiting: &mut Waiting,
+    is_interleaved: bool,
+) -> Option<Item>
+    requires totals { AreTotals is_interleaved items.old.items totals.old }
+    requires waiting { Lists waiting.old items.old.items }
     ensures first { IfSome result (λ i. items.old.items ≡ i ∷ items.new.items) }
     ensures none { IfNone result (items.old.items ≡ []) }
     ensures rest { items.new.items ≡ drop 1 items.old.items }
     ensures totals { AreTotals is_interleaved items.new.items totals.new }
+    ensures waiting { Lists waiting.new items.new.items }
 {
     let item = items.pop_front()?;
+    waiting.pass(item.should_be_retransmitted());
     let part = Totals::of(&item, is_interleaved);
     let _count = items.len();
     *totals = totals.exchanged(part, Totals::nothing());
@@ -192,16 +223,26 @@ fn pop_item(items: &mut VecDeque<Item>, totals: &mut Totals, is_interleaved: boo
 fn abandon_all(
     items: &mut VecDeque<Item>,
     totals: &mut Totals,
+    waiting: &mut Waiting,
     is_interleaved: bool,
     message_id: OutgoingMessageId,
 )
-    requires { AreTotals is_interleaved items.old.items totals.old }
+    requires totals { AreTotals is_interleaved items.old.items totals.old }
+    requires waiting { Lists waiting.old items.old.items }
     ensures items { items.new.items ≡ map (lay_down message_id.0) items.old.items }
     ensures totals { AreTotals is_interleaved items.new.items totals.new }
+    ensures waiting { Lists waiting.new items.new.items }
 {
     for place in 0..items.len() {
         if is_of(items, place, message_id) {
-            change_one(items, totals, is_interleaved, place, Change::Abandon);
+            change_one(
+                items,
+                totals,
+                waiting,
+                is_interleaved,
+                place,
+                Change::Abandon,
+            );
         }
     }
 }
@@ -223,22 +264,26 @@ pub struct Kept {
     items: VecDeque<Item>,
     totals: Totals,
     heard: Heard,
+    waiting: Waiting,
 }
 
 impl Model for Kept {
     ghost use Rattle.sctp_outstanding.specs.Items.{Kept};
     ghost use Rattle.sctp_outstanding.specs.Totals.{AreTotals};
     ghost use Rattle.sctp_outstanding.specs.Heard.{Knows};
+    ghost use Rattle.sctp_outstanding.specs.Waiting.{Lists};
 
     ghost Value = { Kept };
 
     ghost view = { λ k. record { is_interleaved = k.is_interleaved; items = k.items.items } };
 
-    ghost invariant = { λ k. AreTotals k.is_interleaved k.items.items k.totals × Knows k.heard k.items.items };
+    ghost invariant = { λ k. AreTotals k.is_interleaved k.items.items k.totals × (Knows k.heard k.items.items × Lists k.waiting k.items.items) };
 }
 
 impl Kept {
-    ghost use Rattle.std.specs.Prelude.{Bool, false};
+    ghost use Rattle.std.specs.Prelude.{Bool, false, true};
+    ghost use Rattle.std.specs.List.{All};
+    ghost use Rattle.sctp_outstanding.specs.Item.{chunk_size, should_be_retransmitted};
 
     /// No items. Takes no memory.
     pub fn new(alloc: Global, is_interleaved: bool) -> Kept
@@ -249,6 +294,7 @@ impl Kept {
             items: VecDeque::new(alloc),
             totals: Totals::nothing(),
             heard: Heard::new(alloc),
+            waiting: Waiting::new(alloc),
         }
     }
 
@@ -306,6 +352,21 @@ impl Kept {
         self.totals.fast > 0
     }
 
+    /// The place from this one on up to which no item waits to be sent again.
+    pub fn next_waiting(&self, place: usize) -> usize
+        ensures onward { place ≤ result }
+        ensures none { NoneWaits place result self.now.items }
+    {
+        self.waiting.next(place)
+    }
+
+    /// No item that waits to be sent again has a chunk of fewer bytes.
+    pub fn least_waiting(&self) -> usize
+        ensures { All (λ i. should_be_retransmitted i ≡ true → result ≤ chunk_size self.now.is_interleaved i) self.now.items }
+    {
+        header_size(self.is_interleaved) + self.waiting.least.min(1 << 32)
+    }
+
     /// How many of the first items are already as these blocks say.
     pub fn front_as_in(&self, blocks: &[GapAckBlock]) -> usize
         ensures { RestBelow blocks.now result 1 self.now.items }
@@ -355,11 +416,13 @@ impl Kept {
         change_one(
             &mut self.items,
             &mut self.totals,
+            &mut self.waiting,
             self.is_interleaved,
             place,
             how,
         );
         self.heard.see(how);
+        self.waiting.count(self.totals.queued);
     }
 
     /// Adds an item behind the others. Without memory nothing changes.
@@ -368,7 +431,13 @@ impl Kept {
         ensures err { OnErr result (self.new ≡ self.old) }
     {
         let acked = item.is_acked();
-        push_item(&mut self.items, &mut self.totals, self.is_interleaved, item)?;
+        push_item(
+            &mut self.items,
+            &mut self.totals,
+            &mut self.waiting,
+            self.is_interleaved,
+            item,
+        )?;
         self.heard.take(acked);
         Ok(())
     }
@@ -380,7 +449,12 @@ impl Kept {
         ensures rest { self.new ≡ record self.old { items = drop 1 self.old.items } }
     {
         self.heard.pass();
-        pop_item(&mut self.items, &mut self.totals, self.is_interleaved)
+        pop_item(
+            &mut self.items,
+            &mut self.totals,
+            &mut self.waiting,
+            self.is_interleaved,
+        )
     }
 
     /// Tells what is to be told as the first items leave.
@@ -405,6 +479,7 @@ impl Kept {
         abandon_all(
             &mut self.items,
             &mut self.totals,
+            &mut self.waiting,
             self.is_interleaved,
             message_id,
         );

@@ -10,6 +10,7 @@ pub mod sack;
 pub mod skips;
 pub mod telling;
 pub mod totals;
+mod waiting;
 
 pub use item::{Item, ItemState};
 pub use outstanding_data::{Discarded, OutstandingData};

@@ -1,14 +1,14 @@
 -- What becomes ready, one message after the other.
-use Rattle.std.proofs.Common.{◌≡◌, ℕ, zero, suc, ◌+◌, ◌<◌, ◌≤◌, ◌==◌, Bool, true, false, cond, Option, Some, None, List, [], ◌∷◌, ◌++◌, length, refl, ap, sym, subst, ◌∙◌, arith, append_assoc, append-nil}
+use Rattle.std.proofs.Common.{◌≡◌, ℕ, zero, suc, ◌+◌, ◌==◌, Bool, true, false, cond, Option, Some, None, List, [], ◌∷◌, ◌++◌, length, refl, ap, sym, subst, ◌∙◌, arith, append_assoc, append-nil}
 use Rattle.std.specs.Prelude.{◌&&◌, nat_lt, option_map, option_to_list}
 use Rattle.std.specs.List.{find}
 use Rattle.std.proofs.lemmas.Bool.Decides.{nat_tests}
 use Rattle.sctp_serial.specs.Messages.{Message}
-use Rattle.sctp_fragments.specs.Runs.{flat, is_held, with_item}
-use Rattle.sctp_fragments.specs.Held.{Held, rank_of, goes_on, NonePass, NoneComplete, NoneInTurn, without_first_of, left_by, intervals_of, is_in_turn, is_complete, IsTaken, IsPlaced, message_of_run}
+use Rattle.sctp_fragments.specs.Runs.{is_held, with_item}
+use Rattle.sctp_fragments.specs.Held.{Held, rank_of, NonePass, NoneComplete, NoneInTurn, without_first_of, left_by, intervals_of, is_in_turn, is_complete, IsTaken, IsPlaced, message_of_run}
 use Rattle.sctp_reassembly.specs.Delivery.{OrderedDelivery, OrderedStream, deliver, deliver_within, at_rest, preceded_by, delivering, ordered_arrival, completed, ready_bytes}
 use Rattle.std.proofs.lemmas.List.Sums.{sum_by_push}
-use Rattle.sctp_reassembly.proofs.FindLemmas.{found, not_found, left_none, taken_left}
+use Rattle.sctp_reassembly.proofs.FindLemmas.{found, not_found, taken_left}
 
 module _ (test : List Held → Bool) where
   pub length_found : (rs : List (List Held)) (r : List Held) → find test rs ≡ Some r → length rs ≡ suc (length (without_first_of test rs))

@@ -1,12 +1,10 @@
 -- Sums over the streams of a map, when one stream changes.
-use Rattle.std.proofs.Common.{◌≡◌, ℕ, ◌+◌, ◌≤◌, Bool, true, false, cond, List, [], ◌∷◌, Option, Some, None, refl, ap, sym, subst, ◌∙◌, arith}
+use Rattle.std.proofs.Common.{◌≡◌, ℕ, ◌+◌, ◌≤◌, Bool, true, false, cond, List, [], ◌∷◌, Option, Some, None, refl, ap, sym, ◌∙◌, arith}
 use Rattle.std.specs.Prelude.{unwrap_or, is_some, option_map, sum_by, filter, map, nat_lt, length}
 use Rattle.sctp_fragments.specs.Runs.{from_rank}
 use Rattle.sctp_fragments.specs.Held.{Held, rank_of, bytes_of}
-use Rattle.sctp_reassembly.specs.Delivery.{UnorderedStream, held_from}
 use Rattle.std.specs.Ordering.{nat_cmp}
 use Rattle.std.specs.List.Sorted.{IsStrictlySortedBy}
-use Rattle.std.specs.Map.Calls.{RetainsPairs}
 use Rattle.std.specs.Map.{lookup, set_value, keys_of, values_of}
 use Rattle.std.specs.BTreeMap.{is_at, insert_entry}
 use Rattle.std.proofs.lemmas.Cmp.{nat_cmp_total}
@@ -50,26 +48,6 @@ module _ {S : Type 0} (weight : S → ℕ) where
       let t : sum_by weight (values_of (e ∷ es)) ≡ weight e.1 + sum_by weight (values_of es) = sum_by-cons weight e.1 (values_of es) in
       omega (arith, s, t, less e.1, sum-mapped g less es)
 
-module _ {S : Type 0} where
-  -- a closure that keeps each pair and writes a value by its key and its old value
-  pub written_by_key : {F : Type 0} (T : F → ℕ → S → Bool → S → F → Type 0) (g : ℕ → S → S) (f : F)
-      → ((k : ℕ) (v : S) (b : Bool) (w : S) (f' : F) → T f k v b w f' → (b ≡ true) × (w ≡ g k v) × (f' ≡ f))
-      → (es kept : List (ℕ × S)) → RetainsPairs T f es kept → kept ≡ map (λ e. (e.0, g e.0 e.1)) es
-  written_by_key T g f h [] kept r = r
-  written_by_key T g f h (e ∷ es) kept r =
-      let a = h e.0 e.1 r.0 r.1 r.2 r.4 in
-      let rest : r.3 ≡ map (λ (d : ℕ × S). (d.0, g d.0 d.1)) es = written_by_key T g f h es r.3 (subst (λ u. RetainsPairs T u es r.3) a.2 r.5) in
-      r.6 ∙ (ap (λ b. cond b ((e.0, r.1) ∷ r.3) r.3) a.0 ∙ (ap (λ w. (e.0, w) ∷ r.3) a.1 ∙ ap (λ ds. (e.0, g e.0 e.1) ∷ ds) rest))
-
-  pub sum-by_key : (weight : S → ℕ) (g : ℕ → S → S) → ((k : ℕ) (s : S) → weight (g k s) ≤ weight s)
-      → (es : List (ℕ × S)) → sum_by weight (values_of (map (λ e. (e.0, g e.0 e.1)) es)) ≤ sum_by weight (values_of es)
-  sum-by_key weight g less [] = omega arith
-  sum-by_key weight g less (e ∷ es) =
-      let s : sum_by weight (values_of (map (λ d. (d.0, g d.0 d.1)) (e ∷ es))) ≡ weight (g e.0 e.1) + sum_by weight (values_of (map (λ d. (d.0, g d.0 d.1)) es)) =
-      sum_by-cons weight (g e.0 e.1) (values_of (map (λ d. (d.0, g d.0 d.1)) es)) in
-      let t : sum_by weight (values_of (e ∷ es)) ≡ weight e.1 + sum_by weight (values_of es) = sum_by-cons weight e.1 (values_of es) in
-      omega (arith, s, t, less e.0 e.1, sum-by_key weight g less es)
-
 pub from_rank-bytes : (n : ℕ) (hs : List Held) → bytes_of (from_rank rank_of n hs) ≤ bytes_of hs
 from_rank-bytes n [] = omega arith
 from_rank-bytes n (h ∷ hs) = go (nat_lt (rank_of h) n) (from_rank-bytes n hs)
@@ -77,11 +55,6 @@ from_rank-bytes n (h ∷ hs) = go (nat_lt (rank_of h) n) (from_rank-bytes n hs)
     go : (b : Bool) → bytes_of (from_rank rank_of n hs) ≤ bytes_of hs → bytes_of (cond b (from_rank rank_of n hs) (h ∷ from_rank rank_of n hs)) ≤ length h.fragment.payload + bytes_of hs
     go true ih = omega (arith, ih)
     go false ih = omega (arith, ih)
-
--- of a stream that a forward point concerns, or doesn't
-pub from_rank-bytes_if : (b : Bool) (n : ℕ) (s : UnorderedStream) → bytes_of (cond b (held_from n s) s).held ≤ bytes_of s.held
-from_rank-bytes_if true n s = from_rank-bytes n s.held
-from_rank-bytes_if false n s = omega arith
 
 -- a write of what an operation makes of the stream that is there
 pub written-is : {S : Type 0} (id : ℕ) (es old new : List (ℕ × S)) (v w fresh : S) (op : S → S) → new ≡ set_value (is_at (nat_cmp id)) es w → es ≡ old → Some v ≡ lookup (is_at (nat_cmp id)) es → w ≡ op v

@@ -1,6 +1,5 @@
 -- What was ready stays ready.
-use Rattle.std.proofs.Common.{◌≡◌, ℕ, ◌+◌, ◌-◌, ◌<◌, ◌≤◌, ◌^◌, List, [], ◌∷◌, ◌++◌, length, ap, sym, ◌∙◌, arith, append_assoc, append-nil, length-append}
-use Rattle.std.proofs.lemmas.Bool.Decides.{nat_tests}
+use Rattle.std.proofs.Common.{◌≡◌, ℕ, ◌-◌, ◌<◌, ◌≤◌, ◌^◌, List, [], ◌++◌, length, ap, sym, ◌∙◌, arith, append_assoc, append-nil, length-append}
 use Rattle.sctp_serial.specs.Messages.{Message}
 use Rattle.sctp_reassembly.specs.Delivery.{Extends}
 use Rattle.sctp_reassembly.specs.ReassemblyQueue.{Reassembly, counted, IsCounted}

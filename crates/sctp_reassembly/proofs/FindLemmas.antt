@@ -1,9 +1,8 @@
 -- The first interval that passes a test.
-use Rattle.std.proofs.Common.{◌≡◌, Bool, true, false, cond, Option, Some, None, List, [], ◌∷◌, ◌++◌, refl, ap, sym, ◌∙◌}
+use Rattle.std.proofs.Common.{◌≡◌, Bool, true, false, cond, Some, None, List, [], ◌∷◌, ◌++◌, refl, ap, sym, ◌∙◌}
 use Rattle.std.specs.List.{find}
-use Rattle.std.specs.Prelude.{option_map}
 use Rattle.sctp_fragments.specs.Runs.{flat}
-use Rattle.sctp_fragments.specs.Held.{Held, rank_of, goes_on, NonePass, without_first_of, left_by, intervals_of, is_in_turn, IsTaken, IsTurn, is_complete}
+use Rattle.sctp_fragments.specs.Held.{Held, rank_of, goes_on, NonePass, without_first_of, left_by, intervals_of}
 use Rattle.sctp_fragments.proofs.RunLemmas.{flat-append, flat-runs_of}
 
 module _ (test : List Held → Bool) where

@@ -1,6 +1,6 @@
 -- Notes of the streams that hold a fragment.
-use Rattle.std.proofs.Common.{◌≡◌, ◌⊎◌, ℕ, zero, suc, ◌+◌, ◌<◌, ◌≤◌, ◌==◌, ◌||◌, Bool, true, false, cond, List, [], ◌∷◌, Option, Some, None, length, drop, get_or, map, refl, ap, sym, subst, ◌∙◌, inl, inr, arith, Less, Equal, Greater}
-use Rattle.std.specs.Prelude.{unwrap_or, is_some, filter, not, nat_lt, Result, Ok, Err, OnOk, OnErr}
+use Rattle.std.proofs.Common.{◌≡◌, ◌⊎◌, ℕ, zero, suc, ◌+◌, ◌<◌, ◌≤◌, ◌==◌, ◌||◌, Bool, true, false, cond, List, [], ◌∷◌, Option, Some, None, length, drop, get_or, refl, ap, sym, subst, ◌∙◌, inl, inr, arith, Less, Equal, Greater}
+use Rattle.std.specs.Prelude.{unwrap_or, is_some, not, nat_lt, Result, Ok, Err, OnOk, OnErr}
 use Rattle.std.specs.List.{list_any}
 use Rattle.std.specs.List.Sorted.{IsStrictlySortedBy}
 use Rattle.std.specs.Ordering.{nat_cmp, is_gt, match_ordering}
@@ -21,7 +21,7 @@ use Rattle.sctp_fragments.specs.Held.{Held, rank_of}
 use Rattle.sctp_reassembly.specs.Delivery.{UnorderedStream, fresh_unordered, held_from}
 use Rattle.sctp_reassembly.specs.Streams.{Entries, stream_at, opened, written, changed, is_named, forgotten}
 use Rattle.sctp_reassembly.specs.ReassemblyHandover.{unordered_records}
-use Rattle.sctp_reassembly.specs.Notes.{Notes, note_cmp, is_noted, BeginsFrom, HasNote, AreNoted, OthersAreNoted, KeepsOthers, NoneBelow, forwarded}
+use Rattle.sctp_reassembly.specs.Notes.{Notes, note_cmp, is_noted, HasNote, AreNoted, OthersAreNoted, KeepsOthers, NoneBelow, forwarded}
 
 -- ---- the order of notes
 

@@ -1,5 +1,5 @@
 -- What is taken out of an interval list in turn.
-use Rattle.std.proofs.Common.{◌≡◌, ℕ, ◌<◌, false, Option, Some, None, List, [], ◌∷◌, ◌++◌, length, take, drop, refl, ap, sym, subst, ◌∙◌}
+use Rattle.std.proofs.Common.{◌≡◌, ℕ, ◌<◌, false, Option, Some, None, List, ◌∷◌, ◌++◌, length, take, drop, ap, sym, ◌∙◌}
 use Rattle.std.specs.List.{find}
 use Rattle.std.specs.Prelude.{option_map, IfSome, IfNone}
 use Rattle.sctp_fragments.specs.declared.interval.Entry.{Entry}

@@ -1,16 +1,16 @@
 -- What becomes ready is made of what was held.
-use Rattle.std.proofs.Common.{◌≡◌, ℕ, zero, suc, ◌+◌, ◌&&◌, ◌⊎◌, Bool, true, false, cond, Option, Some, None, List, [], ◌∷◌, ◌++◌, length, map, refl, ap, sym, subst, ◌∙◌, inl, inr, arith}
+use Rattle.std.proofs.Common.{◌≡◌, ℕ, zero, suc, ◌&&◌, ◌⊎◌, Bool, true, false, cond, Option, Some, None, List, [], ◌∷◌, ◌++◌, length, refl, ap, sym, subst, ◌∙◌, inl, arith}
 use Rattle.std.specs.Prelude.{nat_lt, max, option_map, option_to_list}
-use Rattle.std.specs.List.{find, All}
+use Rattle.std.specs.List.{find}
 use Rattle.std.proofs.lemmas.List.Elements.{All-nil, All-cons}
 use Rattle.sctp_serial.specs.Unwrapped.{origin}
 use Rattle.sctp_serial.specs.Messages.{Message}
 use Rattle.sctp_fragments.specs.Key.{pair_rank}
-use Rattle.sctp_fragments.specs.Runs.{flat, last_of, with_item, from_rank, end_of, IsLinked, AreRuns}
+use Rattle.sctp_fragments.specs.Runs.{flat, last_of, with_item, from_rank, end_of, AreRuns}
 use Rattle.sctp_fragments.specs.Held.{Held, rank_of, goes_on, begins, ends, intervals_of, is_complete, is_in_turn, without_first_of, left_by, message_of_run}
-use Rattle.sctp_reassembly.specs.Delivery.{OrderedStream, UnorderedStream, OrderedDelivery, UnorderedDelivery, at_rest, delivering, deliver_within, deliver, ordered_arrival, ordered_forward, completed, settled, unordered_arrival}
+use Rattle.sctp_reassembly.specs.Delivery.{OrderedStream, UnorderedStream, OrderedDelivery, at_rest, delivering, deliver_within, deliver, ordered_arrival, ordered_forward, completed, settled, unordered_arrival}
 use Rattle.sctp_reassembly.specs.Settled.{AreInOrder}
-use Rattle.sctp_reassembly.specs.Ready.{held_at, AreHeld, IsWhole, AreParted, AreReady, AreInTurn, AreReadyInTurn, IsIn}
+use Rattle.sctp_reassembly.specs.Ready.{held_at, AreHeld, IsWhole, AreParted, AreReady, AreReadyInTurn, IsIn}
 use Rattle.sctp_fragments.proofs.RunLemmas.{AreRuns-back, flat-append, flat-runs_of}
 use Rattle.sctp_reassembly.proofs.DeliverLemmas.{found_passes}
 use Rattle.sctp_reassembly.proofs.FindLemmas.{left_unfound}

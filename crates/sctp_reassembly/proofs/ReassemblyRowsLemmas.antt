@@ -1,6 +1,5 @@
 -- Worked rows of the reassembly, which the checker computes.
 use Rattle.std.proofs.Common.{◌≡◌, ℕ, Bool, true, false, List, [], ◌∷◌, refl}
-use Rattle.sctp_chunk.specs.Chunk.{FragmentTree}
 use Rattle.sctp_fragments.specs.Runs.{with_item}
 use Rattle.sctp_fragments.specs.Held.{Held, rank_of, intervals_of, is_complete, payload_of}
 

@@ -1,5 +1,5 @@
 -- What a valid record says of what was received.
-use Rattle.std.proofs.Common.{◌≡◌, ℕ, Bool, true, false, ap, sym, ◌∙◌}
+use Rattle.std.proofs.Common.{◌≡◌, true, ap, sym, ◌∙◌}
 use Rattle.std.specs.Prelude.{◌&&◌, nat_lt}
 use Rattle.sctp_state.specs.declared.api.handover.HandoverSocketState.{HandoverSocketState}
 use Rattle.sctp_state.specs.declared.api.handover.HandoverSocketState.TheVariants.{Connected}

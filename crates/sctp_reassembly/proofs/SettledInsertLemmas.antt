@@ -1,15 +1,15 @@
 -- A fragment that comes among fragments in order.
-use Rattle.std.proofs.Common.{◌≡◌, ℕ, zero, suc, ◌<◌, ◌≤◌, Bool, true, false, cond, Option, Some, None, List, [], ◌∷◌, ◌++◌, length, refl, ap, sym, subst, ◌∙◌, inl, inr, arith, append_assoc}
+use Rattle.std.proofs.Common.{◌≡◌, ℕ, Bool, true, false, cond, Option, Some, None, List, [], ◌∷◌, ◌++◌, refl, ap, sym, subst, ◌∙◌, inl, inr, append_assoc}
 use Rattle.std.specs.Prelude.{◌||◌, ◌==◌}
 use Rattle.std.proofs.lemmas.Bool.{cases_lt, cases_Bool}
-use Rattle.sctp_fragments.specs.Runs.{is_next, is_held, put_in, with_item, last_of, runs_of, flat, AreRuns, end_of, IsBelow, LeadsTo, joins_left, joins_right}
+use Rattle.sctp_fragments.specs.Runs.{is_next, is_held, put_in, with_item, last_of, flat, AreRuns, end_of, IsBelow, LeadsTo, joins_left}
 use Rattle.sctp_fragments.specs.Held.{Held, rank_of, goes_on, intervals_of, is_complete, NoneComplete, without_first_of, left_by}
 use Rattle.sctp_fragments.specs.Intervals.{IsInserted}
 use Rattle.sctp_reassembly.specs.Settled.{AreInOrder}
 use Rattle.sctp_fragments.proofs.RunLemmas.{AreRuns-front, end_of-append, runs_of-flat, flat-runs_of, is_held-within, with_item-between}
 use Rattle.sctp_reassembly.proofs.InsertLemmas.{inserts_alone, inserts_left, inserts_right, inserts_both}
 use Rattle.sctp_reassembly.proofs.FindLemmas.{without_none}
-use Rattle.sctp_reassembly.proofs.SettledRunsLemmas.{left_intervals, left_order, without_one}
+use Rattle.sctp_reassembly.proofs.SettledRunsLemmas.{left_intervals, without_one}
 
 not_held-back : (n : ℕ) (xs ys : List Held) → is_held rank_of n (xs ++ ys) ≡ false → is_held rank_of n ys ≡ false
 not_held-back n [] ys h = h

@@ -1,12 +1,11 @@
 -- The streams of a queue stay at rest.
-use Rattle.std.proofs.Common.{◌≡◌, ℕ, ◌+◌, ◌&&◌, Bool, true, false, cond, List, [], ◌∷◌, length}
+use Rattle.std.proofs.Common.{ℕ, ◌+◌, ◌&&◌, Bool, true, false, cond, List, [], ◌∷◌, length}
 use Rattle.std.specs.Prelude.{◌==◌}
 use Rattle.sctp_serial.specs.declared.api.StreamId.{StreamId}
 use Rattle.sctp_chunk.specs.declared.forward_tsn.SkippedStream.{SkippedStream}
 use Rattle.sctp_chunk.specs.Chunk.{FragmentTree}
-use Rattle.sctp_reassembly.specs.Streams as streams
 use Rattle.sctp_reassembly.specs.Streams.{is_far, entries_in}
-use Rattle.sctp_reassembly.specs.ReassemblyQueue.{Waiting, Added, Forwarded, Reassembly, reassembly, number_of, came, waits, add_now, forward_now, forward_in, fragment_waits, point_waits, add_or_wait, resetting, waiting_in, wait_with, forward_or_wait, add, forward, apply, apply_each, reset}
+use Rattle.sctp_reassembly.specs.ReassemblyQueue.{Waiting, Added, Forwarded, Reassembly, reassembly, number_of, came, waits, add_now, forward_now, fragment_waits, point_waits, add_or_wait, resetting, waiting_in, wait_with, forward_or_wait, add, forward, apply, apply_each, reset}
 use Rattle.std.specs.List.{All}
 use Rattle.std.specs.Map.{values_of}
 use Rattle.std.proofs.lemmas.List.Elements.{All-nil, All-cons}
@@ -14,10 +13,10 @@ use Rattle.sctp_serial.specs.Unwrapped.{origin}
 use Rattle.sctp_state.specs.declared.api.handover.HandoverOrderedStream.{HandoverOrderedStream}
 use Rattle.sctp_state.specs.declared.api.handover.HandoverUnorderedStream.{HandoverUnorderedStream}
 use Rattle.sctp_state.specs.Handover.{Receive}
-use Rattle.sctp_reassembly.specs.Delivery.{OrderedStream, UnorderedStream, fresh_unordered}
+use Rattle.sctp_reassembly.specs.Delivery.{fresh_unordered}
 use Rattle.sctp_reassembly.specs.ReassemblyHandover.{ordered_entries, unordered_entries, restored}
 use Rattle.sctp_reassembly.specs.Settled.{IsSettledInOrder, IsSettled, AreSettled}
-use Rattle.sctp_reassembly.proofs.SettledStreamsLemmas.{settled_none, settled_add, settled_point, settled_part, settled_reset}
+use Rattle.sctp_reassembly.proofs.SettledStreamsLemmas.{settled_none, settled_add, settled_point, settled_reset}
 
 pub settled_new : (max_size : ℕ) (b : Bool) → AreSettled (reassembly max_size b).streams
 settled_new max_size b = settled_none b
@@ -41,7 +40,7 @@ module _ (r : Reassembly) (h : AreSettled r.streams) where
       n = number_of r tsn
 
       part : Reassembly
-      part = forward_in false (resetting r.deferred) n es (came tsn r)
+      part = forward_now n (entries_in false (resetting r.deferred) es) (came tsn r)
 
       named : List SkippedStream
       named = entries_in true (resetting r.deferred) es
@@ -51,23 +50,23 @@ module _ (r : Reassembly) (h : AreSettled r.streams) where
       later false k = k
 
       now : (b : Bool) → AreSettled (cond b (wait_with n named part) (forward_now n es (came tsn r))).streams
-      now true = later ((length named == 0) && (length (waiting_in r.deferred) == 0)) (settled_part false (resetting r.deferred) n es r.streams h)
+      now true = later ((length named == 0) && (length (waiting_in r.deferred) == 0)) (settled_point n (entries_in false (resetting r.deferred) es) r.streams h)
       now false = settled_point n es r.streams h
 
       go : (b : Bool) → AreSettled (cond b r (forward_or_wait (number_of r tsn) es (came tsn r))).streams
       go true = h
       go false = now (point_waits (number_of r tsn) r.deferred)
 
-settled_applied : (ids : List StreamId) (w : Waiting) (r : Reassembly) → AreSettled r.streams → AreSettled (apply ids w r).streams
-settled_applied ids (Added n f) r h = settled_add r.streams h n f
-settled_applied ids (Forwarded n es) r h = settled_part true ids n es r.streams h
+settled_applied : (w : Waiting) (r : Reassembly) → AreSettled r.streams → AreSettled (apply w r).streams
+settled_applied (Added n f) r h = settled_add r.streams h n f
+settled_applied (Forwarded n es) r h = settled_point n es r.streams h
 
-settled_all : (ids : List StreamId) (ws : List Waiting) (r : Reassembly) → AreSettled r.streams → AreSettled (apply_each ids ws r).streams
-settled_all ids [] r h = h
-settled_all ids (w ∷ ws) r h = settled_all ids ws (apply ids w r) (settled_applied ids w r h)
+settled_all : (ws : List Waiting) (r : Reassembly) → AreSettled r.streams → AreSettled (apply_each ws r).streams
+settled_all [] r h = h
+settled_all (w ∷ ws) r h = settled_all ws (apply w r) (settled_applied w r h)
 
 pub settled_begins_anew : (ids : List StreamId) (r : Reassembly) → AreSettled r.streams → AreSettled (reset ids r).streams
-settled_begins_anew ids r h = settled_all (resetting r.deferred) (waiting_in r.deferred) _ (settled_reset r.streams h ids)
+settled_begins_anew ids r h = settled_all (waiting_in r.deferred) _ (settled_reset r.streams h ids)
 
 -- ---- what a record holds
 

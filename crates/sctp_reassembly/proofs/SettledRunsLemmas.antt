@@ -1,15 +1,12 @@
 -- What calls leave of the intervals of fragments in order.
-use Rattle.std.proofs.Common.{◌≡◌, ℕ, zero, suc, ◌+◌, ◌<◌, ◌≤◌, Bool, true, false, cond, Option, Some, None, List, [], ◌∷◌, ◌++◌, length, refl, ap, sym, subst, ◌∙◌, inl, inr, arith, append_assoc}
-use Rattle.std.specs.Prelude.{◌&&◌, ◌==◌, not, nat_lt}
+use Rattle.std.proofs.Common.{◌≡◌, ℕ, suc, ◌≤◌, Bool, true, false, cond, Option, Some, None, List, [], ◌∷◌, ◌++◌, length, refl, sym, subst, inl, inr, arith}
+use Rattle.std.specs.Prelude.{◌&&◌, ◌==◌, not}
 use Rattle.std.specs.List.{find}
-use Rattle.std.proofs.lemmas.Bool.{lt-ltb, le-ltb, cases_lt, cases_Bool}
-use Rattle.std.proofs.lemmas.Bool.Decides.{nat_tests}
-use Rattle.sctp_fragments.specs.Runs.{is_next, is_held, with_item, from_rank, last_of, attached, runs_of, flat, AreRuns, end_of, IsBelow, LeadsTo, joins_left, joins_right}
-use Rattle.sctp_fragments.specs.Held.{Held, rank_of, goes_on, intervals_of, is_complete, NonePass, NoneComplete, without_first_of, left_by}
-use Rattle.sctp_fragments.specs.Intervals.{IsInserted}
+use Rattle.std.proofs.lemmas.Bool.{lt-ltb, cases_lt, cases_Bool}
+use Rattle.sctp_fragments.specs.Runs.{is_next, from_rank, last_of, attached, flat, AreRuns}
+use Rattle.sctp_fragments.specs.Held.{Held, rank_of, goes_on, intervals_of, NonePass, NoneComplete, without_first_of, left_by}
 use Rattle.sctp_reassembly.specs.Settled.{AreInOrder}
-use Rattle.sctp_fragments.proofs.RunLemmas.{AreRuns-without, AreRuns-front, end_of-append, runs_of-flat, flat-runs_of, from_rank-runs, is_held-within, with_item-between}
-use Rattle.sctp_reassembly.proofs.InsertLemmas.{inserts_alone, inserts_left, inserts_right, inserts_both}
+use Rattle.sctp_fragments.proofs.RunLemmas.{AreRuns-without, runs_of-flat, flat-runs_of, from_rank-runs}
 use Rattle.sctp_reassembly.proofs.FindLemmas.{without_none}
 
 -- ---- without the first interval that passes a test

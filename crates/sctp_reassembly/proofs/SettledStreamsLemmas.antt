@@ -1,8 +1,8 @@
 -- Streams at rest stay at rest.
-use Rattle.std.proofs.Common.{◌≡◌, ℕ, zero, suc, ◌+◌, ◌≤◌, Bool, true, false, cond, Option, Some, None, List, [], ◌∷◌, ◌++◌, length, refl, ap, sym, subst, ◌∙◌, arith}
+use Rattle.std.proofs.Common.{◌≡◌, ℕ, zero, suc, ◌+◌, ◌≤◌, Bool, true, false, cond, Option, Some, None, List, [], ◌∷◌, length, refl, ap, arith}
 use Rattle.std.specs.Prelude.{nat_lt, max, not, unwrap_or, is_some, map, filter}
 use Rattle.std.specs.List.{find, All}
-use Rattle.std.specs.Map.{lookup, set_value, values_of}
+use Rattle.std.specs.Map.{lookup, values_of}
 use Rattle.std.specs.Ordering.{nat_cmp}
 use Rattle.std.specs.BTreeMap.{is_at, insert_entry}
 use Rattle.std.proofs.lemmas.List.Elements.{All-nil, All-cons, All-head, All-tail}
@@ -15,13 +15,13 @@ use Rattle.sctp_chunk.specs.declared.forward_tsn.SkippedStream.{SkippedStream}
 use Rattle.sctp_chunk.specs.declared.forward_tsn.SkippedStream.TheVariants.{ForwardTsn, IForwardTsn}
 use Rattle.sctp_fragments.specs.Runs.{with_item, from_rank}
 use Rattle.sctp_fragments.specs.Key.{pair_rank}
-use Rattle.sctp_fragments.specs.Held.{Held, rank_of, intervals_of, is_complete, is_in_turn, left_by, without_first_of, NoneInTurn, NoneComplete, message_of_run}
-use Rattle.sctp_reassembly.specs.Delivery.{OrderedStream, UnorderedStream, OrderedDelivery, UnorderedDelivery, fresh_ordered, fresh_unordered, at_rest, preceded_by, delivering, deliver, deliver_within, ordered_arrival, ordered_forward, settled, unordered_arrival, unordered_forward, unordered_forward_tsn, held_from}
-use Rattle.sctp_reassembly.specs.Streams.{Entries, Streams, Outcome, stream_at, opened, written, changed, is_named, forgotten, no_streams, is_far, held_as, place_of, ordered_number, unordered_number, with_ordered, with_unordered, unchanged, add_ordered, add_unordered, add_in_order, add, skip_ordered, skip_unordered, skip_of, skip, followed_by, skip_each, by_stream, dropped_to, forward, reset, is_part, entries_in, dropped_in, forward_in}
+use Rattle.sctp_fragments.specs.Held.{Held, rank_of, intervals_of, is_complete, is_in_turn, left_by}
+use Rattle.sctp_reassembly.specs.Delivery.{OrderedStream, UnorderedStream, OrderedDelivery, UnorderedDelivery, fresh_ordered, fresh_unordered, at_rest, delivering, deliver, deliver_within, ordered_arrival, ordered_forward, settled, unordered_arrival, unordered_forward, unordered_forward_tsn, held_from}
+use Rattle.sctp_reassembly.specs.Streams.{Entries, Streams, stream_at, opened, changed, is_named, no_streams, is_far, held_as, ordered_number, unordered_number, with_ordered, with_unordered, unchanged, add_ordered, add_unordered, add_in_order, add, skip_ordered, skip_unordered, skip_of, skip, skip_each, by_stream, dropped_to, forward, reset}
 use Rattle.sctp_reassembly.specs.Settled.{AreInOrder, IsSettledInOrder, IsSettled, AreSettled}
 use Rattle.sctp_reassembly.proofs.DeliverLemmas.{length_found}
 use Rattle.sctp_reassembly.proofs.SettledRunsLemmas.{left_intervals, left_order, find_none, none_empty, from_order, from_none}
-use Rattle.sctp_reassembly.proofs.SettledInsertLemmas.{Came, came_in}
+use Rattle.sctp_reassembly.proofs.SettledInsertLemmas.{came_in}
 
 -- ---- one stream
 
@@ -101,11 +101,6 @@ module _ {S : Type 0} (P : S → Type 0) where
   all_mapped : (f : S → S) → ((s : S) → P s → P (f s)) → (es : Entries S) → All P (values_of es) → All P (values_of (map (λ e. (e.0, f e.1)) es))
   all_mapped f g [] h = h
   all_mapped f g (e ∷ es) h = All-cons P (f e.1) (values_of (map (λ e. (e.0, f e.1)) es)) (g e.1 (All-head P e.1 (values_of es) h)) (all_mapped f g es (All-tail P e.1 (values_of es) h))
-
-  all_by_key : (f : ℕ → S → S) → ((k : ℕ) (s : S) → P s → P (f k s)) → (es : Entries S) → All P (values_of es) → All P (values_of (map (λ e. (e.0, f e.0 e.1)) es))
-  all_by_key f g [] h = h
-  all_by_key f g (e ∷ es) h =
-      All-cons P (f e.0 e.1) (values_of (map (λ d. (d.0, f d.0 d.1)) es)) (g e.0 e.1 (All-head P e.1 (values_of es) h)) (all_by_key f g es (All-tail P e.1 (values_of es) h))
 
 -- ---- the streams
 
@@ -195,17 +190,6 @@ module _ (ss : Streams) (h : AreSettled ss) where
       go true = h.unordered
       go false = all_mapped IsSettled (unordered_forward_tsn tsn) (λ s k. settled_from (pair_rank origin (tsn + 1)) s k) ss.unordered h.unordered
 
-  pub settled_dropped_in : (named : Bool) (ids : List StreamId) (tsn : ℕ) → AreSettled (dropped_in named ids tsn ss)
-  settled_dropped_in named ids tsn = record { ordered = h.ordered; unordered = go ss.is_interleaved }
-    where
-      one : (b : Bool) (s : UnorderedStream) → IsSettled s → IsSettled (cond b (unordered_forward_tsn tsn s) s)
-      one true s k = settled_from (pair_rank origin (tsn + 1)) s k
-      one false s k = k
-
-      go : (b : Bool) → All IsSettled (values_of (cond b ss.unordered (map (λ e. (e.0, cond (is_part named ids e.0) (unordered_forward_tsn tsn e.1) e.1)) ss.unordered)))
-      go true = h.unordered
-      go false = all_by_key IsSettled (λ k s. cond (is_part named ids k) (unordered_forward_tsn tsn s) s) (λ k s i. one (is_part named ids k) s i) ss.unordered h.unordered
-
   pub settled_reset : (ids : List StreamId) → AreSettled (reset ids ss)
   settled_reset ids = record {
     ordered = all_kept IsSettledInOrder (λ e. not (is_named ids e.0)) ss.ordered h.ordered;
@@ -218,6 +202,3 @@ settled_each (e ∷ es) ss h = settled_each es (skip e ss).streams (settled_skip
 
 pub settled_point : (tsn : ℕ) (es : List SkippedStream) (ss : Streams) → AreSettled ss → AreSettled (forward tsn es ss).streams
 settled_point tsn es ss h = settled_each (by_stream es) (dropped_to tsn ss) (settled_dropped ss h tsn)
-
-pub settled_part : (named : Bool) (ids : List StreamId) (tsn : ℕ) (es : List SkippedStream) (ss : Streams) → AreSettled ss → AreSettled (forward_in named ids tsn es ss).streams
-settled_part named ids tsn es ss h = settled_each (by_stream (entries_in named ids es)) (dropped_in named ids tsn ss) (settled_dropped_in ss h named ids tsn)

@@ -1,5 +1,5 @@
 -- What waits for a reset.
-use Rattle.std.proofs.Common.{◌≡◌, ℕ, ◌<◌, ◌^◌, List, [], ◌∷◌, ◌++◌}
+use Rattle.std.proofs.Common.{◌<◌, ◌^◌, List, [], ◌∷◌, ◌++◌}
 use Rattle.sctp_reassembly.specs.ReassemblyQueue.{Waiting, AreSmall, waiting_number}
 
 pub small_more : (ws : List Waiting) (w : Waiting) → AreSmall ws → waiting_number w < 2 ^ 63 → AreSmall (ws ++ w ∷ [])

@@ -1,5 +1,5 @@
 -- What becomes ready on a stream.
-use Rattle.std.specs.Prelude.{◌≡◌, ℕ, zero, suc, ◌+◌, ◌^◌, ◌<◌, ◌≤◌, ◌==◌, ◌&&◌, nat_lt, max, Bool, true, false, if◌then◌else◌, Option, Some, None, option_map, option_to_list, List, [], ◌∷◌, ◌++◌, length}
+use Rattle.std.specs.Prelude.{◌≡◌, ℕ, zero, suc, ◌+◌, ◌^◌, ◌<◌, ◌≤◌, nat_lt, max, Bool, true, if◌then◌else◌, Option, Some, None, option_map, option_to_list, List, [], ◌∷◌, ◌++◌, length}
 use Rattle.std.specs.List.{find, sum_by}
 use Rattle.sctp_serial.specs.Messages.{Message}
 use Rattle.sctp_serial.specs.Unwrapped.{origin}

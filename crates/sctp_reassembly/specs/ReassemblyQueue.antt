@@ -1,5 +1,5 @@
 -- Fragments that were received, until the message that they belong to is ready, and ready messages, until they are taken.
-use Rattle.std.specs.Prelude.{◌≡◌, ℕ, ◌+◌, ◌-◌, ◌*◌, ◌/◌, ◌^◌, ◌<◌, ◌≤◌, ◌&&◌, ◌==◌, nat_lt, nat_le, min, max, sum_by, Bool, true, false, if◌then◌else◌, Option, Some, None, is_some, unwrap_or, List, [], ◌∷◌, ◌++◌, length}
+use Rattle.std.specs.Prelude.{◌≡◌, ℕ, ◌+◌, ◌-◌, ◌*◌, ◌/◌, ◌^◌, ◌<◌, ◌≤◌, ◌&&◌, ◌==◌, nat_lt, min, max, sum_by, Bool, true, false, if◌then◌else◌, Option, Some, None, is_some, unwrap_or, List, [], ◌∷◌, ◌++◌, length}
 use Rattle.sctp_serial.specs.declared.api.StreamId.{StreamId}
 use Rattle.sctp_serial.specs.Messages.{Message}
 use Rattle.sctp_serial.specs.Unwrapped.{origin, words, nearest}
@@ -105,16 +105,12 @@ add_now n f r = made (streams.add n f r.streams) r
 abbrev pub forward_now : ℕ → List SkippedStream → Reassembly → Reassembly
 forward_now n es r = made (streams.forward n es r.streams) r
 
--- what a forward point says of these streams, or of the others
-abbrev pub forward_in : (named : Bool) → List StreamId → ℕ → List SkippedStream → Reassembly → Reassembly
-forward_in named ids n es r = made (streams.forward_in named ids n es r.streams) r
-
 -- while a reset is deferred, a fragment above its last TSN waits if it is on one of its streams
 abbrev pub fragment_waits : ℕ → ℕ → Option Deferred → Bool
 fragment_waits n id None = false
 fragment_waits n id (Some d) = nat_lt d.last n && is_named d.streams id
 
--- and so does a part of a forward point above it
+-- and so do entries of a forward point above it
 abbrev pub point_waits : ℕ → Option Deferred → Bool
 point_waits n None = false
 point_waits n (Some d) = nat_lt d.last n
@@ -143,10 +139,10 @@ waiting_in (Some d) = d.waiting
 abbrev pub wait_with : ℕ → List SkippedStream → Reassembly → Reassembly
 wait_with n es r = if (length es == 0) && (length (waiting_in r.deferred) == 0) then r else waits (Forwarded n es) r
 
--- what a forward point says of the reset's streams waits, the rest is taken at once
+-- the point's entries for the reset's streams wait, the rest is taken at once
 abbrev pub forward_or_wait : ℕ → List SkippedStream → Reassembly → Reassembly
 forward_or_wait n es r =
-    if point_waits n r.deferred then wait_with n (entries_in true (resetting r.deferred) es) (forward_in false (resetting r.deferred) n es r)
+    if point_waits n r.deferred then wait_with n (entries_in true (resetting r.deferred) es) (forward_now n (entries_in false (resetting r.deferred) es) r)
     else forward_now n es r
 
 -- a fragment with this TSN
@@ -164,18 +160,18 @@ defer tsn ids r = record r {
   deferred = if is_some r.deferred then r.deferred else Some (record { last = number_of r tsn; streams = ids; waiting = [] });
 }
 
--- what waited for the reset of these streams
-abbrev pub apply : List StreamId → Waiting → Reassembly → Reassembly
-apply ids (Added n f) r = add_now n f r
-apply ids (Forwarded n es) r = forward_in true ids n es r
+-- what waited for a reset
+abbrev pub apply : Waiting → Reassembly → Reassembly
+apply (Added n f) r = add_now n f r
+apply (Forwarded n es) r = forward_now n es r
 
-abbrev pub apply_each : List StreamId → List Waiting → Reassembly → Reassembly
-apply_each ids [] r = r
-apply_each ids (w ∷ ws) r = apply_each ids ws (apply ids w r)
+abbrev pub apply_each : List Waiting → Reassembly → Reassembly
+apply_each [] r = r
+apply_each (w ∷ ws) r = apply_each ws (apply w r)
 
 -- the streams are reset, or all where none is named; then comes what waited, in order
 abbrev pub reset : List StreamId → Reassembly → Reassembly
-reset ids r = apply_each (resetting r.deferred) (waiting_in r.deferred) (record r { streams = streams.reset ids r.streams; deferred = None })
+reset ids r = apply_each (waiting_in r.deferred) (record r { streams = streams.reset ids r.streams; deferred = None })
 
 -- what is true of every queue
 pub record IsQueue (r : Reassembly) : Type 0 where

@@ -1,5 +1,5 @@
 -- The streams of an association as the receiver knows them, by their ids. A stream that isn't there is as at first.
-use Rattle.std.specs.Prelude.{ℕ, ◌+◌, ◌^◌, ◌==◌, ◌&&◌, ◌||◌, not, nat_lt, nat_le, max, Bool, true, false, if◌then◌else◌, Option, Some, None, is_some, unwrap_or, List, [], ◌∷◌, ◌++◌, length, map, filter}
+use Rattle.std.specs.Prelude.{ℕ, ◌+◌, ◌^◌, ◌==◌, ◌||◌, not, nat_lt, nat_le, Bool, true, false, if◌then◌else◌, Option, Some, None, is_some, unwrap_or, List, [], ◌∷◌, ◌++◌, length, map, filter}
 use Rattle.std.specs.List.{list_any, sum_by}
 use Rattle.std.specs.Map.{lookup, set_value, values_of}
 use Rattle.std.specs.Ordering.{nat_cmp}
@@ -174,22 +174,12 @@ dropped_to tsn ss =
 abbrev pub forward : ℕ → List SkippedStream → Streams → Outcome
 forward tsn es ss = skip_each (by_stream es) (dropped_to tsn ss)
 
--- ---- what a forward point says of some streams alone: of those that are named, or of the others
-
+-- a point's entries for the streams that are named, or for the others
 abbrev pub is_part : (named : Bool) → List StreamId → ℕ → Bool
 is_part named ids id = if named then is_named ids id else not (is_named ids id)
 
 abbrev pub entries_in : (named : Bool) → List StreamId → List SkippedStream → List SkippedStream
 entries_in named ids es = filter (λ e. is_part named ids (skipped_id e)) es
-
-abbrev pub dropped_in : (named : Bool) → List StreamId → ℕ → Streams → Streams
-dropped_in named ids tsn ss = record ss {
-  unordered = if ss.is_interleaved then ss.unordered else map (λ e. (e.0, if is_part named ids e.0 then unordered_forward_tsn tsn e.1 else e.1)) ss.unordered;
-}
-
--- that part of a forward point to this TSN
-abbrev pub forward_in : (named : Bool) → List StreamId → ℕ → List SkippedStream → Streams → Outcome
-forward_in named ids tsn es ss = skip_each (by_stream (entries_in named ids es)) (dropped_in named ids tsn ss)
 
 -- ---- streams are reset
 

@@ -2,7 +2,6 @@
 
 ghost use Rattle.std.specs.Prelude.{◌≡◌};
 
-use crate::named_streams::NamedStreams;
 use crate::near::mid_near;
 use crate::ordered_stream::OrderedStream as StreamInOrder;
 use crate::ordered_streams::OrderedStreams;
@@ -137,10 +136,6 @@ impl ReassemblyStreams for InterleavedReassemblyStreams {
     }
 
     fn drop_to(&mut self, _tsn: u64) {
-        let _fields = &self.ordered;
-    }
-
-    fn drop_in(&mut self, _named: bool, _ids: &NamedStreams, _tsn: u64) {
         let _fields = &self.ordered;
     }
 

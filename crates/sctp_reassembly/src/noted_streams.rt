@@ -1,6 +1,6 @@
 //! Streams with unordered messages, without interleaving: forward points find their fragments by TSN.
 
-ghost use Rattle.std.specs.Prelude.{◌≡◌, ◌==◌, ◌+◌, ◌<◌, ◌≤◌, ◌^◌, ◌++◌, ℕ, [], true, false, length, map, if◌then◌else◌, OnOk, IfOk, IfSome, IfNone};
+ghost use Rattle.std.specs.Prelude.{◌≡◌, ◌==◌, ◌+◌, ◌<◌, ◌≤◌, ◌^◌, ◌++◌, ℕ, [], true, false, length, map, OnOk, IfOk, IfSome, IfNone};
 ghost use Rattle.sctp_fragments.specs.Key.{pair_rank};
 ghost use Rattle.sctp_reassembly.specs.Delivery.{fresh_unordered, held_from};
 ghost use Rattle.sctp_reassembly.specs.Notes.{is_noted, HasNote, AreNoted, OthersAreNoted, KeepsOthers, NoneBelow, forwarded};
@@ -8,7 +8,6 @@ ghost use Rattle.sctp_reassembly.specs.ReassemblyHandover.{unordered_is_held, un
 ghost use Rattle.sctp_reassembly.specs.Streams.{unordered_bytes, is_named, stream_at};
 ghost use Rattle.sctp_state.specs.Validity.{rises_from, unordered_ids};
 
-use crate::named_streams::NamedStreams;
 use crate::ready_messages::ReadyMessages;
 use crate::unordered_streams::UnorderedStreams;
 use sctp_chunk::Data;
@@ -176,7 +175,7 @@ fn take_notes(
 impl NotedStreams {
     ghost use Rattle.sctp_fragments.specs.Intervals.{held};
     ghost use Rattle.sctp_reassembly.specs.Delivery.{unordered_arrival, ready_bytes, Extends};
-    ghost use Rattle.sctp_reassembly.specs.Streams.{changed, forgotten, is_part};
+    ghost use Rattle.sctp_reassembly.specs.Streams.{changed, forgotten};
 
     /// No streams. Takes no memory.
     pub fn new(alloc: Global) -> NotedStreams
@@ -272,14 +271,5 @@ impl NotedStreams {
         }
         self.streams.forward_all(first);
         self.is_noted = make_notes(self.alloc, &self.streams, &mut self.notes);
-    }
-
-    /// Drops the fragments before the key, of the streams that are named, or of the others.
-    pub fn forward_part(&mut self, named: bool, ids: &NamedStreams, first: TraditionalKey)
-        ensures value { self.new ≡ map (λ e. (e.0, if is_part named ids.now e.0 then held_from (pair_rank first.number first.index) e.1 else e.1)) self.old }
-        ensures bytes { unordered_bytes self.new ≤ unordered_bytes self.old }
-    {
-        self.is_noted = false;
-        self.streams.forward_part(named, ids, first);
     }
 }

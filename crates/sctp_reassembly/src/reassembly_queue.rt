@@ -14,7 +14,6 @@ mod deferred;
 mod form;
 mod waiting;
 
-use crate::named_streams::NamedStreams;
 use crate::ordered_stream::FIRST;
 use crate::ready_messages::ReadyMessages;
 use crate::reassembly_streams::ReassemblyStreams;
@@ -59,7 +58,7 @@ impl Model for ReassemblyQueue {
 }
 
 impl ReassemblyQueue {
-    ghost use Rattle.sctp_reassembly.specs.ReassemblyQueue.{reassembly, queued_bytes, watermark, number_of, came, add_now, forward_now, forward_in, fragment_waits, point_waits, waits, wait_with, resetting, waiting_in, waiting_bytes, waiting_number, counted, IsCounted, add, forward, defer, apply, apply_each, reset};
+    ghost use Rattle.sctp_reassembly.specs.ReassemblyQueue.{reassembly, queued_bytes, watermark, number_of, came, add_now, forward_now, fragment_waits, point_waits, waits, wait_with, resetting, waiting_in, waiting_bytes, waiting_number, counted, IsCounted, add, forward, defer, apply, apply_each, reset};
     ghost use Rattle.sctp_reassembly.specs.Streams.{entries_in};
     ghost use Rattle.sctp_reassembly.specs.WaitingViews.{waiting_of};
 
@@ -198,50 +197,6 @@ impl ReassemblyQueue {
         passed
     }
 
-    // Takes what a forward point says of the streams that are not to be reset.
-    fn forward_others(&mut self, number: u64, skipped: &[SkippedStream]) -> Result<(), AllocError>
-        requires small { number < 2 ^ 63 }
-        requires deferred { is_some self.old.deferred ≡ true }
-        ensures ok { OnOk result (self.new ≡ forward_in false (resetting self.old.deferred) number skipped.now self.old) }
-        ensures kept { Extends self.old.ready self.new.ready }
-        ensures counted { IsCounted self.old self.new }
-        ensures bytes { queued_bytes self.new ≤ queued_bytes self.old }
-    {
-        let before = self.ready.len();
-        let Some(deferred) = &self.deferred else {
-            return Ok(());
-        };
-        let ids = deferred.streams();
-        let ready = &mut self.ready;
-        let passed = self
-            .streams
-            .handle_part(self.alloc, number, skipped, false, ids, ready);
-        self.count_from(before);
-        passed
-    }
-
-    // Takes what a forward point says of the streams that were to be reset.
-    fn forward_named(
-        &mut self,
-        ids: &NamedStreams,
-        number: u64,
-        skipped: &[SkippedStream],
-    ) -> Result<(), AllocError>
-        requires { number < 2 ^ 63 }
-        ensures ok { OnOk result (self.new ≡ forward_in true ids.now number skipped.now self.old) }
-        ensures kept { Extends self.old.ready self.new.ready }
-        ensures counted { IsCounted self.old self.new }
-        ensures bytes { queued_bytes self.new ≤ queued_bytes self.old }
-    {
-        let before = self.ready.len();
-        let ready = &mut self.ready;
-        let passed = self
-            .streams
-            .handle_part(self.alloc, number, skipped, true, ids, ready);
-        self.count_from(before);
-        passed
-    }
-
     // Whether a fragment waits for a reset.
     fn fragment_waits(&self, number: u64, id: StreamId) -> bool
         ensures { result ≡ fragment_waits number id.0 self.now.deferred }
@@ -252,7 +207,7 @@ impl ReassemblyQueue {
         }
     }
 
-    // Whether a part of a forward point does.
+    // Whether entries of a forward point do.
     fn point_waits(&self, number: u64) -> bool
         ensures value { result ≡ point_waits number self.now.deferred }
         ensures deferred { result ≡ true → is_some self.now.deferred ≡ true }
@@ -294,12 +249,12 @@ impl ReassemblyQueue {
         self.wait(Waiting::Point(number, entries))
     }
 
-    // Takes one part of a forward point, and has the other one wait.
+    // Takes a forward point, but has its entries for the reset's streams wait.
     #[tactic(auto, using(crate::proofs::ExtendsLemmas::extends_none, crate::proofs::ExtendsLemmas::extends_both, crate::proofs::ExtendsLemmas::counted_none, crate::proofs::ExtendsLemmas::counted_both))]
     fn forward_in_parts(&mut self, number: u64, skipped: &[SkippedStream]) -> Result<(), AllocError>
         requires small { number < 2 ^ 63 }
         requires deferred { is_some self.old.deferred ≡ true }
-        ensures ok { OnOk result (let ids = resetting self.old.deferred in self.new ≡ wait_with number (entries_in true ids skipped.now) (forward_in false ids number skipped.now self.old)) }
+        ensures ok { OnOk result (let ids = resetting self.old.deferred in self.new ≡ wait_with number (entries_in true ids skipped.now) (forward_now number (entries_in false ids skipped.now) self.old)) }
         ensures kept { Extends self.old.ready self.new.ready }
         ensures counted { IsCounted self.old self.new }
         ensures bytes { queued_bytes self.new ≤ queued_bytes self.old }
@@ -307,9 +262,10 @@ impl ReassemblyQueue {
         let Some(deferred) = &self.deferred else {
             return Ok(());
         };
-        let entries = entries_in(self.alloc, true, deferred.streams(), skipped)?;
-        self.forward_others(number, skipped)?;
-        self.wait_with(number, entries)
+        let later = entries_in(self.alloc, true, deferred.streams(), skipped)?;
+        let now = entries_in(self.alloc, false, deferred.streams(), skipped)?;
+        self.forward_now(number, &now)?;
+        self.wait_with(number, later)
     }
 
     /// Takes a fragment. What is complete and in turn by it becomes ready. While a reset is deferred, a fragment above its
@@ -337,8 +293,8 @@ impl ReassemblyQueue {
     }
 
     /// Takes a forward point: drops what it passes, moves next numbers behind what it names, never back, and makes ready
-    /// what is then in turn, by ascending stream. While a reset is deferred, of a forward point above its last TSN the part on
-    /// its streams waits. A TSN that lies 2^62 or more above the first one is ignored.
+    /// what is then in turn, by ascending stream. While a reset is deferred, of a forward point above its last TSN the entries for
+    /// its streams wait. A TSN that lies 2^62 or more above the first one is ignored.
     ///
     /// Without memory the queue may hold a part of what it should. What was ready stays ready, in any case.
     #[tactic(auto, using(crate::proofs::ExtendsLemmas::extends_none))]
@@ -384,18 +340,18 @@ impl ReassemblyQueue {
         Ok(())
     }
 
-    // Takes what waited for the reset of these streams.
-    fn apply(&mut self, ids: &NamedStreams, waiting: Waiting) -> Result<(), AllocError>
+    // Takes what waited for a reset.
+    fn apply(&mut self, waiting: Waiting) -> Result<(), AllocError>
         requires room { queued_bytes self.old + waiting_bytes (waiting_of waiting) < 2 ^ 64 }
         requires small { waiting_number (waiting_of waiting) < 2 ^ 63 }
-        ensures ok { OnOk result (self.new ≡ apply ids.now (waiting_of waiting) self.old) }
+        ensures ok { OnOk result (self.new ≡ apply (waiting_of waiting) self.old) }
         ensures kept { Extends self.old.ready self.new.ready }
         ensures counted { IsCounted self.old self.new }
         ensures bytes { queued_bytes self.new ≤ queued_bytes self.old + waiting_bytes (waiting_of waiting) }
     {
         match waiting {
             Waiting::Fragment(number, fragment) => self.add_now(number, fragment),
-            Waiting::Point(number, skipped) => self.forward_named(ids, number, &skipped),
+            Waiting::Point(number, skipped) => self.forward_now(number, &skipped),
         }
     }
 
@@ -403,14 +359,14 @@ impl ReassemblyQueue {
     #[tactic(auto, using(crate::proofs::ExtendsLemmas::extends_none, crate::proofs::ExtendsLemmas::extends_both, crate::proofs::ExtendsLemmas::counted_none, crate::proofs::ExtendsLemmas::counted_both))]
     fn apply_each(&mut self, mut deferred: Deferred) -> Result<(), AllocError>
         requires { queued_bytes self.old + sum_by waiting_bytes deferred.waiting < 2 ^ 64 }
-        ensures ok { OnOk result (self.new ≡ apply_each deferred.streams deferred.waiting self.old) }
+        ensures ok { OnOk result (self.new ≡ apply_each deferred.waiting self.old) }
         ensures kept { Extends self.old.ready self.new.ready }
         ensures counted { IsCounted self.old self.new }
         ensures bytes { queued_bytes self.new ≤ queued_bytes self.old + sum_by waiting_bytes deferred.waiting }
     {
         let _fields = &self.ready_count;
         while let Some(waiting) = deferred.pop() {
-            self.apply(deferred.streams(), waiting)?;
+            self.apply(waiting)?;
         }
         Ok(())
     }

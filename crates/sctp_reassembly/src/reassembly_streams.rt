@@ -6,11 +6,10 @@ ghost use Rattle.sctp_reassembly.specs.Delivery.{ready_bytes, Extends};
 ghost use Rattle.sctp_state.specs.Handover.{handover_state_of, receive_of};
 ghost use Rattle.sctp_state.specs.Validity.{is_valid_reception};
 ghost use Rattle.sctp_reassembly.specs.ReassemblyHandover.{streams_readiness, streams_written, streams_restored};
-ghost use Rattle.sctp_reassembly.specs.Streams.{Streams, held_bytes, add, skip, skip_each, dropped_to, dropped_in, forward, forward_in, reset};
+ghost use Rattle.sctp_reassembly.specs.Streams.{Streams, held_bytes, add, skip, skip_each, dropped_to, forward, reset};
 
-use crate::named_streams::NamedStreams;
 use crate::ready_messages::ReadyMessages;
-use crate::sorted_skips::{by_stream, entries_in};
+use crate::sorted_skips::by_stream;
 use sctp_chunk::{Data, SkippedStream};
 use sctp_serial::StreamId;
 use sctp_state::{HandoverReadiness, SocketHandoverState};
@@ -19,7 +18,7 @@ use std::alloc::{AllocError, Global};
 /// The fragments of all streams: a map from unwrapped numbers to fragments. What becomes ready by a call is behind what was
 /// ready before it.
 ///
-/// `AllocError` is want of memory, and no other refusal is there. `add`, `skip`, `handle_forward_tsn` and `handle_part` may then
+/// `AllocError` is want of memory, and no other refusal is there. `add`, `skip` and `handle_forward_tsn` may then
 /// leave a part of their work undone: the fragment, or a message that was in turn, may be lost. What was ready stays ready, in
 /// front and in order (`kept`), no byte is counted that didn't come (`bytes`), and every call can be made. The calls of a
 /// handover then change nothing.
@@ -66,35 +65,6 @@ pub trait ReassemblyStreams {
     {
         let entries = by_stream(alloc, skipped)?;
         self.drop_to(tsn);
-        skip_each(self, &entries, ready)
-    }
-
-    /// Drops the same of the streams that are named, or of the others.
-    fn drop_in(&mut self, named: bool, ids: &NamedStreams, tsn: u64)
-        requires { tsn < 2 ^ 63 }
-        ensures value { streams self.new ≡ dropped_in named ids.now tsn (streams self.old) }
-        ensures bytes { held_bytes (streams self.new) ≤ held_bytes (streams self.old) };
-
-    /// Takes what a forward point says of the streams that are named, or of the others.
-    final fn handle_part(
-        &mut self,
-        alloc: Global,
-        tsn: u64,
-        skipped: &[SkippedStream],
-        named: bool,
-        ids: &NamedStreams,
-        ready: &mut ReadyMessages,
-    ) -> Result<(), AllocError>
-        requires room { held_bytes (streams self.old) + ready_bytes ready.old < 2 ^ 64 }
-        requires small { tsn < 2 ^ 63 }
-        ensures ok { OnOk result (streams self.new ≡ (forward_in named ids.now tsn skipped.now (streams self.old)).streams) }
-        ensures ready { OnOk result (ready.new ≡ ready.old ++ (forward_in named ids.now tsn skipped.now (streams self.old)).messages) }
-        ensures kept { Extends ready.old ready.new }
-        ensures bytes { held_bytes (streams self.new) + ready_bytes ready.new ≤ held_bytes (streams self.old) + ready_bytes ready.old }
-    {
-        let part = entries_in(alloc, named, ids, skipped)?;
-        let entries = by_stream(alloc, &part)?;
-        self.drop_in(named, ids, tsn);
         skip_each(self, &entries, ready)
     }
 

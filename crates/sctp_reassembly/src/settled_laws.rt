@@ -7,7 +7,7 @@ ghost use Rattle.sctp_chunk.specs.declared.forward_tsn.SkippedStream.{SkippedStr
 ghost use Rattle.sctp_chunk.specs.Chunk.{FragmentTree};
 ghost use Rattle.sctp_state.specs.Handover.{Receive};
 ghost use Rattle.sctp_reassembly.specs.Streams as streams;
-ghost use Rattle.sctp_reassembly.specs.Streams.{Streams, no_streams, skip, dropped_to, dropped_in};
+ghost use Rattle.sctp_reassembly.specs.Streams.{Streams, no_streams, skip, dropped_to};
 ghost use Rattle.sctp_reassembly.specs.ReassemblyHandover.{restored, streams_restored};
 ghost use Rattle.sctp_reassembly.specs.ReassemblyQueue.{Reassembly, reassembly, add, forward, reset};
 ghost use Rattle.sctp_reassembly.specs.Settled.{AreSettled};
@@ -43,9 +43,7 @@ pub fn calls_leave_streams_settled()
     ensures add { (tsn : ℕ) (f : FragmentTree) (ss : Streams) → AreSettled ss → AreSettled (streams.add tsn f ss).streams }
     ensures skip { (entry : SkippedStream) (ss : Streams) → AreSettled ss → AreSettled (skip entry ss).streams }
     ensures drop_to { (tsn : ℕ) (ss : Streams) → AreSettled ss → AreSettled (dropped_to tsn ss) }
-    ensures drop_in { (named : Bool) (ids : List StreamId) (tsn : ℕ) (ss : Streams) → AreSettled ss → AreSettled (dropped_in named ids tsn ss) }
     ensures forward { (tsn : ℕ) (entries : List SkippedStream) (ss : Streams) → AreSettled ss → AreSettled (streams.forward tsn entries ss).streams }
-    ensures part { (named : Bool) (ids : List StreamId) (tsn : ℕ) (entries : List SkippedStream) (ss : Streams) → AreSettled ss → AreSettled (streams.forward_in named ids tsn entries ss).streams }
     ensures reset { (ids : List StreamId) (ss : Streams) → AreSettled ss → AreSettled (streams.reset ids ss) }
     ensures restored { (rx : Receive) (ss : Streams) → AreSettled (streams_restored rx ss) }
 {}

@@ -2,7 +2,6 @@
 
 ghost use Rattle.std.specs.Prelude.{◌≡◌};
 
-use crate::named_streams::NamedStreams;
 use crate::near::ssn_near;
 use crate::noted_streams::NotedStreams;
 use crate::ordered_stream::{FIRST, OrderedStream as StreamInOrder};
@@ -108,14 +107,6 @@ impl ReassemblyStreams for TraditionalReassemblyStreams {
             index: tsn + 1,
         };
         self.unordered.forward_all(first);
-    }
-
-    fn drop_in(&mut self, named: bool, ids: &NamedStreams, tsn: u64) {
-        let first = TraditionalKey {
-            number: FIRST,
-            index: tsn + 1,
-        };
-        self.unordered.forward_part(named, ids, first);
     }
 
     fn reset_streams(&mut self, ids: &[StreamId]) {

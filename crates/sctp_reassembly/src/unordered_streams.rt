@@ -8,7 +8,6 @@ ghost use Rattle.sctp_serial.specs.Unwrapped.{origin};
 ghost use Rattle.sctp_state.specs.Validity.{rises_from, unordered_ids};
 ghost use Rattle.sctp_reassembly.specs.ReassemblyHandover.{unordered_is_held, unordered_records, unordered_entries};
 
-use crate::named_streams::NamedStreams;
 use crate::ordered_stream::FIRST;
 use crate::ready_messages::ReadyMessages;
 use crate::unordered_stream::UnorderedStream;
@@ -47,7 +46,7 @@ impl<K: ReassemblyKey> UnorderedStreams<K> {
     ghost use Rattle.std.specs.List.Sorted.{IsStrictlySortedBy};
     ghost use Rattle.std.specs.Map.{keys_of};
     ghost use Rattle.sctp_reassembly.specs.Notes.{BeginsFrom};
-    ghost use Rattle.sctp_reassembly.specs.Streams.{unordered_bytes, stream_at, opened, written, changed, forgotten, is_part};
+    ghost use Rattle.sctp_reassembly.specs.Streams.{unordered_bytes, stream_at, opened, written, changed, forgotten};
 
     /// No streams. Takes no memory.
     pub fn new(alloc: Global) -> UnorderedStreams<K>
@@ -254,21 +253,9 @@ impl<K: ReassemblyKey> UnorderedStreams<K> {
         });
         self.bytes = bytes_in(&self.streams);
     }
-
-    /// Drops the fragments before the key, of the streams that are named, or of the others.
-    pub fn forward_part(&mut self, named: bool, ids: &NamedStreams, first: K)
-        ensures value { self.new ≡ map (λ e. (e.0, if is_part named ids.now e.0 then held_from (rank_at K.number K.index first) e.1 else e.1)) self.old }
-        ensures bytes { unordered_bytes self.new ≤ unordered_bytes self.old }
-    {
-        self.streams.retain(|id, stream| {
-            forward_if(ids.is_part(named, *id), first, stream);
-            true
-        });
-        self.bytes = bytes_in(&self.streams);
-    }
 }
 
-ghost use Rattle.std.specs.Prelude.{◌==◌, not, filter, Bool, if◌then◌else◌};
+ghost use Rattle.std.specs.Prelude.{◌==◌, not, filter};
 ghost use Rattle.std.specs.List.{list_any};
 ghost use Rattle.sctp_reassembly.specs.Streams.{unordered_bytes};
 ghost use Rattle.sctp_fragments.specs.Key.{rank_at};
@@ -290,15 +277,6 @@ fn remove_each<K: ReassemblyKey>(
         if let Some(stream) = streams.remove(&id.0) {
             *bytes -= stream.queued_bytes();
         }
-    }
-}
-
-fn forward_if<K: ReassemblyKey>(is_meant: bool, first: K, stream: &mut UnorderedStream<K>)
-    ensures value { stream.new ≡ (if is_meant then held_from (rank_at K.number K.index first) stream.old else stream.old) }
-    ensures bytes { bytes_of stream.new.held ≤ bytes_of stream.old.held }
-{
-    if is_meant {
-        stream.forward_to(first);
     }
 }
 

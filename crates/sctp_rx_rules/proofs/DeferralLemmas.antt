@@ -11,7 +11,7 @@ use Rattle.sctp_packet.specs.Chunk.{FragmentTree}
 use Rattle.sctp_chunk.specs.declared.forward_tsn.SkippedStream.{SkippedStream}
 use Rattle.sctp_rx.specs.Streams.{Streams, is_named, is_part, is_far, entries_in, skipped_id}
 use Rattle.sctp_rx.specs.Streams as streams
-use Rattle.sctp_rx.specs.ReassemblyQueue.{Reassembly, Deferred, number_of, came, made, fragment_waits, point_waits, resetting, waiting_in, waits, Forwarded, wait_with, forward_in, forward_now, forward_or_wait, forward}
+use Rattle.sctp_rx.specs.ReassemblyQueue.{Reassembly, Deferred, number_of, came, made, fragment_waits, point_waits, resetting, waiting_in, waits, Forwarded, wait_with, forward_now, forward_or_wait, forward}
 use Rattle.sctp_rules.specs.State.{Message, Entry, ForwardPoint, IsAmong, place_of, count, stream_of}
 use Rattle.sctp_rules.specs.Lifted.{as_written, wire_point}
 use Rattle.sctp_rules.specs.Rules.{covers, no_stream}
@@ -113,13 +113,9 @@ module _ (message : ℕ → Message) (mixed : Bool) (x : Epochs) (k : InEpochs m
         go false ih =
             cond-true (not (is_named d.streams (skipped_id y))) (y ∷ entries_in false d.streams xs) (entries_in false d.streams xs) (ap not here) ∙ ap (λ (ys : List SkippedStream). y ∷ ys) ih
 
-  -- how a point is taken: what it says of other streams at once, and nothing waits
-  pub record PassesBut (r : Reassembly) (n : ℕ) (xs : List SkippedStream) (tsn : ℕ) : Type 0 where
-    pub spared : ℕ → Bool
-    pub call : forward tsn xs r ≡ made (passed_but spared n xs r.streams) (came tsn r)
-
+  -- no entry of a point waits
   pub point_called : (r : Reassembly) → r.deferred ≡ Some d → (tsn t : ℕ) (xs : List SkippedStream) (f : ForwardPoint) → number_of r tsn + shift ≡ origin + t → t < 2 ^ 62 → f.upto ≡ suc t
-      → IsAmong f x.transfer.forward_points → StandForAll mixed r.streams xs (wire_point f).entries → PassesBut r (number_of r tsn) xs tsn
+      → IsAmong f x.transfer.forward_points → StandForAll mixed r.streams xs (wire_point f).entries → forward tsn xs r ≡ made (passed_but no_stream (number_of r tsn) xs r.streams) (came tsn r)
   point_called r deferred tsn t xs f at small last sent stand = go (nat_lt d.last (number_of r tsn)) refl
     where
       n : ℕ
@@ -129,22 +125,19 @@ module _ (message : ℕ → Message) (mixed : Bool) (x : Epochs) (k : InEpochs m
       high a b s u e g l = grind (arith, nat_tests)
 
       part : Reassembly
-      part = forward_in false d.streams n xs (came tsn r)
+      part = forward_now n (entries_in false d.streams xs) (came tsn r)
 
-      go : (b : Bool) → nat_lt d.last (number_of r tsn) ≡ b → PassesBut r (number_of r tsn) xs tsn
-      go false e = record { spared = no_stream; call = called_at_once r tsn t shift xs at small (ap (point_waits (number_of r tsn)) deferred ∙ e) }
+      go : (b : Bool) → nat_lt d.last (number_of r tsn) ≡ b → forward tsn xs r ≡ made (passed_but no_stream (number_of r tsn) xs r.streams) (came tsn r)
+      go false e = called_at_once r tsn t shift xs at small (ap (point_waits (number_of r tsn)) deferred ∙ e)
       go true e =
           let over = high d.last (number_of r tsn) shift is.upto is.last at e in
           let above : is.upto < f.upto = omega (arith, over, last) in
           let here = parts f sent r.streams above true xs f.entries (λ g a. a) stand in
           let others = parts f sent r.streams above false xs f.entries (λ g a. a) stand in
-          record {
-            spared = is_named d.streams;
-            call = cond-false (is_far (number_of r tsn)) r (forward_or_wait (number_of r tsn) xs (came tsn r)) (not_far r tsn t shift xs at small)
-                ∙ (ap (λ (o : Option Deferred). cond (point_waits (number_of r tsn) o) (wait_with (number_of r tsn) (entries_in true (resetting o) xs) (forward_in false (resetting o) (number_of r tsn) xs (came tsn r)))
-                (forward_now (number_of r tsn) xs (came tsn r))) deferred
-                ∙ (cond-true (nat_lt d.last (number_of r tsn)) (wait_with (number_of r tsn) (entries_in true d.streams xs) part) (forward_now (number_of r tsn) xs (came tsn r)) e
-                ∙ (ap (λ (ys : List SkippedStream). wait_with (number_of r tsn) ys part) here
-                ∙ (cond-true (length (waiting_in r.deferred) == 0) part (waits (Forwarded (number_of r tsn) []) part) (ap (λ (o : Option Deferred). length (waiting_in o) == 0) deferred ∙ ap (λ ws. length ws == 0) is.idle)
-                ∙ ap (λ (ys : List SkippedStream). made (streams.skip_each (streams.by_stream ys) (streams.dropped_in false d.streams (number_of r tsn) r.streams)) (came tsn r)) others))));
-          }
+          cond-false (is_far (number_of r tsn)) r (forward_or_wait (number_of r tsn) xs (came tsn r)) (not_far r tsn t shift xs at small)
+          ∙ (ap (λ (o : Option Deferred). cond (point_waits (number_of r tsn) o) (wait_with (number_of r tsn) (entries_in true (resetting o) xs) (forward_now (number_of r tsn) (entries_in false (resetting o) xs) (came tsn r)))
+          (forward_now (number_of r tsn) xs (came tsn r))) deferred
+          ∙ (cond-true (nat_lt d.last (number_of r tsn)) (wait_with (number_of r tsn) (entries_in true d.streams xs) part) (forward_now (number_of r tsn) xs (came tsn r)) e
+          ∙ (ap (λ (ys : List SkippedStream). wait_with (number_of r tsn) ys part) here
+          ∙ (cond-true (length (waiting_in r.deferred) == 0) part (waits (Forwarded (number_of r tsn) []) part) (ap (λ (o : Option Deferred). length (waiting_in o) == 0) deferred ∙ ap (λ ws. length ws == 0) is.idle)
+          ∙ ap (λ (ys : List SkippedStream). forward_now (number_of r tsn) ys (came tsn r)) others))))

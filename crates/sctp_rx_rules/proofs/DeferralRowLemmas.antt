@@ -31,7 +31,7 @@ use Rattle.sctp_rx_rules.proofs.NearTsnLemmas.{not_acknowledged, counted_from, t
 use Rattle.sctp_rx_rules.proofs.NearNumberLemmas.{greatest}
 use Rattle.sctp_rx_rules.proofs.NearRowLemmas.{point_below}
 use Rattle.sctp_rx_rules.proofs.NearComesLemmas.{some_none, is_read, held_comes, late_comes_then, read, entries_read, called, point_comes}
-use Rattle.sctp_rx_rules.proofs.DeferralLemmas.{fragment_at_once, PassesBut, point_called}
+use Rattle.sctp_rx_rules.proofs.DeferralLemmas.{fragment_at_once, point_called}
 
 -- ---- the rules go on
 
@@ -196,31 +196,23 @@ module _ (message : ℕ → Message) (mixed : Bool) (first shift : ℕ) (x : Epo
     there : number_of r tsn + shift_after r.first shift at ≡ origin + at
     there = read message mixed (base_now x) first shift x.transfer kept windows handed t r shown near is_tracker at tsn f sent last moves are_now tsn_is apart
 
-    record Called : Type 0 where
-      spared : ℕ → Bool
-      call : forward tsn xs r ≡ made (passed_but spared (number_of r tsn) xs r.streams) (came tsn r)
-
-    is_called : Called
+    is_called : forward tsn xs r ≡ made (passed_but no_stream (number_of r tsn) xs r.streams) (came tsn r)
     is_called = go r.deferred refl waiting
       where
-        go : (o : Option Deferred) → r.deferred ≡ o → IsWaitingFor shift x r.first o → Called
-        go None e w = record {
-          spared = no_stream;
-          call = called message mixed (base_now x) first shift x.transfer kept windows handed t r shown near is_tracker at tsn f sent last moves are_now tsn_is apart e few xs;
-        }
+        go : (o : Option Deferred) → r.deferred ≡ o → IsWaitingFor shift x r.first o → forward tsn xs r ≡ made (passed_but no_stream (number_of r tsn) xs r.streams) (came tsn r)
+        go None e w = called message mixed (base_now x) first shift x.transfer kept windows handed t r shown near is_tracker at tsn f sent last moves are_now tsn_is apart e few xs
         go (Some d) e w =
             let here = there in
             let same = same_shift at w.told w.begun in
-            let p = point_called message mixed x k shift r.first d w r e tsn at xs f (omega (arith, here, same)) (point_below message mixed x.transfer kept few at f sent last) last sent stand in
-            record { spared = p.spared; call = p.call }
+            point_called message mixed x k shift r.first d w r e tsn at xs f (omega (arith, here, same)) (point_below message mixed x.transfer kept few at f sent last) last sent stand
 
-    pub point_while : (spared : ℕ → Bool) × ((ps : List ℕ) × Comes message mixed first (shift_after r.first shift at) x (forward_comes f spared ∷ map deliver ps) handed (tracker.forward (origin + at) t) (forward tsn xs r))
+    pub point_while : (ps : List ℕ) × Comes message mixed first (shift_after r.first shift at) x (forward_comes f no_stream ∷ map deliver ps) handed (tracker.forward (origin + at) t) (forward tsn xs r)
     point_while =
         let c = is_called in
-        let l = point_comes message mixed (base_now x) first shift x.transfer kept windows handed t r shown near is_tracker at tsn f sent last moves are_now tsn_is apart c.spared xs c.call few ordered are in
+        let l = point_comes message mixed (base_now x) first shift x.transfer kept windows handed t r shown near is_tracker at tsn f sent last moves are_now tsn_is apart no_stream xs c few ordered are in
         let begun : (w : ℕ) → r.first ≡ Some w → (shift_after r.first shift at ≡ shift) × ((forward tsn xs r).first ≡ Some w) =
-        λ w e. (same_shift at w e, ap (λ (z : Reassembly). z.first) c.call ∙ ap (λ (o : Option ℕ). Some (unwrap_or o tsn)) e) in
-        (c.spared, (l.0, comes (shift_after r.first shift at) (forward_comes f c.spared ∷ map deliver l.0) (tracker.forward (origin + at) t) (forward tsn xs r) (all_ready l.0) begun l.1))
+        λ w e. (same_shift at w e, ap (λ (z : Reassembly). z.first) c ∙ ap (λ (o : Option ℕ). Some (unwrap_or o tsn)) e) in
+        (l.0, comes (shift_after r.first shift at) (forward_comes f no_stream ∷ map deliver l.0) (tracker.forward (origin + at) t) (forward tsn xs r) (all_ready l.0) begun l.1)
 
   -- ---- a reset is deferred
 

@@ -10,7 +10,7 @@ use Rattle.sctp_chunk.specs.declared.forward_tsn.SkippedStream.TheVariants.{Forw
 use Rattle.sctp_rx.specs.Held.{Held}
 use Rattle.sctp_rx.specs.Settled.{AreSettled}
 use Rattle.sctp_rx.specs.Streams.{Streams, Outcome, is_far, by_stream, entries_in}
-use Rattle.sctp_rx.specs.ReassemblyQueue.{Reassembly, number_of, came, made, forward, forward_now, forward_or_wait, point_waits, forward_in, wait_with, resetting}
+use Rattle.sctp_rx.specs.ReassemblyQueue.{Reassembly, number_of, came, made, forward, forward_now, forward_or_wait, point_waits, wait_with, resetting}
 use Rattle.sctp_rx.specs.Tracker as tracker
 use Rattle.sctp_rx.specs.Tracker.{Tracker}
 use Rattle.sctp_tracker.proofs.SeenOneFormLemmas.{contains-up_to}
@@ -66,11 +66,11 @@ module _ (r : Reassembly) (tsn k shift : ℕ) (xs : List SkippedStream) (tsn_is 
       by : (a b : ℕ) → a + b ≡ origin + k → k < 2 ^ 62 → is_far a ≡ false
       by a b e l = grind (arith, nat_tests)
 
-  -- no part of it waits
+  -- no entry of it waits
   pub called_at_once : point_waits at r.deferred ≡ false → forward tsn xs r ≡ made (passed_but no_stream at xs r.streams) (came tsn r)
   called_at_once at_once =
       cond-false (is_far at) r (forward_or_wait at xs (came tsn r)) not_far
-      ∙ cond-false (point_waits at r.deferred) (wait_with at (entries_in true (resetting r.deferred) xs) (forward_in false (resetting r.deferred) at xs (came tsn r)))
+      ∙ cond-false (point_waits at r.deferred) (wait_with at (entries_in true (resetting r.deferred) xs) (forward_now at (entries_in false (resetting r.deferred) xs) (came tsn r)))
       (forward_now at xs (came tsn r)) at_once
 
 -- entries as they are written are apart where the entries are

@@ -15,7 +15,7 @@ use Rattle.sctp_rx.specs.Delivery.{fresh_ordered, fresh_unordered}
 use Rattle.sctp_rx.specs.Settled.{AreSettled}
 use Rattle.sctp_rx.specs.Streams as streams
 use Rattle.sctp_rx.specs.Streams.{Entries, Streams, stream_at, is_named, forgotten}
-use Rattle.sctp_rx.specs.ReassemblyQueue.{Reassembly, resetting, waiting_in, reset, apply_each}
+use Rattle.sctp_rx.specs.ReassemblyQueue.{Reassembly, waiting_in, reset, apply_each}
 use Rattle.sctp_rx.specs.Tracker.{Tracker}
 use Rattle.sctp_reassembly.proofs.SettledQueueLemmas.{settled_begins_anew}
 use Rattle.sctp_rules.specs.State.{Message, IsAmong, put, place_of, count, stream_of}
@@ -315,7 +315,7 @@ module _ (message : ℕ → Message) (mixed : Bool) (first shift : ℕ) (x : Epo
   plain = record r { streams = streams.reset (named_by (q ∷ rs)) r.streams; deferred = None }
 
   call_is : reset (named_by (q ∷ rs)) r ≡ plain
-  call_is = ap (λ ws. apply_each (resetting r.deferred) ws plain) idle
+  call_is = ap (λ ws. apply_each ws plain) idle
 
   done : Performed message mixed x (q ∷ rs) shown.queue
   done = performed message mixed (q ∷ rs) x shown.queue k shown.shows (none_ready message mixed (base_now x) shift x.transfer k.order.kept handed t r shown) next

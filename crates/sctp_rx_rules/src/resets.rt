@@ -12,7 +12,7 @@ ghost use Rattle.sctp_rx.specs.Tracker.{IsTracker, Tracker, moves_on, observe};
 ghost use Rattle.sctp_rules.specs.Based.{InEpochs};
 ghost use Rattle.sctp_rules.specs.Points.{AreApart};
 ghost use Rattle.sctp_rules.specs.Resets.{Epochs, Request};
-ghost use Rattle.sctp_rules.specs.Rules.{data_comes, deliver, forward_comes, late_comes};
+ghost use Rattle.sctp_rules.specs.Rules.{data_comes, deliver, forward_comes, late_comes, no_stream};
 ghost use Rattle.sctp_rules.specs.State.{ForwardPoint, IsAmong, Message, count};
 ghost use Rattle.sctp_rx_rules.specs.Near.{AreEntries, AreFew, AreNearNext, IsInWindow, IsNearNext, IsWritten, ReadsNear};
 ghost use Rattle.sctp_rx_rules.specs.Read.{Carries, is_behind, shift_after};
@@ -64,13 +64,13 @@ pub fn fragments_come_in_epochs()
         Comes message mixed first (shift_after r.first shift k) x (late_comes k ∷ []) handed (observe (origin + k) now t) (add tsn f r) }
 {}
 
-/// And so does a forward point that moves the tracker's front. Where it goes on above the last TSN of a reset that is deferred, it
-/// names nothing of the reset's streams, and what is held of them is spared.
+/// And so does a forward point that moves the tracker's front: where it goes on above the last TSN of a reset that is deferred, it
+/// names nothing of the reset's streams, so no entry of it waits.
 pub fn points_come_in_epochs()
     ensures goes { (message : ℕ → Message) (mixed : Bool) (first shift : ℕ) (x : Epochs) (handed : List messages.Message) (t : Tracker) (r : Reassembly) (k tsn : ℕ) (f : ForwardPoint) (entries : List SkippedStream) →
         InEpochs message mixed x → IsInWindow x.transfer → Receives message mixed (base_now x) shift x.transfer handed t r → ReadsNear message mixed (base_now x) first shift x.transfer r →
         IsWaitingFor shift x r.first r.deferred → IsTracker t → AreFew x.transfer.sender →
         IsAmong f x.transfer.forward_points → f.upto ≡ suc k → moves_on (origin + k) t ≡ true → tsn ≡ wire words first (origin + k) →
         AreApart f.entries → AreNearNext x.transfer f → AreEntries mixed entries f.entries →
-        (spared : ℕ → Bool) × ((ps : List ℕ) × Comes message mixed first (shift_after r.first shift k) x (forward_comes f spared ∷ map deliver ps) handed (tracker.forward (origin + k) t) (forward tsn entries r)) }
+        (ps : List ℕ) × Comes message mixed first (shift_after r.first shift k) x (forward_comes f no_stream ∷ map deliver ps) handed (tracker.forward (origin + k) t) (forward tsn entries r) }
 {}

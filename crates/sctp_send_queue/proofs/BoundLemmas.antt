@@ -15,7 +15,7 @@ use Rattle.sctp_state.specs.declared.api.handover.HandoverOutgoingStream.{Handov
 use Rattle.sctp_send_queue.specs.declared.send_queue.message.MessageNumbers.{MessageNumbers}
 use Rattle.sctp_send_queue.specs.declared.send_queue.stream.ResetStep.{ResetStep}
 use Rattle.sctp_send_queue.specs.declared.send_queue.stream.ResetStep.TheVariants.{Requested, Performed, Refused}
-use Rattle.sctp_send_queue.specs.Queue.{Queued, Stream, Entries, left, amount_of, total_of, blank_stream, pushed}
+use Rattle.sctp_send_queue.specs.Queue.{Queued, Stream, Entries, left, amount_of, total_of, blank_stream, pushed, has_nothing}
 use Rattle.sctp_send_queue.specs.Produced.{is_stale, fresh, moved_front, moved, ends, settled}
 use Rattle.sctp_send_queue.specs.Settings.{without_front}
 use Rattle.sctp_send_queue.specs.Resets.{is_partly, after_step}
@@ -232,6 +232,20 @@ all_between (s ∷ rest) h =
 -- there are no more messages than bytes
 pub count-at_most : (es : Entries) → AreFew es → count_of es ≤ total_of es
 count-at_most es h = (all_between (values_of es) h.small).0
+
+-- no bytes are left where no message is, and nowhere else
+none_of : (bytes count others : ℕ) → count ≤ bytes → bytes ≤ 4294967295 * count → (bytes + others == 0) ≡ (count == 0) && (others == 0)
+none_of bytes count others least most = grind (arith, nat_tests)
+
+all_empty : (xs : List Stream) → list_all are_small xs ≡ true → (sum_by amount_of xs == 0) ≡ list_all has_nothing xs
+all_empty [] h = refl
+all_empty (s ∷ rest) h =
+    let hs = both (are_small s) (list_all are_small rest) h in
+    let own = stream_between s.messages hs.0 in
+    ap (λ n. n == 0) (sum_by-cons amount_of s rest) ∙ none_of (amount_of s) (length s.messages) (sum_by amount_of rest) own.0 own.1 ∙ ap (λ b. has_nothing s && b) (all_empty rest hs.1)
+
+pub total-nothing : (es : Entries) → AreFew es → (total_of es == 0) ≡ list_all has_nothing (values_of es)
+total-nothing es h = all_empty (values_of es) h.small
 
 -- the bytes fit
 pub total-fits : (es : Entries) → AreFew es → total_of es < 2 ^ 64

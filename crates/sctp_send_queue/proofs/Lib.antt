@@ -4,6 +4,7 @@ pub mod BoundLemmas
 pub mod InOrderLemmas
 pub mod NumberLemmas
 pub mod ProduceLemmas
+pub mod ReadyLemmas
 pub mod ResetLemmas
 pub mod RestLemmas
 pub mod RestartLemmas

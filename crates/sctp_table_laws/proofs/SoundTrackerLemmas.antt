@@ -14,7 +14,7 @@ use Rattle.sctp_rx.specs.Seen.{Run, AreRuns, contains, with_number, settle}
 use Rattle.sctp_rx.specs.Tracker.{Tracker, DataTracker, tracker, update_rto, take_ack, packet_end, ack_timeout, insert_number, with_duplicate, has_seen, observe, forward}
 use Rattle.sctp_rx.specs.TrackerHandover.{restore}
 use Rattle.sctp_rx.specs.Sack.{block, is_near, blocks_of, tsns, sack, reported}
-use Rattle.sctp_rx.specs.ReassemblyQueue.{Reassembly, Waiting, Added, Forwarded, watermark, queued_bytes, number_of, came, fragment_waits, point_waits, waits, add_now, forward_now, add_or_wait, forward_or_wait, apply, apply_each, waiting_in, forward_in, wait_with, resetting}
+use Rattle.sctp_rx.specs.ReassemblyQueue.{Reassembly, Waiting, Added, Forwarded, watermark, queued_bytes, number_of, came, fragment_waits, point_waits, waits, add_now, forward_now, add_or_wait, forward_or_wait, apply, apply_each, waiting_in, wait_with, resetting}
 use Rattle.sctp_rx.specs.Streams.{is_far, entries_in}
 use Rattle.sctp_rx.specs.ReassemblyQueue as reassembly
 use Rattle.sctp_tracker.proofs.SeenOneFormLemmas.{IsInRuns-add, IsInRuns-up_to}
@@ -178,18 +178,18 @@ size_forwarded tsn es r =
     let n : ℕ = number_of r tsn in
     let ids : List StreamId = resetting r.deferred in
     let named : List SkippedStream = entries_in true ids es in
-    let part : Reassembly = forward_in false ids n es (came tsn r) in
+    let part : Reassembly = forward_now n (entries_in false ids es) (came tsn r) in
     same_if (is_far n) r (forward_or_wait n es (came tsn r)) r.max_size refl
     (same_if (point_waits n r.deferred) (wait_with n named part) (forward_now n es (came tsn r)) r.max_size
     (same_if ((length named == 0) && (length (waiting_in r.deferred) == 0)) part (waits (Forwarded n named) part) r.max_size refl refl) refl)
 
-size_applied : (ids : List StreamId) (w : Waiting) (r : Reassembly) → (apply ids w r).max_size ≡ r.max_size
-size_applied ids (Added n f) r = refl
-size_applied ids (Forwarded n es) r = refl
+size_applied : (w : Waiting) (r : Reassembly) → (apply w r).max_size ≡ r.max_size
+size_applied (Added n f) r = refl
+size_applied (Forwarded n es) r = refl
 
-size_each : (ids : List StreamId) (ws : List Waiting) (r : Reassembly) → (apply_each ids ws r).max_size ≡ r.max_size
-size_each ids [] r = refl
-size_each ids (w ∷ ws) r = size_each ids ws (apply ids w r) ∙ size_applied ids w r
+size_each : (ws : List Waiting) (r : Reassembly) → (apply_each ws r).max_size ≡ r.max_size
+size_each [] r = refl
+size_each (w ∷ ws) r = size_each ws (apply w r) ∙ size_applied w r
 
 pub size_reset : (ids : List StreamId) (r : Reassembly) → (reassembly.reset ids r).max_size ≡ r.max_size
-size_reset ids r = size_each (resetting r.deferred) (waiting_in r.deferred) _
+size_reset ids r = size_each (waiting_in r.deferred) _

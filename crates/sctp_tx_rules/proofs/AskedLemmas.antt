@@ -20,9 +20,9 @@ use Rattle.sctp_tx.specs.Retransmission.{Sender}
 use Rattle.sctp_tx.specs.Resent.{may_send_new, resent}
 use Rattle.sctp_tx.specs.Sending as packets
 use Rattle.sctp_tx.specs.Sending.{Filling, offered, appended, turned_if, fill, discard_all, without_discards, filled_with, send}
+use Rattle.sctp_tx_rules.specs.Line.{are_ascending}
 use Rattle.sctp_tx_rules.specs.Records.{are_distinct}
 use Rattle.sctp_tx_rules.specs.Pauses.{AreEach}
-use Rattle.sctp_tx_rules.specs.Following.{are_keyed}
 use Rattle.sctp_tx_rules.specs.Asked.{AreSameAsked, CallsKeepAsked, AreRequested}
 use Rattle.sctp_tx_rules.proofs.ProduceLemmas.{is_other}
 use Rattle.sctp_tx_rules.proofs.AcceptLemmas.{written, unwritten}
@@ -286,7 +286,7 @@ each_asked q (id ∷ ids) d h =
       each_asked q ids a.1 (λ k t. h k (or_right (k == id) (has k ids) t)),
     )
 
-pub requested_asked : (q : Queue) (most : ℕ) → are_keyed 0 q.streams.entries ≡ true → AreRequested q (request_resets most q) (requested most q)
+pub requested_asked : (q : Queue) (most : ℕ) → are_ascending 0 q.streams.entries ≡ true → AreRequested q (request_resets most q) (requested most q)
 requested_asked q most h =
     let ids = requested most q in
     let e = requested_ready q most h in

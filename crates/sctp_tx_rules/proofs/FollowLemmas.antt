@@ -22,8 +22,8 @@ use Rattle.sctp_rules.proofs.ToolsLemmas.{put_at, put_off, not_both}
 use Rattle.sctp_tx_rules.specs.Shown.{Shows}
 use Rattle.sctp_tx_rules.specs.Rows.{offered, restarted}
 use Rattle.sctp_tx_rules.specs.Pauses.{unsent_of, give_ups, opens_next, prepare_events, ArePausedAs, AreEach}
-use Rattle.sctp_tx_rules.specs.Line.{IsInLine}
-use Rattle.sctp_tx_rules.specs.Following.{are_keyed, FollowsEpochs, NoneIsReset, BeginningFollows, PreparesFollow, RequestsFollow, AnswerFollows, IsOthers}
+use Rattle.sctp_tx_rules.specs.Line.{are_ascending, IsInLine}
+use Rattle.sctp_tx_rules.specs.Following.{FollowsEpochs, NoneIsReset, BeginningFollows, PreparesFollow, RequestsFollow, AnswerFollows, IsOthers}
 use Rattle.sctp_tx_rules.proofs.ProduceLemmas.{stream_changed, is_other}
 use Rattle.sctp_tx_rules.proofs.StartLemmas.{unsent}
 use Rattle.sctp_tx_rules.proofs.ResetLemmas.{requests_row}
@@ -64,7 +64,7 @@ others_follow x y q s same h =
 -- ---- before anything is sent
 
 module _ (x : Epochs) (none : NoneIsReset x) where
-  no_breaks : (q : Queue) (s : Items) → ArePausedAs x q → IsInLine q → are_keyed 0 q.streams.entries ≡ true → FollowsEpochs x q s
+  no_breaks : (q : Queue) (s : Items) → ArePausedAs x q → IsInLine q → are_ascending 0 q.streams.entries ≡ true → FollowsEpochs x q s
   no_breaks q s paused line keyed = record { paused = paused; line = line; keyed = keyed; breaks = λ r a. absurd (subst (IsAmong r) none.requests a) }
 
   pub all_flow : (q : Queue) → ArePausedAs x q → (k : ℕ) → (stream k q.streams).pause ≡ NotPaused

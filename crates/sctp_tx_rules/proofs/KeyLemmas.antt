@@ -1,11 +1,10 @@
 -- Each stream stands once in the queue, ascending by id; so the streams that go into a request are ready, and are each of them once.
-use Rattle.std.proofs.Common.{◌≡◌, ◌≢◌, ℕ, zero, suc, ◌+◌, ◌≤◌, Bool, true, false, cond, inl, inr, Option, Some, List, [], ◌∷◌, take, refl, sym, ap, ◌∙◌, subst, arith, Less, Equal, Greater}
+use Rattle.std.proofs.Common.{◌≡◌, ◌≢◌, ℕ, zero, suc, ◌+◌, ◌≤◌, Bool, true, false, cond, inl, inr, Option, Some, List, [], ◌∷◌, take, refl, sym, ap, ◌∙◌, subst, arith}
 use Rattle.std.specs.Prelude.{nat_le, ◌&&◌, is_some, unwrap_or}
 use Rattle.std.specs.Map.{lookup, set_value, keys_of}
-use Rattle.std.specs.Ordering.{nat_cmp, match_ordering}
-use Rattle.std.specs.declared.cmp.Ordering.{Ordering}
+use Rattle.std.specs.Ordering.{nat_cmp}
 use Rattle.std.specs.BTreeMap.{is_at, insert_entry}
-use Rattle.std.proofs.lemmas.Bool.{and_parts, and_from, cond-true, cond-false, le-leb, leb-true}
+use Rattle.std.proofs.lemmas.Bool.{and_parts, cond-true, cond-false, leb-true}
 use Rattle.std.proofs.lemmas.Bool.Decides.{nat_tests}
 use Rattle.sctp_state.specs.Events.{Told}
 use Rattle.sctp_send_queue.specs.declared.send_queue.stream.PauseState.{PauseState}
@@ -19,53 +18,28 @@ use Rattle.sctp_send_queue.specs.Resets.{is_paused, is_ready, ready, requested, 
 use Rattle.sctp_send_queue.specs.Restarted.{restarted, restarted_one, each_restarted, reset}
 use Rattle.sctp_send_queue.proofs.InOrderLemmas.{discard_streams}
 use Rattle.sctp_rules.specs.State.{IsAmong}
+use Rattle.sctp_tx_rules.specs.Line.{are_ascending}
 use Rattle.sctp_tx_rules.specs.Pauses.{AreEach}
-use Rattle.sctp_tx_rules.specs.Following.{are_keyed}
-use Rattle.sctp_tx_rules.proofs.LineLemmas.{other_id, less, greater}
+use Rattle.sctp_tx_rules.proofs.LineLemmas.{other_id, inserted_ascending}
 
 -- ---- entries
 
 -- another value in its place
-set_keyed : (id least : ℕ) (s : Stream) (es : Entries) → are_keyed least (set_value (is_at (nat_cmp id)) es s) ≡ are_keyed least es
+set_keyed : (id least : ℕ) (s : Stream) (es : Entries) → are_ascending least (set_value (is_at (nat_cmp id)) es s) ≡ are_ascending least es
 set_keyed id least s [] = refl
 set_keyed id least s (e ∷ es) = go (is_at (nat_cmp id) e.0) (set_keyed id (e.0 + 1) s es)
   where
-    go : (b : Bool) → are_keyed (e.0 + 1) (set_value (is_at (nat_cmp id)) es s) ≡ are_keyed (e.0 + 1) es
-        → are_keyed least (cond b ((e.0, s) ∷ es) (e ∷ set_value (is_at (nat_cmp id)) es s)) ≡ are_keyed least (e ∷ es)
+    go : (b : Bool) → are_ascending (e.0 + 1) (set_value (is_at (nat_cmp id)) es s) ≡ are_ascending (e.0 + 1) es
+        → are_ascending least (cond b ((e.0, s) ∷ es) (e ∷ set_value (is_at (nat_cmp id)) es s)) ≡ are_ascending least (e ∷ es)
     go true h = refl
     go false h = ap (λ c. nat_le least e.0 && c) h
 
--- one more
-inserted_keyed : (id : ℕ) (s : Stream) (least : ℕ) (es : Entries) → least ≤ id → are_keyed least es ≡ true → are_keyed least (insert_entry nat_cmp es id s) ≡ true
-inserted_keyed id s least [] l h = and_from (nat_le least id) true (le-leb least id l) refl
-inserted_keyed id s least (e ∷ es) l h = go (nat_cmp id e.0) refl (λ m. inserted_keyed id s (e.0 + 1) es m (and_parts (nat_le least e.0) (are_keyed (e.0 + 1) es) h).1)
-  where
-    a : (nat_le least e.0 ≡ true) × (are_keyed (e.0 + 1) es ≡ true)
-    a = and_parts (nat_le least e.0) (are_keyed (e.0 + 1) es) h
-
-    put : Ordering → Entries
-    put o = match_ordering o ((id, s) ∷ e ∷ es) ((e.0, s) ∷ es) (e ∷ insert_entry nat_cmp es id s)
-
-    to : (o : Ordering) → nat_cmp id e.0 ≡ o → are_keyed least (put o) ≡ true → are_keyed least (insert_entry nat_cmp (e ∷ es) id s) ≡ true
-    to o c u = ap (λ z. are_keyed least (put z)) c ∙ u
-
-    go : (o : Ordering) → nat_cmp id e.0 ≡ o → (e.0 + 1 ≤ id → are_keyed (e.0 + 1) (insert_entry nat_cmp es id s) ≡ true) → are_keyed least (insert_entry nat_cmp (e ∷ es) id s) ≡ true
-    go Less c ih =
-        let b = less id e.0 c in
-        to Less c
-        (and_from (nat_le least id) (are_keyed (id + 1) (e ∷ es)) (le-leb least id l)
-        (and_from (nat_le (id + 1) e.0) (are_keyed (e.0 + 1) es) (le-leb (id + 1) e.0 (omega (arith, b))) a.1))
-    go Equal c ih = to Equal c (and_from (nat_le least e.0) (are_keyed (e.0 + 1) es) a.0 a.1)
-    go Greater c ih =
-        let b = greater id e.0 c in
-        to Greater c (and_from (nat_le least e.0) (are_keyed (e.0 + 1) (insert_entry nat_cmp es id s)) a.0 (ih (omega (arith, b))))
-
 -- ---- the calls
 
-pub put_keyed : (id : ℕ) (s : Stream) (ss : Streams) → are_keyed 0 ss.entries ≡ true → are_keyed 0 (queue.put id s ss).entries ≡ true
+pub put_keyed : (id : ℕ) (s : Stream) (ss : Streams) → are_ascending 0 ss.entries ≡ true → are_ascending 0 (queue.put id s ss).entries ≡ true
 put_keyed id s ss h = set_keyed id 0 s ss.entries ∙ h
 
-opened_keyed : (id : ℕ) (ss : Streams) → are_keyed 0 ss.entries ≡ true → are_keyed 0 (opened id ss).entries ≡ true
+opened_keyed : (id : ℕ) (ss : Streams) → are_ascending 0 ss.entries ≡ true → are_ascending 0 (opened id ss).entries ≡ true
 opened_keyed id ss h = go (is_some (lookup (is_at (nat_cmp id)) ss.entries))
   where
     opened_if : Bool → Streams
@@ -73,32 +47,32 @@ opened_keyed id ss h = go (is_some (lookup (is_at (nat_cmp id)) ss.entries))
         let r : Streams = record ss { entries = insert_entry nat_cmp ss.entries id (blank ss) } in
         cond b ss r
 
-    go : (b : Bool) → are_keyed 0 (opened_if b).entries ≡ true
+    go : (b : Bool) → are_ascending 0 (opened_if b).entries ≡ true
     go true = h
-    go false = inserted_keyed id (blank ss) 0 ss.entries (omega arith) h
+    go false = inserted_ascending id (blank ss) 0 ss.entries (omega arith) h
 
 -- of a stream that is opened where it isn't there
-pub written_keyed : (id : ℕ) (s : Stream) (ss : Streams) → are_keyed 0 ss.entries ≡ true → are_keyed 0 (queue.put id s (opened id ss)).entries ≡ true
+pub written_keyed : (id : ℕ) (s : Stream) (ss : Streams) → are_ascending 0 ss.entries ≡ true → are_ascending 0 (queue.put id s (opened id ss)).entries ≡ true
 written_keyed id s ss h = put_keyed id s (opened id ss) (opened_keyed id ss h)
 
-pub steps_keyed : (step : ResetStep) (ids : List ℕ) (q : Queue) → are_keyed 0 q.streams.entries ≡ true → are_keyed 0 (each_stepped step ids q).streams.entries ≡ true
+pub steps_keyed : (step : ResetStep) (ids : List ℕ) (q : Queue) → are_ascending 0 q.streams.entries ≡ true → are_ascending 0 (each_stepped step ids q).streams.entries ≡ true
 steps_keyed step [] q h = h
 steps_keyed step (id ∷ ids) q h = steps_keyed step ids (stepped step id q) (put_keyed id (after_step step (stream id q.streams)) q.streams h)
 
-each_restart_keyed : (ids : List ℕ) (q : Queue) → are_keyed 0 q.streams.entries ≡ true → are_keyed 0 (each_restarted ids q).streams.entries ≡ true
+each_restart_keyed : (ids : List ℕ) (q : Queue) → are_ascending 0 q.streams.entries ≡ true → are_ascending 0 (each_restarted ids q).streams.entries ≡ true
 each_restart_keyed [] q h = h
 each_restart_keyed (id ∷ ids) q h = each_restart_keyed ids (restarted_one id q) (put_keyed id (restarted (stream id q.streams)) q.streams h)
 
-pub reset_keyed : (q : Queue) → are_keyed 0 q.streams.entries ≡ true → are_keyed 0 (reset q).streams.entries ≡ true
+pub reset_keyed : (q : Queue) → are_ascending 0 q.streams.entries ≡ true → are_ascending 0 (reset q).streams.entries ≡ true
 reset_keyed q h = each_restart_keyed (keys_of q.streams.entries) q h
 
-pub discard_keyed : {P : Type 0} (id number : ℕ) (q : Queue) (told : Told P) → are_keyed 0 q.streams.entries ≡ true → are_keyed 0 (discard id number q told).queue.streams.entries ≡ true
+pub discard_keyed : {P : Type 0} (id number : ℕ) (q : Queue) (told : Told P) → are_ascending 0 q.streams.entries ≡ true → are_ascending 0 (discard id number q told).queue.streams.entries ≡ true
 discard_keyed id number q told h =
     let s : Stream = stream id q.streams in
-    ap (λ (ss : Streams). are_keyed 0 ss.entries) (discard_streams id (streams_discarded id number q.streams) (front_discarded number s.messages) q told)
+    ap (λ (ss : Streams). are_ascending 0 ss.entries) (discard_streams id (streams_discarded id number q.streams) (front_discarded number s.messages) q told)
     ∙ put_keyed id (without_front number s.messages s) q.streams h
 
-pub turn_keyed : {P : Type 0} (now id size : ℕ) (q : Queue) (told : Told P) → are_keyed 0 q.streams.entries ≡ true → are_keyed 0 (turn now id size q told).queue.streams.entries ≡ true
+pub turn_keyed : {P : Type 0} (now id size : ℕ) (q : Queue) (told : Told P) → are_ascending 0 q.streams.entries ≡ true → are_ascending 0 (turn now id size q told).queue.streams.entries ≡ true
 turn_keyed now id size q told h =
     let ss : Streams = streams_without_stale now id q.streams in
     put_keyed id (advanced size (stream id ss)) ss (put_keyed id (without_stale now (stream id q.streams)) q.streams h)
@@ -123,13 +97,13 @@ paused_is Pending e = absurd (cc)
 paused_is Paused e = refl
 paused_is Resetting e = absurd (cc)
 
-is_ready_in : (least : ℕ) (es : Entries) → are_keyed least es ≡ true → (id : ℕ) → IsAmong id (ready es) → IsReady id least es
+is_ready_in : (least : ℕ) (es : Entries) → are_ascending least es ≡ true → (id : ℕ) → IsAmong id (ready es) → IsReady id least es
 is_ready_in least [] h id a = absurd a
 is_ready_in least (e ∷ es) h id a =
-    go (is_ready e.1) refl a (λ m. is_ready_in (e.0 + 1) es (and_parts (nat_le least e.0) (are_keyed (e.0 + 1) es) h).1 id m)
+    go (is_ready e.1) refl a (λ m. is_ready_in (e.0 + 1) es (and_parts (nat_le least e.0) (are_ascending (e.0 + 1) es) h).1 id m)
   where
     low : least ≤ e.0
-    low = leb-true least e.0 (and_parts (nat_le least e.0) (are_keyed (e.0 + 1) es) h).0
+    low = leb-true least e.0 (and_parts (nat_le least e.0) (are_ascending (e.0 + 1) es) h).0
 
     later : IsReady id (e.0 + 1) es → IsReady id least (e ∷ es)
     later r =
@@ -161,13 +135,13 @@ abbrev AreOnce : List ℕ → Type 0
 AreOnce [] = Unit {0}
 AreOnce (id ∷ ids) = ((j : ℕ) → IsAmong j ids → id ≢ j) × AreOnce ids
 
-ready_once : (least : ℕ) (es : Entries) → are_keyed least es ≡ true → AreOnce (ready es)
+ready_once : (least : ℕ) (es : Entries) → are_ascending least es ≡ true → AreOnce (ready es)
 ready_once least [] h = tt
 ready_once least (e ∷ es) h =
-    let k = (and_parts (nat_le least e.0) (are_keyed (e.0 + 1) es) h).1 in
+    let k = (and_parts (nat_le least e.0) (are_ascending (e.0 + 1) es) h).1 in
     go (is_ready e.1) k (ready_once (e.0 + 1) es k)
   where
-    go : (b : Bool) → are_keyed (e.0 + 1) es ≡ true → AreOnce (ready es) → AreOnce (cond b (e.0 ∷ ready es) (ready es))
+    go : (b : Bool) → are_ascending (e.0 + 1) es ≡ true → AreOnce (ready es) → AreOnce (cond b (e.0 ∷ ready es) (ready es))
     go true k ih = ((λ j a c. let above = (is_ready_in (e.0 + 1) es k j a).above in omega (arith, c, above)), ih)
     go false k ih = ih
 
@@ -186,7 +160,7 @@ each_is : (p : PauseState) (q : Queue) (ids : List ℕ) → AreOnce ids → ((id
 each_is p q [] once h = tt
 each_is p q (id ∷ ids) once h = (h id (inl refl), once.0, each_is p q ids once.1 (λ j a. h j (inr a)))
 
-pub requested_ready : (q : Queue) (most : ℕ) → are_keyed 0 q.streams.entries ≡ true → AreEach Paused q (requested most q)
+pub requested_ready : (q : Queue) (most : ℕ) → are_ascending 0 q.streams.entries ≡ true → AreEach Paused q (requested most q)
 requested_ready q most h = each_is Paused q (requested most q) (taken_once most (ready q.streams.entries) (ready_once 0 q.streams.entries h)) paused
   where
     paused : (id : ℕ) → IsAmong id (requested most q) → (stream id q.streams).pause ≡ Paused

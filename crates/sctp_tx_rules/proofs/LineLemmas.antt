@@ -1,5 +1,5 @@
 -- The line of streams: each call leaves none in it that is stopped.
-use Rattle.std.proofs.Common.{◌≡◌, ◌≢◌, ℕ, ◌+◌, ◌<◌, ◌≤◌, Bool, true, false, cond, inl, inr, ◌⊎◌, Option, Some, None, [], ◌∷◌, refl, sym, ap, ◌∙◌, subst, arith, Less, Equal, Greater}
+use Rattle.std.proofs.Common.{◌≡◌, ◌≢◌, ℕ, ◌+◌, ◌<◌, ◌≤◌, Bool, true, false, cond, inl, inr, ◌⊎◌, Option, Some, None, List, [], ◌∷◌, refl, sym, ap, ◌∙◌, subst, arith, Less, Equal, Greater}
 use Rattle.std.specs.Prelude.{◌==◌, nat_le, nat_lt, is_some, option_map}
 use Rattle.std.specs.Map.{remove_entry}
 use Rattle.std.specs.Ordering.{nat_cmp, match_ordering}
@@ -65,11 +65,6 @@ leaves id least (e ∷ es) h =
           others = λ k d. ap (finish_time k) l ∙ ap (λ o. cond (is_at (nat_cmp k) e.0) (Some e.1) o) (z.others k d);
         }
 
--- one that enters
-record Enters (id finish least : ℕ) (es : Times) : Type 0 where
-  ascending : are_ascending least (insert_entry nat_cmp es id finish) ≡ true
-  others : (k : ℕ) → k ≢ id → finish_time k (insert_entry nat_cmp es id finish) ≡ finish_time k es
-
 pub less : (a b : ℕ) → nat_cmp a b ≡ Less → a < b
 less a b q = grind (arith, nat_tests)
 
@@ -79,39 +74,53 @@ greater a b q = grind (arith, nat_tests)
 pub equal : (a b : ℕ) → nat_cmp a b ≡ Equal → b ≡ a
 equal a b q = grind (arith, nat_tests)
 
-enters : (id finish least : ℕ) (es : Times) → least ≤ id → are_ascending least es ≡ true → Enters id finish least es
-enters id finish least [] l h = record {
-  ascending = and_from (nat_le least id) true (le-leb least id l) refl;
-  others = λ k d. cond-false (is_at (nat_cmp k) id) (Some finish) None (other_id k id d);
-}
-enters id finish least (e ∷ es) l h = go (nat_cmp id e.0) refl (λ m. enters id finish (e.0 + 1) es m (and_parts (nat_le least e.0) (are_ascending (e.0 + 1) es) h).1)
+-- one that enters
+pub inserted_ascending : {V : Type 0} (id : ℕ) (v : V) (least : ℕ) (es : List (ℕ × V)) → least ≤ id → are_ascending least es ≡ true
+    → are_ascending least (insert_entry nat_cmp es id v) ≡ true
+inserted_ascending id v least [] l h = and_from (nat_le least id) true (le-leb least id l) refl
+inserted_ascending {V} id v least (e ∷ es) l h =
+    go (nat_cmp id e.0) refl (λ m. inserted_ascending id v (e.0 + 1) es m (and_parts (nat_le least e.0) (are_ascending (e.0 + 1) es) h).1)
   where
     a : (nat_le least e.0 ≡ true) × (are_ascending (e.0 + 1) es ≡ true)
     a = and_parts (nat_le least e.0) (are_ascending (e.0 + 1) es) h
 
+    put : Ordering → List (ℕ × V)
+    put o = match_ordering o ((id, v) ∷ e ∷ es) ((e.0, v) ∷ es) (e ∷ insert_entry nat_cmp es id v)
+
+    to : (o : Ordering) → nat_cmp id e.0 ≡ o → are_ascending least (put o) ≡ true → are_ascending least (insert_entry nat_cmp (e ∷ es) id v) ≡ true
+    to o c u = ap (λ z. are_ascending least (put z)) c ∙ u
+
+    go : (o : Ordering) → nat_cmp id e.0 ≡ o → (e.0 + 1 ≤ id → are_ascending (e.0 + 1) (insert_entry nat_cmp es id v) ≡ true)
+        → are_ascending least (insert_entry nat_cmp (e ∷ es) id v) ≡ true
+    go Less c ih =
+        let b = less id e.0 c in
+        to Less c
+        (and_from (nat_le least id) (are_ascending (id + 1) (e ∷ es)) (le-leb least id l)
+        (and_from (nat_le (id + 1) e.0) (are_ascending (e.0 + 1) es) (le-leb (id + 1) e.0 (omega (arith, b))) a.1))
+    go Equal c ih = to Equal c (and_from (nat_le least e.0) (are_ascending (e.0 + 1) es) a.0 a.1)
+    go Greater c ih =
+        let b = greater id e.0 c in
+        to Greater c (and_from (nat_le least e.0) (are_ascending (e.0 + 1) (insert_entry nat_cmp es id v)) a.0 (ih (omega (arith, b))))
+
+entered_others : (id finish : ℕ) (es : Times) (k : ℕ) → k ≢ id → finish_time k (insert_entry nat_cmp es id finish) ≡ finish_time k es
+entered_others id finish [] k d = cond-false (is_at (nat_cmp k) id) (Some finish) None (other_id k id d)
+entered_others id finish (e ∷ es) k d = go (nat_cmp id e.0) refl (entered_others id finish es k d)
+  where
     put : Ordering → Times
     put o = match_ordering o ((id, finish) ∷ e ∷ es) ((e.0, finish) ∷ es) (e ∷ insert_entry nat_cmp es id finish)
 
-    to : (o : Ordering) → nat_cmp id e.0 ≡ o → are_ascending least (put o) ≡ true → ((k : ℕ) → k ≢ id → finish_time k (put o) ≡ finish_time k (e ∷ es)) → Enters id finish least (e ∷ es)
-    to o q u v = record { ascending = ap (λ c. are_ascending least (put c)) q ∙ u; others = λ k d. ap (λ c. finish_time k (put c)) q ∙ v k d }
+    to : (o : Ordering) → nat_cmp id e.0 ≡ o → finish_time k (put o) ≡ finish_time k (e ∷ es)
+        → finish_time k (insert_entry nat_cmp (e ∷ es) id finish) ≡ finish_time k (e ∷ es)
+    to o c v = ap (λ z. finish_time k (put z)) c ∙ v
 
-    go : (o : Ordering) → nat_cmp id e.0 ≡ o → (e.0 + 1 ≤ id → Enters id finish (e.0 + 1) es) → Enters id finish least (e ∷ es)
-    go Less q ih =
-        let b = less id e.0 q in
-        to Less q
-        (and_from (nat_le least id) (are_ascending (id + 1) (e ∷ es)) (le-leb least id l)
-        (and_from (nat_le (id + 1) e.0) (are_ascending (e.0 + 1) es) (le-leb (id + 1) e.0 (omega (arith, b))) a.1))
-        (λ k d. cond-false (is_at (nat_cmp k) id) (Some finish) (finish_time k (e ∷ es)) (other_id k id d))
-    go Equal q ih =
-        let b = equal id e.0 q in
-        to Equal q (and_from (nat_le least e.0) (are_ascending (e.0 + 1) es) a.0 a.1)
-        (λ k d. let n = other_id k e.0 (λ c. d (c ∙ b)) in
-        cond-false (is_at (nat_cmp k) e.0) (Some finish) (finish_time k es) n ∙ sym (cond-false (is_at (nat_cmp k) e.0) (Some e.1) (finish_time k es) n))
-    go Greater q ih =
-        let b = greater id e.0 q in
-        let z = ih (omega (arith, b)) in
-        to Greater q (and_from (nat_le least e.0) (are_ascending (e.0 + 1) (insert_entry nat_cmp es id finish)) a.0 z.ascending)
-        (λ k d. ap (λ o. cond (is_at (nat_cmp k) e.0) (Some e.1) o) (z.others k d))
+    go : (o : Ordering) → nat_cmp id e.0 ≡ o → finish_time k (insert_entry nat_cmp es id finish) ≡ finish_time k es
+        → finish_time k (insert_entry nat_cmp (e ∷ es) id finish) ≡ finish_time k (e ∷ es)
+    go Less c ih = to Less c (cond-false (is_at (nat_cmp k) id) (Some finish) (finish_time k (e ∷ es)) (other_id k id d))
+    go Equal c ih =
+        let b = equal id e.0 c in
+        let n = other_id k e.0 (λ z. d (z ∙ b)) in
+        to Equal c (cond-false (is_at (nat_cmp k) e.0) (Some finish) (finish_time k es) n ∙ sym (cond-false (is_at (nat_cmp k) e.0) (Some e.1) (finish_time k es) n))
+    go Greater c ih = to Greater c (ap (λ o. cond (is_at (nat_cmp k) e.0) (Some e.1) o) ih)
 
 -- ---- the scheduler
 
@@ -141,10 +150,10 @@ heard id bytes priority sch h = go (bytes == 0) refl (is_active id sch) refl
           active = λ k t. elim (cases_eq k id) [ inl s ↦ inr (s, e) | inr d ↦ inl (d, t) ];
         }))
     go false e false f =
-        let z = enters id (finish_now bytes priority sch) 0 sch.times (omega arith) h in
+        let finish = finish_now bytes priority sch in
         subst (λ b. Heard id bytes sch (to b (is_active id sch))) (sym e) (subst (λ c. Heard id bytes sch (to false c)) (sym f) (record {
-          ascending = z.ascending;
-          active = λ k t. elim (cases_eq k id) [ inl s ↦ inr (s, e) | inr d ↦ inl (d, ap is_some (sym (z.others k d)) ∙ t) ];
+          ascending = inserted_ascending id finish 0 sch.times (omega arith) h;
+          active = λ k t. elim (cases_eq k id) [ inl s ↦ inr (s, e) | inr d ↦ inl (d, ap is_some (sym (entered_others id finish sch.times k d)) ∙ t) ];
         }))
 
 -- the stream sends

@@ -22,8 +22,8 @@ use Rattle.sctp_tx.specs.Sending as packets
 use Rattle.sctp_tx.specs.Sending.{Filling, offered, appended, turned_if, fill, discard_all, without_discards, filled_with, send}
 use Rattle.sctp_tx_rules.specs.Shown.{found, messages_of, AreDiscards, QueueShows}
 use Rattle.sctp_tx_rules.specs.Pauses.{ArePausedAs}
-use Rattle.sctp_tx_rules.specs.Line.{IsInLine}
-use Rattle.sctp_tx_rules.specs.Following.{are_keyed, WaitsOn}
+use Rattle.sctp_tx_rules.specs.Line.{are_ascending, IsInLine}
+use Rattle.sctp_tx_rules.specs.Following.{WaitsOn}
 use Rattle.sctp_tx_rules.proofs.FoundLemmas.{one_value, found_at, found_off}
 use Rattle.sctp_tx_rules.proofs.DiscardLemmas as discards
 use Rattle.sctp_tx_rules.proofs.DiscardLemmas.{discard_queue, discard_named}
@@ -105,7 +105,7 @@ pub record Stands (x : Epochs) (q : Queue) : Type 0 where
   pub numbered : IsNumbered q
   pub line : IsInLine q
   pub paused : ArePausedAs x q
-  pub keyed : are_keyed 0 q.streams.entries ≡ true
+  pub keyed : are_ascending 0 q.streams.entries ≡ true
 
 pub record StandsOn (x : Epochs) (q r : Queue) : Type 0 where
   pub stands : Stands x r

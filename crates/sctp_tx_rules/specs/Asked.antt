@@ -10,10 +10,11 @@ use Rattle.sctp_tx.specs.Retransmission.{Sender}
 use Rattle.sctp_tx.specs.Sending.{send}
 use Rattle.sctp_rules.specs.State.{Message, IsAmong, has, count}
 use Rattle.sctp_rules.specs.Resets.{Request, Epochs, send_request, commit, go_all}
+use Rattle.sctp_tx_rules.specs.Line.{are_ascending}
 use Rattle.sctp_tx_rules.specs.Records.{are_distinct}
 use Rattle.sctp_tx_rules.specs.Rows.{restarted}
 use Rattle.sctp_tx_rules.specs.Pauses.{prepare_events, AreEach}
-use Rattle.sctp_tx_rules.specs.Following.{are_keyed, FollowsEpochs, NoneIsReset}
+use Rattle.sctp_tx_rules.specs.Following.{FollowsEpochs, NoneIsReset}
 
 -- the same streams wait for an answer
 pub record AreSameAsked (q r : Queue) : Type 0 where
@@ -38,7 +39,7 @@ pub record AreRequested (q r : Queue) (ids : List ℕ) : Type 0 where
   pub others : (k : ℕ) → (stream k r.streams).pause ≡ Resetting → (has k ids ≡ true) ⊎ ((stream k q.streams).pause ≡ Resetting)
 
 abbrev pub RequestedAreAsked : Type 0
-RequestedAreAsked = (q : Queue) (most : ℕ) → are_keyed 0 q.streams.entries ≡ true → AreRequested q (request_resets most q) (requested most q)
+RequestedAreAsked = (q : Queue) (most : ℕ) → are_ascending 0 q.streams.entries ≡ true → AreRequested q (request_resets most q) (requested most q)
 
 -- none of those that have the answer waits any more
 abbrev pub AnsweredAreOpen : Type 0

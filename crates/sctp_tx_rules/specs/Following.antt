@@ -1,12 +1,12 @@
 -- What a sender's values keep of the epochs, all together, and where each of its calls leads by the rules with epochs (RFC 6525 section
 -- 5.1.2).
-use Rattle.std.specs.Prelude.{◌≡◌, ℕ, ◌+◌, ◌≤◌, ◌&&◌, nat_le, Bool, true, false, Option, None, Some, List, [], ◌∷◌, ◌++◌, map, replicate}
+use Rattle.std.specs.Prelude.{◌≡◌, ℕ, ◌+◌, ◌≤◌, Bool, true, false, Option, None, Some, List, [], ◌++◌, map, replicate}
 use Rattle.sctp_serial.specs.Unwrapped.{origin}
 use Rattle.sctp_chunk.specs.declared.sack.GapAckBlock.{GapAckBlock}
 use Rattle.sctp_state.specs.Events.{Told}
 use Rattle.sctp_state.specs.Options.{Options}
 use Rattle.sctp_send_queue.specs.declared.send_queue.stream.PauseState.TheVariants.{NotPaused, Paused, Resetting}
-use Rattle.sctp_send_queue.specs.Queue.{Queued, Entries, Queue, queue, stream, added}
+use Rattle.sctp_send_queue.specs.Queue.{Queued, Queue, queue, stream, added}
 use Rattle.sctp_send_queue.specs.Settings.{set_priority, set_low_threshold, set_mode}
 use Rattle.sctp_send_queue.specs.Resets.{prepare_reset, requested, request_resets, commit_resets}
 use Rattle.sctp_send_queue.specs.Restarted.{reset}
@@ -25,18 +25,13 @@ use Rattle.sctp_tx_rules.specs.Shown.{found, messages_of, Shows}
 use Rattle.sctp_tx_rules.specs.Led.{LeadsTo}
 use Rattle.sctp_tx_rules.specs.Rows.{offered, restarted, waiting, Hears, Sends, InEachState}
 use Rattle.sctp_tx_rules.specs.Pauses.{unsent_of, give_ups, prepare_events, ArePausedAs, HasBreaks, AreEach}
-use Rattle.sctp_tx_rules.specs.Line.{IsInLine}
-
--- each id is at least `least`, and above the one before it
-abbrev pub are_keyed : ℕ → Entries → Bool
-are_keyed least [] = true
-are_keyed least (e ∷ es) = nat_le least e.0 && are_keyed (e.0 + 1) es
+use Rattle.sctp_tx_rules.specs.Line.{are_ascending, IsInLine}
 
 -- pauses agree with the epochs, no stream that is stopped is in line, each stream stands once, and each request has its breakpoint
 pub record FollowsEpochs (x : Epochs) (q : Queue) (s : Items) : Type 0 where
   pub paused : ArePausedAs x q
   pub line : IsInLine q
-  pub keyed : are_keyed 0 q.streams.entries ≡ true
+  pub keyed : are_ascending 0 q.streams.entries ≡ true
   pub breaks : HasBreaks x s
 
 -- of each state that the rules with epochs lead to, and values that show it and keep its epochs
@@ -120,7 +115,7 @@ NextIsCounted = InEachState (λ message lifecycle mixed x q s. next_number s.out
 
 -- the streams that go into a request are ready, each of them once
 abbrev pub RequestedAreReady : Type 0
-RequestedAreReady = (q : Queue) (most : ℕ) → are_keyed 0 q.streams.entries ≡ true → AreEach Paused q (requested most q)
+RequestedAreReady = (q : Queue) (most : ℕ) → are_ascending 0 q.streams.entries ≡ true → AreEach Paused q (requested most q)
 
 pub record RequestsFollow (message : ℕ → Message) (lifecycle : ℕ → Option ℕ) (mixed : Bool) (x : Epochs) (q : Queue) (s : Items) (most : ℕ) : Type 0 where
   pub may : MayAll message mixed x (map send_request (requested most q))

@@ -1,8 +1,10 @@
 -- The line of streams that have something to send: none of them is stopped for a reset.
-use Rattle.std.specs.Prelude.{◌≡◌, ℕ, ◌+◌, ◌<◌, ◌&&◌, nat_le, Bool, true, false, None, Some, List, [], ◌∷◌}
+use Rattle.std.specs.Prelude.{◌≡◌, ℕ, ◌<◌, Bool, true, false, None, Some, List}
+use Rattle.std.specs.Map.{keys_of}
 use Rattle.sctp_state.specs.Events.{Told}
 use Rattle.sctp_state.specs.Options.{Options}
-use Rattle.sctp_stream_scheduler.specs.Scheduler.{Times, is_active}
+use Rattle.sctp_state.specs.Validity.{rises_from}
+use Rattle.sctp_stream_scheduler.specs.Scheduler.{is_active}
 use Rattle.sctp_send_queue.specs.declared.send_queue.stream.ResetStep.{ResetStep}
 use Rattle.sctp_send_queue.specs.Queue.{Queued, Queue, queue, stream, added, is_stopped}
 use Rattle.sctp_send_queue.specs.Produced.{turn, next_stream, produce}
@@ -13,9 +15,8 @@ use Rattle.sctp_rules.specs.Resets.{Epochs}
 use Rattle.sctp_tx_rules.specs.Pauses.{ArePausedAs}
 
 -- each id is at least `least`, and above the one before it
-abbrev pub are_ascending : ℕ → Times → Bool
-are_ascending least [] = true
-are_ascending least (e ∷ es) = nat_le least e.0 && are_ascending (e.0 + 1) es
+abbrev pub are_ascending : {V : Type 0} → ℕ → List (ℕ × V) → Bool
+are_ascending least es = rises_from least (keys_of es)
 
 pub record IsInLine (q : Queue) : Type 0 where
   pub ascending : are_ascending 0 q.scheduler.times ≡ true

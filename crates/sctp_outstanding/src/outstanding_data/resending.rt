@@ -2,7 +2,7 @@
 
 ghost use Rattle.std.specs.Prelude.{◌≡◌, ◌≤◌, nat_lt, length, map, true, false, IfOk, OnOk, OnErr, if◌then◌else◌};
 ghost use Rattle.sctp_outstanding.specs.Views.{resent_of, chunk_of};
-ghost use Rattle.sctp_outstanding.specs.Resending.{again_at, allowed, waiting_for, turn_at, step_at, resent_below, resend, empty_packet, chunk_bytes, SomeResent};
+ghost use Rattle.sctp_outstanding.specs.Resending.{again_at, allowed, waiting_for, turn_at, step_at, resent_below, resend, empty_packet, chunk_bytes, IsFull, SomeResent};
 ghost use Rattle.sctp_outstanding.specs.declared.outstanding_data.Turn.TheVariants.{Send, PassOver, Leave};
 
 use crate::item::copy_of;
@@ -88,16 +88,37 @@ impl OutstandingData {
         }
     }
 
-    // Gives each item its turn, up to the last one that waits.
+    // Whether no item that waits may be sent, for all that is known of their sizes. The fast packet passes each over.
+    fn is_full(&self, fast: bool, filling: &Filling) -> bool
+        ensures slow { result ≡ true → fast ≡ false }
+        ensures full { result ≡ true → IsFull (resent_of self.now filling.now) }
+    {
+        if fast {
+            return false;
+        }
+        self.allowed(filling) < self.kept.least_waiting()
+    }
+
+    // Gives each item that waits its turn, up to the last one that may be sent; no other has one.
     fn resend(&mut self, fast: bool, filling: &mut Filling) -> Result<(), AllocError>
         ensures ok { OnOk result (resent_of self.new filling.new ≡ resent_below fast (length self.old.items.kept) (resent_of self.old filling.old)) }
         ensures err { OnErr result (SomeResent fast (resent_of self.old filling.old) self.new) }
     {
-        for place in 0..self.kept.len() {
+        let count = self.kept.len();
+        let mut place = 0;
+        while place < count {
             if !self.has_waiting(fast) {
                 return Ok(());
             }
-            self.take_turn(place, fast, filling)?;
+            if self.is_full(fast, filling) {
+                return Ok(());
+            }
+            let next = self.kept.next_waiting(place);
+            if count <= next {
+                return Ok(());
+            }
+            self.take_turn(next, fast, filling)?;
+            place = next + 1;
         }
         Ok(())
     }

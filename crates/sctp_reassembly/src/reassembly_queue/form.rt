@@ -5,7 +5,6 @@ ghost use Rattle.sctp_reassembly.specs.Streams.{no_streams};
 ghost use Rattle.sctp_reassembly.specs.Forms.{streams_of};
 
 use crate::interleaved_reassembly_streams::InterleavedReassemblyStreams;
-use crate::named_streams::NamedStreams;
 use crate::ready_messages::ReadyMessages;
 use crate::reassembly_streams::ReassemblyStreams;
 use crate::traditional_reassembly_streams::TraditionalReassemblyStreams;
@@ -58,13 +57,6 @@ impl ReassemblyStreams for Form {
         match self {
             Form::Traditional(streams) => streams.drop_to(tsn),
             Form::Interleaved(streams) => streams.drop_to(tsn),
-        }
-    }
-
-    fn drop_in(&mut self, named: bool, ids: &NamedStreams, tsn: u64) {
-        match self {
-            Form::Traditional(streams) => streams.drop_in(named, ids, tsn),
-            Form::Interleaved(streams) => streams.drop_in(named, ids, tsn),
         }
     }
 

@@ -1,6 +1,6 @@
 //! The streams that were named, and what is left on all of them.
 
-ghost use Rattle.std.specs.Prelude.{◌≡◌, ℕ, Bool, ◌<◌, ◌^◌, ◌==◌, [], is_some, None, Some, IsTrue, IsSome, IfOk, IfSome, OnOk, OnErr, option_map, map};
+ghost use Rattle.std.specs.Prelude.{◌≡◌, ℕ, Bool, ◌+◌, ◌<◌, ◌≤◌, ◌^◌, ◌==◌, [], is_some, None, Some, IsTrue, IsSome, IfOk, IfSome, OnOk, OnErr, option_map, map};
 ghost use Rattle.std.specs.Map.{lookup, keys_of, values_of};
 ghost use Rattle.std.specs.List.{list_all, list_any};
 ghost use Rattle.std.specs.List.Sorted.{IsStrictlySortedBy};
@@ -16,6 +16,7 @@ ghost use Rattle.sctp_send_queue.specs.Resets.{is_ready, after_step, ready, prep
 ghost use Rattle.sctp_state.specs.Handover.{stream_message_of};
 ghost use Rattle.sctp_send_queue.specs.Handover.{outgoing_streams, queued_messages};
 ghost use Rattle.sctp_send_queue.specs.Readiness.{is_waiting};
+ghost use Rattle.sctp_send_queue.specs.Bounded.{one};
 ghost use Rattle.sctp_send_queue.specs.Restarted.{restarted};
 ghost use Rattle.sctp_state.specs.Validity.{is_valid_message, are_valid_messages, queued_bytes, outgoing_ids, rises_from};
 ghost use Rattle.sctp_state.specs.Handover.{transmission_of};
@@ -41,24 +42,26 @@ pub struct Lows {
     pub is_total_low: bool,
 }
 
-/// The streams by id. `total` counts the bytes on all of them that are not sent.
+/// The streams by id. `total` counts the bytes on all of them that are not sent, `ready_count` the streams that can be
+/// reset and are in no request.
 #[derive(Drop)]
 pub struct Streams {
     streams: BTreeMap<u16, Stream>,
     total: ThresholdWatcher,
+    ready_count: usize,
     default_threshold: usize,
     default_priority: u16,
 }
 
 impl Model for Streams {
     ghost use Rattle.sctp_send_queue.specs.Queue.{Streams};
-    ghost use Rattle.sctp_send_queue.specs.Bounded.{IsBounded};
+    ghost use Rattle.sctp_send_queue.specs.Bounded.{IsCounted};
 
     ghost Value = { Streams };
 
     ghost view = { λ s. record { entries = s.streams.entries; total_threshold = s.total.low_threshold; default_threshold = s.default_threshold; default_priority = s.default_priority } };
 
-    ghost invariant = { λ s. IsBounded s.total.amount s.streams.entries };
+    ghost invariant = { λ s. IsCounted s.total.amount s.ready_count s.streams.entries };
 }
 
 impl Streams {
@@ -69,6 +72,7 @@ impl Streams {
         Streams {
             streams: BTreeMap::new(alloc),
             total: ThresholdWatcher::new(options.total_buffered_amount_low_threshold),
+            ready_count: 0,
             default_threshold: options.default_stream_buffered_amount_low_threshold,
             default_priority: options.default_stream_priority,
         }
@@ -104,6 +108,7 @@ impl Streams {
         Ok(Streams {
             streams,
             total: ThresholdWatcher::new(self.total.low_threshold()),
+            ready_count: 0,
             default_threshold: self.default_threshold,
             default_priority: self.default_priority,
         })
@@ -127,7 +132,7 @@ impl Streams {
     pub fn is_empty(&self) -> bool
         ensures { result ≡ list_all has_nothing (values_of self.now.entries) }
     {
-        self.streams.values().all(|stream| stream.is_empty())
+        self.total.amount() == 0
     }
 
     pub fn priority(&self, id: StreamId) -> u16
@@ -311,12 +316,15 @@ impl Streams {
     pub fn advance(&mut self, id: StreamId, size: usize)
         ensures { self.new ≡ streams_after id.0 size self.old }
     {
+        let _count = self.streams.len();
         let Some(stream) = self.streams.get_mut(&id.0) else {
             return;
         };
         let before = stream.amount();
+        let was_ready = stream.is_ready();
         stream.advance(size);
         self.total.decrease(before - stream.amount());
+        self.ready_count = ready_count_after(self.ready_count, was_ready, stream.is_ready());
     }
 
     pub fn low_threshold(&self, id: StreamId) -> usize
@@ -388,12 +396,15 @@ impl Streams {
     pub fn discard(&mut self, id: StreamId, message_id: OutgoingMessageId)
         ensures { self.new ≡ streams_discarded id.0 message_id.0 self.old }
     {
+        let _count = self.streams.len();
         let Some(stream) = self.streams.get_mut(&id.0) else {
             return;
         };
         let before = stream.amount();
+        let was_ready = stream.is_ready();
         stream.discard(message_id);
         self.total.decrease(before - stream.amount());
+        self.ready_count = ready_count_after(self.ready_count, was_ready, stream.is_ready());
     }
 
     /// Tells of the messages of a stream of which nothing is sent that they are given up.
@@ -422,12 +433,15 @@ impl Streams {
     pub fn prepare_reset(&mut self, id: StreamId)
         ensures { self.new ≡ put id.0 (prepared (stream id.0 self.old)) self.old }
     {
+        let _count = self.streams.len();
         let Some(stream) = self.streams.get_mut(&id.0) else {
             return;
         };
         let before = stream.amount();
+        let was_ready = stream.is_ready();
         stream.prepare_reset();
         self.total.decrease(before - stream.amount());
+        self.ready_count = ready_count_after(self.ready_count, was_ready, stream.is_ready());
     }
 
     /// The bytes that a stream has to send after a step of its reset.
@@ -451,10 +465,13 @@ impl Streams {
     pub fn take_step(&mut self, id: StreamId, step: ResetStep)
         ensures { self.new ≡ put id.0 (after_step step (stream id.0 self.old)) self.old }
     {
+        let _count = self.streams.len();
         let Some(stream) = self.streams.get_mut(&id.0) else {
             return;
         };
+        let was_ready = stream.is_ready();
         stream.take_step(step);
+        self.ready_count = ready_count_after(self.ready_count, was_ready, stream.is_ready());
     }
 
     /// The bytes that a stream has to send once a new association begins.
@@ -478,12 +495,15 @@ impl Streams {
     pub fn restart(&mut self, id: StreamId)
         ensures { self.new ≡ put id.0 (restarted (stream id.0 self.old)) self.old }
     {
+        let _count = self.streams.len();
         let Some(stream) = self.streams.get_mut(&id.0) else {
             return;
         };
         let before = stream.amount();
+        let was_ready = stream.is_ready();
         stream.restart();
         self.total.increase(stream.amount() - before);
+        self.ready_count = ready_count_after(self.ready_count, was_ready, stream.is_ready());
     }
 
     /// The streams in the record of a socket that is handed over.
@@ -516,6 +536,9 @@ impl Streams {
     pub fn ready(&self, alloc: Global) -> Result<Vec<StreamId>, AllocError>
         ensures { IfOk result (λ ids. map (λ id. id.0) ids.items ≡ ready self.now.entries) }
     {
+        if self.ready_count == 0 {
+            return Ok(Vec::new(alloc));
+        }
         ready_streams(alloc, &self.streams)
     }
 
@@ -529,8 +552,17 @@ impl Streams {
     pub fn has_ready(&self) -> bool
         ensures { result ≡ list_any is_ready (values_of self.now.entries) }
     {
-        self.streams.values().any(|stream| stream.is_ready())
+        self.ready_count > 0
     }
+}
+
+// How many streams are ready after a change of one of them.
+fn ready_count_after(count: usize, was_ready: bool, is_ready: bool) -> usize
+    requires least { one was_ready ≤ count }
+    requires most { count < 2 ^ 63 }
+    ensures { result + one was_ready ≡ count + one is_ready }
+{
+    count + usize::from(is_ready) - usize::from(was_ready)
 }
 
 fn ready_streams(

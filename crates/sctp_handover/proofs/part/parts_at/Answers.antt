@@ -1,14 +1,14 @@
 use Rattle.std.proofs.Common.{◌≡◌, ℕ, List, [], ◌∷◌, length, map, take, drop, ap, sym, ◌∙◌, arith}
-use Rattle.std.proofs.lemmas.Bool.{eqb-true}
 use Rattle.std.proofs.lemmas.List.{map-append}
-use Rattle.sctp_handover.proofs.PartLemmas.{all_of, one_more, some_left}
+use Rattle.sctp_handover.proofs.PartLemmas.{all_of, goes_on, one_more}
 use Rattle.sctp_handover.proofs.part.parts_at.Goals as goal
 
-pub returns-then-is_empty : goal.returns-then-is_empty
-returns-then-is_empty g c = λ xs after ec all e.
+pub returns-then-after-rest : goal.returns-then-after-rest
+returns-then-after-rest g c = λ xs after ec all e.
     let inv = c.loop-place.invariant xs after ec all e in
-    absurd (some_left g.P.Part.bytes_of g.met.P.Part.has_bytes xs after c.loop-place.place (omega (arith, ec, c.loop-place-test.true))
-    (ap (λ (bytes : List ℕ). length bytes) (sym inv.1) ∙ eqb-true _ _ (sym c.is_empty.ensures ∙ c.if-is_empty.true)))
+    let less = goes_on g.P.Part.bytes_of g.met.P.Part.has_bytes g.P.Part.Fits xs after c.loop-place.rest.now c.in_ok-part.after.now c.loop-place.place (g.P.Part.value_of c.in_ok-part.part)
+    all (omega (arith, ec, c.loop-place-test.true)) inv.1 c.in_ok-part.ensures in
+    absurd (omega (arith, less, c.if-after-rest.true))
 
 pub loop-place-preserved : goal.loop-place-preserved
 loop-place-preserved g c = λ xs after ec all e.

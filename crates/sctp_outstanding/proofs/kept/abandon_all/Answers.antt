@@ -1,6 +1,7 @@
 use Rattle.std.proofs.Common.{◌≡◌, ap, sym, ◌∙◌, arith, length}
 use Rattle.sctp_outstanding.proofs.LaidLemmas.{laid, laid-next, laid-past, laid-all}
 use Rattle.sctp_outstanding.proofs.TotalsLemmas.{totals-as}
+use Rattle.sctp_outstanding.proofs.WaitingLemmas.{lists-as}
 use Rattle.sctp_outstanding.proofs.kept.abandon_all.Goals.{then-is_of, else-is_of}
 use Rattle.sctp_outstanding.proofs.kept.abandon_all.Goals as goal
 
@@ -15,6 +16,8 @@ loop-place-preserved c =
             totals =
                 totals-as c.args.is_interleaved w.change_one.new.items.items c.if-is_of.items.items w.change_one.new.totals c.if-is_of.totals w.change_one.ensures.totals
                 (ap (λ q. q.items) w.items-is) w.totals-is;
+            waiting =
+                lists-as w.change_one.new.waiting c.if-is_of.waiting w.change_one.new.items.items c.if-is_of.items.items w.change_one.ensures.waiting (ap (λ q. q.items) w.items-is) w.waiting-is;
           }
       | else-is_of w ↦
           record {
@@ -24,6 +27,8 @@ loop-place-preserved c =
             totals =
                 totals-as c.args.is_interleaved c.loop-place.items.items c.if-is_of.items.items c.loop-place.totals c.if-is_of.totals c.loop-place.invariant.totals
                 (ap (λ q. q.items) w.items-is) w.totals-is;
+            waiting =
+                lists-as c.loop-place.waiting c.if-is_of.waiting c.loop-place.items.items c.if-is_of.items.items c.loop-place.invariant.waiting (ap (λ q. q.items) w.items-is) w.waiting-is;
           }
     ]
 

@@ -1,5 +1,6 @@
 use Rattle.std.proofs.Common.{◌≡◌}
 use Rattle.sctp_outstanding.specs.Totals.{AreTotals}
+use Rattle.sctp_outstanding.specs.Waiting.{Lists}
 use Rattle.sctp_outstanding.proofs.LaidLemmas.{laid}
 use Rattle.sctp_outstanding.proofs.kept.abandon_all.Given as goal
 
@@ -7,4 +8,5 @@ abbrev pub invariant-loop-place : goal.invariant-loop-place
 invariant-loop-place l = record {
   items : l.items.items ≡ laid l.place l.message_id.0 l.initial.items.items;
   totals : AreTotals l.is_interleaved l.items.items l.totals;
+  waiting : Lists l.waiting l.items.items;
 }

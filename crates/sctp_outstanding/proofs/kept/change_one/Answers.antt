@@ -1,8 +1,11 @@
-use Rattle.std.proofs.Common.{◌<◌, ◌^◌, length, arith}
+use Rattle.std.proofs.Common.{◌<◌, ◌^◌, List, length, sym, subst, arith}
+use Rattle.sctp_outstanding.specs.Item.{Item}
 use Rattle.sctp_outstanding.specs.Change.{changed}
 use Rattle.sctp_outstanding.specs.Items.{change_at}
 use Rattle.sctp_outstanding.specs.Totals.{exchanged}
+use Rattle.sctp_outstanding.specs.Waiting.{Lists}
 use Rattle.sctp_outstanding.proofs.TotalsLemmas.{totals-changed, totals-as}
+use Rattle.sctp_outstanding.proofs.WaitingLemmas.{turns-changed, stays-changed}
 use Rattle.sctp_outstanding.proofs.kept.change_one.Goals as goal
 
 pub returns-clause-totals : goal.returns-clause-totals
@@ -10,5 +13,13 @@ returns-clause-totals c =
     let few : length c.args.items.now.items < 2 ^ 64 = omega arith in
     totals-as c.args.is_interleaved (change_at c.args.place (changed c.args.change) c.args.items.now.items) c.change_item.new.items.items
     (exchanged c.change_item.result.0 c.change_item.result.1 c.args.totals.now) c.exchanged.result
-    (totals-changed c.args.is_interleaved c.args.place c.args.change c.args.items.now.items c.change_item.result.0 c.change_item.result.1 c.args.totals.now c.requires few c.change_item.ensures.parts)
+    (totals-changed c.args.is_interleaved c.args.place c.args.change c.args.items.now.items c.change_item.result.0 c.change_item.result.1 c.args.totals.now c.requires.totals few c.change_item.ensures.parts)
     c.change_item.ensures.items c.exchanged.ensures
+
+pub returns-clause-waiting : goal.returns-clause-waiting
+returns-clause-waiting c =
+    let is = c.args.items.now.items in
+    let js = change_at c.args.place (changed c.args.change) is in
+    subst (λ (ks : List Item). Lists c.follow.new.self ks) (sym c.change_item.ensures.items)
+    (c.follow.ensures is js (turns-changed c.args.is_interleaved c.args.change c.args.waiting.now.first c.args.place is c.change_item.result.0 c.change_item.result.1 c.change_item.ensures.parts)
+    (stays-changed c.args.is_interleaved c.args.change c.args.place c.payload_at-size.result is c.change_item.result.0 c.change_item.result.1 c.change_item.ensures.parts c.payload_at-size.ensures) c.requires.waiting)

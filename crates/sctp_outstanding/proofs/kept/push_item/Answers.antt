@@ -1,7 +1,10 @@
-use Rattle.std.proofs.Common.{◌<◌, ◌^◌, ◌≡◌, ◌∷◌, ◌++◌, [], ap, ◌∙◌, length, rules, arith}
+use Rattle.std.proofs.Common.{◌<◌, ◌^◌, ◌≡◌, ◌∷◌, ◌++◌, [], List, ap, sym, subst, ◌∙◌, length, rules, arith}
 use Rattle.sctp_outstanding.specs.declared.totals.Totals.{Totals}
+use Rattle.sctp_outstanding.specs.Item.{Item}
 use Rattle.sctp_outstanding.specs.Totals.{exchanged, nothing, parts}
+use Rattle.sctp_outstanding.specs.Waiting.{Lists}
 use Rattle.sctp_outstanding.proofs.TotalsLemmas.{totals-pushed, totals-as}
+use Rattle.sctp_outstanding.proofs.WaitingLemmas.{turns-pushed, stays-pushed}
 use Rattle.sctp_outstanding.proofs.kept.push_item.Goals as goal
 
 pub returns-clause-totals : goal.returns-clause-totals
@@ -9,5 +12,13 @@ returns-clause-totals c =
     let is : c.push_back.new.self.items ≡ c.args.items.now.items ++ c.args.item ∷ [] = search rules in
     let few : length (c.args.items.now.items ++ c.args.item ∷ []) < 2 ^ 64 = omega (arith, ap (λ xs. length xs) is) in
     totals-as c.args.is_interleaved (c.args.items.now.items ++ c.args.item ∷ []) c.push_back.new.self.items (exchanged nothing (parts c.args.is_interleaved c.args.item) c.args.totals.now) c.exchanged.result
-    (totals-pushed c.args.is_interleaved c.args.items.now.items c.args.item c.args.totals.now c.requires few (omega (arith, c.payload_size-size.ensures.size, c.payload_size-size.ensures.small)))
+    (totals-pushed c.args.is_interleaved c.args.items.now.items c.args.item c.args.totals.now c.requires.totals few (omega (arith, c.payload_size-size.ensures.size, c.payload_size-size.ensures.small)))
     is (c.exchanged.ensures ∙ (ap (λ (t : Totals). exchanged t c.of-part.result c.args.totals.now) c.nothing.ensures ∙ ap (λ (t : Totals). exchanged nothing t c.args.totals.now) c.of-part.ensures))
+
+pub returns-clause-waiting : goal.returns-clause-waiting
+returns-clause-waiting c =
+    let is : c.push_back.new.self.items ≡ c.args.items.now.items ++ c.args.item ∷ [] = search rules in
+    let all : length c.args.items.now.items ≡ c.len-place.result = search rules in
+    subst (λ (ks : List Item). Lists c.follow.new.self ks) (sym is)
+    (c.follow.ensures c.args.items.now.items (c.args.items.now.items ++ c.args.item ∷ []) (turns-pushed c.args.waiting.now.first c.len-place.result c.args.items.now.items c.args.item c.should_be_retransmitted-waits.result all c.should_be_retransmitted-waits.ensures)
+    (stays-pushed c.payload_size-size.result c.should_be_retransmitted-waits.result c.args.items.now.items c.args.item c.should_be_retransmitted-waits.ensures c.payload_size-size.ensures.size) c.requires.waiting)

@@ -1,4 +1,3 @@
-use Rattle.std.proofs.Common.{◌≡◌, refl, arith}
 use Rattle.sctp_fragments.specs.Held.{rank_of, goes_on, begins, ends}
 use Rattle.sctp_reassembly.proofs.ListLemmas.{first_stops, last_stops}
 use Rattle.sctp_fragments.proofs.RunLemmas.{runs_of-around}

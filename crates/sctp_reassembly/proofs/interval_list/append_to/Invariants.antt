@@ -1,4 +1,4 @@
-use Rattle.std.proofs.Common.{◌≡◌, ◌+◌, ◌≤◌, ◌++◌, ◌∷◌, length}
+use Rattle.std.proofs.Common.{◌≡◌, ◌+◌, ◌≤◌, ◌++◌, ◌∷◌}
 use Rattle.std.specs.VecDeque.{deque_len, deque_capacity}
 use Rattle.sctp_reassembly.proofs.interval_list.append_to.Given as goal
 

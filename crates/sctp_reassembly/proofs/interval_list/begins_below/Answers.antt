@@ -1,4 +1,4 @@
-use Rattle.std.proofs.Common.{◌≡◌, ◌+◌, ◌-◌, ◌<◌, ◌≤◌, ◌==◌, suc, length, ◌∷◌, ◌++◌, [], ap, sym, ◌∙◌, refl, arith, take, drop, true, false, not, None, rules}
+use Rattle.std.proofs.Common.{arith}
 use Rattle.sctp_reassembly.proofs.ListLemmas.{first_below-read}
 use Rattle.sctp_fragments.specs.Intervals.{held_of}
 use Rattle.sctp_fragments.specs.Key.{rank_at}

@@ -1,4 +1,4 @@
-use Rattle.std.proofs.Common.{◌+◌, arith, ◌∙◌}
+use Rattle.std.proofs.Common.{◌+◌, arith}
 use Rattle.sctp_fragments.specs.Intervals.{held_of}
 use Rattle.sctp_reassembly.proofs.FrontLemmas.{one_more, in_two_bytes}
 use Rattle.sctp_reassembly.proofs.interval_list.bytes_before.Goals as goal

@@ -1,4 +1,4 @@
-use Rattle.std.proofs.Common.{◌≡◌, ◌+◌, ◌-◌, ◌<◌, ◌≤◌, ◌==◌, suc, length, ◌∷◌, ◌++◌, [], ap, sym, ◌∙◌, refl, arith, take, drop, true, false, not, None, rules}
+use Rattle.std.proofs.Common.{◌≡◌, arith, false, rules}
 use Rattle.sctp_reassembly.proofs.ListLemmas.{none_more}
 use Rattle.sctp_fragments.specs.Intervals.{held_of}
 use Rattle.sctp_reassembly.proofs.interval_list.place_in_turn.Goals as goal

@@ -1,7 +1,6 @@
 use Rattle.std.proofs.Common.{[], ◌+◌}
 use Rattle.sctp_serial.specs.Unwrapped.{origin}
 use Rattle.sctp_state.specs.declared.api.handover.HandoverOrderedStream.{HandoverOrderedStream}
-use Rattle.sctp_reassembly.specs.Delivery.{OrderedStream, fresh_ordered}
 use Rattle.sctp_reassembly.proofs.RestoredLemmas.{read_more}
 use Rattle.sctp_reassembly.proofs.ordered_streams.read.Goals as goal
 

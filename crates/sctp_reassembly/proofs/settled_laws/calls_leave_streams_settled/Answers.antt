@@ -1,6 +1,6 @@
 use Rattle.sctp_reassembly.specs.ReassemblyQueue.{Reassembly, reassembly}
 use Rattle.std.proofs.Common.{true}
-use Rattle.sctp_reassembly.proofs.SettledStreamsLemmas.{settled_none, settled_add, settled_skip, settled_dropped, settled_dropped_in, settled_point, settled_part, settled_reset}
+use Rattle.sctp_reassembly.proofs.SettledStreamsLemmas.{settled_none, settled_add, settled_skip, settled_dropped, settled_point, settled_reset}
 use Rattle.sctp_reassembly.proofs.SettledQueueLemmas.{settled_restored}
 use Rattle.sctp_reassembly.proofs.settled_laws.calls_leave_streams_settled.Goals as goal
 
@@ -15,12 +15,6 @@ returns-clause-skip c e ss h = settled_skip ss h e
 
 pub returns-clause-drop_to : goal.returns-clause-drop_to
 returns-clause-drop_to c tsn ss h = settled_dropped ss h tsn
-
-pub returns-clause-drop_in : goal.returns-clause-drop_in
-returns-clause-drop_in c named ids tsn ss h = settled_dropped_in ss h named ids tsn
-
-pub returns-clause-part : goal.returns-clause-part
-returns-clause-part c named ids tsn es ss h = settled_part named ids tsn es ss h
 
 pub returns-clause-forward : goal.returns-clause-forward
 returns-clause-forward c tsn es ss h = settled_point tsn es ss h

@@ -1,7 +1,6 @@
-use Rattle.std.proofs.Common.{◌≡◌, ◌++◌, ◌∷◌, [], true, ap, sym, subst, ◌∙◌}
-use Rattle.std.specs.Prelude.{OnOk}
+use Rattle.std.proofs.Common.{◌++◌, ◌∷◌, [], ap, sym, subst, ◌∙◌}
 use Rattle.std.proofs.lemmas.Result.{on_ok_weaker}
-use Rattle.sctp_fragments.specs.Held.{rank_of, intervals_of, is_complete, left_by, NoneComplete}
+use Rattle.sctp_fragments.specs.Held.{intervals_of, is_complete, left_by, NoneComplete}
 use Rattle.sctp_fragments.specs.Intervals.{held, held_of, run_of}
 use Rattle.sctp_reassembly.specs.Delivery.{completed}
 use Rattle.sctp_reassembly.proofs.FindLemmas.{left_none}

@@ -1,7 +1,5 @@
-use Rattle.std.proofs.Common.{[], ◌+◌}
-use Rattle.sctp_serial.specs.Unwrapped.{origin}
 use Rattle.sctp_state.specs.declared.api.handover.HandoverUnorderedStream.{HandoverUnorderedStream}
-use Rattle.sctp_reassembly.specs.Delivery.{UnorderedStream, fresh_unordered}
+use Rattle.sctp_reassembly.specs.Delivery.{fresh_unordered}
 use Rattle.sctp_reassembly.proofs.RestoredLemmas.{read_more}
 use Rattle.sctp_reassembly.proofs.unordered_streams.read.Goals as goal
 

@@ -13,7 +13,7 @@ returns-then-not-self-clause-rest c =
 
 pub returns-then-end-len-clause-rest : goal.returns-then-end-len-clause-rest
 returns-then-end-len-clause-rest c =
-    let heard : IsHeard c.self.inside.heard c.self.inside.items.items = c.self.invariant.1 c.if-not-self.false in
+    let heard : IsHeard c.self.inside.heard c.self.inside.items.items = c.self.invariant.1.0 c.if-not-self.false in
     let old : highest_end c.self.inside.heard.runs.items < c.self.inside.heard.offset + c.reach-end.result = subst (λ xs. highest_end xs < c.self.inside.heard.offset + c.reach-end.result) c.deref.ensures.value c.reach-end.ensures.old in
     subst (λ (is : List Item). RestFrom c.args.blocks.now c.reach-end.result (c.reach-end.result + 1) is) (ap (λ (k : Kept). k.items) c.self.view_is)
     (from-reach c.self.inside.heard.runs.items c.args.blocks.now c.self.inside.heard.offset c.reach-end.result (c.reach-end.result + 1) c.self.inside.items.items old (omega (arith, c.reach-end.ensures.new)) heard.rest)

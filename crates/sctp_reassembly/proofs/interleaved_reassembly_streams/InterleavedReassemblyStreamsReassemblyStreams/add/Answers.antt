@@ -1,4 +1,4 @@
-use Rattle.std.proofs.Common.{◌≡◌, ◌++◌, Some, refl, ap, sym, ◌∙◌, arith, true}
+use Rattle.std.proofs.Common.{◌≡◌, ◌++◌, Some, ap, sym, ◌∙◌, true}
 use Rattle.std.proofs.lemmas.Result.{on_ok_weaker}
 use Rattle.sctp_serial.specs.Unwrapped.{words, nearest}
 use Rattle.sctp_chunk.specs.Views.{fragment_tree, is_unordered_key}

@@ -1,4 +1,4 @@
-use Rattle.std.proofs.Common.{sym, ◌∙◌, arith}
+use Rattle.std.proofs.Common.{sym, arith}
 use Rattle.sctp_fragments.specs.Held.{is_in_turn, intervals_of}
 use Rattle.sctp_fragments.specs.Intervals.{held_of}
 use Rattle.sctp_reassembly.proofs.ListLemmas.{none_in_all, length-kept}

@@ -1,4 +1,4 @@
-use Rattle.std.proofs.Common.{◌≡◌, ◌+◌, ◌-◌, ◌<◌, ◌≤◌, ◌==◌, suc, length, ◌∷◌, ◌++◌, [], ap, sym, ◌∙◌, refl, arith, take, drop, true, false, not, None, rules, List}
+use Rattle.std.proofs.Common.{ap, sym, ◌∙◌, refl, arith, None, List}
 use Rattle.sctp_reassembly.proofs.ListLemmas.{drops, drops_none, intervals-kept}
 use Rattle.sctp_fragments.specs.Runs.{from_rank, AreRuns}
 use Rattle.sctp_fragments.specs.declared.interval.Interval.{Interval}

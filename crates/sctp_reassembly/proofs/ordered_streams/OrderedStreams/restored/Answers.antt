@@ -2,7 +2,7 @@ use Rattle.std.proofs.Common.{[], ◌+◌, refl, ap, sym, ◌∙◌}
 use Rattle.sctp_serial.specs.Unwrapped.{origin}
 use Rattle.sctp_state.specs.declared.api.handover.HandoverOrderedStream.{HandoverOrderedStream}
 use Rattle.sctp_fragments.specs.Held.{bytes_of}
-use Rattle.sctp_reassembly.specs.Delivery.{OrderedStream, fresh_ordered}
+use Rattle.sctp_reassembly.specs.Delivery.{OrderedStream}
 use Rattle.sctp_reassembly.specs.Streams.{ordered_bytes}
 use Rattle.sctp_reassembly.proofs.RestoredLemmas.{weightless}
 use Rattle.sctp_reassembly.proofs.ordered_streams.OrderedStreams.restored.Goals as goal

@@ -6,7 +6,7 @@ use Rattle.sctp_reassembly.proofs.reassembly_queue.ReassemblyQueue.apply_each.Gi
 
 abbrev pub invariant-loop-waiting : goal.invariant-loop-waiting
 invariant-loop-waiting l = record {
-  rest : apply_each l.deferred.streams l.deferred.waiting l.self ≡ apply_each l.fn.deferred.streams l.fn.deferred.waiting l.fn.self;
+  rest : apply_each l.deferred.waiting l.self ≡ apply_each l.fn.deferred.waiting l.fn.self;
   kept : Extends l.fn.self.ready l.self.ready;
   counted : IsCounted l.fn.self l.self;
   room : queued_bytes l.self + sum_by waiting_bytes l.deferred.waiting < 2 ^ 64;

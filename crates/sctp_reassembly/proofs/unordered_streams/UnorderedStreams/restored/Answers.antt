@@ -1,5 +1,4 @@
-use Rattle.std.proofs.Common.{[], ◌+◌, refl, ap, sym, ◌∙◌}
-use Rattle.sctp_serial.specs.Unwrapped.{origin}
+use Rattle.std.proofs.Common.{refl, ap, sym, ◌∙◌}
 use Rattle.sctp_state.specs.declared.api.handover.HandoverUnorderedStream.{HandoverUnorderedStream}
 use Rattle.sctp_fragments.specs.Held.{bytes_of}
 use Rattle.sctp_reassembly.specs.Delivery.{UnorderedStream, fresh_unordered}

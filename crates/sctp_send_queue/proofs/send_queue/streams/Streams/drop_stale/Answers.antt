@@ -2,9 +2,10 @@ use Rattle.std.proofs.Common.{ap, sym, ◌∙◌, arith}
 use Rattle.std.specs.Map.{lookup}
 use Rattle.std.specs.Ordering.{nat_cmp}
 use Rattle.std.specs.BTreeMap.{is_at}
-use Rattle.sctp_send_queue.specs.Queue.{Streams, Entries, total_of}
+use Rattle.sctp_send_queue.specs.Queue.{Stream, Streams, Entries, total_of}
 use Rattle.sctp_send_queue.specs.Produced.{without_stale}
 use Rattle.sctp_send_queue.proofs.BoundLemmas.{few-changed, keeps-fresh}
+use Rattle.sctp_send_queue.proofs.ReadyLemmas.{ready-kept}
 use Rattle.sctp_send_queue.proofs.StreamsLemmas.{total-written, amount-at_most, put-nowhere}
 use Rattle.sctp_send_queue.proofs.send_queue.streams.Streams.drop_stale.Goals as goal
 
@@ -25,4 +26,5 @@ invariant_of-self-2 c =
     record {
       counted = omega (arith, ap total_of written, sums, most, c.amount-before.ensures, c.amount.ensures, c.drop_stale.ensures.less, c.self.invariant.counted, ap (λ w. w.amount) c.decrease.ensures.after);
       few = few-changed c.args.id.0 entries _ v w (without_stale c.args.now v) c.in-Some.ensures.value written c.drop_stale.ensures.after (keeps-fresh c.args.now v.messages) c.self.invariant.few;
+      ready = c.self.invariant.ready ∙ ready-kept c.args.id.0 entries _ v w c.in-Some.ensures.value written (ap (λ (t : Stream). t.pause) c.drop_stale.ensures.after);
     }

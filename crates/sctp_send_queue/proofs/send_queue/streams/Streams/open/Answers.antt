@@ -1,8 +1,9 @@
 use Rattle.std.proofs.Common.{◌≡◌, ap, sym, ◌∙◌}
 use Rattle.std.specs.Ordering.{nat_cmp}
 use Rattle.std.specs.BTreeMap.{insert_entry}
-use Rattle.sctp_send_queue.specs.Queue.{total_of}
+use Rattle.sctp_send_queue.specs.Queue.{Stream, total_of}
 use Rattle.sctp_send_queue.proofs.BoundLemmas.{few-opened}
+use Rattle.sctp_send_queue.proofs.ReadyLemmas.{ready-inserted}
 use Rattle.sctp_send_queue.proofs.StreamsLemmas.{total-opened, none-from}
 use Rattle.sctp_send_queue.proofs.send_queue.streams.Streams.open.Goals as goal
 use Rattle.sctp_send_queue.proofs.send_queue.streams.Streams.open.Goals.{Joined-branch-2}
@@ -16,6 +17,7 @@ pub invariant_of-self-2 : goal.invariant_of-self-2
 invariant_of-self-2 c = record {
   counted = c.self.invariant.counted ∙ sym (same c);
   few = few-opened c.args.id.0 c.self.inside.streams.entries _ _ c.self.inside.default_priority c.self.inside.default_threshold c.insert.ensures.was_ordered c.in_ok-insert.ensures.entries c.new-stream.ensures c.self.invariant.few;
+  ready = c.self.invariant.ready ∙ ready-inserted c.args.id.0 c.self.inside.streams.entries _ _ c.insert.ensures.was_ordered (none-from _ (sym c.contains_key.ensures ∙ c.if-contains_key.false)) c.in_ok-insert.ensures.entries (ap (λ (t : Stream). t.pause) c.new-stream.ensures);
 }
 
 pub returns-clause-total : goal.returns-clause-total

@@ -3,8 +3,9 @@ use Rattle.std.specs.Map.{set_value}
 use Rattle.std.specs.Ordering.{nat_cmp}
 use Rattle.std.specs.BTreeMap.{is_at}
 use Rattle.std.proofs.lemmas.List.Sums.{sum_by_push}
-use Rattle.sctp_send_queue.specs.Queue.{Streams, Entries, total_of, amount_of, left}
+use Rattle.sctp_send_queue.specs.Queue.{Stream, Streams, Entries, total_of, amount_of, left}
 use Rattle.sctp_send_queue.proofs.BoundLemmas.{few-changed, few-pushed, keeps-same, small-one}
+use Rattle.sctp_send_queue.proofs.ReadyLemmas.{ready-kept}
 use Rattle.sctp_send_queue.proofs.StreamsLemmas.{total-written, written-same}
 use Rattle.sctp_send_queue.proofs.send_queue.streams.Streams.push_behind.Goals as goal
 
@@ -18,6 +19,7 @@ invariant_of-self-in_err-push c =
     record {
       counted = omega (arith, ap total_of written, sums, ap amount_of c.in_err-push.ensures.err, c.self.invariant.counted);
       few = few-changed c.args.id.0 entries _ v w v c.in-Some.ensures.value written c.in_err-push.ensures.err (keeps-same v.messages) c.self.invariant.few;
+      ready = c.self.invariant.ready ∙ ready-kept c.args.id.0 entries _ v w c.in-Some.ensures.value written (ap (λ (t : Stream). t.pause) c.in_err-push.ensures.err);
     }
 
 pub returns-in_err-push-clause-err : goal.returns-in_err-push-clause-err
@@ -41,4 +43,5 @@ invariant_of-self-2 c =
     record {
       counted = omega (arith, ap total_of written, sums, grown, more, c.left-bytes.ensures.value, c.self.invariant.counted, ap (λ w. w.amount) c.increase.ensures);
       few = few-pushed c.args.id.0 entries _ v w c.args.message c.in-Some.ensures.value written c.in_ok-push.ensures.ok small (omega (arith, c.requires.room, ap (λ ss. total_of ss.entries) c.self.view_is)) c.self.invariant.few;
+      ready = c.self.invariant.ready ∙ ready-kept c.args.id.0 entries _ v w c.in-Some.ensures.value written (ap (λ (t : Stream). t.pause) c.in_ok-push.ensures.ok);
     }

@@ -2,8 +2,9 @@ use Rattle.std.proofs.Common.{refl, ap, sym, ◌∙◌, arith}
 use Rattle.std.specs.Map.{lookup}
 use Rattle.std.specs.Ordering.{nat_cmp}
 use Rattle.std.specs.BTreeMap.{is_at, insert_entry}
-use Rattle.sctp_send_queue.specs.Queue.{Streams, blank_stream, total_of, amount_of, pushed, stream, put, opened}
+use Rattle.sctp_send_queue.specs.Queue.{Stream, Streams, blank_stream, total_of, amount_of, pushed, stream, put, opened}
 use Rattle.sctp_send_queue.proofs.BoundLemmas.{few-first, small-one}
+use Rattle.sctp_send_queue.proofs.ReadyLemmas.{ready-inserted}
 use Rattle.sctp_send_queue.proofs.StreamsLemmas.{total-inserted, first-is}
 use Rattle.sctp_send_queue.proofs.send_queue.streams.Streams.push_first.Goals as goal
 
@@ -28,6 +29,7 @@ invariant_of-self-2 c =
             ap (λ w. w.amount) c.increase.ensures,
           );
       few = few-first id entries _ w first c.args.message c.insert.ensures.was_ordered c.in_ok-insert.ensures.entries is_first refl small (omega (arith, c.requires.room, ap (λ ss. total_of ss.entries) c.self.view_is)) c.self.invariant.few;
+      ready = c.self.invariant.ready ∙ ready-inserted id entries _ w c.insert.ensures.was_ordered none c.in_ok-insert.ensures.entries (ap (λ (t : Stream). t.pause) is_first);
     }
 
 pub returns-clause-ok : goal.returns-clause-ok

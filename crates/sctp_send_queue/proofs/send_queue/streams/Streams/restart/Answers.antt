@@ -4,7 +4,9 @@ use Rattle.std.specs.Ordering.{nat_cmp}
 use Rattle.std.specs.BTreeMap.{is_at}
 use Rattle.sctp_send_queue.specs.Queue.{Streams, Entries, amount_of, total_of}
 use Rattle.sctp_send_queue.specs.Restarted.{restarted}
+use Rattle.sctp_send_queue.specs.Bounded.{one}
 use Rattle.sctp_send_queue.proofs.BoundLemmas.{few-changed, keeps-whole, restarted-amount, restarted-fits}
+use Rattle.sctp_send_queue.proofs.ReadyLemmas.{ready-changed, ready-least, ready-most}
 use Rattle.sctp_send_queue.proofs.StreamsLemmas.{total-written, amount-at_most, put-nowhere}
 use Rattle.sctp_send_queue.proofs.send_queue.streams.Streams.restart.Goals as goal
 
@@ -37,4 +39,11 @@ invariant_of-self-2 c =
     record {
       counted = omega (arith, ap total_of written, sums, most, c.amount-before.ensures, c.amount.ensures, c.restart.ensures.least, c.self.invariant.counted, ap (λ w. w.amount) c.increase.ensures);
       few = few-changed c.args.id.0 entries _ v w (restarted v) c.in-Some.ensures.value written c.restart.ensures.after (keeps-whole v.messages) c.self.invariant.few;
+      ready = ready-changed c.args.id.0 c.self.inside.ready_count _ _ _ entries _ v w c.in-Some.ensures.value written c.is_ready-was_ready.ensures c.is_ready.ensures c.self.invariant.ready c.ready_count_after-self-inside.ensures;
     }
+
+pub ready_count_after-self-inside-requires-clause-least : goal.ready_count_after-self-inside-requires-clause-least
+ready_count_after-self-inside-requires-clause-least c = omega (arith, ap one c.is_ready-was_ready.ensures, ready-least c.args.id.0 c.self.inside.streams.entries c.in-Some.stream.now c.in-Some.ensures.value, c.self.invariant.ready)
+
+pub ready_count_after-self-inside-requires-clause-most : goal.ready_count_after-self-inside-requires-clause-most
+ready_count_after-self-inside-requires-clause-most c = omega (arith, c.self.invariant.ready, ready-most c.self.inside.streams.entries, c.len-count.ensures.len, c.len-count.ensures.small)

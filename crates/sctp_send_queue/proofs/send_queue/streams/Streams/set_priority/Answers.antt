@@ -2,9 +2,10 @@ use Rattle.std.proofs.Common.{ap, sym, ◌∙◌}
 use Rattle.std.specs.Map.{lookup}
 use Rattle.std.specs.Ordering.{nat_cmp}
 use Rattle.std.specs.BTreeMap.{is_at}
-use Rattle.sctp_send_queue.specs.Queue.{Streams, Entries, total_of}
+use Rattle.sctp_send_queue.specs.Queue.{Stream, Streams, Entries, total_of}
 use Rattle.sctp_send_queue.specs.Settings.{with_priority}
 use Rattle.sctp_send_queue.proofs.BoundLemmas.{few-changed, keeps-same}
+use Rattle.sctp_send_queue.proofs.ReadyLemmas.{ready-kept}
 use Rattle.sctp_send_queue.proofs.StreamsLemmas.{total-kept, put-nowhere}
 use Rattle.sctp_send_queue.proofs.send_queue.streams.Streams.set_priority.Goals as goal
 
@@ -23,4 +24,5 @@ invariant_of-self-2 c =
     record {
       counted = c.self.invariant.counted ∙ sym (ap total_of written ∙ total-kept c.args.id.0 entries v w c.in-Some.ensures.value c.set_priority.ensures.amount);
       few = few-changed c.args.id.0 entries _ v w (with_priority c.args.priority v) c.in-Some.ensures.value written c.set_priority.ensures.after (keeps-same v.messages) c.self.invariant.few;
+      ready = c.self.invariant.ready ∙ ready-kept c.args.id.0 entries _ v w c.in-Some.ensures.value written (ap (λ (t : Stream). t.pause) c.set_priority.ensures.after);
     }

@@ -1,10 +1,12 @@
-use Rattle.std.proofs.Common.{ap, sym, ◌∙◌}
+use Rattle.std.proofs.Common.{ap, sym, ◌∙◌, arith}
 use Rattle.std.specs.Map.{lookup}
 use Rattle.std.specs.Ordering.{nat_cmp}
 use Rattle.std.specs.BTreeMap.{is_at}
 use Rattle.sctp_send_queue.specs.Queue.{Streams, Entries, total_of}
 use Rattle.sctp_send_queue.specs.Resets.{after_step}
+use Rattle.sctp_send_queue.specs.Bounded.{one}
 use Rattle.sctp_send_queue.proofs.BoundLemmas.{few-changed, keeps-step}
+use Rattle.sctp_send_queue.proofs.ReadyLemmas.{ready-changed, ready-least, ready-most}
 use Rattle.sctp_send_queue.proofs.StreamsLemmas.{total-kept, put-nowhere}
 use Rattle.sctp_send_queue.proofs.send_queue.streams.Streams.take_step.Goals as goal
 
@@ -23,4 +25,11 @@ invariant_of-self-2 c =
     record {
       counted = c.self.invariant.counted ∙ sym (ap total_of written ∙ total-kept c.args.id.0 entries v w c.in-Some.ensures.value c.take_step.ensures.amount);
       few = few-changed c.args.id.0 entries _ v w (after_step c.args.step v) c.in-Some.ensures.value written c.take_step.ensures.after (keeps-step c.args.step v) c.self.invariant.few;
+      ready = ready-changed c.args.id.0 c.self.inside.ready_count _ _ _ entries _ v w c.in-Some.ensures.value written c.is_ready-was_ready.ensures c.is_ready.ensures c.self.invariant.ready c.ready_count_after-self-inside.ensures;
     }
+
+pub ready_count_after-self-inside-requires-clause-least : goal.ready_count_after-self-inside-requires-clause-least
+ready_count_after-self-inside-requires-clause-least c = omega (arith, ap one c.is_ready-was_ready.ensures, ready-least c.args.id.0 c.self.inside.streams.entries c.in-Some.stream.now c.in-Some.ensures.value, c.self.invariant.ready)
+
+pub ready_count_after-self-inside-requires-clause-most : goal.ready_count_after-self-inside-requires-clause-most
+ready_count_after-self-inside-requires-clause-most c = omega (arith, c.self.invariant.ready, ready-most c.self.inside.streams.entries, c.len-count.ensures.len, c.len-count.ensures.small)
