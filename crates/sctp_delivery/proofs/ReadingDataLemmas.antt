@@ -13,7 +13,6 @@ use Rattle.sctp_send_queue.specs.Queue.{Queue}
 use Rattle.sctp_rx.specs.Tracker as tracker
 use Rattle.sctp_rx.specs.Tracker.{DataTracker}
 use Rattle.sctp_rules.specs.State.{Message, ForwardPoint, Sender, Transfer, IsAmong, place_of, count, ordered_of, stream_of}
-use Rattle.sctp_rules.specs.Kept.{Kept}
 use Rattle.sctp_rules.specs.Points.{AreApart}
 use Rattle.sctp_rules.specs.Resets.{Epochs}
 use Rattle.sctp_rules.specs.Based.{EpochWindows}

@@ -9,8 +9,8 @@ use Rattle.sctp_chunk.specs.declared.forward_tsn.SkippedStream.{SkippedStream}
 use Rattle.sctp_rx.specs.Tracker as tracker
 use Rattle.sctp_rx.specs.Tracker.{Tracker, IsTracker, is_valid, has_seen, moves_on, observe}
 use Rattle.sctp_rx.specs.Streams.{is_far, entries_in}
-use Rattle.sctp_rx.specs.ReassemblyQueue.{Reassembly, Deferred, Waiting, Added, Forwarded, number_of, came, add_now, forward_now, forward_in, fragment_waits, point_waits, with_waiting, waits, resetting, waiting_in, wait_with, add, forward}
-use Rattle.sctp_rules.specs.State.{Message, ForwardPoint, IsAmong, place_of}
+use Rattle.sctp_rx.specs.ReassemblyQueue.{Reassembly, Deferred, Waiting, Added, Forwarded, number_of, came, add_now, forward_now, forward_in, fragment_waits, point_waits, with_waiting, waits, resetting, waiting_in, add, forward}
+use Rattle.sctp_rules.specs.State.{Message, ForwardPoint, IsAmong}
 use Rattle.sctp_rules.specs.Rules.{Event, data_comes, late_comes, forward_comes, deliver, covers}
 use Rattle.sctp_rules.specs.Points.{AreApart}
 use Rattle.sctp_rules.specs.Based.{EpochWindows}
@@ -28,7 +28,7 @@ use Rattle.sctp_rx_rules.proofs.RowLemmas.{old_point, again}
 use Rattle.sctp_table.specs.Association.{Tcb}
 use Rattle.sctp_table.specs.Requests.{Requests}
 use Rattle.sctp_table.specs.Data.{added_unless, skipped_if, taken, forwarded}
-use Rattle.sctp_delivery.specs.Asks.{Ask, HasPerformed, HasDeferred, IsAnswering}
+use Rattle.sctp_delivery.specs.Asks.{Ask, IsAnswering}
 use Rattle.sctp_delivery.proofs.ClaimLemmas.{Direction, transfer_of, is_receiving, goes_in, IsKept, GoesOn, AsksStay, IsReceiving}
 use Rattle.sctp_delivery.proofs.ReadingDataLemmas.{DataHeard, PointHeard}
 use Rattle.sctp_delivery.proofs.ReceiverToolLemmas.{ready_is_receiving, led, receiving_goes, performed_along, led_kept}

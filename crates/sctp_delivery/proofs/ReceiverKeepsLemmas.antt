@@ -1,12 +1,12 @@
 -- Each act of an end leads its claim as a receiver on: what it sends, hears in its acknowledgements, waits for and is asked, and
 -- so all of them.
-use Rattle.std.proofs.Common.{◌≡◌, ℕ, ◌^◌, ◌+◌, ◌<◌, ◌++◌, Bool, true, false, cond, Option, Some, None, List, [], ◌∷◌, length, map, All, refl, sym, ap, ◌∙◌, subst}
+use Rattle.std.proofs.Common.{◌≡◌, ℕ, ◌^◌, ◌+◌, ◌<◌, ◌++◌, Bool, true, false, cond, Option, Some, None, List, [], ◌∷◌, length, map, All, refl, sym, ap, subst}
 use Rattle.std.specs.Prelude.{◌==◌}
 use Rattle.std.proofs.lemmas.List.Elements.{All-nil, All-cons}
 use Rattle.sctp_serial.specs.Messages as messages
 use Rattle.sctp_serial.specs.declared.api.StreamId.{StreamId}
 use Rattle.sctp_serial.specs.declared.types.tsn.Tsn.{Tsn}
-use Rattle.sctp_wire.specs.Parameter.{ParameterTree, outgoing_reset_request, incoming_reset_request}
+use Rattle.sctp_wire.specs.Parameter.{ParameterTree, outgoing_reset_request}
 use Rattle.sctp_packet.specs.Chunk.{ChunkTree, FragmentTree, re_config_chunk}
 use Rattle.sctp_state.specs.Events.{Event, OnIncomingStreamReset, OnStreamsResetPerformed, OnStreamsResetFailed, numbers_of}
 use Rattle.sctp_state.specs.Rtt.{rto}
@@ -34,11 +34,10 @@ use Rattle.sctp_delivery.proofs.ClaimLemmas.{Direction, transfer_of, SaysIn, Rec
 use Rattle.sctp_delivery.proofs.FrameLemmas.{IsSetting, IsHeardReset, KeepsJoined}
 use Rattle.sctp_delivery.proofs.ReadingDataLemmas.{RequestHeard, windows_stay, request_is_heard, none_incoming, has_ask}
 use Rattle.sctp_delivery.proofs.TrackerStaysLemmas.{tracker_timed, tracker_asked, tracker_ends_packet, tracker_waited}
-use Rattle.sctp_delivery.proofs.ResetEventsLemmas.{resets_in, none_behind, resets_sack, resets_expired, resets_timed_out, resets_sent, resets_threshold, resets_refused}
+use Rattle.sctp_delivery.proofs.ResetEventsLemmas.{resets_sack, resets_expired, resets_timed_out, resets_sent, resets_threshold, resets_refused}
 use Rattle.sctp_delivery.proofs.SenderToolLemmas.{same_packets}
 use Rattle.sctp_delivery.proofs.ReceiverToolLemmas.{SameSender, sender_stays}
-use Rattle.sctp_delivery.proofs.ReceiverDataLemmas.{Leads}
-use Rattle.sctp_delivery.proofs.ReceiverResetLemmas.{responses_say, ResetsOn, deferred_leads, performed_on}
+use Rattle.sctp_delivery.proofs.ReceiverResetLemmas.{responses_say, deferred_leads, performed_on}
 use Rattle.sctp_delivery.proofs.ReceiverStepLemmas.{rest_changes, acknowledging_changes, step_claims, stays_by, goes_through, goes_same, goes_led, goes_adding, goes_adding_all}
 use Rattle.sctp_delivery.proofs.ReceiverActsLemmas.{one_more, goes_packets, goes_opening, goes_closing, goes_data, goes_acknowledging}
 

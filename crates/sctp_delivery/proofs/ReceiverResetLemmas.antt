@@ -1,10 +1,9 @@
 -- Requests to reset streams at the end that performs them: each that is due is the next ask, which is deferred or performed; and
 -- what is answered is true.
-use Rattle.std.proofs.Common.{◌≡◌, ◌≢◌, ℕ, suc, ◌+◌, ◌-◌, ◌^◌, ◌<◌, ◌≤◌, Bool, true, false, cond, ltb, inl, inr, Option, Some, None, is_some, List, [], ◌∷◌, ◌++◌, length, map, slice_get, All, refl, sym, ap, ◌∙◌, subst, arith, append-nil}
-use Rattle.std.specs.Prelude.{◌||◌, ◌==◌, not, unwrap_or}
+use Rattle.std.proofs.Common.{◌≡◌, ℕ, suc, ◌+◌, ◌-◌, ◌^◌, ◌<◌, ◌≤◌, Bool, true, false, cond, ltb, inl, inr, Option, Some, None, is_some, List, [], ◌∷◌, ◌++◌, length, map, slice_get, All, refl, sym, ap, ◌∙◌, subst, arith, append-nil}
+use Rattle.std.specs.Prelude.{◌||◌, ◌==◌}
 use Rattle.std.specs.List.{list_all}
 use Rattle.std.proofs.lemmas.Bool.{cases_eq, both_ways, eqb-true, eq-eqb, ne_eqb, ltb-true, ltb-false}
-use Rattle.std.proofs.lemmas.Bool.Decides.{nat_tests}
 use Rattle.std.proofs.lemmas.List.Elements.{All-weaker}
 use Rattle.sctp_serial.specs.Messages as messages
 use Rattle.sctp_serial.specs.Unwrapped.{origin, words, wire}
@@ -16,9 +15,8 @@ use Rattle.sctp_rx.specs.Tracker.{number_of}
 use Rattle.sctp_rx.specs.ReassemblyQueue.{Reassembly, Deferred, defer, reset}
 use Rattle.sctp_rx.specs.ReassemblyQueue as queue
 use Rattle.sctp_rules.specs.State.{Message, has, count}
-use Rattle.sctp_rules.specs.Kept.{Kept}
 use Rattle.sctp_rules.specs.Resets as rules
-use Rattle.sctp_rules.specs.Resets.{Epochs, ResetEvent, perform, MayAll, go_all}
+use Rattle.sctp_rules.specs.Resets.{ResetEvent, perform, go_all}
 use Rattle.sctp_rules.proofs.BasedLemmas.{all_in_epochs}
 use Rattle.sctp_rx_rules.specs.Read.{shift_after}
 use Rattle.sctp_rx_rules.specs.Near.{IsInWindow}
@@ -26,15 +24,15 @@ use Rattle.sctp_rx_rules.specs.Resets.{base_now, AreNextTo, AreNext, performs, n
 use Rattle.sctp_rx_rules.proofs.DeferralRowLemmas.{next_once_seen, waits_none, none_waits, deferred_row, deferred_again}
 use Rattle.sctp_rx_rules.proofs.ResetRowLemmas.{reset_row}
 use Rattle.sctp_table.specs.Association.{Tcb}
-use Rattle.sctp_table.specs.Requests.{Requests, ids, in_progress, performed, nothing_to_do, bad_number, is_final, is_last, is_next, is_known, processed}
+use Rattle.sctp_table.specs.Requests.{Requests, ids, in_progress, performed, is_final, is_last, is_next, is_known, processed}
 use Rattle.sctp_table.specs.Resets.{is_ahead}
 use Rattle.sctp_table.specs.Laws.{Call}
 use Rattle.sctp_table_laws.specs.Mapped.{Carried}
-use Rattle.sctp_course.specs.Acts.{IsDue, IsAnswer, HasRequest, AsksNoIncoming, Answers}
+use Rattle.sctp_course.specs.Acts.{IsDue, HasRequest, AsksNoIncoming, Answers}
 use Rattle.sctp_delivery.specs.Asks as asks
-use Rattle.sctp_delivery.specs.Asks.{Ask, named_in, request_for, AreAsked, SaysDone, SaysIncoming, HasPerformed, HasDeferred, IsAnswering}
+use Rattle.sctp_delivery.specs.Asks.{named_in, request_for, AreAsked, SaysDone, SaysIncoming, HasPerformed, HasDeferred, IsAnswering}
 use Rattle.sctp_delivery.specs.StreamEpochs.{are_named, resets_told}
-use Rattle.sctp_delivery.proofs.AsksLemmas.{get_below, named_next, performs_of, ask_is_performed}
+use Rattle.sctp_delivery.proofs.AsksLemmas.{get_below, named_next, ask_is_performed}
 use Rattle.sctp_delivery.proofs.AskedNextLemmas.{requests_of, next_ask, next_names}
 use Rattle.sctp_delivery.proofs.AnswersLemmas.{number_once, next_is_ask, last_is_ask, other_is_older}
 use Rattle.sctp_delivery.proofs.ClaimLemmas.{Direction, transfer_of, goes_in, IsKept, GoesOn, AsksStay, IsReceiving}

@@ -1,5 +1,5 @@
 -- An acknowledgement that a receiver makes, by the rules: what it says is true, and the values show the state after it.
-use Rattle.std.proofs.Common.{◌≡◌, ℕ, suc, ◌+◌, ◌-◌, ◌≤◌, Bool, inl, List, [], ◌∷◌, refl, ap, arith}
+use Rattle.std.proofs.Common.{◌≡◌, ℕ, ◌+◌, ◌-◌, Bool, inl, List, [], ◌∷◌, refl, ap, arith}
 use Rattle.sctp_serial.specs.Messages as messages
 use Rattle.sctp_serial.specs.Unwrapped.{origin, words, wire}
 use Rattle.sctp_rules.specs.State.{Message, count}
@@ -10,7 +10,7 @@ use Rattle.sctp_rx_rules.proofs.NearRowLemmas.{sender_keeps}
 use Rattle.sctp_rx_rules.proofs.NearKeptLemmas.{sender_keeps_mids}
 use Rattle.sctp_table.specs.Association.{Tcb}
 use Rattle.sctp_table.specs.Sending.{selective_ack}
-use Rattle.sctp_delivery.proofs.ClaimLemmas.{Direction, transfer_of, goes_in, IsKept, GoesOn, IsReceiving, SaysIn}
+use Rattle.sctp_delivery.proofs.ClaimLemmas.{Direction, transfer_of, IsKept, IsReceiving, SaysIn}
 use Rattle.sctp_delivery.proofs.ReadingLemmas.{front_of, front_at, front_between}
 use Rattle.sctp_delivery.proofs.ReceiverToolLemmas.{led, receiving_goes, led_kept, waits_still}
 use Rattle.sctp_delivery.proofs.ReceiverDataLemmas.{Leads}
