@@ -27,10 +27,12 @@ pub mod DirectionLemmas
 pub mod PremisesLemmas
 pub mod TurnLemmas
 pub mod AccountLemmas
+pub mod ResetCallLemmas
 pub mod GoingLemmas
 pub mod ComingLemmas
 pub mod FitsLemmas
 pub mod DoneLemmas
+pub mod EpochPointLemmas
 pub mod DeliveryLemmas
 pub mod TakenLemmas
 pub mod OfferingLemmas
