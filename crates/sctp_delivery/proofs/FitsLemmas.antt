@@ -143,11 +143,14 @@ module _ (message : ℕ → Message) (os : List Offer) (there : (p : ℕ) (o : O
             (ap (λ (z : Message). z.stream) first ∙ (line.stream ∙ sym (ap (λ (z : Message). z.stream) second)));
       }
 
+  -- one each
+  pub many_places : (mixed : Bool) (x : Transfer) (ready : List messages.Message) → Kept message mixed x → x.receiver.ready ≡ map ready_of ready → length ready ≡ length x.receiver.places
+  many_places mixed x ready k is =
+      let c : rules.Fits message x = (claimed message mixed x k).fits in
+      sym (length-map ready ready_of) ∙ (ap (λ (z : List ReadyMessage). length z) (sym is ∙ c.alike) ∙ length-map x.receiver.places (ready_message message))
+
   -- also where more became ready since
   pub first_places : (mixed : Bool) (x : Transfer) (ready : List messages.Message) → Kept message mixed x → x.receiver.ready ≡ map ready_of ready
       → (places more : List ℕ) → places ≡ x.receiver.places ++ more → take (length ready) places ≡ x.receiver.places
   first_places mixed x ready k is places more e =
-      let c : rules.Fits message x = (claimed message mixed x k).fits in
-      let count : length ready ≡ length x.receiver.places =
-      sym (length-map ready ready_of) ∙ (ap (λ (z : List ReadyMessage). length z) (sym is ∙ c.alike) ∙ length-map x.receiver.places (ready_message message)) in
-      ap (λ (n : ℕ). take n places) count ∙ (ap (λ (z : List ℕ). take (length x.receiver.places) z) e ∙ take-append_seam x.receiver.places more)
+      ap (λ (n : ℕ). take n places) (many_places mixed x ready k is) ∙ (ap (λ (z : List ℕ). take (length x.receiver.places) z) e ∙ take-append_seam x.receiver.places more)
