@@ -129,10 +129,10 @@ module _ (message : ℕ → Message) (lifecycle : ℕ → Option ℕ) (mixed : B
   next_still : (x y : Epochs) → Leaves message mixed x y → (upto : ℕ) (rs : List Request) → AreNextTo x upto rs → AreNextTo y upto rs
   next_still x y l upto [] h = tt
   next_still x y l upto (r ∷ rs) h = (
-      record { sent = l.requests r h.0.sent; epoch = h.0.epoch ∙ ap (λ (f : ℕ → ℕ). suc (f r.stream)) (sym l.performed); last = h.0.last },
-      h.1,
-      next_still x y l upto rs h.2,
-    )
+    record { sent = l.requests r h.0.sent; epoch = h.0.epoch ∙ ap (λ (f : ℕ → ℕ). suc (f r.stream)) (sym l.performed); last = h.0.last },
+    h.1,
+    next_still x y l upto rs h.2,
+  )
 
   waiting_still : (x y : Epochs) → Leaves message mixed x y → (shift : ℕ) (first : Option ℕ) (d : Option Deferred) → IsWaitingFor shift x first d → IsWaitingFor shift y first d
   waiting_still x y l shift first None h = tt

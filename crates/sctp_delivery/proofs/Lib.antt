@@ -16,6 +16,7 @@ pub mod SenderLightLemmas
 pub mod SenderResetLemmas
 pub mod SenderOpeningLemmas
 pub mod SenderKeepsLemmas
+pub mod ResetCallLemmas
 pub mod TrackerStaysLemmas
 pub mod ReceiverToolLemmas
 pub mod ReceiverDataLemmas
@@ -50,7 +51,6 @@ pub mod BoundsLemmas
 pub mod SkippingLemmas
 pub mod AsksLemmas
 pub mod ResetRunLemmas
-pub mod EpochClaimLemmas
 pub mod StreamEpochLemmas
 pub mod AskedNextLemmas
 pub mod AnswersLemmas

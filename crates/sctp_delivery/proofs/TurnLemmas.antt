@@ -24,7 +24,7 @@ use Rattle.sctp_delivery.specs.Windows.{Stamp, numbered, queue_of, stamped}
 use Rattle.sctp_delivery.proofs.AsksLemmas.{get_below}
 use Rattle.sctp_delivery.proofs.ClaimLemmas.{Direction, transfer_of, goes_out, goes_in, IsKept, GoesOn, AsksStay, first_out, first_in, AreSo, SendsIn, ReceivesIn, SenderClaim, ReceiverClaim}
 use Rattle.sctp_delivery.proofs.FilledLemmas.{fills, filled_goes, receives_filled}
-use Rattle.sctp_delivery.proofs.SenderToolLemmas.{Grows, goes_grows, goes_none, receiver_stays, SameSender, sender_stays}
+use Rattle.sctp_delivery.proofs.SenderToolLemmas.{Grows, goes_grows, goes_none, receiver_stays, SameSender, sender_stays, so_still}
 use Rattle.sctp_delivery.proofs.WithinLemmas.{numbered_is}
 use Rattle.sctp_delivery.proofs.DirectionLemmas.{Saying, IsUnderWay, AllUnderWay, each_behind, says_out, says_in, out_on, in_on, out_first, in_first, Stands, SoFar, Flows}
 use Rattle.sctp_delivery.proofs.PremisesLemmas.{waits, is_asked, waits_again}
@@ -228,15 +228,6 @@ module _ {P : Type 0} where
 
 -- ---- how the streams stand
 
-so_on : (f : ℕ → StreamEpoch) (x y : Epochs) → y.raised ≡ x.raised → y.opened ≡ x.opened → AreSo f x → AreSo f y
-so_on f x y raised opened so s =
-    let r = ap (λ (g : ℕ → ℕ). g s) raised in
-    let o = ap (λ (g : ℕ → ℕ). g s) opened in (
-      (so s).0 ∙ sym r,
-      λ h. r ∙ ((so s).1 h ∙ sym o),
-      λ h. r ∙ ((so s).2 h ∙ ap suc (sym o)),
-    )
-
 pub so_again : (f g : ℕ → StreamEpoch) (x : Epochs) → ((s : ℕ) → g s ≡ f s) → AreSo f x → AreSo g x
 so_again f g x same so s =
     subst (λ (e : StreamEpoch). (e.epoch ≡ x.raised s) × (e.is_open ≡ true → x.raised s ≡ x.opened s) × (e.is_open ≡ false → x.raised s ≡ suc (x.opened s))) (sym (same s)) (so s)
@@ -373,7 +364,7 @@ module _ (message : ℕ → Message) (lifecycle : ℕ → Option ℕ) (mixed : B
         out = more_under_way (says_out message mixed (first_out e.standing.state)) of now mid y s.told told stamps_s
             (at_now ∙ sym counted) (omega (arith, near, counted, acked)) grows.left grows.numbered c.told old;
         answers = answers;
-        streams = c.epochs so_far.streams (so_on so_far.streams x.rules mid.rules offers.raised offers.opened f.streams);
+        streams = c.epochs so_far.streams (so_still so_far.streams x.rules mid.rules offers.raised offers.opened f.streams);
         many = length-append so_far.epochs (epochs_of os so_far.streams) ∙ (ap (λ (n : ℕ). n + length (epochs_of os so_far.streams)) many
             ∙ ap (λ (n : ℕ). accepted + n) (length-map os (λ (o : Offer). (so_far.streams o.message.stream).epoch)));
         epochs = λ p n h. ap (λ (g : ℕ → ℕ). g p) same.epoch
@@ -408,7 +399,7 @@ module _ (message : ℕ → Message) (lifecycle : ℕ → Option ℕ) (mixed : B
         out = out_on message mixed goes_in x y f.kept.epochs c.goes (first_out (state_of s)) of (emitted s) stamps_s f.out;
         answers = more_under_way (says_in message mixed (first_in e.standing.state)) of now x y r.told told stamps_r
             at_now near grows.left grows.numbered c.told old;
-        streams = so_on so_far.streams x.rules y.rules same.raised same.opened f.streams;
+        streams = so_still so_far.streams x.rules y.rules same.raised same.opened f.streams;
         many = f.many;
         epochs = λ p n h. ap (λ (g : ℕ → ℕ). g p) same.epoch ∙ f.epochs p n h;
         asked = λ a h. f.asked a (sym (ap (λ (l : List Ask). slice_get l y.answered) c.stay.0 ∙ ap (λ (n : ℕ). slice_get x.asks n) c.stay.1) ∙ h);
