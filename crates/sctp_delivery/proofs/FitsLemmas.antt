@@ -35,7 +35,7 @@ all_short [] h p = omega arith
 all_short (o ∷ os) h zero = All-head (λ (o : Offer). length o.message.payload < 2 ^ 32) o os h
 all_short (o ∷ os) h (suc p) = all_short os (All-tail (λ (o : Offer). length o.message.payload < 2 ^ 32) o os h) p
 
-get_behind : (xs ys : List Offer) (n : ℕ) (o : Offer) → slice_get xs n ≡ Some o → slice_get (xs ++ ys) n ≡ Some o
+pub get_behind : (xs ys : List Offer) (n : ℕ) (o : Offer) → slice_get xs n ≡ Some o → slice_get (xs ++ ys) n ≡ Some o
 get_behind [] ys n o e = cc
 get_behind (x ∷ xs) ys zero o e = e
 get_behind (x ∷ xs) ys (suc n) o e = get_behind xs ys n o e

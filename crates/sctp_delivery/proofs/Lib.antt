@@ -28,7 +28,6 @@ pub mod DirectionLemmas
 pub mod PremisesLemmas
 pub mod TurnLemmas
 pub mod AccountLemmas
-pub mod ResetCallLemmas
 pub mod GoingLemmas
 pub mod ComingLemmas
 pub mod FitsLemmas
