@@ -21,6 +21,7 @@ pub mod TrackerStaysLemmas
 pub mod ReceiverToolLemmas
 pub mod ReceiverDataLemmas
 pub mod ReceiverSackLemmas
+pub mod ReceiverResetLemmas
 pub mod ReceiverStepLemmas
 pub mod ReceiverActsLemmas
 pub mod ReceiverKeepsLemmas
