@@ -33,6 +33,7 @@ pub mod GoingLemmas
 pub mod ComingLemmas
 pub mod FitsLemmas
 pub mod DoneLemmas
+pub mod EpochPointLemmas
 pub mod DeliveryLemmas
 pub mod TakenLemmas
 pub mod OfferingLemmas
