@@ -35,7 +35,7 @@ all_short [] h p = omega arith
 all_short (o ∷ os) h zero = All-head (λ (o : Offer). length o.message.payload < 2 ^ 32) o os h
 all_short (o ∷ os) h (suc p) = all_short os (All-tail (λ (o : Offer). length o.message.payload < 2 ^ 32) o os h) p
 
-get_behind : (xs ys : List Offer) (n : ℕ) (o : Offer) → slice_get xs n ≡ Some o → slice_get (xs ++ ys) n ≡ Some o
+pub get_behind : (xs ys : List Offer) (n : ℕ) (o : Offer) → slice_get xs n ≡ Some o → slice_get (xs ++ ys) n ≡ Some o
 get_behind [] ys n o e = cc
 get_behind (x ∷ xs) ys zero o e = e
 get_behind (x ∷ xs) ys (suc n) o e = get_behind xs ys n o e
@@ -143,11 +143,14 @@ module _ (message : ℕ → Message) (os : List Offer) (there : (p : ℕ) (o : O
             (ap (λ (z : Message). z.stream) first ∙ (line.stream ∙ sym (ap (λ (z : Message). z.stream) second)));
       }
 
+  -- one each
+  pub many_places : (mixed : Bool) (x : Transfer) (ready : List messages.Message) → Kept message mixed x → x.receiver.ready ≡ map ready_of ready → length ready ≡ length x.receiver.places
+  many_places mixed x ready k is =
+      let c : rules.Fits message x = (claimed message mixed x k).fits in
+      sym (length-map ready ready_of) ∙ (ap (λ (z : List ReadyMessage). length z) (sym is ∙ c.alike) ∙ length-map x.receiver.places (ready_message message))
+
   -- also where more became ready since
   pub first_places : (mixed : Bool) (x : Transfer) (ready : List messages.Message) → Kept message mixed x → x.receiver.ready ≡ map ready_of ready
       → (places more : List ℕ) → places ≡ x.receiver.places ++ more → take (length ready) places ≡ x.receiver.places
   first_places mixed x ready k is places more e =
-      let c : rules.Fits message x = (claimed message mixed x k).fits in
-      let count : length ready ≡ length x.receiver.places =
-      sym (length-map ready ready_of) ∙ (ap (λ (z : List ReadyMessage). length z) (sym is ∙ c.alike) ∙ length-map x.receiver.places (ready_message message)) in
-      ap (λ (n : ℕ). take n places) count ∙ (ap (λ (z : List ℕ). take (length x.receiver.places) z) e ∙ take-append_seam x.receiver.places more)
+      ap (λ (n : ℕ). take n places) (many_places mixed x ready k is) ∙ (ap (λ (z : List ℕ). take (length x.receiver.places) z) e ∙ take-append_seam x.receiver.places more)

@@ -95,8 +95,6 @@ pub record Parts (message : ℕ → Message) (lifecycle : ℕ → Option ℕ) (m
   pub offered_in : (g : Setting) (call : Call) (x : Direction) (s : Side) (handed : List messages.Message) → Rules g call → is_offer call ≡ true
       → ReceiverPremises message lifecycle mixed g call x → HasNoEnd (calm (called call s.end)) → InvAt g (calm s.end)
       → ReceiverGoes message lifecycle mixed x handed (calm s.end) (calm (called call s.end))
-  -- streams are to be reset
-  pub prepares_one : (from : Direction) → calls.PreparesOne message lifecycle mixed from
 
 -- ---- where a turn leads
 
@@ -355,7 +353,7 @@ module _ (message : ℕ → Message) (lifecycle : ℕ → Option ℕ) (mixed : B
   reset_out ids None fine may none stands =
       let g : Setting = setting o q s r s.is_asked in
       let quiet : Rules g NoPacket = rules_call o q s r own other NoPacket tt in
-      let first = calls.claim_prepared message lifecycle mixed x (parts.prepares_one x) (state_of s) s.end.standing.context s.end.words ids fine x start in
+      let first = calls.claim_prepared message lifecycle mixed x (state_of s) s.end.standing.context s.end.words ids fine quiet_s.told x start in
       let goes : SenderGoes message lifecycle mixed x (calls.preparing ids s.end) (calm (calls.reset_by None ids s.end)) =
       calls.then_reset g quiet (parts.sender_keeps g NoPacket x (premises_out s.is_asked NoPacket (none_heard NoPacket (λ p e. cc)))) s.end ids
       (rules_call o q s r own other (ResetStreams ids) may) fine none (begins o q s r s.is_asked (λ z. z) h.own h.other) in
