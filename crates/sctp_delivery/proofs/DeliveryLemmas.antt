@@ -30,7 +30,8 @@ use Rattle.sctp_delivery.specs.Delivery.{ReportsAreTrue}
 use Rattle.sctp_delivery.specs.Ending.{stamps_along}
 use Rattle.sctp_delivery.proofs.ClaimLemmas.{Direction, transfer_of, ReceivesIn}
 use Rattle.sctp_delivery.proofs.DirectionLemmas.{SoFar, Flows, IsSilent}
-use Rattle.sctp_delivery.proofs.CourseResetLemmas.{failed_both, few_before, answered_now, asked_of, answered_at, asked_again, epochs_beside}
+use Rattle.sctp_delivery.proofs.ResetEventsLemmas.{failed_more}
+use Rattle.sctp_delivery.proofs.CourseResetLemmas.{few_before, answered_now, asked_of, answered_at, asked_again, epochs_beside}
 use Rattle.sctp_delivery.proofs.TurnLemmas.{AreOffered}
 use Rattle.sctp_delivery.proofs.AccountLemmas.{Accounted}
 use Rattle.sctp_delivery.proofs.GoingLemmas.{Parts, Turned, flows_again, turn_out, turn_until}
@@ -398,7 +399,7 @@ module _ (all : List Offer) (all_epochs : List ℕ) (mixed : Bool) (parts : Part
   none_both : (side : Side) (past early rest : List (Event Carried)) → side.told ≡ past ++ (early ++ rest) → failed_in side.told ≡ false → failed_in (past ++ early) ≡ false
   none_both side past early rest e none =
       let all_told : failed_in side.told ≡ (failed_in (past ++ early) || failed_in rest) =
-      ap (λ (es : List (Event Carried)). failed_in es) (e ∙ sym (append_assoc past early rest)) ∙ failed_both (past ++ early) rest in
+      ap (λ (es : List (Event Carried)). failed_in es) (e ∙ sym (append_assoc past early rest)) ∙ failed_more (past ++ early) rest in
       (or_parts (failed_in (past ++ early)) (failed_in rest) (sym all_told ∙ none)).0
 
   until_then : (s r side : Side) (of : Stamp → ℕ) (stamps_s stamps_r : List Stamp) (done os : List Offer) → all ≡ done ++ os → (handed ready : List messages.Message)

@@ -1,5 +1,5 @@
 -- What is told of resets, and that whatever sends, acknowledges, gives up or settles a stream's values tells nothing of them.
-use Rattle.std.proofs.Common.{◌≡◌, ℕ, zero, suc, ◌+◌, ◌-◌, ◌&&◌, Bool, true, false, cond, not, ◌||◌, nat_lt, Option, Some, None, unwrap_or, option_map, List, [], ◌∷◌, ◌++◌, length, take, slice_get, is_some, refl, ap, ◌∙◌, append-nil}
+use Rattle.std.proofs.Common.{◌≡◌, ℕ, zero, suc, ◌+◌, ◌-◌, ◌&&◌, Bool, true, false, cond, not, ◌||◌, nat_lt, Option, Some, None, unwrap_or, option_map, List, [], ◌∷◌, ◌++◌, length, take, slice_get, is_some, refl, ap, ◌∙◌, append-nil, append_assoc, sym, arith}
 use Rattle.sctp_chunk.specs.declared.sack.GapAckBlock.{GapAckBlock}
 use Rattle.sctp_state.specs.declared.api.errors.SendError.{SendError}
 use Rattle.sctp_state.specs.declared.api.errors.SendError.TheVariants.{EmptyPayload, MessageTooLarge, ShuttingDown, ResourceExhaustion as QueueFull, Memory, Failed}
@@ -72,6 +72,37 @@ module _ {P : Type 0} where
 
   none_both : (es fs : List (Event P)) → resets_in es ≡ [] → resets_in fs ≡ [] → resets_in (es ++ fs) ≡ []
   none_both es fs a b = none_behind es fs b ∙ a
+
+-- ---- what is told behind
+
+module _ {P : Type 0} where
+  pub performed_both : (es fs : List (Event P)) → performed_in (es ++ fs) ≡ performed_in es + performed_in fs
+  performed_both [] fs = omega arith
+  performed_both (OnStreamsResetPerformed streams ∷ es) fs = let h = performed_both es fs in omega (arith, h)
+  performed_both (e ∷ es) fs = performed_both es fs
+
+  pub named_both : (es fs : List (Event P)) → performed_of (es ++ fs) ≡ performed_of es ++ performed_of fs
+  named_both [] fs = refl
+  named_both (OnStreamsResetPerformed streams ∷ es) fs = ap (λ (ns : List ℕ). streams ++ ns) (named_both es fs) ∙ sym (append_assoc streams (performed_of es) (performed_of fs))
+  named_both (e ∷ es) fs = named_both es fs
+
+  pub told_both : (s : ℕ) (es fs : List (Event P)) → resets_told s (es ++ fs) ≡ resets_told s es + resets_told s fs
+  told_both s [] fs = omega arith
+  told_both s (OnIncomingStreamReset streams ∷ es) fs = go (are_named streams s) (told_both s es fs)
+    where
+      go : (b : Bool) → resets_told s (es ++ fs) ≡ resets_told s es + resets_told s fs
+          → (let n : ℕ = cond b (1 + resets_told s (es ++ fs)) (resets_told s (es ++ fs)) in n) ≡ cond b (1 + resets_told s es) (resets_told s es) + resets_told s fs
+      go true ih = omega (arith, ih)
+      go false ih = ih
+  told_both s (e ∷ es) fs = told_both s es fs
+
+  pub failed_more : (es fs : List (Event P)) → failed_in (es ++ fs) ≡ (failed_in es || failed_in fs)
+  failed_more [] fs = refl
+  failed_more (OnStreamsResetFailed streams ∷ es) fs = refl
+  failed_more (e ∷ es) fs = failed_more es fs
+
+  pub none_failed_both : (es fs : List (Event P)) → failed_in es ≡ false → failed_in fs ≡ false → failed_in (es ++ fs) ≡ false
+  none_failed_both es fs h k = failed_more es fs ∙ (ap (λ (b : Bool). b || failed_in fs) h ∙ k)
 
 -- ---- what tells none
 

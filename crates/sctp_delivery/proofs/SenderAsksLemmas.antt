@@ -158,24 +158,6 @@ has_from k [] a = absurd a
 has_from k (id ∷ ids) (inl e) = ap (λ (b : Bool). b || has k ids) (eq-eqb k id e)
 has_from k (id ∷ ids) (inr a) = or_right (k == id) (has k ids) (has_from k ids a)
 
--- ---- what is told
-
-module _ {P : Type 0} where
-  pub named_both : (es fs : List (Event P)) → performed_of (es ++ fs) ≡ performed_of es ++ performed_of fs
-  named_both [] fs = refl
-  named_both (OnStreamsResetPerformed streams ∷ es) fs = ap (λ (ns : List ℕ). streams ++ ns) (named_both es fs) ∙ sym (append_assoc streams (performed_of es) (performed_of fs))
-  named_both (e ∷ es) fs = named_both es fs
-
-  pub counted_both : (es fs : List (Event P)) → performed_in (es ++ fs) ≡ performed_in es + performed_in fs
-  counted_both [] fs = omega arith
-  counted_both (OnStreamsResetPerformed streams ∷ es) fs = let h = counted_both es fs in omega (arith, h)
-  counted_both (e ∷ es) fs = counted_both es fs
-
-  pub failed_both : (es fs : List (Event P)) → failed_in es ≡ false → failed_in fs ≡ false → failed_in (es ++ fs) ≡ false
-  failed_both [] fs h k = k
-  failed_both (OnStreamsResetFailed streams ∷ es) fs h k = cc
-  failed_both (e ∷ es) fs h k = failed_both es fs h k
-
 -- ---- streams that are told as reset
 
 pub named_has : (s : ℕ) (ids : List ℕ) → are_named ids s ≡ has s ids

@@ -41,8 +41,8 @@ use Rattle.sctp_delivery.specs.Asks.{Ask, SaysOutgoing, IsAsking}
 use Rattle.sctp_delivery.specs.StreamEpochs.{performed_of, failed_in}
 use Rattle.sctp_delivery.proofs.ClaimLemmas.{Direction, transfer_of, SaysOut, first_out, IsWaiting, IsSending, SendsIn, SenderClaim, SenderGoes}
 use Rattle.sctp_delivery.proofs.FrameLemmas.{GoesOnShut, IsSetting}
-use Rattle.sctp_delivery.proofs.ResetEventsLemmas.{resets_in, none_behind, resets_threshold, resets_refused}
-use Rattle.sctp_delivery.proofs.SenderAsksLemmas.{asking_stays, asking_reads, named_both, counted_both}
+use Rattle.sctp_delivery.proofs.ResetEventsLemmas.{resets_in, none_behind, resets_threshold, resets_refused, performed_both, named_both}
+use Rattle.sctp_delivery.proofs.SenderAsksLemmas.{asking_stays, asking_reads}
 use Rattle.sctp_delivery.proofs.SenderToolLemmas.{same_packets, same_delivered, reports_none, reports_then, TellsNoAnswer, no_answer, tells_no_answer, SaysAll, SaysPackets}
 
 -- ---- a stream's settings
@@ -366,7 +366,7 @@ module _ (message : ℕ → Message) (lifecycle : ℕ → Option ℕ) (mixed : B
       let es = m.context.told.events in
       let b : Making Carried = in_open phase u (with_context (say e m.context) m) in
       let said : TellsQuietly m.context.told b.context.told = quiet_all (e ∷ []) m.context.told refl in
-      let n = counted_both es (e ∷ []) in
+      let n = performed_both es (e ∷ []) in
       goes_same (in_open phase t m) b
       (λ x h. sends_as t u m.context.queue x refl refl refl (asking_reads t.identity.my_first x.answered x.asks m.context.queue t.requests u.requests refl refl) h) refl refl
       (same_packets m.context.told b.context.told (lightly m.context.told b.context.told said)) (same_delivered m.context.told b.context.told said)

@@ -52,8 +52,8 @@ use Rattle.sctp_delivery.proofs.AnswersLemmas.{number_after, response_settles}
 use Rattle.sctp_delivery.proofs.AsksLemmas.{get_below, ask_is_sent, ask_is_answered}
 use Rattle.sctp_delivery.proofs.ClaimLemmas.{Direction, transfer_of, of_transfer, goes_out, IsKept, GoesOn, SaysOut, AreSo, SenderClaim, SenderGoes, SenderPremises}
 use Rattle.sctp_delivery.proofs.ReadingSackLemmas.{answer_is_heard}
-use Rattle.sctp_delivery.proofs.ResetEventsLemmas.{resets_prepared}
-use Rattle.sctp_delivery.proofs.SenderAsksLemmas.{asking_stays, asking_unsettled, done_ends, named_later, has_from, named_both, counted_both, failed_both, named_more, so_opened}
+use Rattle.sctp_delivery.proofs.ResetEventsLemmas.{resets_prepared, performed_both, named_both, none_failed_both}
+use Rattle.sctp_delivery.proofs.SenderAsksLemmas.{asking_stays, asking_unsettled, done_ends, named_later, has_from, named_more, so_opened}
 use Rattle.sctp_delivery.proofs.SenderLightLemmas.{tells_nothing, goes_saying, goes_open}
 use Rattle.sctp_delivery.proofs.SenderToolLemmas.{transfer_more, of_transfers, all_transfers, goes_grows, same_packets, reports_none, asked_still, TellsNoAnswer, no_answer, tells_no_answer, step_claims}
 
@@ -440,7 +440,7 @@ module _ (message : ℕ → Message) (lifecycle : ℕ → Option ℕ) (mixed : B
       let b : Making Carried = in_open phase u (with_context (on_outcome (Done ss) m.context) m) in
       let e : Event Carried = OnStreamsResetPerformed ss in
       let ends = done_ends m.context.now rto number result ss t.requests is in
-      let counted = counted_both es (e ∷ []) in
+      let counted = performed_both es (e ∷ []) in
       let goes : GoesOn message mixed goes_out x y = record {
         events = map commit ss;
         may = z.may;
@@ -477,7 +477,7 @@ module _ (message : ℕ → Message) (lifecycle : ℕ → Option ℕ) (mixed : B
             performed = omega (arith, counted);
             epochs = λ f g. subst (λ (ns : List ℕ). AreSo (reopened ns (shut prepared f)) y.rules) (sym (named_both es (e ∷ []) ∙ ap (λ (ns : List ℕ). performed_of es ++ ns) (append-nil ss)))
                 (so_opened (performed_of es) ss (shut prepared f) x.rules y.rules (ap (λ (d : Epochs). d.raised) w.rest) w.opened w.others g);
-            none_failed = λ f. failed_both es (e ∷ []) f refl;
+            none_failed = λ f. none_failed_both es (e ∷ []) f refl;
           };
           first = refl;
           packets = packets_both es (e ∷ []) ∙ append-nil (packets_in es);

@@ -23,8 +23,10 @@ use Rattle.sctp_delivery.specs.StreamEpochs.{StreamEpoch, are_named, shut, reope
 use Rattle.sctp_delivery.specs.Windows.{Stamp, numbered, queue_of, stamped}
 use Rattle.sctp_delivery.proofs.AsksLemmas.{get_below}
 use Rattle.sctp_delivery.proofs.ClaimLemmas.{Direction, transfer_of, goes_out, goes_in, IsKept, GoesOn, AsksStay, first_out, first_in, AreSo, SendsIn, ReceivesIn, SenderClaim, ReceiverClaim}
+use Rattle.sctp_delivery.proofs.ResetEventsLemmas.{performed_both, told_both, none_failed_both}
 use Rattle.sctp_delivery.proofs.FilledLemmas.{fills, filled_goes, receives_filled}
-use Rattle.sctp_delivery.proofs.SenderToolLemmas.{Grows, goes_grows, goes_none, receiver_stays, SameSender, sender_stays, so_still}
+use Rattle.sctp_delivery.proofs.SenderToolLemmas.{Grows, goes_grows, goes_none, receiver_stays, so_still}
+use Rattle.sctp_delivery.proofs.ReceiverToolLemmas.{SameSender, sender_stays}
 use Rattle.sctp_delivery.proofs.WithinLemmas.{numbered_is}
 use Rattle.sctp_delivery.proofs.DirectionLemmas.{Saying, IsUnderWay, AllUnderWay, each_behind, says_out, says_in, out_on, in_on, out_first, in_first, Stands, SoFar, Flows}
 use Rattle.sctp_delivery.proofs.PremisesLemmas.{waits, is_asked, waits_again}
@@ -203,29 +205,6 @@ more_under_way Says of now from y past told ss is near left numbered says h =
     subst (λ (ps : List Carried). AllUnderWay Says of y ps (ss ++ replicate (length ps - length (packets_in past)) now)) (sym (packets_both past told))
     (each_behind P now (packets_in past) (packets_in told) ss h new)
 
--- ---- what is told of resets
-
-module _ {P : Type 0} where
-  pub performed_more : (es fs : List (Event P)) → performed_in (es ++ fs) ≡ performed_in es + performed_in fs
-  performed_more [] fs = omega arith
-  performed_more (OnStreamsResetPerformed streams ∷ es) fs = let e = performed_more es fs in omega (arith, e)
-  performed_more (e ∷ es) fs = performed_more es fs
-
-  pub resets_more : (s : ℕ) (es fs : List (Event P)) → resets_told s (es ++ fs) ≡ resets_told s es + resets_told s fs
-  resets_more s [] fs = omega arith
-  resets_more s (OnIncomingStreamReset streams ∷ es) fs = go (are_named streams s) (resets_more s es fs)
-    where
-      go : (b : Bool) → resets_told s (es ++ fs) ≡ resets_told s es + resets_told s fs
-          → cond b (1 + resets_told s (es ++ fs)) (resets_told s (es ++ fs)) ≡ cond b (1 + resets_told s es) (resets_told s es) + resets_told s fs
-      go true e = omega (arith, e)
-      go false e = e
-  resets_more s (e ∷ es) fs = resets_more s es fs
-
-  pub none_failed_more : (es fs : List (Event P)) → failed_in es ≡ false → failed_in fs ≡ false → failed_in (es ++ fs) ≡ false
-  none_failed_more [] fs h k = k
-  none_failed_more (OnStreamsResetFailed streams ∷ es) fs h k = cc
-  none_failed_more (e ∷ es) fs h k = none_failed_more es fs h k
-
 -- ---- how the streams stand
 
 pub so_again : (f g : ℕ → StreamEpoch) (x : Epochs) → ((s : ℕ) → g s ≡ f s) → AreSo f x → AreSo g x
@@ -373,9 +352,9 @@ module _ (message : ℕ → Message) (lifecycle : ℕ → Option ℕ) (mixed : B
             (let a = offers.answered in let b = c.goes.answered in omega (arith, a, b))
             (λ a h. elim (c.since a h) [ inl g ↦ inl (subst (λ (l : List Ask). slice_get l y.answered ≡ Some a) offers.asks g) | inr l ↦ inr (omega (arith, l, counted)) ])
             so_far.asked f.asked;
-        answered = let a = f.answered in let b = offers.answered in let d = c.performed in let g = performed_more s.told told in omega (arith, a, b, d, g);
+        answered = let a = f.answered in let b = offers.answered in let d = c.performed in let g = performed_both s.told told in omega (arith, a, b, d, g);
         performed = λ k. ap (λ (g : ℕ → ℕ). g k) ((receiver_stays message mixed mid y c.goes).performed ∙ offers.performed) ∙ f.performed k;
-        none_failed = none_failed_more s.told told f.none_failed c.none_failed;
+        none_failed = none_failed_both s.told told f.none_failed c.none_failed;
       }
 
   -- of the receiver, which hands out these
@@ -404,6 +383,6 @@ module _ (message : ℕ → Message) (lifecycle : ℕ → Option ℕ) (mixed : B
         epochs = λ p n h. ap (λ (g : ℕ → ℕ). g p) same.epoch ∙ f.epochs p n h;
         asked = λ a h. f.asked a (sym (ap (λ (l : List Ask). slice_get l y.answered) c.stay.0 ∙ ap (λ (n : ℕ). slice_get x.asks n) c.stay.1) ∙ h);
         answered = c.stay.1 ∙ f.answered;
-        performed = λ k. let a = c.performed k in let b = f.performed k in let d = resets_more k r.told told in omega (arith, a, b, d);
+        performed = λ k. let a = c.performed k in let b = f.performed k in let d = told_both k r.told told in omega (arith, a, b, d);
         none_failed = f.none_failed;
       }
