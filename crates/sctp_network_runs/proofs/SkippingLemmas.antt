@@ -195,7 +195,7 @@ one_skipped_there =
       led = s.led;
       actions = s.by;
       undisturbed = record { follows = s.follows (drop 1 one_is_lost) refl refl; stands = s.over };
-      bounds = s.bounds refl refl refl one_skipped.bounds;
+      bounds = s.bounds refl refl one_skipped.bounds;
       accepts = offers_accepted A s.world.log ∙ (ap (map (λ (o : Offer). o.message)) s.offers_a ∙ one_skipped.accepts);
       readies = s.ready_b ∙ one_skipped.readies;
       gives_up = s.gone_a ∙ one_skipped.gives_up;
