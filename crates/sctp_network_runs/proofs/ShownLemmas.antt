@@ -23,18 +23,20 @@ use Rattle.sctp_delivery.specs.Delivery as courses
 use Rattle.sctp_delivery.specs.GivenUp.{kept_in, given_up, IsAtRest}
 use Rattle.sctp_delivery.specs.Answered as requests
 use Rattle.sctp_delivery.specs.Answered.{none_asked, performed_in}
+use Rattle.sctp_delivery.specs.StreamEpochs as epochs
+use Rattle.sctp_delivery.specs.StreamEpochs.{all_open}
 use Rattle.sctp_delivery.specs.Windows as windows
 use Rattle.sctp_delivery.proofs.CourseResetLemmas.{performed_both}
 use Rattle.sctp_network_table.specs.Judge.{End, A, B, Connect, Entry, ready}
 use Rattle.sctp_network_table.specs.World.{Side, World, Action, CallOf, Runs, told_entries, fresh_world, is_at_rest}
 use Rattle.sctp_network_laws.specs.Courses.{ActionFits, IsInBytes, IsLed, origin, is_a, AreTurnsOf}
-use Rattle.sctp_network_laws.specs.Delivered.{offers, offers_by, happened_by, happened, gone, reported, sets_more, KeepsFrom, KeepsResets, IsInBounds}
+use Rattle.sctp_network_laws.specs.Delivered.{offers, offers_by, happened_by, happened, offer_epochs, gone, reported, sets_more, KeepsFrom, KeepsResets, IsInBounds}
 use Rattle.sctp_network_laws.specs.Joined.{ended_by, FollowsTheRules, times_ended}
 use Rattle.sctp_network_runs.specs.Worlds.{NoneIsForeign, BothEmitBytes}
 use Rattle.sctp_network_laws.proofs.EventLemmas.{mapped}
 use Rattle.sctp_network_laws.proofs.NewsLemmas.{ended_by_told}
 use Rattle.sctp_network_laws.proofs.SidesLemmas.{Good}
-use Rattle.sctp_network_laws.proofs.HappenedLemmas.{bare_performed}
+use Rattle.sctp_network_laws.proofs.HappenedLemmas.{bare, bare_performed}
 use Rattle.sctp_network_laws.proofs.WorldLemmas.{Both}
 use Rattle.sctp_network_laws.proofs.RunsLemmas.{Ran, ran, fresh_both}
 use Rattle.sctp_network_laws.proofs.JoinedLemmas.{given_of}
@@ -229,6 +231,9 @@ pub record Shown (actions : List Action) (turns : List (Bool × Turn)) (c : Pair
   pub ready_b : ready B world.log ≡ readied false turns c
   pub gone_a : gone A world.log ≡ given_up true turns c
   pub reported_a : reported A world.log ≡ delivered (run turns c).a.told
+  pub epochs_a : offer_epochs A world.log all_open ≡ epochs.offer_epochs true turns c all_open
+  pub told_a : happened A world.log ≡ bare (run turns c).a.told
+  pub told_b : happened B world.log ≡ bare (run turns c).b.told
   pub over : (x : End) → times_ended x world.log ≡ 0
   pub follows : (rest : List Action) → actions ≡ CallOf A Connect ∷ rest → list_any asks_rules rest ≡ false → FollowsTheRules world
   pub bounds : AllAreHeard turns → list_any sets_more actions ≡ false → courses.IsInBounds turns c → IsInBounds led.actions (origin led) world led.runs
@@ -252,6 +257,9 @@ shown a b words_a words_b f g actions turns valid_a valid_b fits_a fits_b fit no
       ready_b = shows.ready_are B;
       gone_a = shows.gone_are A;
       reported_a = shows.reported_are A;
+      epochs_a = (shows.epochs_are A).epochs;
+      told_a = shows.told_are A;
+      told_b = shows.told_are B;
       over = over a b words_a words_b f g actions turns valid_a valid_b fits_a fits_b fit none are bytes follows not_ended;
       follows = λ rest is quiet. connects_first rest from r.world refl quiet (subst (λ (l : List Action). Runs l from r.world) is r.runs);
       bounds = bounds a b words_a words_b f g actions turns valid_a valid_b fits_a fits_b fit none are bytes follows not_ended;
