@@ -1,7 +1,8 @@
 -- The walk over the rows: the calls that send, the settings, resets of streams, and handover.
-use Rattle.std.proofs.Common.{◌≡◌, ℕ, ◌==◌, ◌&&◌, ◌||◌, Bool, true, false, Option, Some, None, List, [], ◌∷◌, ◌++◌, All, codes, refl, sym, ap, ◌∙◌, append_assoc}
+use Rattle.std.proofs.Common.{◌≡◌, ℕ, ◌==◌, ◌&&◌, ◌||◌, Bool, true, false, inl, inr, Option, Some, None, List, [], ◌∷◌, ◌++◌, All, codes, refl, sym, ap, ◌∙◌, append_assoc}
 use Rattle.std.specs.List.{list_all}
-use Rattle.std.proofs.lemmas.List.Elements.{All-nil, All-push}
+use Rattle.std.proofs.lemmas.Bool.{both_ways, or_right, eq-eqb}
+use Rattle.std.proofs.lemmas.List.Elements.{All-nil, All-push, All-weaker}
 use Rattle.std.proofs.lemmas.List.Folds.{list_all-append}
 use Rattle.rand_core.specs.Stream.{Stream}
 use Rattle.sctp_serial.specs.Messages.{Message}
@@ -20,13 +21,13 @@ use Rattle.sctp_state.specs.Rtt.{rto}
 use Rattle.sctp_state.specs.Validity.{is_valid_state}
 use Rattle.sctp_table.specs.Association.{Tcb, Phase, Established, State, Closed, CookieWait, Open, Context, Standing, with_context}
 use Rattle.sctp_table.specs.Packets.{Packet, add, new_packet, say}
-use Rattle.sctp_table.specs.Requests.{is_final, is_last, is_next, is_known}
+use Rattle.sctp_table.specs.Requests.{Request, Requests, performed, nothing_to_do, bad_number, in_progress, is_final, after, is_last, is_next, is_known, processed, answered_by, answered_if, answered_in, answered}
 use Rattle.sctp_table.specs.Sending.{is_alone, send_in}
 use Rattle.sctp_table.specs.Calls.{shown_state, refusal, refusal_of, offered, offer, sent_if, send, offer_all, send_many, set_low_threshold, set_priority, set_max_message_size, taken_in, take_message}
 use Rattle.sctp_table.specs.Resets.{Handling, handling, is_ahead, resets_if, resets, outgoing_by, on_outgoing, incoming_if, is_outgoing, on_parameter, Handled, handle_next, handle_all, send_responses, finished_if, on_reconfig, unless_supported, reset_refusal, prepared, prepare_all, reset_if, reset_streams}
 use Rattle.sctp_table.specs.Handover.{readiness, left_in, left_if, hand_over, tcb_from, queue_taken, take_up, invalid_unless, refusal_in, taken_as, restored_unless, restore}
 use Rattle.sctp_table.specs.Laws.{Call, SendMany, ResetStreams, TakeMessage, SetLowThreshold, SetPriority, SetMaxMessageSize, HandOver, Restore, Send}
-use Rattle.sctp_course.specs.Acts.{Making, at, idle, IsHeard, IsOffered, alone, among, IsReset, IsAsked, is_response, all_along, HasRequest, for_outgoing, for_incoming, Answers, accepts, refuses, takes_message, sets_low_threshold, sets_priority, sets_max_message_size, prepares, defers, performs, processes, takes_response, adds_responses, leaves, takes_up, Keeps}
+use Rattle.sctp_course.specs.Acts.{Making, at, idle, IsHeard, IsOffered, alone, among, IsReset, IsAsked, is_response, all_along, HasRequest, for_outgoing, for_incoming, AsksNoIncoming, IsDue, IsAnswer, Answers, accepts, refuses, takes_message, sets_low_threshold, sets_priority, sets_max_message_size, prepares, defers, performs, processes, takes_response, adds_responses, leaves, takes_up, Keeps}
 use Rattle.sctp_course.proofs.BundledLemmas.{first_more}
 use Rattle.sctp_course.proofs.PacketActsLemmas.{does_out, does_begin_new, does_complain, does_send_buffered}
 use Rattle.sctp_course.proofs.RowActsLemmas.{placed, OpenActs, does_where_open}
@@ -99,31 +100,36 @@ module _ {P : Type 0} {call : Call} {R : Making P → Making P → Type 0} (k : 
     Handles x y = R (idle (Open phase x.tcb) x.context w) (idle (Open phase y.tcb) y.context w)
 
     does_resets_if : (b : Bool) (number response : ℕ) (last_tsn : Tsn) (streams : List StreamId) (x : Handling P)
-        → IsAsked call (outgoing_reset_request number response last_tsn streams) → is_known number x.tcb.requests ≡ true → is_ahead last_tsn.0 x.tcb ≡ b
+        → IsAsked call (outgoing_reset_request number response last_tsn streams) → IsDue number x.tcb.requests → is_ahead last_tsn.0 x.tcb ≡ b
         → Handles x (resets_if b number last_tsn.0 streams x)
-    does_resets_if true number response last_tsn streams x h known ahead =
-        k.resets (defers number response last_tsn streams phase x.tcb (idle (Open phase x.tcb) x.context w) h known ahead)
-    does_resets_if false number response last_tsn streams x h known ahead =
-        k.resets (performs number response last_tsn streams phase x.tcb (idle (Open phase x.tcb) x.context w) h known ahead)
+    does_resets_if true number response last_tsn streams x h due ahead =
+        k.resets (defers number response last_tsn streams phase x.tcb (idle (Open phase x.tcb) x.context w) h due ahead)
+    does_resets_if false number response last_tsn streams x h due ahead =
+        k.resets (performs number response last_tsn streams phase x.tcb (idle (Open phase x.tcb) x.context w) h due ahead)
 
     does_resets : (number response : ℕ) (last_tsn : Tsn) (streams : List StreamId) (x : Handling P)
-        → IsAsked call (outgoing_reset_request number response last_tsn streams) → is_known number x.tcb.requests ≡ true
+        → IsAsked call (outgoing_reset_request number response last_tsn streams) → IsDue number x.tcb.requests
         → Handles x (resets number last_tsn.0 streams x)
-    does_resets number response last_tsn streams x h known = does_resets_if (is_ahead last_tsn.0 x.tcb) number response last_tsn streams x h known refl
+    does_resets number response last_tsn streams x h due = does_resets_if (is_ahead last_tsn.0 x.tcb) number response last_tsn streams x h due refl
 
     does_outgoing_by : (a b d : Bool) (number response : ℕ) (last_tsn : Tsn) (streams : List StreamId) (x : Handling P)
-        → IsAsked call (outgoing_reset_request number response last_tsn streams) → ((a || b) ≡ true → is_known number x.tcb.requests ≡ true)
+        → IsAsked call (outgoing_reset_request number response last_tsn streams)
+        → is_last number x.tcb.requests ≡ a → is_next number x.tcb.requests ≡ b → is_final x.tcb.requests.result ≡ d
         → Handles x (outgoing_by a b d number last_tsn.0 streams x)
-    does_outgoing_by true b true number response last_tsn streams x h known = k.same (idle (Open phase x.tcb) x.context w)
-    does_outgoing_by true b false number response last_tsn streams x h known = does_resets number response last_tsn streams x h (known refl)
-    does_outgoing_by false true d number response last_tsn streams x h known = does_resets number response last_tsn streams x h (known refl)
-    does_outgoing_by false false d number response last_tsn streams x h known = k.same (idle (Open phase x.tcb) x.context w)
+    does_outgoing_by true b true number response last_tsn streams x h last next final = k.same (idle (Open phase x.tcb) x.context w)
+    does_outgoing_by true b false number response last_tsn streams x h last next final =
+        does_resets number response last_tsn streams x h
+        (record { known = ap (λ (a : Bool). a || is_next number x.tcb.requests) last; undone = λ e. final })
+    does_outgoing_by false true d number response last_tsn streams x h last next final =
+        does_resets number response last_tsn streams x h
+        (record { known = or_right (is_last number x.tcb.requests) (is_next number x.tcb.requests) next; undone = λ e. absurd (both_ways (is_last number x.tcb.requests) last e) })
+    does_outgoing_by false false d number response last_tsn streams x h last next final = k.same (idle (Open phase x.tcb) x.context w)
 
     does_outgoing : (number response : ℕ) (last_tsn : Tsn) (streams : List StreamId) (x : Handling P)
         → IsAsked call (outgoing_reset_request number response last_tsn streams) → Handles x (on_outgoing number last_tsn.0 streams x)
     does_outgoing number response last_tsn streams x h =
         does_outgoing_by (is_last number x.tcb.requests) (is_next number x.tcb.requests) (is_final x.tcb.requests.result) number response last_tsn streams x h
-        (λ e. e)
+        refl refl refl
 
     does_incoming_if : (b : Bool) (number : ℕ) (streams : List StreamId) (x : Handling P) → IsAsked call (incoming_reset_request number streams)
         → is_known number x.tcb.requests ≡ b → Handles x (incoming_if b number x)
@@ -152,61 +158,133 @@ module _ {P : Type 0} {call : Call} {R : Making P → Making P → Type 0} (k : 
 
 -- ---- what is answered
 
-record AreResponses (call : Call) (rs : List ParameterTree) : Type 0 where
+-- as these requests stand
+record AreResponses (call : Call) (r : Requests) (rs : List ParameterTree) : Type 0 where
   are : list_all is_response rs ≡ true
-  answer : All (Answers call) rs
+  answer : All (Answers call r) rs
 
-one_more : (call : Call) (rs : List ParameterTree) (number result : ℕ) → HasRequest call number → AreResponses call rs
-    → AreResponses call (rs ++ reset_response number result None None ∷ [])
-one_more call rs number result asked h = record {
+-- where no request is for incoming streams, there is none before an outgoing one
+record AreSoFar (call : Call) (has_outgoing : Bool) (r : Requests) (rs : List ParameterTree) : Type 0 where
+  all : AreResponses call r rs
+  none : AsksNoIncoming call → has_outgoing ≡ false → rs ≡ []
+
+-- the requests go on
+went_on : (call : Call) (r s : Requests) (rs : List ParameterTree) → (AsksNoIncoming call → rs ≡ []) → All (Answers call r) rs → All (Answers call s) rs
+went_on call r s [] none h = All-nil (Answers call s)
+went_on call r s (p ∷ ps) none h = All-weaker (Answers call r) (Answers call s) one (p ∷ ps) h
+  where
+    one : (q : ParameterTree) → Answers call r q → Answers call s q
+    one (reset_response number result sender receiver) a = (a.0, λ asks. absurd (some (none asks)))
+      where
+        some : (p ∷ ps) ≡ [] → ⊥
+        some e = cc
+    one q a = absurd a
+
+-- or their last one and its result stay
+stayed : (call : Call) (r s : Requests) (rs : List ParameterTree) → s.last ≡ r.last → s.result ≡ r.result → All (Answers call r) rs → All (Answers call s) rs
+stayed call r s rs last result h = All-weaker (Answers call r) (Answers call s) one rs h
+  where
+    one : (q : ParameterTree) → Answers call r q → Answers call s q
+    one (reset_response number told sender receiver) a = (
+      a.0,
+      λ asks. elim (a.1 asks) [
+        | inl e ↦ inl (ap (λ (n : ℕ). number == n) last ∙ e.0, e.1 ∙ sym result)
+        | inr e ↦ inr (ap (λ (n : ℕ). (number == n) || (number == after n)) last ∙ e.0, e.1)
+      ],
+    )
+    one q a = absurd a
+
+answers_leave : (o : Option Request) (now rto number result : ℕ) (r : Requests)
+    → ((answered_in o now rto number result r).last ≡ r.last) × ((answered_in o now rto number result r).result ≡ r.result)
+answers_leave None now rto number result r = (refl, refl)
+answers_leave (Some q) now rto number result r = its (q.number == number)
+  where
+    done : (b : Bool) → ((answered_by b now rto q r).last ≡ r.last) × ((answered_by b now rto q r).result ≡ r.result)
+    done true = (refl, refl)
+    done false = (refl, refl)
+
+    its : (a : Bool) → ((answered_if a now rto result q r).last ≡ r.last) × ((answered_if a now rto result q r).result ≡ r.result)
+    its true = done (is_final result)
+    its false = (refl, refl)
+
+one_more : (call : Call) (r : Requests) (rs : List ParameterTree) (number result : ℕ) → HasRequest call number → (AsksNoIncoming call → IsAnswer number result r)
+    → AreResponses call r rs → AreResponses call r (rs ++ reset_response number result None None ∷ [])
+one_more call r rs number result asked so h = record {
   are = list_all-append is_response rs (reset_response number result None None ∷ []) ∙ ap (λ (b : Bool). b && true) h.are;
-  answer = All-push (Answers call) rs (reset_response number result None None) h.answer asked;
+  answer = All-push (Answers call r) rs (reset_response number result None None) h.answer (asked, so);
 }
 
 module _ {P : Type 0} (call : Call) where
   abbrev Responds : Handling P → Type 0
-  Responds x = AreResponses call x.responses
+  Responds x = AreResponses call x.tcb.requests x.responses
 
-  responses_resets_if : (b : Bool) (number last_tsn : ℕ) (streams : List StreamId) (x : Handling P) → HasRequest call number → Responds x
-      → Responds (resets_if b number last_tsn streams x)
-  responses_resets_if true number last_tsn streams x a e = one_more call x.responses number _ a e
-  responses_resets_if false number last_tsn streams x a e = one_more call x.responses number _ a e
+  abbrev RespondsSo : Bool → Handling P → Type 0
+  RespondsSo b x = AreSoFar call b x.tcb.requests x.responses
 
-  responses_outgoing_by : (a b d : Bool) (number last_tsn : ℕ) (streams : List StreamId) (x : Handling P) → HasRequest call number → Responds x
-      → Responds (outgoing_by a b d number last_tsn streams x)
-  responses_outgoing_by true b true number last_tsn streams x h e = one_more call x.responses number _ h e
-  responses_outgoing_by true b false number last_tsn streams x h e = responses_resets_if (is_ahead last_tsn x.tcb) number last_tsn streams x h e
-  responses_outgoing_by false true d number last_tsn streams x h e = responses_resets_if (is_ahead last_tsn x.tcb) number last_tsn streams x h e
-  responses_outgoing_by false false d number last_tsn streams x h e = one_more call x.responses number _ h e
+  -- a request is processed, where none was answered
+  responses_processed : (number result : ℕ) (x : Handling P) → HasRequest call number → (AsksNoIncoming call → x.responses ≡ []) → Responds x
+      → AreResponses call (processed number result x.tcb.requests) (x.responses ++ reset_response number result None None ∷ [])
+  responses_processed number result x a none e =
+      one_more call (processed number result x.tcb.requests) x.responses number result a (λ asks. inl (eq-eqb number number refl, refl))
+      (record { are = e.are; answer = went_on call x.tcb.requests (processed number result x.tcb.requests) x.responses none e.answer })
 
-  responses_incoming_if : (b : Bool) (number : ℕ) (x : Handling P) → HasRequest call number → Responds x → Responds (incoming_if b number x)
-  responses_incoming_if true number x h e = one_more call x.responses number _ h e
-  responses_incoming_if false number x h e = one_more call x.responses number _ h e
+  responses_resets_if : (b : Bool) (number last_tsn : ℕ) (streams : List StreamId) (x : Handling P) → HasRequest call number → (AsksNoIncoming call → x.responses ≡ [])
+      → Responds x → Responds (resets_if b number last_tsn streams x)
+  responses_resets_if true number last_tsn streams x a none e = responses_processed number in_progress x a none e
+  responses_resets_if false number last_tsn streams x a none e = responses_processed number performed x a none e
 
-  responses_parameter : (p : ParameterTree) (x : Handling P) → IsAsked call p → Responds x → Responds (on_parameter p x)
-  responses_parameter (outgoing_reset_request number response last_tsn streams) x h e =
-      responses_outgoing_by (is_last number x.tcb.requests) (is_next number x.tcb.requests) (is_final x.tcb.requests.result) number last_tsn.0 streams x
-      (for_outgoing response last_tsn streams h) e
-  responses_parameter (incoming_reset_request number streams) x h e =
-      responses_incoming_if (is_known number x.tcb.requests) number x (for_incoming streams h) e
-  responses_parameter (reset_response number result sender receiver) x h e = e
-  responses_parameter p x h e = e
+  responses_outgoing_by : (a b d : Bool) (number last_tsn : ℕ) (streams : List StreamId) (x : Handling P) → HasRequest call number → (AsksNoIncoming call → x.responses ≡ [])
+      → is_last number x.tcb.requests ≡ a → is_next number x.tcb.requests ≡ b → Responds x → Responds (outgoing_by a b d number last_tsn streams x)
+  responses_outgoing_by true b true number last_tsn streams x h none last next e =
+      one_more call x.tcb.requests x.responses number x.tcb.requests.result h (λ asks. inl (last, refl)) e
+  responses_outgoing_by true b false number last_tsn streams x h none last next e = responses_resets_if (is_ahead last_tsn x.tcb) number last_tsn streams x h none e
+  responses_outgoing_by false true d number last_tsn streams x h none last next e = responses_resets_if (is_ahead last_tsn x.tcb) number last_tsn streams x h none e
+  responses_outgoing_by false false d number last_tsn streams x h none last next e =
+      one_more call x.tcb.requests x.responses number bad_number h
+      (λ asks. inr (ap (λ (a : Bool). a || is_next number x.tcb.requests) last ∙ next, refl)) e
 
-  responses_next : (b : Bool) (rest : Handling P → Handled P) (p : ParameterTree) (x : Handling P) → IsAsked call p
-      → ((y : Handling P) → Responds y → Responds (rest y).handling) → Responds x → Responds (handle_next b rest p x).handling
-  responses_next true rest p x h f e = e
-  responses_next false rest p x h f e = f (on_parameter p x) (responses_parameter p x h e)
+  responses_incoming_if : (b : Bool) (number : ℕ) (x : Handling P) → HasRequest call number → (AsksNoIncoming call → ⊥) → Responds x → Responds (incoming_if b number x)
+  responses_incoming_if true number x h asks e = responses_processed number nothing_to_do x h (λ none. absurd (asks none)) e
+  responses_incoming_if false number x h asks e = one_more call x.tcb.requests x.responses number bad_number h (λ none. absurd (asks none)) e
+
+  -- the first outgoing request, and whatever else
+  responses_parameter : (b : Bool) (p : ParameterTree) (x : Handling P) → IsAsked call p → (is_outgoing p && b) ≡ false → RespondsSo b x
+      → RespondsSo (is_outgoing p || b) (on_parameter p x)
+  responses_parameter b (outgoing_reset_request number response last_tsn streams) x h first e = record {
+    all = responses_outgoing_by (is_last number x.tcb.requests) (is_next number x.tcb.requests) (is_final x.tcb.requests.result) number last_tsn.0 streams x
+        (for_outgoing response last_tsn streams h) (λ asks. e.none asks first) refl refl e.all;
+    none = λ asks is. cc;
+  }
+  responses_parameter b (incoming_reset_request number streams) x h first e = record {
+    all = responses_incoming_if (is_known number x.tcb.requests) number x (for_incoming streams h) (λ asks. asks number streams h) e.all;
+    none = λ asks. absurd (asks number streams h);
+  }
+  responses_parameter b (reset_response number result sender receiver) x h first e =
+      let same = answers_leave x.tcb.requests.current x.context.now (rto x.tcb.rtt) number result x.tcb.requests in
+      record {
+        all = record {
+          are = e.all.are;
+          answer = stayed call x.tcb.requests (answered x.context.now (rto x.tcb.rtt) number result x.tcb.requests) x.responses same.0 same.1 e.all.answer;
+        };
+        none = e.none;
+      }
+  responses_parameter b p x h first e = e
+
+  responses_next : (c b : Bool) (rest : Handling P → Handled P) (p : ParameterTree) (x : Handling P) → IsAsked call p → (is_outgoing p && b) ≡ c
+      → ((y : Handling P) → RespondsSo (is_outgoing p || b) y → Responds (rest y).handling) → RespondsSo b x → Responds (handle_next c rest p x).handling
+  responses_next true b rest p x h is f e = e.all
+  responses_next false b rest p x h is f e = f (on_parameter p x) (responses_parameter b p x h is e)
 
   responses_all : (tag : ℕ) (all before ps : List ParameterTree) (b : Bool) (x : Handling P) → IsHeard call tag (re_config_chunk all) → all ≡ before ++ ps
-      → Responds x → Responds (handle_all ps b x).handling
-  responses_all tag all before [] b x h is e = e
+      → RespondsSo b x → Responds (handle_all ps b x).handling
+  responses_all tag all before [] b x h is e = e.all
   responses_all tag all before (p ∷ ps) b x h is e =
-      responses_next (is_outgoing p && b) (handle_all ps (is_outgoing p || b)) p x
-      (record { tag = tag; parameters = all; heard = h; among = record { before = before; behind = ps; split = is } })
+      responses_next (is_outgoing p && b) b (handle_all ps (is_outgoing p || b)) p x
+      (record { tag = tag; parameters = all; heard = h; among = record { before = before; behind = ps; split = is } }) refl
       (λ y. responses_all tag all (before ++ p ∷ []) ps (is_outgoing p || b) y h (next_among before p ps all is)) e
 
 module _ {P : Type 0} {call : Call} {R : Making P → Making P → Type 0} (k : Keeps call R) (w : Stream) where
-  does_send_responses : (rs : List ParameterTree) (phase : Phase) (t : Tcb) (c : Context P) → AreResponses call rs
+  does_send_responses : (rs : List ParameterTree) (phase : Phase) (t : Tcb) (c : Context P) → AreResponses call t.requests rs
       → R (idle (Open phase t) c w) (idle (Open phase t) (send_responses rs t c) w)
   does_send_responses [] phase t c e = k.same (idle (Open phase t) c w)
   does_send_responses (r ∷ rs) phase t c e =
@@ -215,7 +293,7 @@ module _ {P : Type 0} {call : Call} {R : Making P → Making P → Type 0} (k : 
       (k.through (k.resets (adds_responses (r ∷ rs) phase t (at (Open phase t) c w p) e.are e.answer))
       (does_out k (Open phase t) c w (add (re_config_chunk (r ∷ rs)) p) (all_along (first_more (re_config_chunk (r ∷ rs)) p refl refl))))
 
-  does_finished_if : (b : Bool) (phase : Phase) (x : Handling P) → AreResponses call x.responses
+  does_finished_if : (b : Bool) (phase : Phase) (x : Handling P) → AreResponses call x.tcb.requests x.responses
       → R (idle (Open phase x.tcb) x.context w) (placed (finished_if b phase x) w)
   does_finished_if true phase x e =
       k.through (does_send_responses x.responses phase x.tcb x.context e)
@@ -229,7 +307,8 @@ module _ {P : Type 0} {call : Call} {R : Making P → Making P → Type 0} (k : 
       let d : Handled P = handle_all (p ∷ ps) false (handling t c) in
       k.through (does_handle_all k w phase tag (p ∷ ps) [] (p ∷ ps) false (handling t c) h refl)
       (does_finished_if d.is_whole phase d.handling
-      (responses_all call tag (p ∷ ps) [] (p ∷ ps) false (handling t c) h refl (record { are = refl; answer = All-nil (Answers call) })))
+      (responses_all call tag (p ∷ ps) [] (p ∷ ps) false (handling t c) h refl
+      (record { all = record { are = refl; answer = All-nil (Answers call t.requests) }; none = λ asks is. refl })))
 
   -- ---- the call that resets streams
 

@@ -1,6 +1,6 @@
 -- What rows do to an end, taken apart: each call on an end is one of these acts after another. A relation on ends that leads
 -- from each state to itself, goes on from step to step and holds of each act holds of each call.
-use Rattle.std.specs.Prelude.{◌≡◌, ℕ, ◌==◌, ◌&&◌, not, nat_lt, Bool, true, false, Option, Some, None, Ok, List, [], ◌∷◌, ◌++◌, length, All}
+use Rattle.std.specs.Prelude.{◌≡◌, ℕ, ◌==◌, ◌&&◌, ◌⊎◌, not, nat_lt, Bool, true, false, Option, Some, None, Ok, List, [], ◌∷◌, ◌++◌, length, All}
 use Rattle.std.specs.List.{list_all}
 use Rattle.rand_core.specs.Stream.{Stream}
 use Rattle.sctp_serial.specs.Messages.{Message}
@@ -36,7 +36,7 @@ use Rattle.sctp_tx.specs.Sending as fragments
 use Rattle.sctp_tx.specs.Sending.{send}
 use Rattle.sctp_table.specs.Association.{Tcb, tcb, Phase, CookieEchoed, Established, ShutdownPending, State, Closed, CookieWait, Open, Heartbeats, Context, Endpoint}
 use Rattle.sctp_table.specs.Packets.{Packet, emptied, room, add, add_all, has_chunks, packet_to, say, complain, emit_if}
-use Rattle.sctp_table.specs.Requests.{Request, request_chunk, in_progress, performed, nothing_to_do, is_known, woken, processed, outcome, answered}
+use Rattle.sctp_table.specs.Requests.{Request, Requests, request_chunk, in_progress, performed, nothing_to_do, bad_number, is_final, is_last, is_known, woken, processed, outcome, answered}
 use Rattle.sctp_table.specs.Sending.{selective_ack, asked, acknowledged, request_started, data_chunks, is_small, is_alone, fast_most}
 use Rattle.sctp_table.specs.Heartbeats.{beating_if}
 use Rattle.sctp_table.specs.Closing.{over}
@@ -526,19 +526,32 @@ pub data HasRequest (call : Call) (number : ℕ) : Type 0 where
       → HasRequest call number
   for_incoming : (streams : List StreamId) → IsAsked call (incoming_reset_request number streams) → HasRequest call number
 
--- it answers one of them
-abbrev pub Answers : Call → ParameterTree → Type 0
-Answers call (reset_response number result sender receiver) = HasRequest call number
-Answers call parameter = ⊥
+-- no stream is to be reset by the end itself
+abbrev pub AsksNoIncoming : Call → Type 0
+AsksNoIncoming call = (number : ℕ) (streams : List StreamId) → IsAsked call (incoming_reset_request number streams) → ⊥
+
+-- the request is the next one, or the last one again, which isn't done
+pub record IsDue (number : ℕ) (r : Requests) : Type 0 where
+  pub known : is_known number r ≡ true
+  pub undone : is_last number r ≡ true → is_final r.result ≡ false
+
+-- as the end stands: the last request has its result, and one that isn't known a bad number
+abbrev pub IsAnswer : (number result : ℕ) → Requests → Type 0
+IsAnswer number result r = ((is_last number r ≡ true) × (result ≡ r.result)) ⊎ ((is_known number r ≡ false) × (result ≡ bad_number))
+
+-- it answers one of the call's requests
+abbrev pub Answers : Call → Requests → ParameterTree → Type 0
+Answers call r (reset_response number result sender receiver) = HasRequest call number × (AsksNoIncoming call → IsAnswer number result r)
+Answers call r parameter = ⊥
 
 pub data ResetAct (P : Type 0) (call : Call) : Type 0 where
   prepares : (stream : ℕ) (phase : Phase) (t : Tcb) (m : Making P) → IsReset call stream → t.capabilities.reconfig ≡ true → ResetAct P call
   -- a request of the peer for its outgoing streams waits, or is performed
   defers : (number response : ℕ) (last_tsn : Tsn) (streams : List StreamId) (phase : Phase) (t : Tcb) (m : Making P)
-      → IsAsked call (outgoing_reset_request number response last_tsn streams) → is_known number t.requests ≡ true
+      → IsAsked call (outgoing_reset_request number response last_tsn streams) → IsDue number t.requests
       → is_ahead last_tsn.0 t ≡ true → ResetAct P call
   performs : (number response : ℕ) (last_tsn : Tsn) (streams : List StreamId) (phase : Phase) (t : Tcb) (m : Making P)
-      → IsAsked call (outgoing_reset_request number response last_tsn streams) → is_known number t.requests ≡ true
+      → IsAsked call (outgoing_reset_request number response last_tsn streams) → IsDue number t.requests
       → is_ahead last_tsn.0 t ≡ false → ResetAct P call
   -- one for its incoming streams
   processes : (number : ℕ) (streams : List StreamId) (phase : Phase) (t : Tcb) (m : Making P) → IsAsked call (incoming_reset_request number streams)
@@ -547,7 +560,7 @@ pub data ResetAct (P : Type 0) (call : Call) : Type 0 where
   takes_response : (rto number result : ℕ) (sender receiver : Option Tsn) (phase : Phase) (t : Tcb) (m : Making P)
       → IsAsked call (reset_response number result sender receiver) → ResetAct P call
   adds_responses : (responses : List ParameterTree) (phase : Phase) (t : Tcb) (m : Making P) → list_all is_response responses ≡ true
-      → All (Answers call) responses → ResetAct P call
+      → All (Answers call t.requests) responses → ResetAct P call
 
 abbrev pub before_reset : {P : Type 0} {call : Call} → ResetAct P call → Making P
 before_reset (prepares stream phase t m asked can) = in_open phase t m

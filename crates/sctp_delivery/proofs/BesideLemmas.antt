@@ -1,114 +1,189 @@
 -- What the rules of one end leave of the other, beside it.
-use Rattle.std.proofs.Common.{◌≡◌, ℕ, Bool, true, false, Option, List, [], ◌∷◌, refl, sym, subst, ◌∙◌}
+use Rattle.std.proofs.Common.{◌≡◌, ℕ, suc, Bool, true, false, inl, inr, Option, Some, None, List, [], ◌∷◌, ◌++◌, slice_get, refl, sym, ap, subst, ◌∙◌}
 use Rattle.std.specs.List.{list_all}
-use Rattle.std.proofs.lemmas.Bool.{and_parts}
+use Rattle.std.proofs.lemmas.Bool.{and_parts, false≢true}
 use Rattle.sctp_serial.specs.Messages as messages
 use Rattle.sctp_send_queue.specs.Queue.{Queue}
-use Rattle.sctp_outstanding.specs.Items.{no_items}
-use Rattle.sctp_rx.specs.ReassemblyQueue.{Reassembly}
-use Rattle.sctp_rules.specs.State.{Message, Sender, Transfer, new_sender}
-use Rattle.sctp_rules.specs.Rules.{Event, accept, begin, number, close, give_up, data_comes, late_comes, deliver, send_sack, leave, send_forward, forward_comes, forget, IsAllowed, Happens, after, run}
+use Rattle.sctp_outstanding.specs.Items.{Items, no_items}
+use Rattle.sctp_rx.specs.Tracker.{Tracker}
+use Rattle.sctp_rx.specs.ReassemblyQueue.{Reassembly, Deferred}
+use Rattle.sctp_rules.specs.State.{Message, Sender, Transfer, IsAmong, new_sender}
+use Rattle.sctp_rules.specs.Rules.{Event, accept, begin, number, close, give_up, data_comes, late_comes, deliver, send_sack, leave, send_forward, forward_comes, forget, IsAllowed, after}
 use Rattle.sctp_rules.specs.Kept.{Kept}
-use Rattle.sctp_rules.specs.Lifted.{no_base}
-use Rattle.sctp_rules.proofs.KeepsLemmas.{keeps}
+use Rattle.sctp_rules.specs.Lifted.{lifted}
+use Rattle.sctp_rules.specs.Resets.{Request, Epochs, ResetEvent, transfers, reset_stream, send_request, perform, commit, MayReset, goes, MayAll, go_all}
+use Rattle.sctp_rules.specs.Based.{InEpochs}
+use Rattle.sctp_rules.proofs.BasedLemmas.{keeps_epochs}
+use Rattle.sctp_rules.proofs.WireResetLemmas.{still_shown}
+use Rattle.sctp_tx_rules.specs.Following.{FollowsEpochs, NoneIsReset, IsOthers}
 use Rattle.sctp_tx_rules.proofs.WholeLemmas.{shown_again}
-use Rattle.sctp_rx_rules.specs.Near.{ReadsNear}
+use Rattle.sctp_tx_rules.proofs.FollowLemmas.{others_follow}
+use Rattle.sctp_rx_rules.specs.Receives.{Receives}
+use Rattle.sctp_rx_rules.specs.Near.{IsOn, ReadsNear}
+use Rattle.sctp_rx_rules.specs.Resets.{base_now, AreNextTo, IsWaitingFor}
 use Rattle.sctp_rx_rules.proofs.RowLemmas.{sender_goes}
 use Rattle.sctp_rx_rules.proofs.NearRowLemmas.{sender_keeps}
 use Rattle.sctp_rx_rules.proofs.NearKeptLemmas.{sender_keeps_mids}
 use Rattle.sctp_table.specs.Association.{State, Closed, CookieWait, Open}
-use Rattle.sctp_delivery.proofs.ClaimLemmas.{is_receiving, GoesOn, IsWaiting, SendsIn, IsFresh, ReceivesIn}
-use Rattle.sctp_delivery.proofs.ReceiverToolLemmas.{SameSender, sender_stays}
+use Rattle.sctp_table.specs.Requests.{Requests}
+use Rattle.sctp_delivery.specs.Asks.{Ask, IsAsking, IsAnswering}
+use Rattle.sctp_delivery.proofs.AsksLemmas.{get_front}
+use Rattle.sctp_delivery.proofs.ClaimLemmas.{Direction, transfer_of, goes_in, IsKept, GoesOn, AsksStay, IsWaiting, SendsIn, IsFresh, ReceivesIn}
+use Rattle.sctp_delivery.proofs.SenderToolLemmas.{SameSender, sender_stays}
+use Rattle.sctp_delivery.proofs.LeavesLemmas.{Leaves, by_transfer, by_commit, by_request}
 use Rattle.sctp_delivery.proofs.TurnLemmas.{is_outgoing, Stay}
+
+-- by its kind
+each_reset : (P : ResetEvent → Type 0) → ((e : Event) → P (transfers e)) → ((s : ℕ) → P (reset_stream s)) → ((s : ℕ) → P (send_request s)) → ((r : Request) → P (perform r))
+    → ((s : ℕ) → P (commit s)) → (e : ResetEvent) → P e
+each_reset P a b c d f (transfers e) = a e
+each_reset P a b c d f (reset_stream s) = b s
+each_reset P a b c d f (send_request s) = c s
+each_reset P a b c d f (perform r) = d r
+each_reset P a b c d f (commit s) = f s
 
 module _ (message : ℕ → Message) (lifecycle : ℕ → Option ℕ) (mixed : Bool) where
   -- ---- a receiver's rules leave the sender as it is
 
-  waits_again : (x y : Transfer) (q : Queue) → SameSender message mixed x y → IsWaiting message lifecycle mixed q x → IsWaiting message lifecycle mixed q y
-  waits_again x y q s h = record {
+  others : (x y : Epochs) → SameSender message mixed x y → IsOthers x y
+  others x y s = record { epoch = s.epoch; raised = s.raised; opened = s.opened; requests = s.requests; acknowledged = s.acknowledged }
+
+  none_reset_again : (x y : Epochs) → SameSender message mixed x y → NoneIsReset x → NoneIsReset y
+  none_reset_again x y s n = record {
+    first = λ p. ap (λ (f : ℕ → ℕ). f p) s.epoch ∙ n.first p;
+    raised = λ k. ap (λ (f : ℕ → ℕ). f k) s.raised ∙ n.raised k;
+    opened = λ k. ap (λ (f : ℕ → ℕ). f k) s.opened ∙ n.opened k;
+    requests = s.requests ∙ n.requests;
+  }
+
+  waits_again : (x y : Direction) (q : Queue) → SameSender message mixed x.rules y.rules → AsksStay x y → IsWaiting message lifecycle mixed q x → IsWaiting message lifecycle mixed q y
+  waits_again x y q s stay h = record {
     sender = subst (λ (o : Sender). o ≡ record new_sender { accepted = o.accepted }) (sym s.sender) h.sender;
     acknowledged = s.acknowledged ∙ h.acknowledged;
     no_points = s.forward_points ∙ h.no_points;
     no_reports = s.reports ∙ h.no_reports;
-    shows = shown_again message lifecycle false x y q (no_items false false) s.sender s.acknowledged h.shows;
+    none_reset = none_reset_again x.rules y.rules s h.none_reset;
+    none_asked = stay.0 ∙ h.none_asked;
+    shows = shown_again message lifecycle false (transfer_of x) (transfer_of y) q (no_items false false) s.sender s.acknowledged h.shows;
+    follows = others_follow x.rules y.rules q (no_items false false) (others x.rules y.rules s) h.follows;
   }
 
-  sends_again : (s : State) (q : Queue) (x y : Transfer) → SameSender message mixed x y → SendsIn message lifecycle mixed s q x → SendsIn message lifecycle mixed s q y
-  sends_again Closed q x y e h = waits_again x y q e h
-  sends_again (CookieWait tag first t1) q x y e h = waits_again x y q e h
-  sends_again (Open phase t) q x y e h = record {
-    shows = shown_again message lifecycle mixed x y q t.sender.outstanding.items e.sender e.acknowledged h.shows;
+  asks_again : (first : ℕ) (x y : Direction) (q : Queue) (r : Requests) → AsksStay x y → IsAsking first x.answered x.asks q r → IsAsking first y.answered y.asks q r
+  asks_again first x y q r stay h =
+      subst (λ (n : ℕ). IsAsking first n y.asks q r) (sym stay.1) (subst (λ (l : List Ask). IsAsking first x.answered l q r) (sym stay.0) h)
+
+  sends_again : (s : State) (q : Queue) (x y : Direction) → SameSender message mixed x.rules y.rules → AsksStay x y → SendsIn message lifecycle mixed s q x → SendsIn message lifecycle mixed s q y
+  sends_again Closed q x y e stay h = waits_again x y q e stay h
+  sends_again (CookieWait tag first t1) q x y e stay h = waits_again x y q e stay h
+  sends_again (Open phase t) q x y e stay h = record {
+    shows = shown_again message lifecycle mixed (transfer_of x) (transfer_of y) q t.sender.outstanding.items e.sender e.acknowledged h.shows;
+    follows = others_follow x.rules y.rules q t.sender.outstanding.items (others x.rules y.rules e) h.follows;
     first = h.first;
     room = h.room;
-    no_request = h.no_request;
+    asks = asks_again t.identity.my_first x y q t.requests stay h.asks;
   }
 
-  sends_stay : (s : State) (q : Queue) (x y : Transfer) → Kept message mixed x → GoesOn message mixed is_receiving x y → SendsIn message lifecycle mixed s q x → SendsIn message lifecycle mixed s q y
-  sends_stay s q x y k g h = sends_again s q x y (sender_stays message mixed x y g) h
+  sends_stay : (s : State) (q : Queue) (x y : Direction) → IsKept message mixed x → GoesOn message mixed goes_in x y → AsksStay x y → SendsIn message lifecycle mixed s q x → SendsIn message lifecycle mixed s q y
+  sends_stay s q x y k g stay h = sends_again s q x y (sender_stays message mixed x y g) stay h
 
   -- ---- a sender's rules, and acceptance, leave the receiver as it is
 
-  record SameReceiver (x y : Transfer) : Type 0 where
-    receiver : y.receiver ≡ x.receiver
-    sacks : y.sacks ≡ x.sacks
+  receiver_once : (x : Transfer) (e : Event) → is_outgoing (transfers e) ≡ true → ((after message mixed x e).receiver ≡ x.receiver) × ((after message mixed x e).sacks ≡ x.sacks)
+  receiver_once x accept s = (refl, refl)
+  receiver_once x (begin p) s = (refl, refl)
+  receiver_once x (number p bytes more) s = (refl, refl)
+  receiver_once x (close p) s = (refl, refl)
+  receiver_once x (give_up p) s = (refl, refl)
+  receiver_once x (leave c) s = (refl, refl)
+  receiver_once x (send_forward f) s = (refl, refl)
+  receiver_once x (data_comes t) s = cc
+  receiver_once x (late_comes t) s = cc
+  receiver_once x (deliver p) s = cc
+  receiver_once x (send_sack c) s = cc
+  receiver_once x (forward_comes f spared) s = cc
+  receiver_once x (forget t c) s = cc
 
-  same_receiver : (x : Transfer) (e : Event) → is_outgoing e ≡ true → SameReceiver x (after message mixed x e)
-  same_receiver x accept s = record { receiver = refl; sacks = refl }
-  same_receiver x (begin p) s = record { receiver = refl; sacks = refl }
-  same_receiver x (number p bytes more) s = record { receiver = refl; sacks = refl }
-  same_receiver x (close p) s = record { receiver = refl; sacks = refl }
-  same_receiver x (give_up p) s = record { receiver = refl; sacks = refl }
-  same_receiver x (leave c) s = record { receiver = refl; sacks = refl }
-  same_receiver x (send_forward f) s = record { receiver = refl; sacks = refl }
-  same_receiver x (data_comes t) s = cc
-  same_receiver x (late_comes t) s = cc
-  same_receiver x (deliver p) s = cc
-  same_receiver x (send_sack c) s = cc
-  same_receiver x (forward_comes f spared) s = cc
-  same_receiver x (forget t c) s = cc
+  leaves_once : (x : Epochs) → InEpochs message mixed x → (e : ResetEvent) → MayReset message mixed x e → is_outgoing e ≡ true → Leaves message mixed x (goes message mixed x e)
+  leaves_once x k = each_reset (λ e. MayReset message mixed x e → is_outgoing e ≡ true → Leaves message mixed x (goes message mixed x e))
+      (λ e may s. let same = receiver_once x.transfer e s in by_transfer message mixed x e k.order.kept may.0 same.0 same.1)
+      (λ t may s. by_request message mixed x (goes message mixed x (reset_stream t)) refl refl refl (λ r a. a))
+      (λ t may s. by_request message mixed x (goes message mixed x (send_request t)) refl refl refl (λ r a. inr a))
+      (λ r may s. absurd (false≢true s))
+      (λ t may s. by_commit message mixed x t)
 
-  near_once : (first shift : ℕ) (x : Transfer) (e : Event) (r : Reassembly) → Kept message mixed x → IsAllowed message mixed x e
-      → (after message mixed x e).receiver ≡ x.receiver → ReadsNear message mixed no_base first shift x r → ReadsNear message mixed no_base first shift (after message mixed x e) r
-  near_once first shift x e r k may same h = record {
-    tsns = sender_keeps message mixed first shift x e r k may same h.tsns;
-    mids = λ m. sender_keeps_mids message mixed x k m e may same no_base r (h.mids m);
-    start = h.start;
+  leaves_along : (es : List ResetEvent) (x : Epochs) → InEpochs message mixed x → MayAll message mixed x es → list_all is_outgoing es ≡ true → Leaves message mixed x (go_all message mixed x es)
+  leaves_along [] x k may all = by_request message mixed x x refl refl refl (λ r a. a)
+  leaves_along (e ∷ es) x k may all =
+      let parts = and_parts (is_outgoing e) (list_all is_outgoing es) all in
+      let one = leaves_once x k e may.0 parts.0 in
+      let rest = leaves_along es (goes message mixed x e) (keeps_epochs message mixed x k e may.0) may.1 parts.1 in
+      record {
+        performed = rest.performed ∙ one.performed;
+        sacks = rest.sacks ∙ one.sacks;
+        requests = λ r a. rest.requests r (one.requests r a);
+        receives = λ shift handed t r h. rest.receives shift handed t r (one.receives shift handed t r h);
+        near = λ first shift r h. rest.near first shift r (one.near first shift r h);
+      }
+
+  -- what is deferred is so still
+  next_still : (x y : Epochs) → Leaves message mixed x y → (upto : ℕ) (rs : List Request) → AreNextTo x upto rs → AreNextTo y upto rs
+  next_still x y l upto [] h = tt
+  next_still x y l upto (r ∷ rs) h = (
+    record { sent = l.requests r h.0.sent; epoch = h.0.epoch ∙ ap (λ (f : ℕ → ℕ). suc (f r.stream)) (sym l.performed); last = h.0.last },
+    h.1,
+    next_still x y l upto rs h.2,
+  )
+
+  waiting_still : (x y : Epochs) → Leaves message mixed x y → (shift : ℕ) (first : Option ℕ) (d : Option Deferred) → IsWaitingFor shift x first d → IsWaitingFor shift y first d
+  waiting_still x y l shift first None h = tt
+  waiting_still x y l shift first (Some d) h = record {
+    request = h.request;
+    more = h.more;
+    upto = h.upto;
+    next = next_still x y l h.upto (h.request ∷ h.more) h.next;
+    names = h.names;
+    last = h.last;
+    idle = h.idle;
+    told = h.told;
+    begun = h.begun;
   }
 
-  module _ (x : Transfer) (e : Event) (k : Kept message mixed x) (may : IsAllowed message mixed x e) (same : SameReceiver x (after message mixed x e)) where
-    abbrev y : Transfer
-    y = after message mixed x e
+  -- as more is asked
+  answers_still : (first done : ℕ) (asks more : List Ask) (r : Requests) (d : Option Deferred) → IsAnswering first done asks r d → IsAnswering first done (asks ++ more) r d
+  answers_still first done asks more r d (inl h) = inl h
+  answers_still first done asks more r d (inr h) =
+      inr (record { ask = h.ask; there = get_front asks more done h.ask h.there; last = h.last; result = h.result; reset = h.reset; is = h.is; streams = h.streams })
 
-    fresh_once : (handed : List messages.Message) → IsFresh message mixed handed x → IsFresh message mixed handed y
-    fresh_once handed h = record {
+  module _ (x y : Direction) (k : IsKept message mixed x) (g : GoesOn message mixed is_outgoing x y) (done : y.done ≡ x.done) where
+    leaves : Leaves message mixed x.rules y.rules
+    leaves = subst (λ (z : Epochs). Leaves message mixed x.rules z) g.leads (leaves_along g.events x.rules k.epochs g.may g.all)
+
+    fresh_still : (handed : List messages.Message) → IsFresh message mixed handed x → IsFresh message mixed handed y
+    fresh_still handed h = record {
       none_handed = h.none_handed;
-      no_sacks = same.sacks ∙ h.no_sacks;
-      receives = λ o size. sender_goes message mixed 0 no_base x [] _ _ (h.receives o size) e k may same.receiver;
-      near = λ first size. near_once first 0 x e _ k may same.receiver (h.near first size);
+      no_sacks = leaves.sacks ∙ h.no_sacks;
+      none_done = done ∙ h.none_done;
+      receives = λ o size. leaves.receives 0 [] _ _ (h.receives o size);
+      near = λ first size. leaves.near first 0 _ (h.near first size);
     }
 
-    receives_once : (s : State) (handed : List messages.Message) → ReceivesIn message mixed s handed x → ReceivesIn message mixed s handed y
-    receives_once Closed handed h = fresh_once handed h
-    receives_once (CookieWait tag first t1) handed h = fresh_once handed h
-    receives_once (Open phase t) handed h = record {
+    receives_still : (s : State) (handed : List messages.Message) → ReceivesIn message mixed s handed x → ReceivesIn message mixed s handed y
+    receives_still Closed handed h = fresh_still handed h
+    receives_still (CookieWait tag first t1) handed h = fresh_still handed h
+    receives_still (Open phase t) handed h = record {
       shift = h.shift;
-      receives = sender_goes message mixed h.shift no_base x handed t.tracker.tracker t.reassembly h.receives e k may same.receiver;
-      near = near_once t.tracker.first h.shift x e t.reassembly k may same.receiver h.near;
+      receives = leaves.receives h.shift handed t.tracker.tracker t.reassembly h.receives;
+      near = leaves.near t.tracker.first h.shift t.reassembly h.near;
       is_tracker = h.is_tracker;
-      not_deferred = h.not_deferred;
+      waiting = waiting_still x.rules y.rules leaves h.shift t.reassembly.first t.reassembly.deferred h.waiting;
       first = h.first;
+      answers = subst (λ (n : ℕ). IsAnswering t.identity.peer_first n y.asks t.requests t.reassembly.deferred) (sym done)
+          (subst (λ (l : List Ask). IsAnswering t.identity.peer_first x.done l t.requests t.reassembly.deferred) (sym g.asks)
+          (answers_still t.identity.peer_first x.done x.asks g.more t.requests t.reassembly.deferred h.answers));
     }
-
-  receives_along : (s : State) (handed : List messages.Message) (es : List Event) (x : Transfer) → Kept message mixed x → Happens message mixed x es → list_all is_outgoing es ≡ true
-      → ReceivesIn message mixed s handed x → ReceivesIn message mixed s handed (run message mixed x es)
-  receives_along s handed [] x k may all h = h
-  receives_along s handed (e ∷ es) x k may all h =
-      let parts = and_parts (is_outgoing e) (list_all is_outgoing es) all in
-      receives_along s handed es (after message mixed x e) (keeps message mixed x k e may.0) may.1 parts.1
-      (receives_once x e k may.0 (same_receiver x e parts.0) s handed h)
 
   pub stays : Stay message lifecycle mixed
   stays = record {
-    receives = λ s handed x y k g h. subst (λ (z : Transfer). ReceivesIn message mixed s handed z) g.leads (receives_along s handed g.events x k g.may g.all h);
+    receives = λ s handed x y k g done h. receives_still x y k g done s handed h;
     sends = sends_stay;
   }

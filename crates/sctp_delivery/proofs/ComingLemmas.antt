@@ -1,5 +1,5 @@
 -- Each turn of the receiver's end leaves the direction at a later state of the rules.
-use Rattle.std.proofs.Common.{◌≡◌, ℕ, ◌+◌, ◌^◌, ◌<◌, ◌≤◌, ◌==◌, ◌||◌, Bool, true, false, Option, Some, None, List, [], ◌∷◌, ◌++◌, take, slice_get, All, refl, sym, ap, subst, append-nil}
+use Rattle.std.proofs.Common.{◌≡◌, ℕ, ◌+◌, ◌-◌, ◌^◌, ◌<◌, ◌≤◌, ◌==◌, ◌||◌, Bool, true, false, Option, Some, None, List, [], ◌∷◌, ◌++◌, take, slice_get, All, refl, sym, ap, subst, ◌∙◌, append-nil, arith}
 use Rattle.std.proofs.lemmas.List.Elements.{All-nil}
 use Rattle.std.proofs.lemmas.Bool.{or_left}
 use Rattle.sctp_serial.specs.Messages as messages
@@ -8,11 +8,13 @@ use Rattle.sctp_packet.specs.Packet.{PacketTree}
 use Rattle.sctp_state.specs.declared.api.ErrorKind.TheVariants.{ParseFailed}
 use Rattle.sctp_state.specs.Options.{Options}
 use Rattle.sctp_capabilities.specs.Capabilities.{agreed}
-use Rattle.sctp_state.specs.Events.{Told, OnError}
-use Rattle.sctp_rules.specs.State.{Message, Transfer, count}
+use Rattle.sctp_state.specs.declared.api.errors.ResetStreamsError.{ResetStreamsError}
+use Rattle.sctp_state.specs.Events.{Event, Told, OnError}
+use Rattle.sctp_rules.specs.State.{Message, count}
 use Rattle.sctp_table.specs.Association.{Endpoint}
 use Rattle.sctp_table.specs.Calls.{ready_in, taken_in}
 use Rattle.sctp_table.specs.Opening.{complains}
+use Rattle.sctp_table.specs.Resets.{reset_refusal}
 use Rattle.sctp_table.specs.Input.{refusal, counts, taken_if}
 use Rattle.sctp_table.specs.Laws.{Call, Connect, Close, Shutdown, Send, SendMany, ResetStreams, TakeMessage, SetLowThreshold, SetPriority, SetMaxMessageSize, Advance, HandOver, Restore, Packet, NoPacket, called, endings}
 use Rattle.sctp_table_laws.specs.Mapped.{Carried}
@@ -23,36 +25,41 @@ use Rattle.sctp_course.proofs.JoinActsLemmas.{Setting}
 use Rattle.sctp_course.proofs.JoinKeepsLemmas.{Rules}
 use Rattle.sctp_course.proofs.CourseLemmas.{setting, begins, rules_call, rules_given, Halves, swapped, none_of}
 use Rattle.sctp_course.proofs.HandingLemmas.{hands}
-use Rattle.sctp_delivery.specs.Windows.{Stamp, IsYoung, IsTimely, IsWithin, queue_of, numbered, stamped, resets}
-use Rattle.sctp_delivery.proofs.ClaimLemmas.{is_receiving, SaysIn, first_out, first_in, ReceivesIn, ReceiverClaim, HearsData, ReceiverGoes, ReceiverPremises}
+use Rattle.sctp_delivery.specs.Windows.{Stamp, IsYoung, IsTimely, IsWithin, queue_of, numbered, stamped}
+use Rattle.sctp_delivery.specs.Answered.{IsAnswered, performed_in}
+use Rattle.sctp_delivery.specs.StreamEpochs.{resets_told}
+use Rattle.sctp_delivery.proofs.ClaimLemmas.{Direction, transfer_of, goes_in, SaysIn, first_out, first_in, ReceivesIn, ReceiverClaim, HearsData, ReceiverGoes, ReceiverPremises}
 use Rattle.sctp_delivery.proofs.FrameLemmas.{is_other, joined_call}
+use Rattle.sctp_delivery.proofs.SenderToolLemmas.{goes_none}
+use Rattle.sctp_delivery.proofs.ResetEventsLemmas.{resets_in, told_counts}
+use Rattle.sctp_delivery.proofs.ResetCallLemmas as calls
 use Rattle.sctp_delivery.proofs.WithinLemmas.{Holds}
-use Rattle.sctp_delivery.proofs.DirectionLemmas.{AtStamp, each_at, IsUnderWay, says_out, Stands, Flows, IsSilent}
+use Rattle.sctp_delivery.proofs.DirectionLemmas.{AtStamp, each_at, IsUnderWay, says_out, Stands, SoFar, Flows, IsSilent}
 use Rattle.sctp_delivery.proofs.PremisesLemmas.{IsNoPacket, hears_no_data, hears_data, receiver_premises, begins_in}
 use Rattle.sctp_delivery.proofs.TurnLemmas.{after_turn, ends_in}
 use Rattle.sctp_delivery.proofs.AccountLemmas.{accounts_still, accounts_in}
-use Rattle.sctp_delivery.proofs.GoingLemmas.{goes_places, grow_none, none_more, is_offer, Parts, Turned, holds, counted, near, mode_back, young_now}
+use Rattle.sctp_delivery.proofs.GoingLemmas.{goes_bracketed, none_more, is_offer, Parts, Turned, holds, counted, near, mode_back, young_now}
 
 module _ (message : ℕ → Message) (lifecycle : ℕ → Option ℕ) (mixed : Bool) (of : Stamp → ℕ) (parts : Parts message lifecycle mixed) (o q : Options) (own : AreGiven o)
     (other : AreGiven q) (mode : mixed ≡ (agreed o q).message_interleaving) (s r : Side) (h : Halves o q s r) (quiet_s : IsSilent s) (quiet_r : IsSilent r)
-    (within : IsWithin (state_of s) (queue_of s)) (accepted : ℕ) (handed : List messages.Message) (stamps_s stamps_r : List Stamp) (x : Transfer)
-    (f : Flows message lifecycle mixed of s r accepted handed stamps_s stamps_r x) (now : Stamp) (at_now : of now ≡ numbered (state_of s))
-    (young : (old : Stamp) → IsYoung now old → of now < of old + 2 ^ 30) where
+    (within : IsWithin (state_of s) (queue_of s)) (accepted : ℕ) (handed : List messages.Message) (stamps_s stamps_r : List Stamp) (so_far : SoFar) (x : Direction)
+    (f : Flows message lifecycle mixed of s r accepted handed stamps_s stamps_r so_far x) (soon : IsAnswered (state_of s) so_far.asked) (few_told : performed_in s.told < 2 ^ 32 - 1)
+    (now : Stamp) (at_now : of now ≡ numbered (state_of s)) (young : (old : Stamp) → IsYoung now old → of now < of old + 2 ^ 30) where
   hold : Holds message lifecycle mixed x (queue_of s) f.kept
-  hold = holds message lifecycle mixed of parts o q own other mode s r h quiet_s quiet_r within accepted handed stamps_s stamps_r x f now at_now young
+  hold = holds message lifecycle mixed of parts o q own other mode s r h quiet_s quiet_r within accepted handed stamps_s stamps_r so_far x f soon few_told now at_now young
 
   back : mixed ≡ (agreed q o).message_interleaving
-  back = mode_back message lifecycle mixed of parts o q own other mode s r h quiet_s quiet_r within accepted handed stamps_s stamps_r x f now at_now young
+  back = mode_back message lifecycle mixed of parts o q own other mode s r h quiet_s quiet_r within accepted handed stamps_s stamps_r so_far x f soon few_told now at_now young
 
-  numbered_now : of now ≡ count x.sender
-  numbered_now = counted message lifecycle mixed of parts o q own other mode s r h quiet_s quiet_r within accepted handed stamps_s stamps_r x f now at_now young
+  numbered_now : of now ≡ count (transfer_of x).sender
+  numbered_now = counted message lifecycle mixed of parts o q own other mode s r h quiet_s quiet_r within accepted handed stamps_s stamps_r so_far x f soon few_told now at_now young
 
-  in_near : count x.sender ≤ x.acknowledged + 2 ^ 30
-  in_near = near message lifecycle mixed of parts o q own other mode s r h quiet_s quiet_r within accepted handed stamps_s stamps_r x f now at_now young
+  in_near : count (transfer_of x).sender ≤ (transfer_of x).acknowledged + 2 ^ 30
+  in_near = near message lifecycle mixed of parts o q own other mode s r h quiet_s quiet_r within accepted handed stamps_s stamps_r so_far x f soon few_told now at_now young
 
   -- hands out these
   abbrev pub In : Side → List messages.Message → Type 0
-  In t out = Turned message lifecycle mixed of s t accepted (handed ++ out) stamps_s (stamped r t now stamps_r) x s []
+  In t out = Turned message lifecycle mixed of s t accepted (handed ++ out) stamps_s (stamped r t now stamps_r) so_far x s []
 
   same_handed : handed ++ [] ≡ handed
   same_handed = append-nil handed
@@ -60,64 +67,71 @@ module _ (message : ℕ → Message) (lifecycle : ℕ → Option ℕ) (mixed : B
   still_in : In r []
   still_in = record {
     to = x;
-    flows = subst (λ (ss : List Stamp). Flows message lifecycle mixed of s r accepted (handed ++ []) stamps_s ss x) (sym (none_more (emitted r) now stamps_r))
-        (subst (λ (ms : List messages.Message). Flows message lifecycle mixed of s r accepted ms stamps_s stamps_r x) (sym same_handed) f);
-    grows = grow_none x;
+    flows = subst (λ (ss : List Stamp). Flows message lifecycle mixed of s r accepted (handed ++ []) stamps_s ss so_far x) (sym (none_more (emitted r) now stamps_r))
+        (subst (λ (ms : List messages.Message). Flows message lifecycle mixed of s r accepted ms stamps_s stamps_r so_far x) (sym same_handed) f);
+    bracketed = goes_bracketed message mixed goes_in x x f.kept.epochs (goes_none message mixed goes_in x);
     accounts = λ gone a. accounts_still lifecycle s gone x a;
   }
 
-  claim_in : (asked : Bool) (out : List messages.Message) (e : Endpoint Carried) (y : Transfer) → ReceiverClaim message mixed x (handed ++ out) (calm e) y
+  claim_in : (asked : Bool) (out : List messages.Message) (e : Endpoint Carried) (y : Direction) → ReceiverClaim message mixed x (handed ++ out) (calm e) y
       → Stands (state_of r) e.standing.state → In (after_turn asked e r) out
   claim_in asked out e y c stands = record {
     to = y;
-    flows = ends_in message lifecycle mixed of parts.stay s r accepted handed stamps_s stamps_r x f now numbered_now in_near asked out y e c stands;
-    grows = goes_places message mixed is_receiving x y c.goes;
+    flows = ends_in message lifecycle mixed of parts.stay s r accepted handed stamps_s stamps_r so_far x f now numbered_now in_near asked out y e c stands;
+    bracketed = goes_bracketed message mixed goes_in x y f.kept.epochs c.goes;
     accounts = λ gone a. accounts_in message lifecycle mixed s gone x a y c.goes;
   }
 
-  none_handed : (m : Making Carried) (y : Transfer) → ReceiverClaim message mixed x handed m y → ReceiverClaim message mixed x (handed ++ []) m y
+  none_handed : (m : Making Carried) (y : Direction) → ReceiverClaim message mixed x handed m y → ReceiverClaim message mixed x (handed ++ []) m y
   none_handed m y c = subst (λ (ms : List messages.Message). ReceiverClaim message mixed x ms m y) (sym same_handed) c
 
-  goes_in : (asked : Bool) (call : Call) → ReceiverGoes message lifecycle mixed x handed (calm r.end) (calm (called call r.end))
+  -- nothing is done yet
+  start : ReceiverClaim message mixed x handed (calm r.end) x
+  start = begins_in message lifecycle mixed of o q s r accepted handed stamps_s stamps_r so_far x f quiet_r
+
+  leads_in : (asked : Bool) (call : Call) → ReceiverGoes message lifecycle mixed x handed (calm r.end) (calm (called call r.end))
       → Stands (state_of r) (called call r.end).standing.state → In (after_turn asked (called call r.end) r) []
-  goes_in asked call goes stands =
-      let c = goes x (begins_in message lifecycle mixed of o q s r accepted handed stamps_s stamps_r x f quiet_r) in
+  leads_in asked call goes stands =
+      let c = goes x start in
       claim_in asked [] (called call r.end) c.0 (none_handed (calm (called call r.end)) c.0 c.1) stands
 
   premises : (asked : Bool) (call : Call) → HearsData message mixed call (first_out (state_of s)) x → ReceiverPremises message lifecycle mixed (setting q o r s asked) call x
-  premises asked call hears = receiver_premises message lifecycle mixed of o q s r accepted handed stamps_s stamps_r x f asked call other back hold hears
+  premises asked call hears = receiver_premises message lifecycle mixed of o q s r accepted handed stamps_s stamps_r so_far x f asked call other back few_told hold hears
 
   joined_in : (asked : Bool) (call : Call) → Rules (setting q o r s asked) call → is_other call ≡ true → (r.is_asked ≡ true → asked ≡ true)
       → HasNoEnd (calm (called call r.end)) → HearsData message mixed call (first_out (state_of s)) x → Stands (state_of r) (called call r.end).standing.state
       → In (after_turn asked (called call r.end) r) []
   joined_in asked call rules other_call le none hears stands =
       let g : Setting = setting q o r s asked in
-      goes_in asked call (joined_call g call rules other_call (parts.receiver_keeps g call x handed (premises asked call hears)) r.end none (begins q o r s asked le h.other h.own)).1 stands
+      leads_in asked call (joined_call g call rules other_call (parts.receiver_keeps g call x handed (premises asked call hears)) r.end none (begins q o r s asked le h.other h.own)).1 stands
 
   offered_in : (call : Call) → Rules (setting q o r s r.is_asked) call → is_offer call ≡ true → IsNoPacket call → HasNoEnd (calm (called call r.end))
       → Stands (state_of r) (called call r.end).standing.state → In (after_turn r.is_asked (called call r.end) r) []
   offered_in call rules offer plain none stands =
       let g : Setting = setting q o r s r.is_asked in
-      goes_in r.is_asked call
+      leads_in r.is_asked call
       (parts.offered_in g call x r handed rules offer (premises r.is_asked call (hears_no_data message mixed (first_out (state_of s)) x call plain hold.windows)) none
       (begins q o r s r.is_asked (λ z. z) h.other h.own)) stands
 
   -- nothing happens that the rules see
-  quietly_in : (out : List messages.Message) (m : Making Carried) → ReceivesIn message mixed m.state (handed ++ out) x → packets_in m.context.told.events ≡ [] → m.packet.chunks ≡ []
-      → ReceiverClaim message mixed x (handed ++ out) m x
-  quietly_in out m shown told made = record {
+  quietly_in : (out : List messages.Message) (m : Making Carried) → ReceivesIn message mixed m.state (handed ++ out) x → packets_in m.context.told.events ≡ []
+      → resets_in m.context.told.events ≡ [] → m.packet.chunks ≡ [] → ReceiverClaim message mixed x (handed ++ out) m x
+  quietly_in out m shown told resets made = record {
     kept = f.kept;
-    goes = record { events = []; may = tt; all = refl; leads = refl };
+    goes = goes_none message mixed goes_in x;
+    stay = (refl, refl);
     shown = shown;
-    told = subst (λ (ps : List Carried). All (λ (p : Carried). All (SaysIn (first_in m.state) x.acknowledged (count x.sender) x) p.chunks) ps) (sym told) (All-nil _);
-    made = subst (λ (cs : List ChunkTree). All (SaysIn (first_in m.state) x.acknowledged (count x.sender) x) cs) (sym made) (All-nil _);
+    performed = λ k. let none = sym (told_counts k m.context.told.events) ∙ ap (λ (es : List (Event Carried)). resets_told k es) resets in omega (arith, none);
+    told = subst (λ (ps : List Carried). All (λ (p : Carried). All (SaysIn (first_in m.state) (transfer_of x).acknowledged (count (transfer_of x).sender) x) p.chunks) ps) (sym told) (All-nil _);
+    made = subst (λ (cs : List ChunkTree). All (SaysIn (first_in m.state) (transfer_of x).acknowledged (count (transfer_of x).sender) x) cs) (sym made) (All-nil _);
   }
 
   taken_turn : Stands (state_of r) (taken_in (state_of r)) → In (turned (Calls TakeMessage) r s) (take 1 (ready_in (state_of r)))
   taken_turn stands =
       let out : List messages.Message = take 1 (ready_in (state_of r)) in
       claim_in r.is_asked out (called TakeMessage r.end) x
-      (quietly_in out (calm (called TakeMessage r.end)) (parts.taken_in_turn (state_of r) handed x f.receives) (ap (λ (t : Told Carried). packets_in t.events) quiet_r.told) refl) stands
+      (quietly_in out (calm (called TakeMessage r.end)) (parts.taken_in_turn (state_of r) handed x f.receives) (ap (λ (t : Told Carried). packets_in t.events) quiet_r.told)
+      (ap (λ (t : Told Carried). resets_in t.events) quiet_r.told) refl) stands
 
   refused_in : (p : PacketTree) (text : List ℕ) → called (Packet p) r.end ≡ complains text (counts r.end) → In (after_turn r.is_asked (called (Packet p) r.end) r) []
   refused_in p text same =
@@ -125,35 +139,50 @@ module _ (message : ℕ → Message) (lifecycle : ℕ → Option ℕ) (mixed : B
       subst (λ (z : Endpoint Carried). In (after_turn r.is_asked z r) []) (sym same)
       (claim_in r.is_asked [] e x
       (quietly_in [] (calm e) (subst (λ (ms : List messages.Message). ReceivesIn message mixed (state_of r) ms x) (sym same_handed) f.receives)
-      (ap (λ (t : Told Carried). packets_in (t.events ++ OnError ParseFailed text ∷ [])) quiet_r.told) refl) (λ a e. e))
+      (ap (λ (t : Told Carried). packets_in (t.events ++ OnError ParseFailed text ∷ [])) quiet_r.told)
+      (ap (λ (t : Told Carried). resets_in (t.events ++ OnError ParseFailed text ∷ [])) quiet_r.told) refl) (λ a e. e))
+
+  -- streams are to be reset, unless the end refuses
+  reset_in : (ids : List ℕ) (refusal : Option ResetStreamsError) → reset_refusal (state_of r) ≡ refusal → MayCall (ResetStreams ids) r
+      → HasNoEnd (calm (calls.reset_by refusal ids r.end)) → Stands (state_of r) (calls.reset_by refusal ids r.end).standing.state → In (after_turn r.is_asked (calls.reset_by refusal ids r.end) r) []
+  reset_in ids (Some e) fine may none stands =
+      claim_in r.is_asked [] (calls.reset_by (Some e) ids r.end) x (none_handed (calm r.end) x start) stands
+  reset_in ids None fine may none stands =
+      let g : Setting = setting q o r s r.is_asked in
+      let quiet : Rules g NoPacket = rules_call q o r s other own NoPacket tt in
+      let goes : ReceiverGoes message lifecycle mixed x handed (calls.preparing ids r.end) (calm (calls.reset_by None ids r.end)) =
+      calls.then_reset g quiet (parts.receiver_keeps g NoPacket x handed (premises r.is_asked NoPacket (hears_no_data message mixed (first_out (state_of s)) x NoPacket (λ p e. cc) hold.windows)))
+      r.end ids (rules_call q o r s other own (ResetStreams ids) may) fine none (begins q o r s r.is_asked (λ z. z) h.other h.own) in
+      let c = goes x (calls.claim_preparing message mixed x handed ids r.end x start) in
+      claim_in r.is_asked [] (calls.reset_by None ids r.end) c.0 (none_handed (calm (calls.reset_by None ids r.end)) c.0 c.1) stands
 
   -- any call
-  call_in : (call : Call) → MayCall call r → resets (Calls call) ≡ false → endings (turned (Calls call) r s).told ≡ 0
+  call_in : (call : Call) → MayCall call r → endings (turned (Calls call) r s).told ≡ 0
       → Stands (state_of r) (state_of (turned (Calls call) r s)) → In (turned (Calls call) r s) (handed_by (Calls call) r)
-  call_in call may none_reset none stands = by_call call may none_reset stands (none_of r.told (called call r.end).standing.context.told.events none)
+  call_in call may none stands = by_call call may stands (none_of r.told (called call r.end).standing.context.told.events none)
     where
       other_call : (call : Call) → is_other call ≡ true → IsNoPacket call → MayCall call r → Stands (state_of r) (state_of (turned (Calls call) r s))
           → HasNoEnd (calm (called call r.end)) → In (turned (Calls call) r s) []
       other_call call is plain may stands none =
           joined_in r.is_asked call (rules_call q o r s other own call may) is (λ z. z) none (hears_no_data message mixed (first_out (state_of s)) x call plain hold.windows) stands
 
-      by_call : (call : Call) → MayCall call r → resets (Calls call) ≡ false → Stands (state_of r) (state_of (turned (Calls call) r s)) → HasNoEnd (calm (called call r.end))
+      by_call : (call : Call) → MayCall call r → Stands (state_of r) (state_of (turned (Calls call) r s)) → HasNoEnd (calm (called call r.end))
           → In (turned (Calls call) r s) (handed_by (Calls call) r)
-      by_call Connect may none_reset stands none = other_call Connect refl (λ p e. cc) may stands none
-      by_call Close may none_reset stands none = other_call Close refl (λ p e. cc) may stands none
-      by_call Shutdown may none_reset stands none = other_call Shutdown refl (λ p e. cc) may stands none
-      by_call (Send m how) may none_reset stands none = offered_in (Send m how) (rules_call q o r s other own (Send m how) may) refl (λ p e. cc) none stands
-      by_call (SendMany ms how) may none_reset stands none = offered_in (SendMany ms how) (rules_call q o r s other own (SendMany ms how) may) refl (λ p e. cc) none stands
-      by_call (ResetStreams streams) may none_reset stands none = cc
-      by_call TakeMessage may none_reset stands none = taken_turn stands
-      by_call (SetLowThreshold stream bytes) may none_reset stands none = other_call (SetLowThreshold stream bytes) refl (λ p e. cc) may stands none
-      by_call (SetPriority stream priority) may none_reset stands none = other_call (SetPriority stream priority) refl (λ p e. cc) may stands none
-      by_call (SetMaxMessageSize bytes) may none_reset stands none = other_call (SetMaxMessageSize bytes) refl (λ p e. cc) may stands none
-      by_call (Advance n) may none_reset stands none = other_call (Advance n) refl (λ p e. cc) may stands none
-      by_call HandOver may none_reset stands none = other_call HandOver refl (λ p e. cc) may stands none
-      by_call (Restore k) may none_reset stands none = absurd may
-      by_call (Packet p) may none_reset stands none = absurd may
-      by_call NoPacket may none_reset stands none = other_call NoPacket refl (λ p e. cc) may stands none
+      by_call Connect may stands none = other_call Connect refl (λ p e. cc) may stands none
+      by_call Close may stands none = other_call Close refl (λ p e. cc) may stands none
+      by_call Shutdown may stands none = other_call Shutdown refl (λ p e. cc) may stands none
+      by_call (Send m how) may stands none = offered_in (Send m how) (rules_call q o r s other own (Send m how) may) refl (λ p e. cc) none stands
+      by_call (SendMany ms how) may stands none = offered_in (SendMany ms how) (rules_call q o r s other own (SendMany ms how) may) refl (λ p e. cc) none stands
+      by_call (ResetStreams ids) may stands none = reset_in ids (reset_refusal (state_of r)) refl may none stands
+      by_call TakeMessage may stands none = taken_turn stands
+      by_call (SetLowThreshold stream bytes) may stands none = other_call (SetLowThreshold stream bytes) refl (λ p e. cc) may stands none
+      by_call (SetPriority stream priority) may stands none = other_call (SetPriority stream priority) refl (λ p e. cc) may stands none
+      by_call (SetMaxMessageSize bytes) may stands none = other_call (SetMaxMessageSize bytes) refl (λ p e. cc) may stands none
+      by_call (Advance n) may stands none = other_call (Advance n) refl (λ p e. cc) may stands none
+      by_call HandOver may stands none = other_call HandOver refl (λ p e. cc) may stands none
+      by_call (Restore k) may stands none = absurd may
+      by_call (Packet p) may stands none = absurd may
+      by_call NoPacket may stands none = other_call NoPacket refl (λ p e. cc) may stands none
 
   given_in : (p : Option Carried) (checksum n : ℕ) → slice_get (emitted s) n ≡ p → ((old : Stamp) → slice_get stamps_s n ≡ Some old → IsYoung now old)
       → endings (given p checksum r).told ≡ 0 → Stands (state_of r) (state_of (given p checksum r)) → In (given p checksum r) []
@@ -164,15 +193,15 @@ module _ (message : ℕ → Message) (lifecycle : ℕ → Option ℕ) (mixed : B
       joined_in (r.is_asked || (p.header.verification_tag == 0)) (Packet (as_heard p checksum)) (rules_given q o r s other own p checksum n there) refl
       (or_left r.is_asked (p.header.verification_tag == 0)) (none_of r.told (called (Packet (as_heard p checksum)) r.end).standing.context.told.events none)
       (hears_data message mixed (first_out (state_of s)) x (of a.stamp) p checksum a.holds
-      (young_now message lifecycle mixed of parts o q own other mode s r h quiet_s quiet_r within accepted handed stamps_s stamps_r x f now at_now young a.stamp (timely a.stamp a.there))) stands
+      (young_now message lifecycle mixed of parts o q own other mode s r h quiet_s quiet_r within accepted handed stamps_s stamps_r so_far x f soon few_told now at_now young a.stamp (timely a.stamp a.there))) stands
 
   foreign_in : (text : Option (List ℕ)) (p : PacketTree) → refusal p.header.verification_tag p.chunks (state_of r) ≡ text → In (foreign_if text p r) []
   foreign_in None p is = still_in
   foreign_in (Some text) p is = refused_in p text (ap (λ (z : Option (List ℕ)). taken_if z p.header.verification_tag p.chunks (counts r.end)) is)
 
-  pub turn_in : (t : Turn) → MayTurn t r → resets t ≡ false → IsTimely t now stamps_s → endings (turned t r s).told ≡ 0 → In (turned t r s) (handed_by t r)
-  turn_in (Calls call) may none_reset timely none =
-      call_in call may none_reset none (hands q o r s other own (swapped o q s r h) (Calls call) may none).stands
-  turn_in (Gives which checksum) may none_reset timely none =
+  pub turn_in : (t : Turn) → MayTurn t r → IsTimely t now stamps_s → endings (turned t r s).told ≡ 0 → In (turned t r s) (handed_by t r)
+  turn_in (Calls call) may timely none =
+      call_in call may none (hands q o r s other own (swapped o q s r h) (Calls call) may none).stands
+  turn_in (Gives which checksum) may timely none =
       given_in (slice_get (emitted s) which) checksum which refl timely none (hands q o r s other own (swapped o q s r h) (Gives which checksum) may none).stands
-  turn_in (Refuses p) may none_reset timely none = foreign_in (refusal p.header.verification_tag p.chunks (state_of r)) p refl
+  turn_in (Refuses p) may timely none = foreign_in (refusal p.header.verification_tag p.chunks (state_of r)) p refl

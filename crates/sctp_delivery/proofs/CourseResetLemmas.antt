@@ -9,6 +9,7 @@ use Rattle.sctp_course.specs.Course.{Side, Pair, emitted, Turn, Calls, Gives, Re
 use Rattle.sctp_delivery.specs.Windows.{numbered}
 use Rattle.sctp_delivery.specs.GivenUp.{told_given, told_foreign, told_by}
 use Rattle.sctp_delivery.specs.Answered.{waiting_number, is_same, Asked, asked_by, IsAnswered, AreAnswered, KeepsRequests, performed_in}
+use Rattle.sctp_delivery.proofs.ResetEventsLemmas.{performed_both}
 use Rattle.sctp_delivery.specs.StreamEpochs.{StreamEpoch, are_named, told_at, epochs_after, resets_told, failed_in}
 
 -- ---- what is told
@@ -41,27 +42,6 @@ told_run x (e ∷ es) w =
     (first ++ r.0, r.1 ∙ (ap (λ (l : List (Event Carried)). l ++ r.0) (told_goes x e.0 e.1 w) ∙ append_assoc (side_of x w).told first r.0))
 
 -- ---- of resets
-
-module _ {P : Type 0} where
-  pub performed_both : (es fs : List (Event P)) → performed_in (es ++ fs) ≡ performed_in es + performed_in fs
-  performed_both [] fs = omega arith
-  performed_both (OnStreamsResetPerformed streams ∷ es) fs = let h = performed_both es fs in omega (arith, h)
-  performed_both (e ∷ es) fs = performed_both es fs
-
-  pub resets_told_both : (s : ℕ) (es fs : List (Event P)) → resets_told s (es ++ fs) ≡ resets_told s es + resets_told s fs
-  resets_told_both s [] fs = omega arith
-  resets_told_both s (OnIncomingStreamReset streams ∷ es) fs = go (are_named streams s) (resets_told_both s es fs)
-    where
-      go : (b : Bool) → resets_told s (es ++ fs) ≡ resets_told s es + resets_told s fs
-          → (let n : ℕ = cond b (1 + resets_told s (es ++ fs)) (resets_told s (es ++ fs)) in n) ≡ cond b (1 + resets_told s es) (resets_told s es) + resets_told s fs
-      go true ih = omega (arith, ih)
-      go false ih = ih
-  resets_told_both s (e ∷ es) fs = resets_told_both s es fs
-
-  pub failed_both : (es fs : List (Event P)) → failed_in (es ++ fs) ≡ (failed_in es || failed_in fs)
-  failed_both [] fs = refl
-  failed_both (OnStreamsResetFailed streams ∷ es) fs = refl
-  failed_both (e ∷ es) fs = failed_both es fs
 
 -- what holds of the number at the end held before
 pub few_before : (x : Bool) (es : List (Bool × Turn)) (w : Pair) (n : ℕ) → performed_in (side_of x (run es w)).told < n → performed_in (side_of x w).told < n

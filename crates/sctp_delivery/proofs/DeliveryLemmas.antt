@@ -1,6 +1,5 @@
--- Along a course each direction is a run of the rules, turn by turn, and at each point what became ready fits.
-use Rattle.std.proofs.Common.{◌≡◌, ℕ, ◌+◌, ◌^◌, ◌<◌, not, Bool, true, false, Option, Some, None, List, [], ◌∷◌, ◌++◌, length, map, take, slice_get, refl, sym, ap, subst, ◌∙◌, append-nil, append_assoc, length-append, arith}
-use Rattle.std.specs.List.{list_any}
+-- Along a course each direction is a run of the rules, turn by turn, and at each point what became ready fits, each in its epoch.
+use Rattle.std.proofs.Common.{◌≡◌, ℕ, ◌+◌, ◌-◌, ◌^◌, ◌<◌, ◌≤◌, ◌||◌, not, Bool, true, false, Option, Some, None, List, [], ◌∷◌, ◌++◌, length, map, take, slice_get, refl, sym, ap, subst, ◌∙◌, append-nil, append_assoc, length-append, arith}
 use Rattle.std.proofs.lemmas.Bool.{or_parts}
 use Rattle.sctp_serial.specs.Messages as messages
 use Rattle.sctp_packet.specs.Packet.{PacketTree}
@@ -9,12 +8,12 @@ use Rattle.sctp_state.specs.Options.{Options}
 use Rattle.sctp_capabilities.specs.Capabilities.{agreed}
 use Rattle.sctp_capabilities.proofs.CapabilitiesLemmas.{agreed-exchanged}
 use Rattle.sctp_rx_rules.specs.View.{ready_of}
-use Rattle.sctp_rules.specs.State.{Message, Transfer, has}
+use Rattle.sctp_rules.specs.State.{Message, has}
+use Rattle.sctp_rules.specs.Based.{Bracketed}
 use Rattle.sctp_rules.specs.Kept.{Kept}
 use Rattle.sctp_rules.proofs.ToolsLemmas.{has_keeps}
 use Rattle.sctp_tx_rules.specs.Led.{delivered}
 use Rattle.sctp_tx_rules.proofs.SackLemmas.{delivered_more}
-use Rattle.sctp_rules.specs.Claims.{Grows}
 use Rattle.sctp_table_laws.specs.Mapped.{Carried}
 use Rattle.sctp_table.specs.Input.{refusal}
 use Rattle.sctp_table.specs.Laws.{endings}
@@ -23,17 +22,23 @@ use Rattle.sctp_course.specs.Handing.{ready_at, handed_by, handed_at, new_behind
 use Rattle.sctp_course.proofs.CourseLemmas.{Halves, swapped, before_run, goes_joined}
 use Rattle.sctp_course.proofs.HandingLemmas.{Hands, hands_at}
 use Rattle.sctp_delivery.specs.Accepted.{Offer, accepted_in, accepted_at, accepted}
-use Rattle.sctp_delivery.specs.Windows.{Stamp, stamp, Stamps, stamps_after, stamps_for, IsTimely, AreWithin, KeepsWindows, resets, KeepsStreams}
+use Rattle.sctp_delivery.specs.Windows.{Stamp, stamp, Stamps, stamps_after, stamps_for, IsTimely, AreWithin, KeepsWindows}
+use Rattle.sctp_delivery.specs.Answered.{Asked, asked_after, IsAnswered, AreAnswered, KeepsRequests, performed_in}
+use Rattle.sctp_delivery.specs.StreamEpochs.{StreamEpoch, epochs_after, epochs_of, offer_epochs, told_of, resets_told, failed_in}
 use Rattle.sctp_delivery.specs.GivenUp.{told_by, given_up_at, given_up}
 use Rattle.sctp_delivery.specs.Delivery.{ReportsAreTrue}
 use Rattle.sctp_delivery.specs.Ending.{stamps_along}
-use Rattle.sctp_delivery.proofs.ClaimLemmas.{ReceivesIn}
-use Rattle.sctp_delivery.proofs.DirectionLemmas.{Flows, IsSilent}
+use Rattle.sctp_delivery.proofs.ClaimLemmas.{Direction, transfer_of, ReceivesIn}
+use Rattle.sctp_delivery.proofs.DirectionLemmas.{SoFar, Flows, IsSilent}
+use Rattle.sctp_delivery.proofs.ResetEventsLemmas.{failed_more}
+use Rattle.sctp_delivery.proofs.CourseResetLemmas.{few_before, answered_now, asked_of, answered_at, asked_again, epochs_beside}
+use Rattle.sctp_delivery.proofs.TurnLemmas.{AreOffered}
 use Rattle.sctp_delivery.proofs.AccountLemmas.{Accounted}
-use Rattle.sctp_delivery.proofs.GoingLemmas.{AreOffered, Parts, Turned, turn_out, turn_until}
+use Rattle.sctp_delivery.proofs.GoingLemmas.{Parts, Turned, flows_again, turn_out, turn_until}
 use Rattle.sctp_delivery.proofs.ComingLemmas.{turn_in}
-use Rattle.sctp_delivery.proofs.FitsLemmas.{message_of, lifecycle_of, offered_from, accepted_there, lifecycle_accepted, ready_is, first_places}
+use Rattle.sctp_delivery.proofs.FitsLemmas.{message_of, lifecycle_of, offered_from, accepted_there, lifecycle_accepted, ready_is, many_places, first_places}
 use Rattle.sctp_delivery.proofs.DoneLemmas.{Point, point}
+use Rattle.sctp_delivery.proofs.EpochPointLemmas.{BecomeReady, become_ready}
 
 -- ---- what was told is taken after each turn
 
@@ -70,17 +75,25 @@ abbrev pub stamps_of : Bool → Stamps → List Stamp
 stamps_of true s = s.of_a
 stamps_of false s = s.of_b
 
-abbrev pub FlowsFrom : (ℕ → Message) → (ℕ → Option ℕ) → (mixed from_a : Bool) → Pair → Stamps → (accepted : ℕ) → (handed : List messages.Message) → Transfer → Type 0
-FlowsFrom message lifecycle mixed from_a w stamps n handed x =
-    Flows message lifecycle mixed (of_end from_a) (side_of from_a w) (side_of (not from_a) w) n handed (stamps_of from_a stamps) (stamps_of (not from_a) stamps) x
+-- what the course says so far of this direction: how its streams stand, the epochs of its messages, and since when its request waits
+abbrev pub so_far : Bool → (ℕ → StreamEpoch) → List ℕ → Asked → SoFar
+so_far from_a f epochs k = record { streams = f; epochs = epochs; asked = asked_of from_a k }
+
+abbrev pub FlowsFrom : (ℕ → Message) → (ℕ → Option ℕ) → (mixed from_a : Bool) → Pair → Stamps → (accepted : ℕ) → (handed : List messages.Message) → SoFar → Direction → Type 0
+FlowsFrom message lifecycle mixed from_a w stamps n handed said x =
+    Flows message lifecycle mixed (of_end from_a) (side_of from_a w) (side_of (not from_a) w) n handed (stamps_of from_a stamps) (stamps_of (not from_a) stamps) said x
 
 -- from a pair before, where the sender gave these up
-pub record Stepped (message : ℕ → Message) (lifecycle : ℕ → Option ℕ) (mixed from_a : Bool) (w : Pair) (stamps : Stamps) (n : ℕ) (handed : List messages.Message) (x : Transfer)
-    (before : Pair) (by : List ℕ) : Type 0 where
-  pub to : Transfer
-  pub flows : FlowsFrom message lifecycle mixed from_a w stamps n handed to
-  pub grows : Grows x to
+pub record Stepped (message : ℕ → Message) (lifecycle : ℕ → Option ℕ) (mixed from_a : Bool) (w : Pair) (stamps : Stamps) (n : ℕ) (handed : List messages.Message) (said : SoFar)
+    (x : Direction) (before : Pair) (by : List ℕ) : Type 0 where
+  pub to : Direction
+  pub flows : FlowsFrom message lifecycle mixed from_a w stamps n handed said to
+  pub bracketed : Bracketed message x.rules to.rules
   pub accounts : (gone : List ℕ) → Accounted lifecycle (side_of from_a before) gone x → Accounted lifecycle (side_of from_a w) (gone ++ by) to
+
+-- fewer resets were performed than numbers tell apart
+abbrev pub AreFewPerformed : Pair → Type 0
+AreFewPerformed w = (x : Bool) → performed_in (side_of x w).told < 2 ^ 32 - 1
 
 module _ (message : ℕ → Message) (lifecycle : ℕ → Option ℕ) (mixed : Bool) (parts : Parts message lifecycle mixed) (a b : Options) (own : AreGiven a) (other : AreGiven b)
     (mode : mixed ≡ (agreed a b).message_interleaving) where
@@ -90,48 +103,56 @@ module _ (message : ℕ → Message) (lifecycle : ℕ → Option ℕ) (mixed : B
   more_by_none : (n : ℕ) → n ≡ n + 0
   more_by_none n = omega arith
 
-  pub stepped : (from_a at_a : Bool) (t : Turn) (w : Pair) (stamps : Stamps) → Halves a b w.a w.b → AreSilent w → AreWithin w → MayTurn t (side_of at_a w) → resets t ≡ false
-      → IsTimely t (stamp w) (stamps_for at_a stamps) → HasNotEnded (goes at_a t w) → (n : ℕ) (handed : List messages.Message)
+  pub stepped : (from_a at_a : Bool) (t : Turn) (w : Pair) (stamps : Stamps) → Halves a b w.a w.b → AreSilent w → AreWithin w → (k : Asked) → AreAnswered w k → AreFewPerformed w
+      → MayTurn t (side_of at_a w) → IsTimely t (stamp w) (stamps_for at_a stamps) → HasNotEnded (goes at_a t w) → (n : ℕ) (handed : List messages.Message)
       → AreOffered message lifecycle n (accepted_at from_a at_a t w) → n + length (accepted_at from_a at_a t w) < 2 ^ 32
-      → (x : Transfer) → FlowsFrom message lifecycle mixed from_a w stamps n handed x
-      → Stepped message lifecycle mixed from_a (goes at_a t w) (stamps_after at_a t w stamps) (n + length (accepted_at from_a at_a t w)) (handed ++ handed_at (not from_a) at_a t w) x
-      w (given_up_at from_a at_a t w)
-  stepped true true t w stamps h quiet within may no_reset timely none n handed are few x f =
-      let r = turn_out message lifecycle mixed (of_end true) parts a b own other mode w.a w.b h quiet.a quiet.b within.a n handed stamps.of_a stamps.of_b x f (stamp w) refl
-      (λ old y. y.a) t may no_reset timely none.a are few in
+      → (f : ℕ → StreamEpoch) (epochs : List ℕ) (x : Direction) → FlowsFrom message lifecycle mixed from_a w stamps n handed (so_far from_a f epochs k) x
+      → Stepped message lifecycle mixed from_a (goes at_a t w) (stamps_after at_a t w stamps) (n + length (accepted_at from_a at_a t w)) (handed ++ handed_at (not from_a) at_a t w)
+      (so_far from_a (epochs_after from_a at_a t w f) (epochs ++ epochs_of (accepted_at from_a at_a t w) f) (asked_after at_a t w k)) x w (given_up_at from_a at_a t w)
+  stepped true true t w stamps h quiet within k soon told may timely none n handed are few f epochs x flows =
+      let r = turn_out message lifecycle mixed (of_end true) parts a b own other mode w.a w.b h quiet.a quiet.b within.a n handed stamps.of_a stamps.of_b (so_far true f epochs k) x flows
+      soon.a (told true) (stamp w) refl (λ old y. y.a) t may timely none.a are few in
       record {
         to = r.to;
-        flows = subst (λ (ms : List messages.Message).
-            FlowsFrom message lifecycle mixed true (goes true t w) (stamps_after true t w stamps) (n + length (accepted_in t w.a)) ms r.to) (sym (append-nil handed)) r.flows;
-        grows = r.grows;
+        flows = subst (λ (ms : List messages.Message). FlowsFrom message lifecycle mixed true (goes true t w) (stamps_after true t w stamps) (n + length (accepted_in t w.a)) ms
+            (so_far true (epochs_after true true t w f) (epochs ++ epochs_of (accepted_at true true t w) f) (asked_after true t w k)) r.to) (sym (append-nil handed)) r.flows;
+        bracketed = r.bracketed;
         accounts = r.accounts;
       }
-  stepped true false t w stamps h quiet within may no_reset timely none n handed are few x f =
-      let r = turn_in message lifecycle mixed (of_end true) parts a b own other mode w.a w.b h quiet.a quiet.b within.a n handed stamps.of_a stamps.of_b x f (stamp w) refl
-      (λ old y. y.a) t may no_reset timely none.b in
+  stepped true false t w stamps h quiet within k soon told may timely none n handed are few f epochs x flows =
+      let r = turn_in message lifecycle mixed (of_end true) parts a b own other mode w.a w.b h quiet.a quiet.b within.a n handed stamps.of_a stamps.of_b (so_far true f epochs k) x flows
+      soon.a (told true) (stamp w) refl (λ old y. y.a) t may timely none.b in
       record {
         to = r.to;
-        flows = subst (λ (k : ℕ). FlowsFrom message lifecycle mixed true (goes false t w) (stamps_after false t w stamps) k (handed ++ handed_by t w.b) r.to) (more_by_none n) r.flows;
-        grows = r.grows;
+        flows = subst (λ (m : ℕ). FlowsFrom message lifecycle mixed true (goes false t w) (stamps_after false t w stamps) m (handed ++ handed_by t w.b)
+            (so_far true (epochs_after true false t w f) (epochs ++ epochs_of (accepted_at true false t w) f) (asked_after false t w k)) r.to) (more_by_none n)
+            (flows_again message lifecycle mixed (of_end true) w.a (goes false t w).b n (handed ++ handed_by t w.b) stamps.of_a (stamps_after false t w stamps).of_b (so_far true f epochs k)
+            (so_far true (epochs_after true false t w f) (epochs ++ epochs_of (accepted_at true false t w) f) (asked_after false t w k)) r.to
+            (epochs_beside true t w f) (append-nil epochs) (asked_again (state_of w.a) k.a) r.flows);
+        bracketed = r.bracketed;
         accounts = r.accounts;
       }
-  stepped false false t w stamps h quiet within may no_reset timely none n handed are few x f =
-      let r = turn_out message lifecycle mixed (of_end false) parts b a other own mode_back w.b w.a (swapped a b w.a w.b h) quiet.b quiet.a within.b n handed stamps.of_b stamps.of_a x f
-      (stamp w) refl (λ old y. y.b) t may no_reset timely none.b are few in
+  stepped false false t w stamps h quiet within k soon told may timely none n handed are few f epochs x flows =
+      let r = turn_out message lifecycle mixed (of_end false) parts b a other own mode_back w.b w.a (swapped a b w.a w.b h) quiet.b quiet.a within.b n handed stamps.of_b stamps.of_a
+      (so_far false f epochs k) x flows soon.b (told false) (stamp w) refl (λ old y. y.b) t may timely none.b are few in
       record {
         to = r.to;
-        flows = subst (λ (ms : List messages.Message).
-            FlowsFrom message lifecycle mixed false (goes false t w) (stamps_after false t w stamps) (n + length (accepted_in t w.b)) ms r.to) (sym (append-nil handed)) r.flows;
-        grows = r.grows;
+        flows = subst (λ (ms : List messages.Message). FlowsFrom message lifecycle mixed false (goes false t w) (stamps_after false t w stamps) (n + length (accepted_in t w.b)) ms
+            (so_far false (epochs_after false false t w f) (epochs ++ epochs_of (accepted_at false false t w) f) (asked_after false t w k)) r.to) (sym (append-nil handed)) r.flows;
+        bracketed = r.bracketed;
         accounts = r.accounts;
       }
-  stepped false true t w stamps h quiet within may no_reset timely none n handed are few x f =
-      let r = turn_in message lifecycle mixed (of_end false) parts b a other own mode_back w.b w.a (swapped a b w.a w.b h) quiet.b quiet.a within.b n handed stamps.of_b stamps.of_a x f
-      (stamp w) refl (λ old y. y.b) t may no_reset timely none.a in
+  stepped false true t w stamps h quiet within k soon told may timely none n handed are few f epochs x flows =
+      let r = turn_in message lifecycle mixed (of_end false) parts b a other own mode_back w.b w.a (swapped a b w.a w.b h) quiet.b quiet.a within.b n handed stamps.of_b stamps.of_a
+      (so_far false f epochs k) x flows soon.b (told false) (stamp w) refl (λ old y. y.b) t may timely none.a in
       record {
         to = r.to;
-        flows = subst (λ (k : ℕ). FlowsFrom message lifecycle mixed false (goes true t w) (stamps_after true t w stamps) k (handed ++ handed_by t w.a) r.to) (more_by_none n) r.flows;
-        grows = r.grows;
+        flows = subst (λ (m : ℕ). FlowsFrom message lifecycle mixed false (goes true t w) (stamps_after true t w stamps) m (handed ++ handed_by t w.a)
+            (so_far false (epochs_after false true t w f) (epochs ++ epochs_of (accepted_at false true t w) f) (asked_after true t w k)) r.to) (more_by_none n)
+            (flows_again message lifecycle mixed (of_end false) w.b (goes true t w).a n (handed ++ handed_by t w.a) stamps.of_b (stamps_after true t w stamps).of_a (so_far false f epochs k)
+            (so_far false (epochs_after false true t w f) (epochs ++ epochs_of (accepted_at false true t w) f) (asked_after true t w k)) r.to
+            (epochs_beside false t w f) (append-nil epochs) (asked_again (state_of w.b) k.b) r.flows);
+        bracketed = r.bracketed;
         accounts = r.accounts;
       }
 
@@ -145,37 +166,52 @@ abbrev other_turns : List (Bool × Turn) → List (Bool × Turn)
 other_turns [] = []
 other_turns (e ∷ es) = es
 
-module _ (all : List Offer) (mixed : Bool) (parts : Parts (message_of all) (lifecycle_of all) mixed) (a b : Options) (own : AreGiven a) (other : AreGiven b)
+module _ (all : List Offer) (all_epochs : List ℕ) (mixed : Bool) (parts : Parts (message_of all) (lifecycle_of all) mixed) (a b : Options) (own : AreGiven a) (other : AreGiven b)
     (mode : mixed ≡ (agreed a b).message_interleaving) (few : length all < 2 ^ 32) (from_a : Bool) where
-  abbrev From : Pair → Stamps → ℕ → List messages.Message → Transfer → Type 0
-  From w stamps n handed x = FlowsFrom (message_of all) (lifecycle_of all) mixed from_a w stamps n handed x
+  abbrev From : Pair → Stamps → ℕ → List messages.Message → SoFar → Direction → Type 0
+  From w stamps n handed said x = FlowsFrom (message_of all) (lifecycle_of all) mixed from_a w stamps n handed said x
 
   -- where such a course leads, whose places are all that became ready
   pub record Leads (w : Pair) (stamps : Stamps) (done : List Offer) (ready : List messages.Message) (gone places : List ℕ) : Type 0 where
     pub handed : List messages.Message
     pub ready_are : ready ≡ handed ++ ready_at (side_of (not from_a) w)
-    pub last : Transfer
-    pub flows : From w stamps (length done) handed last
+    pub last : Direction
+    pub said : SoFar
+    pub flows : From w stamps (length done) handed said last
+    pub soon : IsAnswered (state_of (side_of from_a w)) said.asked
     pub accounts : Accounted (lifecycle_of all) (side_of from_a w) gone last
-    pub places_are : places ≡ last.receiver.places
+    pub places_are : places ≡ (transfer_of last).receiver.places
+
+  -- what becomes ready at this turn behind these
+  abbrev BecomeReadyAt : List ℕ → Pair → List messages.Message → (early : List (Bool × Turn)) → Bool × Turn → Type 0
+  BecomeReadyAt places w ready early e =
+      BecomeReady all all_epochs places (told_of (not from_a) early w) (told_of (not from_a) (early ++ e ∷ []) w) (length (ready ++ readied (not from_a) early w))
+      (length (ready ++ readied (not from_a) (early ++ e ∷ []) w))
 
   -- where this was accepted, became ready and was given up before, one list of places serves all along
-  pub record DeliversOn (es : List (Bool × Turn)) (w : Pair) (stamps : Stamps) (done : List Offer) (ready : List messages.Message) (gone : List ℕ) (x : Transfer) : Type 0 where
+  pub record DeliversOn (es : List (Bool × Turn)) (w : Pair) (stamps : Stamps) (done : List Offer) (ready : List messages.Message) (gone : List ℕ) (x : Direction) : Type 0 where
     pub places : List ℕ
     pub more : List ℕ
-    pub grown : places ≡ x.receiver.places ++ more
+    pub grown : places ≡ (transfer_of x).receiver.places ++ more
     pub points : (early late : List (Bool × Turn)) → es ≡ early ++ late
         → Point (side_of from_a (run early w)) (done ++ accepted from_a early w) (ready ++ readied (not from_a) early w) (gone ++ given_up from_a early w) places
+    pub in_epochs : (early late : List (Bool × Turn)) (e : Bool × Turn) → es ≡ early ++ e ∷ late → BecomeReadyAt places w ready early e
     pub leads : Leads (run es w) (stamps_along es w stamps) (done ++ accepted from_a es w) (ready ++ readied (not from_a) es w) (gone ++ given_up from_a es w) places
+
+  -- what is ready is what the rules made ready
+  ready_now : (w : Pair) (handed ready : List messages.Message) → ready ≡ handed ++ ready_at (side_of (not from_a) w) → (stamps : Stamps) (n : ℕ) (said : SoFar) (x : Direction)
+      → From w stamps n handed said x → (transfer_of x).receiver.ready ≡ map ready_of ready
+  ready_now w handed ready r stamps n said x f =
+      subst (λ (ms : List messages.Message). (transfer_of x).receiver.ready ≡ map ready_of ms) (sym r)
+      (ready_is (message_of all) mixed (state_of (side_of (not from_a) w)) handed x f.receives)
 
   -- now
   point_now : (w : Pair) (stamps : Stamps) (done later : List Offer) → all ≡ done ++ later → (handed ready : List messages.Message)
-      → ready ≡ handed ++ ready_at (side_of (not from_a) w) → (gone : List ℕ) (x : Transfer) → From w stamps (length done) handed x
-      → Accounted (lifecycle_of all) (side_of from_a w) gone x → (places more : List ℕ) → places ≡ x.receiver.places ++ more → Point (side_of from_a w) done ready gone places
-  point_now w stamps done later e handed ready r gone x f a places more grown =
-      point (message_of all) (lifecycle_of all) mixed done (accepted_there all done later e) (lifecycle_accepted all done later e) (side_of from_a w) x f.kept f.accepted_is gone a f.sends ready
-      (subst (λ (ms : List messages.Message). x.receiver.ready ≡ map ready_of ms) (sym r)
-      (ready_is (message_of all) mixed (state_of (side_of (not from_a) w)) handed x f.receives)) places more grown
+      → ready ≡ handed ++ ready_at (side_of (not from_a) w) → (gone : List ℕ) (said : SoFar) (x : Direction) → From w stamps (length done) handed said x
+      → Accounted (lifecycle_of all) (side_of from_a w) gone x → (places more : List ℕ) → places ≡ (transfer_of x).receiver.places ++ more → Point (side_of from_a w) done ready gone places
+  point_now w stamps done later e handed ready r gone said x f a places more grown =
+      point (message_of all) (lifecycle_of all) mixed done (accepted_there all done later e) (lifecycle_accepted all done later e) (side_of from_a w) x f.kept.epochs.order.kept f.accepted_is gone a
+      f.sends ready (ready_now w handed ready r stamps (length done) said x f) places more grown
 
   -- behind nothing more
   here : (w : Pair) (done : List Offer) (ready : List messages.Message) (gone places : List ℕ) → Point (side_of from_a w) done ready gone places
@@ -185,17 +221,34 @@ module _ (all : List Offer) (mixed : Bool) (parts : Parts (message_of all) (life
       (subst (λ (ms : List messages.Message). Point (side_of from_a w) done ms (gone ++ []) places) (sym (append-nil ready))
       (subst (λ (ps : List ℕ). Point (side_of from_a w) done ready ps places) (sym (append-nil gone)) p))
 
+  -- at one turn
+  timed_now : (w v : Pair) (done : List Offer) (handed ready : List messages.Message) → ready ≡ handed ++ ready_at (side_of (not from_a) w)
+      → (done_then : List Offer) (handed_then new : List messages.Message) → ready ++ new ≡ handed_then ++ ready_at (side_of (not from_a) v)
+      → (stamps stamps_then : Stamps) (n m : ℕ) (said then : SoFar) (x y : Direction) → From w stamps n handed said x → From v stamps_then m handed_then then y
+      → Bracketed (message_of all) x.rules y.rules → (later : List ℕ) → all_epochs ≡ then.epochs ++ later → (places more : List ℕ) → places ≡ (transfer_of y).receiver.places ++ more
+      → BecomeReady all all_epochs places (side_of (not from_a) w).told (side_of (not from_a) v).told (length ready) (length (ready ++ new))
+  timed_now w v done handed ready r done_then handed_then new r_then stamps stamps_then n m said then x y f g b later split places more grown k p o l h =
+      let there = accepted_there all all [] (sym (append-nil all)) in
+      let from = many_places (message_of all) all there mixed (transfer_of x) ready f.kept.epochs.order.kept (ready_now w handed ready r stamps n said x f) in
+      let to = many_places (message_of all) all there mixed (transfer_of y) (ready ++ new) g.kept.epochs.order.kept (ready_now v handed_then (ready ++ new) r_then stamps_then m then y g) in
+      become_ready (message_of all) mixed all there x y b g.kept.epochs.order.kept (side_of (not from_a) w).told (side_of (not from_a) v).told f.performed g.performed then.epochs later
+      all_epochs (g.many ∙ sym g.accepted_is) g.epochs split places more grown k p o (omega (arith, l, from)) (omega (arith, h, to))
+
   -- one turn, then the others
-  on_then : (e : Bool × Turn) (es : List (Bool × Turn)) (w : Pair) (stamps : Stamps) (done : List Offer) (ready : List messages.Message) (gone : List ℕ) (x y : Transfer) → Grows x y
-      → ((places more : List ℕ) → places ≡ x.receiver.places ++ more → Point (side_of from_a w) done ready gone places)
+  on_then : (e : Bool × Turn) (es : List (Bool × Turn)) (w : Pair) (stamps : Stamps) (done : List Offer) (ready : List messages.Message) (gone : List ℕ) (x y : Direction)
+      → Bracketed (message_of all) x.rules y.rules
+      → ((places more : List ℕ) → places ≡ (transfer_of x).receiver.places ++ more → Point (side_of from_a w) done ready gone places)
+      → ((places more : List ℕ) → places ≡ (transfer_of y).receiver.places ++ more → BecomeReady all all_epochs places (side_of (not from_a) w).told (side_of (not from_a) (goes e.0 e.1 w)).told
+      (length ready) (length (ready ++ new_behind (ready_at (side_of (not from_a) w)) (ready_at (side_of (not from_a) (goes e.0 e.1 w))))))
       → DeliversOn es (goes e.0 e.1 w) (stamps_after e.0 e.1 w stamps) (done ++ accepted_at from_a e.0 e.1 w)
       (ready ++ new_behind (ready_at (side_of (not from_a) w)) (ready_at (side_of (not from_a) (goes e.0 e.1 w)))) (gone ++ given_up_at from_a e.0 e.1 w) y
       → DeliversOn (e ∷ es) w stamps done ready gone x
-  on_then e es w stamps done ready gone x y g now d = record {
+  on_then e es w stamps done ready gone x y b now timed d = record {
     places = d.places;
-    more = g.0 ++ d.more;
+    more = b.more ++ d.more;
     grown = grown;
     points = points;
+    in_epochs = in_epochs;
     leads =
         regrouped (run es v) (stamps_along es v (stamps_after e.0 e.1 w stamps)) (accepted from_a es v) (readied (not from_a) es v) (given_up from_a es v) d.leads;
   }
@@ -212,8 +265,8 @@ module _ (all : List Offer) (mixed : Bool) (parts : Parts (message_of all) (life
       left : List ℕ
       left = given_up_at from_a e.0 e.1 w
 
-      grown : d.places ≡ x.receiver.places ++ (g.0 ++ d.more)
-      grown = d.grown ∙ (ap (λ (l : List ℕ). l ++ d.more) g.1 ∙ append_assoc x.receiver.places g.0 d.more)
+      grown : d.places ≡ (transfer_of x).receiver.places ++ (b.more ++ d.more)
+      grown = d.grown ∙ (ap (λ (l : List ℕ). l ++ d.more) b.places ∙ append_assoc (transfer_of x).receiver.places b.more d.more)
 
       later : (s : Side) (os2 : List Offer) (ms2 : List messages.Message) (ps2 : List ℕ) → Point s ((done ++ os) ++ os2) ((ready ++ new) ++ ms2) ((gone ++ left) ++ ps2) d.places
           → Point s (done ++ (os ++ os2)) (ready ++ (new ++ ms2)) (gone ++ (left ++ ps2)) d.places
@@ -231,57 +284,99 @@ module _ (all : List Offer) (mixed : Bool) (parts : Parts (message_of all) (life
 
       points : (early late : List (Bool × Turn)) → (e ∷ es) ≡ early ++ late
           → Point (side_of from_a (run early w)) (done ++ accepted from_a early w) (ready ++ readied (not from_a) early w) (gone ++ given_up from_a early w) d.places
-      points [] late is = here w done ready gone d.places (now d.places (g.0 ++ d.more) grown)
+      points [] late is = here w done ready gone d.places (now d.places (b.more ++ d.more) grown)
       points (f ∷ early) late is =
           subst (λ (z : Bool × Turn). Point (side_of from_a (run (z ∷ early) w)) (done ++ accepted from_a (z ∷ early) w) (ready ++ readied (not from_a) (z ∷ early) w)
           (gone ++ given_up from_a (z ∷ early) w) d.places) (ap (λ (z : List (Bool × Turn)). first_turn z e) is)
           (later (side_of from_a (run early v)) (accepted from_a early v) (readied (not from_a) early v) (given_up from_a early v) (d.points early late (ap other_turns is)))
 
-  pub delivers_on : (es : List (Bool × Turn)) (w : Pair) (stamps : Stamps) → FollowsTheRules es w → HasNotEnded (run es w) → KeepsWindows es w stamps → KeepsStreams es
-      → Halves a b w.a w.b → AreSilent w → (done more : List Offer) → all ≡ done ++ (accepted from_a es w ++ more) → (handed ready : List messages.Message)
-      → ready ≡ handed ++ ready_at (side_of (not from_a) w) → (gone : List ℕ) (x : Transfer) → From w stamps (length done) handed x
+      first : BecomeReadyAt d.places w ready [] e
+      first k n o l h =
+          let lo = ap (λ (ms : List messages.Message). length ms) (append-nil ready) in
+          let hi = ap (λ (ms : List messages.Message). length (ready ++ ms)) (append-nil new) in
+          timed d.places d.more d.grown k n o (omega (arith, l, lo)) (omega (arith, h, hi))
+
+      behind : (early : List (Bool × Turn)) (z : Bool × Turn) → BecomeReadyAt d.places v (ready ++ new) early z → BecomeReadyAt d.places w ready (e ∷ early) z
+      behind early z r k n o l h =
+          let lo = ap (λ (ms : List messages.Message). length ms) (append_assoc ready new (readied (not from_a) early v)) in
+          let hi = ap (λ (ms : List messages.Message). length ms) (append_assoc ready new (readied (not from_a) (early ++ z ∷ []) v)) in
+          r k n o (omega (arith, l, lo)) (omega (arith, h, hi))
+
+      in_epochs : (early late : List (Bool × Turn)) (z : Bool × Turn) → (e ∷ es) ≡ early ++ z ∷ late → BecomeReadyAt d.places w ready early z
+      in_epochs [] late z is = subst (λ (t : Bool × Turn). BecomeReadyAt d.places w ready [] t) (ap (λ (ts : List (Bool × Turn)). first_turn ts e) is) first
+      in_epochs (f ∷ early) late z is =
+          subst (λ (t : Bool × Turn). BecomeReadyAt d.places w ready (t ∷ early) z) (ap (λ (ts : List (Bool × Turn)). first_turn ts e) is) (behind early z (d.in_epochs early late z (ap other_turns is)))
+
+  pub delivers_on : (es : List (Bool × Turn)) (w : Pair) (stamps : Stamps) → FollowsTheRules es w → HasNotEnded (run es w) → KeepsWindows es w stamps
+      → (k : Asked) → KeepsRequests es w k → AreFewPerformed (run es w) → Halves a b w.a w.b → AreSilent w
+      → (done more : List Offer) → all ≡ done ++ (accepted from_a es w ++ more)
+      → (f : ℕ → StreamEpoch) (epochs more_epochs : List ℕ) → all_epochs ≡ epochs ++ (offer_epochs from_a es w f ++ more_epochs) → (handed ready : List messages.Message)
+      → ready ≡ handed ++ ready_at (side_of (not from_a) w) → (gone : List ℕ) (x : Direction) → From w stamps (length done) handed (so_far from_a f epochs k) x
       → Accounted (lifecycle_of all) (side_of from_a w) gone x → DeliversOn es w stamps done ready gone x
-  delivers_on [] w stamps follows none windows streams h quiet done more is handed ready r gone x f told = record {
-    places = x.receiver.places;
+  delivers_on [] w stamps follows none windows k soon told h quiet done more is f epochs more_epochs are handed ready r gone x flows accounts = record {
+    places = (transfer_of x).receiver.places;
     more = [];
-    grown = sym (append-nil x.receiver.places);
+    grown = sym (append-nil (transfer_of x).receiver.places);
     points = points;
+    in_epochs = in_epochs;
     leads =
-        subst (λ (os : List Offer). Leads w stamps os (ready ++ []) (gone ++ []) x.receiver.places) (sym (append-nil done))
-        (subst (λ (ms : List messages.Message). Leads w stamps done ms (gone ++ []) x.receiver.places) (sym (append-nil ready))
-        (subst (λ (ps : List ℕ). Leads w stamps done ready ps x.receiver.places) (sym (append-nil gone)) now));
+        subst (λ (os : List Offer). Leads w stamps os (ready ++ []) (gone ++ []) (transfer_of x).receiver.places) (sym (append-nil done))
+        (subst (λ (ms : List messages.Message). Leads w stamps done ms (gone ++ []) (transfer_of x).receiver.places) (sym (append-nil ready))
+        (subst (λ (ps : List ℕ). Leads w stamps done ready ps (transfer_of x).receiver.places) (sym (append-nil gone)) now));
   }
     where
-      now : Leads w stamps done ready gone x.receiver.places
-      now = record { handed = handed; ready_are = r; last = x; flows = f; accounts = told; places_are = refl }
+      now : Leads w stamps done ready gone (transfer_of x).receiver.places
+      now = record {
+        handed = handed;
+        ready_are = r;
+        last = x;
+        said = so_far from_a f epochs k;
+        flows = flows;
+        soon = answered_at from_a w k soon;
+        accounts = accounts;
+        places_are = refl;
+      }
 
       points : (early late : List (Bool × Turn)) → [] ≡ early ++ late
-          → Point (side_of from_a (run early w)) (done ++ accepted from_a early w) (ready ++ readied (not from_a) early w) (gone ++ given_up from_a early w) x.receiver.places
+          → Point (side_of from_a (run early w)) (done ++ accepted from_a early w) (ready ++ readied (not from_a) early w) (gone ++ given_up from_a early w) (transfer_of x).receiver.places
       points [] late e =
-          here w done ready gone x.receiver.places
-          (point_now w stamps done more is handed ready r gone x f told x.receiver.places [] (sym (append-nil x.receiver.places)))
+          here w done ready gone (transfer_of x).receiver.places
+          (point_now w stamps done more is handed ready r gone (so_far from_a f epochs k) x flows accounts (transfer_of x).receiver.places [] (sym (append-nil (transfer_of x).receiver.places)))
       points (e ∷ early) late is = cc
-  delivers_on (e ∷ es) w stamps follows none windows streams h quiet done more is handed ready r gone x f told =
+
+      in_epochs : (early late : List (Bool × Turn)) (e : Bool × Turn) → [] ≡ early ++ e ∷ late → BecomeReadyAt (transfer_of x).receiver.places w ready early e
+      in_epochs [] late e is = cc
+      in_epochs (g ∷ early) late e is = cc
+  delivers_on (e ∷ es) w stamps follows none windows k soon told h quiet done more is f epochs more_epochs are handed ready r gone x flows accounts =
       let v : Pair = goes e.0 e.1 w in
       let os : List Offer = accepted_at from_a e.0 e.1 w in
       let later : List Offer = accepted from_a es v ++ more in
       let split : all ≡ done ++ (os ++ later) = is ∙ ap (λ (l : List Offer). done ++ l) (append_assoc os (accepted from_a es v) more) in
       let new : List messages.Message = new_behind (ready_at (side_of (not from_a) w)) (ready_at (side_of (not from_a) v)) in
       let not_yet : HasNotEnded v = before_run es v none in
-      let no_resets = or_parts (resets e.1) (list_any (λ (e : Bool × Turn). resets e.1) es) streams in
-      let s = stepped (message_of all) (lifecycle_of all) mixed parts a b own other mode from_a e.0 e.1 w stamps h quiet windows.0 follows.0 no_resets.0 windows.1 not_yet (length done) handed
-      (offered_from all done os later split) (below done os later split) x f in
+      let few_now : AreFewPerformed w = λ y. few_before y (e ∷ es) w (2 ^ 32 - 1) (told y) in
+      let g : ℕ → StreamEpoch = epochs_after from_a e.0 e.1 w f in
+      let ns : List ℕ = epochs_of os f in
+      let later_epochs : List ℕ = offer_epochs from_a es v g ++ more_epochs in
+      let split_epochs : all_epochs ≡ (epochs ++ ns) ++ later_epochs =
+      are ∙ (ap (λ (l : List ℕ). epochs ++ l) (append_assoc ns (offer_epochs from_a es v g) more_epochs) ∙ sym (append_assoc epochs ns later_epochs)) in
+      let s = stepped (message_of all) (lifecycle_of all) mixed parts a b own other mode from_a e.0 e.1 w stamps h quiet windows.0 k (answered_now (e ∷ es) w k soon) few_now follows.0 windows.1 not_yet
+      (length done) handed (offered_from all done os later split) (below done os later split) f epochs x flows in
       let hand : Hands (handed_at (not from_a) e.0 e.1 w) (state_of (side_of (not from_a) w)) (state_of (side_of (not from_a) v)) =
       hands_at a b own other (not from_a) e.0 e.1 w follows.0 not_yet h in
-      let now_ready : ready ++ new ≡ (handed ++ handed_at (not from_a) e.0 e.1 w) ++ ready_at (side_of (not from_a) v) =
+      let handed_then : List messages.Message = handed ++ handed_at (not from_a) e.0 e.1 w in
+      let now_ready : ready ++ new ≡ handed_then ++ ready_at (side_of (not from_a) v) =
       ap (λ (ms : List messages.Message). ms ++ new) r
       ∙ (append_assoc handed (ready_at (side_of (not from_a) w)) new
       ∙ (ap (λ (ms : List messages.Message). handed ++ ms) hand.all ∙ sym (append_assoc handed (handed_at (not from_a) e.0 e.1 w) (ready_at (side_of (not from_a) v))))) in
-      on_then e es w stamps done ready gone x s.to s.grows (point_now w stamps done (accepted from_a (e ∷ es) w ++ more) is handed ready r gone x f told)
-      (delivers_on es v (stamps_after e.0 e.1 w stamps) follows.1 none windows.2 no_resets.1 (goes_joined a b own other e.0 e.1 w follows.0 not_yet h)
-      (silent_goes e.0 e.1 w quiet) (done ++ os) more (split ∙ sym (append_assoc done os later)) (handed ++ handed_at (not from_a) e.0 e.1 w) (ready ++ new) now_ready
+      let said : SoFar = so_far from_a g (epochs ++ ns) (asked_after e.0 e.1 w k) in
+      on_then e es w stamps done ready gone x s.to s.bracketed (point_now w stamps done (accepted from_a (e ∷ es) w ++ more) is handed ready r gone (so_far from_a f epochs k) x flows accounts)
+      (timed_now w v done handed ready r (done ++ os) handed_then new now_ready stamps (stamps_after e.0 e.1 w stamps) (length done) (length done + length os) (so_far from_a f epochs k) said x s.to flows
+      s.flows s.bracketed later_epochs split_epochs)
+      (delivers_on es v (stamps_after e.0 e.1 w stamps) follows.1 none windows.2 (asked_after e.0 e.1 w k) soon.1 told (goes_joined a b own other e.0 e.1 w follows.0 not_yet h)
+      (silent_goes e.0 e.1 w quiet) (done ++ os) more (split ∙ sym (append_assoc done os later)) g (epochs ++ ns) more_epochs split_epochs handed_then (ready ++ new) now_ready
       (gone ++ given_up_at from_a e.0 e.1 w) s.to
-      (subst (λ (n : ℕ). From v (stamps_after e.0 e.1 w stamps) n (handed ++ handed_at (not from_a) e.0 e.1 w) s.to) (sym (length-append done os)) s.flows) (s.accounts gone told))
+      (subst (λ (n : ℕ). From v (stamps_after e.0 e.1 w stamps) n handed_then said s.to) (sym (length-append done os)) s.flows) (s.accounts gone accounts))
     where
       below : (done os later : List Offer) → all ≡ done ++ (os ++ later) → length done + length os < 2 ^ 32
       below done os later e =
@@ -300,53 +395,72 @@ module _ (all : List Offer) (mixed : Bool) (parts : Parts (message_of all) (life
       ap (λ (es : List (Event Carried)). delivered es) (e ∙ sym (append_assoc past early rest)) ∙ delivered_more (past ++ early) rest in
       true_of id (ap (λ (ids : List ℕ). has id ids) all_told ∙ has_keeps id (delivered (past ++ early)) (delivered rest) is)
 
+  -- nor does it tell that a reset failed
+  none_both : (side : Side) (past early rest : List (Event Carried)) → side.told ≡ past ++ (early ++ rest) → failed_in side.told ≡ false → failed_in (past ++ early) ≡ false
+  none_both side past early rest e none =
+      let all_told : failed_in side.told ≡ (failed_in (past ++ early) || failed_in rest) =
+      ap (λ (es : List (Event Carried)). failed_in es) (e ∙ sym (append_assoc past early rest)) ∙ failed_more (past ++ early) rest in
+      (or_parts (failed_in (past ++ early)) (failed_in rest) (sym all_told ∙ none)).0
+
   until_then : (s r side : Side) (of : Stamp → ℕ) (stamps_s stamps_r : List Stamp) (done os : List Offer) → all ≡ done ++ os → (handed ready : List messages.Message)
-      → ready ≡ handed ++ ready_at r → (x : Transfer) → Kept (message_of all) mixed x → ReceivesIn (message_of all) mixed (state_of r) handed x
-      → (gone by : List ℕ) → Accounted (lifecycle_of all) s gone x
-      → Turned (message_of all) (lifecycle_of all) mixed of side r (length done + length os) handed stamps_s stamps_r x s by
-      → ReportsAreTrue (done ++ os) side.told (take (length ready) x.receiver.places)
-  until_then s r side of stamps_s stamps_r done os is handed ready ready_are x kept receives gone by told t =
+      → ready ≡ handed ++ ready_at r → (x : Direction) → Kept (message_of all) mixed (transfer_of x) → ReceivesIn (message_of all) mixed (state_of r) handed x
+      → (gone by : List ℕ) → Accounted (lifecycle_of all) s gone x → (then : SoFar)
+      → Turned (message_of all) (lifecycle_of all) mixed of side r (length done + length os) handed stamps_s stamps_r then x s by
+      → ReportsAreTrue (done ++ os) side.told (take (length ready) (transfer_of x).receiver.places)
+  until_then s r side of stamps_s stamps_r done os is handed ready ready_are x kept receives gone by told then t =
       let whole : all ≡ (done ++ os) ++ [] = is ∙ sym (append-nil (done ++ os)) in
-      let shown = λ (y : Transfer) (h : ReceivesIn (message_of all) mixed (state_of r) handed y).
-      subst (λ (ms : List messages.Message). y.receiver.ready ≡ map ready_of ms) (sym ready_are) (ready_is (message_of all) mixed (state_of r) handed y h) in
-      let p : Point side (done ++ os) ready (gone ++ by) t.to.receiver.places =
-      point (message_of all) (lifecycle_of all) mixed (done ++ os) (accepted_there all (done ++ os) [] whole) (lifecycle_accepted all (done ++ os) [] whole) side t.to t.flows.kept
-      (t.flows.accepted_is ∙ sym (length-append done os)) (gone ++ by) (t.accounts gone told) t.flows.sends ready (shown t.to t.flows.receives) t.to.receiver.places []
-      (sym (append-nil t.to.receiver.places)) in
+      let shown = λ (y : Direction) (h : ReceivesIn (message_of all) mixed (state_of r) handed y).
+      subst (λ (ms : List messages.Message). (transfer_of y).receiver.ready ≡ map ready_of ms) (sym ready_are) (ready_is (message_of all) mixed (state_of r) handed y h) in
+      let to : List ℕ = (transfer_of t.to).receiver.places in
+      let p : Point side (done ++ os) ready (gone ++ by) to =
+      point (message_of all) (lifecycle_of all) mixed (done ++ os) (accepted_there all (done ++ os) [] whole) (lifecycle_accepted all (done ++ os) [] whole) side t.to
+      t.flows.kept.epochs.order.kept (t.flows.accepted_is ∙ sym (length-append done os)) (gone ++ by) (t.accounts gone told) t.flows.sends ready (shown t.to t.flows.receives) to []
+      (sym (append-nil to)) in
       let there = accepted_there all (done ++ os) [] whole in
-      let now : take (length ready) t.to.receiver.places ≡ x.receiver.places =
-      first_places (message_of all) (done ++ os) there mixed x ready kept (shown x receives) t.to.receiver.places t.grows.0 t.grows.1 in
-      let before : take (length ready) x.receiver.places ≡ x.receiver.places =
-      first_places (message_of all) (done ++ os) there mixed x ready kept (shown x receives) x.receiver.places [] (sym (append-nil x.receiver.places)) in
+      let now : take (length ready) to ≡ (transfer_of x).receiver.places =
+      first_places (message_of all) (done ++ os) there mixed (transfer_of x) ready kept (shown x receives) to t.bracketed.more t.bracketed.places in
+      let before : take (length ready) (transfer_of x).receiver.places ≡ (transfer_of x).receiver.places =
+      first_places (message_of all) (done ++ os) there mixed (transfer_of x) ready kept (shown x receives) (transfer_of x).receiver.places [] (sym (append-nil (transfer_of x).receiver.places)) in
       subst (λ (ps : List ℕ). ReportsAreTrue (done ++ os) side.told ps) (now ∙ sym before) p.reports
 
-module _ (all : List Offer) (mixed : Bool) (parts : Parts (message_of all) (lifecycle_of all) mixed) (few : length all < 2 ^ 32) where
+-- what an end told, and tells in front of the first end of an association
+pub record TellsThen (told early : List (Event Carried)) (offers : List Offer) (places : List ℕ) : Type 0 where
+  pub reports : ReportsAreTrue offers (told ++ early) places
+  pub none_refused : failed_in (told ++ early) ≡ false
+
+module _ (all : List Offer) (all_epochs : List ℕ) (mixed : Bool) (parts : Parts (message_of all) (lifecycle_of all) mixed) (few : length all < 2 ^ 32) where
   below_all : (done os : List Offer) → all ≡ done ++ os → length done + length os < 2 ^ 32
   below_all done os e =
       let n = ap (λ (z : List Offer). length z) e in
       let m = length-append done os in
       omega (arith, few, n, m)
 
-  pub reports_then : (from_a : Bool) (a b : Options) (own : AreGiven a) (other : AreGiven b) (mode : mixed ≡ (agreed a b).message_interleaving) (w : Pair) (stamps : Stamps)
-      → Halves a b w.a w.b → AreSilent w → AreWithin w → HasNotEnded w → (t : Turn) → MayTurn t (side_of from_a w) → resets t ≡ false
+  pub tells_then : (from_a : Bool) (a b : Options) (own : AreGiven a) (other : AreGiven b) (mode : mixed ≡ (agreed a b).message_interleaving) (w : Pair) (stamps : Stamps)
+      → Halves a b w.a w.b → AreSilent w → AreWithin w → AreFewPerformed w → HasNotEnded w → (t : Turn) → MayTurn t (side_of from_a w)
       → IsTimely t (stamp w) (stamps_for from_a stamps) → (done : List Offer) → all ≡ done ++ accepted_in t (side_of from_a w) → (ready : List messages.Message) (gone places : List ℕ)
-      → Leads all mixed parts a b own other mode few from_a w stamps done ready gone places
+      → Leads all all_epochs mixed parts a b own other mode few from_a w stamps done ready gone places
       → (early late : List (Event Carried)) → (told_by t (side_of from_a w) (side_of (not from_a) w)).events ≡ early ++ late → endings early ≡ 0
-      → ReportsAreTrue (done ++ accepted_in t (side_of from_a w)) ((side_of from_a w).told ++ early) (take (length ready) places)
-  reports_then true a b own other mode w stamps h quiet within none t may no_reset timely done is ready gone places l early late told before =
+      → TellsThen (side_of from_a w).told early (done ++ accepted_in t (side_of from_a w)) (take (length ready) places)
+  tells_then true a b own other mode w stamps h quiet within performed none t may timely done is ready gone places l early late told before =
       let offered = offered_from all done (accepted_in t w.a) [] (is ∙ ap (λ (os : List Offer). done ++ os) (sym (append-nil (accepted_in t w.a)))) in
       let u = turn_until (message_of all) (lifecycle_of all) mixed (of_end true) parts a b own other mode w.a w.b h quiet.a quiet.b within.a (length done) l.handed stamps.of_a stamps.of_b
-      l.last l.flows (stamp w) refl (λ old y. y.a) t may no_reset timely none.a offered (below_all done (accepted_in t w.a) is) early late told before in
-      told_both all mixed parts a b own other mode few true u.side w.a.told early u.rest u.told (done ++ accepted_in t w.a) (take (length ready) places)
-      (subst (λ (ps : List ℕ). ReportsAreTrue (done ++ accepted_in t w.a) u.side.told (take (length ready) ps)) (sym l.places_are)
-      (until_then all mixed parts a b own other mode few true w.a w.b u.side (of_end true) _ _ done (accepted_in t w.a) is l.handed ready l.ready_are l.last l.flows.kept l.flows.receives
-      gone u.by l.accounts u.out))
-  reports_then false a b own other mode w stamps h quiet within none t may no_reset timely done is ready gone places l early late told before =
+      l.said l.last l.flows l.soon (performed true) (stamp w) refl (λ old y. y.a) t may timely none.a offered (below_all done (accepted_in t w.a) is) early late told before in
+      record {
+        reports = told_both all all_epochs mixed parts a b own other mode few true u.side w.a.told early u.rest u.told (done ++ accepted_in t w.a) (take (length ready) places)
+            (subst (λ (ps : List ℕ). ReportsAreTrue (done ++ accepted_in t w.a) u.side.told (take (length ready) ps)) (sym l.places_are)
+            (until_then all all_epochs mixed parts a b own other mode few true w.a w.b u.side (of_end true) _ _ done (accepted_in t w.a) is l.handed ready l.ready_are l.last
+            l.flows.kept.epochs.order.kept l.flows.receives gone u.by l.accounts u.then u.out));
+        none_refused = none_both all all_epochs mixed parts a b own other mode few true u.side w.a.told early u.rest u.told u.out.flows.none_failed;
+      }
+  tells_then false a b own other mode w stamps h quiet within performed none t may timely done is ready gone places l early late told before =
       let offered = offered_from all done (accepted_in t w.b) [] (is ∙ ap (λ (os : List Offer). done ++ os) (sym (append-nil (accepted_in t w.b)))) in
       let u = turn_until (message_of all) (lifecycle_of all) mixed (of_end false) parts b a other own (mode_back (message_of all) (lifecycle_of all) mixed parts a b own other mode) w.b w.a (swapped a b w.a w.b h)
       quiet.b quiet.a within.b (length done) l.handed stamps.of_b stamps.of_a
-      l.last l.flows (stamp w) refl (λ old y. y.b) t may no_reset timely none.b offered (below_all done (accepted_in t w.b) is) early late told before in
-      told_both all mixed parts a b own other mode few false u.side w.b.told early u.rest u.told (done ++ accepted_in t w.b) (take (length ready) places)
-      (subst (λ (ps : List ℕ). ReportsAreTrue (done ++ accepted_in t w.b) u.side.told (take (length ready) ps)) (sym l.places_are)
-      (until_then all mixed parts a b own other mode few false w.b w.a u.side (of_end false) _ _ done (accepted_in t w.b) is l.handed ready l.ready_are l.last l.flows.kept l.flows.receives
-      gone u.by l.accounts u.out))
+      l.said l.last l.flows l.soon (performed false) (stamp w) refl (λ old y. y.b) t may timely none.b offered (below_all done (accepted_in t w.b) is) early late told before in
+      record {
+        reports = told_both all all_epochs mixed parts a b own other mode few false u.side w.b.told early u.rest u.told (done ++ accepted_in t w.b) (take (length ready) places)
+            (subst (λ (ps : List ℕ). ReportsAreTrue (done ++ accepted_in t w.b) u.side.told (take (length ready) ps)) (sym l.places_are)
+            (until_then all all_epochs mixed parts a b own other mode few false w.b w.a u.side (of_end false) _ _ done (accepted_in t w.b) is l.handed ready l.ready_are l.last
+            l.flows.kept.epochs.order.kept l.flows.receives gone u.by l.accounts u.then u.out));
+        none_refused = none_both all all_epochs mixed parts a b own other mode few false u.side w.b.told early u.rest u.told u.out.flows.none_failed;
+      }

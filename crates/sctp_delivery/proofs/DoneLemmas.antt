@@ -4,7 +4,7 @@ use Rattle.std.proofs.lemmas.Bool.{or_cases, or_left, or_right, eq-eqb, eqb-true
 use Rattle.std.proofs.lemmas.Option.{slice_get_cases}
 use Rattle.sctp_serial.specs.Messages as messages
 use Rattle.sctp_send_queue.specs.Queue.{Queue, is_empty}
-use Rattle.sctp_rules.specs.State.{Message, Transfer, has}
+use Rattle.sctp_rules.specs.State.{Message, has}
 use Rattle.sctp_rules.specs.Claims.{AtRest, Claims}
 use Rattle.sctp_rules.specs.Kept.{Kept}
 use Rattle.sctp_rules.proofs.ClaimsLemmas.{claimed}
@@ -19,9 +19,9 @@ use Rattle.sctp_delivery.specs.Accepted.{Offer}
 use Rattle.sctp_delivery.specs.GivenUp.{kept_in, IsAtRest}
 use Rattle.sctp_delivery.specs.Windows.{queue_of}
 use Rattle.sctp_delivery.specs.Delivery.{Fits, SkippedAreGivenUp, ReportsAreTrue, AllAreDone}
-use Rattle.sctp_delivery.proofs.ClaimLemmas.{SendsIn}
+use Rattle.sctp_delivery.proofs.ClaimLemmas.{Direction, transfer_of, SendsIn}
 use Rattle.sctp_delivery.proofs.AccountLemmas.{Accounted}
-use Rattle.sctp_delivery.proofs.GoingLemmas.{message_in}
+use Rattle.sctp_delivery.proofs.TurnLemmas.{message_in}
 use Rattle.sctp_delivery.proofs.FitsLemmas.{places_fit, first_places}
 
 -- where these were accepted at an end, became ready beyond, and were given up
@@ -64,26 +64,26 @@ offer_at offers p l =
 
 -- ---- rest
 
-pub rests : (message : ℕ → Message) (lifecycle : ℕ → Option ℕ) (mixed : Bool) (s : State) (q : Queue) (x : Transfer) → Kept message mixed x
-    → SendsIn message lifecycle mixed s q x → is_empty q ≡ true → kept_in s ≡ [] → AtRest x
-rests message lifecycle mixed Closed q x k h empty none = rest_outgoing message lifecycle false x q (no_items false false) k.outgoing h.shows empty refl
-rests message lifecycle mixed (CookieWait tag first t1) q x k h empty none = rest_outgoing message lifecycle false x q (no_items false false) k.outgoing h.shows empty refl
-rests message lifecycle mixed (Open phase t) q x k h empty none = rest_outgoing message lifecycle mixed x q t.sender.outstanding.items k.outgoing h.shows empty none
+pub rests : (message : ℕ → Message) (lifecycle : ℕ → Option ℕ) (mixed : Bool) (s : State) (q : Queue) (x : Direction) → Kept message mixed (transfer_of x)
+    → SendsIn message lifecycle mixed s q x → is_empty q ≡ true → kept_in s ≡ [] → AtRest (transfer_of x)
+rests message lifecycle mixed Closed q x k h empty none = rest_outgoing message lifecycle false (transfer_of x) q (no_items false false) k.outgoing h.shows empty refl
+rests message lifecycle mixed (CookieWait tag first t1) q x k h empty none = rest_outgoing message lifecycle false (transfer_of x) q (no_items false false) k.outgoing h.shows empty refl
+rests message lifecycle mixed (Open phase t) q x k h empty none = rest_outgoing message lifecycle mixed (transfer_of x) q t.sender.outstanding.items k.outgoing h.shows empty none
 
 -- ---- the point
 
 module _ (message : ℕ → Message) (lifecycle : ℕ → Option ℕ) (mixed : Bool) (offers : List Offer)
     (there : (p : ℕ) (o : Offer) → slice_get offers p ≡ Some o → message p ≡ message_in o)
     (ids : (p : ℕ) (o : Offer) → slice_get offers p ≡ Some o → lifecycle p ≡ o.options.lifecycle_id)
-    (s : Side) (x : Transfer) (kept : Kept message mixed x) (few : x.sender.accepted ≡ length offers) where
-  claims : Claims message x
-  claims = claimed message mixed x kept
+    (s : Side) (x : Direction) (kept : Kept message mixed (transfer_of x)) (few : (transfer_of x).sender.accepted ≡ length offers) where
+  claims : Claims message (transfer_of x)
+  claims = claimed message mixed (transfer_of x) kept
 
   its_id : (p : ℕ) (o : Offer) (id : ℕ) → slice_get offers p ≡ Some o → lifecycle p ≡ Some id → o.options.lifecycle_id ≡ Some id
   its_id p o id at_p e = sym (ids p o at_p) ∙ e
 
   module _ (gone : List ℕ) (a : Accounted lifecycle s gone x) where
-    skipped_now : SkippedAreGivenUp offers gone x.receiver.places
+    skipped_now : SkippedAreGivenUp offers gone (transfer_of x).receiver.places
     skipped_now p q o r at_p at_q line l is not_yet =
         let first : message p ≡ message_in o = there p o at_p in
         let second : message q ≡ message_in r = there q r at_q in
@@ -91,27 +91,27 @@ module _ (message : ℕ → Message) (lifecycle : ℕ → Option ℕ) (mixed : B
         ∙ claims.skipped p q (ap (λ (z : Message). z.ordered) first ∙ ap not line.first) (ap (λ (z : Message). z.ordered) second ∙ ap not line.second)
         (ap (λ (z : Message). z.stream) first ∙ (line.stream ∙ sym (ap (λ (z : Message). z.stream) second))) l is not_yet
 
-    reports_now : ReportsAreTrue offers s.told x.receiver.places
+    reports_now : ReportsAreTrue offers s.told (transfer_of x).receiver.places
     reports_now id h =
-        let r : Reported lifecycle x.reports id = reported_at lifecycle x.reports id (sym (ap (λ (z : List ℕ). has id z) a.told_is) ∙ h) in
-        let ready : has r.place x.receiver.places ≡ true = claims.reports r.place r.among in
+        let r : Reported lifecycle (transfer_of x).reports id = reported_at lifecycle (transfer_of x).reports id (sym (ap (λ (z : List ℕ). has id z) a.told_is) ∙ h) in
+        let ready : has r.place (transfer_of x).receiver.places ≡ true = claims.reports r.place r.among in
         let below = kept.outgoing.begun_below r.place (kept.incoming.ready_begun r.place ready) in
         let o : (o : Offer) × (slice_get offers r.place ≡ Some o) = offer_at offers r.place (omega (arith, below, few)) in
         record { place = r.place; offer = o.0; there = o.1; its_id = its_id r.place o.0 id o.1 r.its_id; is_ready = ready }
 
-    rest_now : AtRest x → AllAreDone offers gone x.receiver.places
+    rest_now : AtRest (transfer_of x) → AllAreDone offers gone (transfer_of x).receiver.places
     rest_now rest p l =
         elim (claims.rest rest p (omega (arith, l, few))) [
           | inl ready ↦ inl ready
           | inr given ↦ inr (sym (a.gone_is p) ∙ given)
         ]
 
-    pub point : SendsIn message lifecycle mixed (state_of s) (queue_of s) x → (ready : List messages.Message) → x.receiver.ready ≡ map ready_of ready
-        → (places more : List ℕ) → places ≡ x.receiver.places ++ more → Point s offers ready gone places
+    pub point : SendsIn message lifecycle mixed (state_of s) (queue_of s) x → (ready : List messages.Message) → (transfer_of x).receiver.ready ≡ map ready_of ready
+        → (places more : List ℕ) → places ≡ (transfer_of x).receiver.places ++ more → Point s offers ready gone places
     point sends ready is places more e =
-        let first : take (length ready) places ≡ x.receiver.places = first_places message offers there mixed x ready kept is places more e in
+        let first : take (length ready) places ≡ (transfer_of x).receiver.places = first_places message offers there mixed (transfer_of x) ready kept is places more e in
         record {
-          fits = subst (λ (ps : List ℕ). Fits offers ready ps) (sym first) (places_fit message offers there mixed x ready kept few is);
+          fits = subst (λ (ps : List ℕ). Fits offers ready ps) (sym first) (places_fit message offers there mixed (transfer_of x) ready kept few is);
           skipped = subst (λ (ps : List ℕ). SkippedAreGivenUp offers gone ps) (sym first) skipped_now;
           reports = subst (λ (ps : List ℕ). ReportsAreTrue offers s.told ps) (sym first) reports_now;
           once = a.once;

@@ -17,8 +17,8 @@ use Rattle.sctp_table.specs.Association.{State, Closed, CookieWait, Open}
 use Rattle.sctp_table.specs.Calls.{ready_in}
 use Rattle.sctp_delivery.specs.Accepted.{Offer}
 use Rattle.sctp_delivery.specs.Delivery.{message_at, Fits}
-use Rattle.sctp_delivery.proofs.ClaimLemmas.{ReceivesIn, IsFresh}
-use Rattle.sctp_delivery.proofs.GoingLemmas.{message_in, AreOffered}
+use Rattle.sctp_delivery.proofs.ClaimLemmas.{Direction, transfer_of, ReceivesIn, IsFresh}
+use Rattle.sctp_delivery.proofs.TurnLemmas.{message_in, AreOffered}
 
 -- ---- what was accepted, by place
 
@@ -35,7 +35,7 @@ all_short [] h p = omega arith
 all_short (o ∷ os) h zero = All-head (λ (o : Offer). length o.message.payload < 2 ^ 32) o os h
 all_short (o ∷ os) h (suc p) = all_short os (All-tail (λ (o : Offer). length o.message.payload < 2 ^ 32) o os h) p
 
-get_behind : (xs ys : List Offer) (n : ℕ) (o : Offer) → slice_get xs n ≡ Some o → slice_get (xs ++ ys) n ≡ Some o
+pub get_behind : (xs ys : List Offer) (n : ℕ) (o : Offer) → slice_get xs n ≡ Some o → slice_get (xs ++ ys) n ≡ Some o
 get_behind [] ys n o e = cc
 get_behind (x ∷ xs) ys zero o e = e
 get_behind (x ∷ xs) ys (suc n) o e = get_behind xs ys n o e
@@ -75,20 +75,20 @@ module _ (all : List Offer) where
 
 -- ---- what the values show of what became ready
 
-pub ready_is : (message : ℕ → Message) (mixed : Bool) (s : State) (handed : List messages.Message) (x : Transfer) → ReceivesIn message mixed s handed x
-    → x.receiver.ready ≡ map ready_of (handed ++ ready_in s)
+pub ready_is : (message : ℕ → Message) (mixed : Bool) (s : State) (handed : List messages.Message) (x : Direction) → ReceivesIn message mixed s handed x
+    → (transfer_of x).receiver.ready ≡ map ready_of (handed ++ ready_in s)
 ready_is message mixed Closed handed x h = fresh_ready handed h
   where
-    fresh_ready : (handed : List messages.Message) → IsFresh message mixed handed x → x.receiver.ready ≡ map ready_of (handed ++ [])
+    fresh_ready : (handed : List messages.Message) → IsFresh message mixed handed x → (transfer_of x).receiver.ready ≡ map ready_of (handed ++ [])
     fresh_ready handed h =
         let r = h.receives defaults 0 in
-        subst (λ (ms : List messages.Message). x.receiver.ready ≡ map ready_of (ms ++ [])) (sym h.none_handed) (sym r.shows.ready_is ∙ r.seen_as.ready)
+        subst (λ (ms : List messages.Message). (transfer_of x).receiver.ready ≡ map ready_of (ms ++ [])) (sym h.none_handed) (sym r.shows.ready_is ∙ r.seen_as.ready)
 ready_is message mixed (CookieWait tag first t1) handed x h = fresh_ready handed h
   where
-    fresh_ready : (handed : List messages.Message) → IsFresh message mixed handed x → x.receiver.ready ≡ map ready_of (handed ++ [])
+    fresh_ready : (handed : List messages.Message) → IsFresh message mixed handed x → (transfer_of x).receiver.ready ≡ map ready_of (handed ++ [])
     fresh_ready handed h =
         let r = h.receives defaults 0 in
-        subst (λ (ms : List messages.Message). x.receiver.ready ≡ map ready_of (ms ++ [])) (sym h.none_handed) (sym r.shows.ready_is ∙ r.seen_as.ready)
+        subst (λ (ms : List messages.Message). (transfer_of x).receiver.ready ≡ map ready_of (ms ++ [])) (sym h.none_handed) (sym r.shows.ready_is ∙ r.seen_as.ready)
 ready_is message mixed (Open phase t) handed x h = sym h.receives.shows.ready_is ∙ h.receives.seen_as.ready
 
 -- ---- it fits
@@ -143,11 +143,14 @@ module _ (message : ℕ → Message) (os : List Offer) (there : (p : ℕ) (o : O
             (ap (λ (z : Message). z.stream) first ∙ (line.stream ∙ sym (ap (λ (z : Message). z.stream) second)));
       }
 
+  -- one each
+  pub many_places : (mixed : Bool) (x : Transfer) (ready : List messages.Message) → Kept message mixed x → x.receiver.ready ≡ map ready_of ready → length ready ≡ length x.receiver.places
+  many_places mixed x ready k is =
+      let c : rules.Fits message x = (claimed message mixed x k).fits in
+      sym (length-map ready ready_of) ∙ (ap (λ (z : List ReadyMessage). length z) (sym is ∙ c.alike) ∙ length-map x.receiver.places (ready_message message))
+
   -- also where more became ready since
   pub first_places : (mixed : Bool) (x : Transfer) (ready : List messages.Message) → Kept message mixed x → x.receiver.ready ≡ map ready_of ready
       → (places more : List ℕ) → places ≡ x.receiver.places ++ more → take (length ready) places ≡ x.receiver.places
   first_places mixed x ready k is places more e =
-      let c : rules.Fits message x = (claimed message mixed x k).fits in
-      let count : length ready ≡ length x.receiver.places =
-      sym (length-map ready ready_of) ∙ (ap (λ (z : List ReadyMessage). length z) (sym is ∙ c.alike) ∙ length-map x.receiver.places (ready_message message)) in
-      ap (λ (n : ℕ). take n places) count ∙ (ap (λ (z : List ℕ). take (length x.receiver.places) z) e ∙ take-append_seam x.receiver.places more)
+      ap (λ (n : ℕ). take n places) (many_places mixed x ready k is) ∙ (ap (λ (z : List ℕ). take (length x.receiver.places) z) e ∙ take-append_seam x.receiver.places more)

@@ -51,7 +51,7 @@ use Rattle.sctp_delivery.proofs.CourseResetLemmas.{told_turned, asked_again}
 use Rattle.sctp_delivery.proofs.ResetCallLemmas as calls
 use Rattle.sctp_delivery.proofs.WithinLemmas.{numbered_is, Holds}
 use Rattle.sctp_delivery.proofs.DirectionLemmas.{AtStamp, each_at, IsUnderWay, says_in, Stands, SoFar, Flows, IsSilent}
-use Rattle.sctp_delivery.proofs.PremisesLemmas.{in_window, IsNoPacket, hears_no_sacks, hears_sacks, holds_of, sender_premises, begins_out}
+use Rattle.sctp_delivery.proofs.PremisesLemmas.{AsksSoon, in_window, IsNoPacket, hears_no_sacks, hears_sacks, holds_of, sender_premises, begins_out}
 use Rattle.sctp_delivery.proofs.TurnLemmas.{message_in, AreOffered, Offers, offers_none, Stay, is_outgoing, outgoing, so_again, after_turn, so_far_then, ends_out}
 use Rattle.sctp_delivery.proofs.AccountLemmas.{Accounted, accounts_still, accounts_out}
 
@@ -75,10 +75,6 @@ pub record OffersOut (message : ℕ → Message) (lifecycle : ℕ → Option ℕ
   pub to : Direction
   pub claim : SenderClaim message lifecycle mixed mid [] m to
 
--- a request that waits goes out soon
-abbrev pub AsksSoon : Direction → Type 0
-AsksSoon x = (a : Ask) → slice_get x.asks x.answered ≡ Some a → count (transfer_of x).sender < a.upto + 2 ^ 30
-
 -- ---- what each act keeps
 
 pub record Parts (message : ℕ → Message) (lifecycle : ℕ → Option ℕ) (mixed : Bool) : Type 0 where
@@ -86,7 +82,7 @@ pub record Parts (message : ℕ → Message) (lifecycle : ℕ → Option ℕ) (m
   pub sender_keeps : (g : Setting) (call : Call) (from : Direction) → SenderPremises message lifecycle mixed g call from
       → KeepsJoined g call (SenderGoes message lifecycle mixed from)
   pub receiver_keeps : (g : Setting) (call : Call) (from : Direction) (handed : List messages.Message) → ReceiverPremises message lifecycle mixed g call from
-      → KeepsJoined g call (ReceiverGoes message mixed from handed)
+      → KeepsJoined g call (ReceiverGoes message lifecycle mixed from handed)
   -- a message is handed out
   pub taken_out : (s : State) (q : Queue) (x : Direction) → SendsIn message lifecycle mixed s q x → SendsIn message lifecycle mixed (taken_in s) q x
   pub taken_in_turn : (s : State) (handed : List messages.Message) (x : Direction) → ReceivesIn message mixed s handed x
@@ -98,9 +94,7 @@ pub record Parts (message : ℕ → Message) (lifecycle : ℕ → Option ℕ) (m
       → OffersOut message lifecycle mixed x (accepted_by call s) (calm (called call s.end))
   pub offered_in : (g : Setting) (call : Call) (x : Direction) (s : Side) (handed : List messages.Message) → Rules g call → is_offer call ≡ true
       → ReceiverPremises message lifecycle mixed g call x → HasNoEnd (calm (called call s.end)) → InvAt g (calm s.end)
-      → ReceiverGoes message mixed x handed (calm s.end) (calm (called call s.end))
-  -- streams are to be reset
-  pub prepares_one : (from : Direction) → calls.PreparesOne message lifecycle mixed from
+      → ReceiverGoes message lifecycle mixed x handed (calm s.end) (calm (called call s.end))
 
 -- ---- where a turn leads
 
@@ -359,7 +353,7 @@ module _ (message : ℕ → Message) (lifecycle : ℕ → Option ℕ) (mixed : B
   reset_out ids None fine may none stands =
       let g : Setting = setting o q s r s.is_asked in
       let quiet : Rules g NoPacket = rules_call o q s r own other NoPacket tt in
-      let first = calls.claim_prepared message lifecycle mixed x (parts.prepares_one x) (state_of s) s.end.standing.context s.end.words ids fine x start in
+      let first = calls.claim_prepared message lifecycle mixed x (state_of s) s.end.standing.context s.end.words ids fine quiet_s.told x start in
       let goes : SenderGoes message lifecycle mixed x (calls.preparing ids s.end) (calm (calls.reset_by None ids s.end)) =
       calls.then_reset g quiet (parts.sender_keeps g NoPacket x (premises_out s.is_asked NoPacket (none_heard NoPacket (λ p e. cc)))) s.end ids
       (rules_call o q s r own other (ResetStreams ids) may) fine none (begins o q s r s.is_asked (λ z. z) h.own h.other) in
@@ -497,7 +491,7 @@ module _ (message : ℕ → Message) (lifecycle : ℕ → Option ℕ) (mixed : B
   pub turn_until : (t : Turn) → MayTurn t s → IsTimely t now stamps_r → endings s.told ≡ 0
       → AreOffered message lifecycle accepted (accepted_in t s) → accepted + length (accepted_in t s) < 2 ^ 32
       → (early late : List (Event Carried)) → (told_by t s r).events ≡ early ++ late → endings early ≡ 0 → IsUntil early (accepted_in t s)
-  turn_until t may timely so_far are few early late is none = by_turn t may timely are few is
+  turn_until t may timely ended are few early late is none = by_turn t may timely are few is
     where
       -- a turn that ends nothing
       whole : (t : Turn) → MayTurn t s → IsTimely t now stamps_r → AreOffered message lifecycle accepted (accepted_in t s)
@@ -511,7 +505,7 @@ module _ (message : ℕ → Message) (lifecycle : ℕ → Option ℕ) (mixed : B
             side = turned t s r;
             then = so_far_turned t s r so_far;
             by = given_up_by t s r;
-            out = turn_out t may timely (omega (arith, sum, both, so_far, quiet)) are few;
+            out = turn_out t may timely (omega (arith, sum, both, ended, quiet)) are few;
             rest = late;
             told = told ∙ ap (λ (es : List (Event Carried)). s.told ++ es) is;
           }

@@ -1,32 +1,36 @@
 -- What becomes ready at an end are messages that the other end accepted.
-use Rattle.std.proofs.Common.{◌≡◌, ℕ, ◌^◌, ◌<◌, ◌||◌, not, Bool, true, false, Option, List, [], ◌∷◌, ◌++◌, length, take, refl, sym, ap, subst, ◌∙◌, append-nil, append_assoc}
-use Rattle.std.specs.List.{list_any}
-use Rattle.std.proofs.lemmas.Bool.{or_parts}
-use Rattle.std.proofs.lemmas.List.Folds.{list_any-append}
+use Rattle.std.proofs.Common.{◌≡◌, ℕ, ◌+◌, ◌-◌, ◌^◌, ◌<◌, ◌≤◌, not, Bool, true, false, Option, Some, List, [], ◌∷◌, ◌++◌, length, take, slice_get, slice_index, refl, sym, ap, subst, ◌∙◌, append-nil, append_assoc, arith}
 use Rattle.rand_core.specs.Stream.{Stream}
 use Rattle.sctp_state.specs.Options.{Options}
 use Rattle.sctp_capabilities.specs.Capabilities.{agreed}
-use Rattle.sctp_rules.specs.State.{Message, start}
-use Rattle.sctp_rules.proofs.KeepsLemmas.{at_start}
-use Rattle.sctp_rules.proofs.WrittenLemmas.{own_at_start}
+use Rattle.sctp_rules.specs.State.{Message}
+use Rattle.sctp_rules.specs.Resets.{first_epoch}
+use Rattle.sctp_rules.proofs.BasedLemmas.{epochs_at_first}
 use Rattle.sctp_rx_rules.proofs.RowLemmas.{first_receives}
 use Rattle.sctp_rx_rules.proofs.NearRowLemmas.{new_is_near}
 use Rattle.sctp_rx_rules.proofs.NearKeptLemmas.{new_mids}
 use Rattle.sctp_tx_rules.proofs.StartLemmas.{new_shows}
-use Rattle.sctp_table.specs.Laws.{NoPacket}
-use Rattle.sctp_course.specs.Course.{side_of, Pair, Turn, goes, run, MayTurn, FollowsTheRules, new_side}
+use Rattle.sctp_tx_rules.proofs.FollowLemmas.{beginning_follows}
+use Rattle.sctp_outstanding.specs.Items.{no_items}
+use Rattle.sctp_state.specs.Events.{Event}
+use Rattle.sctp_table_laws.specs.Mapped.{Carried}
+use Rattle.sctp_table.specs.Laws.{NoPacket, endings}
+use Rattle.sctp_course.specs.Course.{side_of, Pair, Turn, goes, run, MayTurn, FollowsTheRules, HasNotEnded, AreGiven, new_side}
 use Rattle.sctp_course.specs.Course as course
 use Rattle.sctp_course.specs.Handing.{readied}
 use Rattle.sctp_course.proofs.CourseLemmas.{run_joined}
 use Rattle.sctp_course.proofs.HandingLemmas.{first_halves, nothing_ready}
 use Rattle.sctp_delivery.specs.Accepted.{Offer, accepted_in, accepted_at, accepted}
-use Rattle.sctp_delivery.specs.Windows.{Stamp, Stamps, no_stamps, stamps_after, AreWithin, KeepsWindows, resets, KeepsStreams}
-use Rattle.sctp_delivery.specs.GivenUp.{given_up}
-use Rattle.sctp_delivery.specs.Delivery.{ReportsAreTrue, MessagesAreDelivered}
+use Rattle.sctp_delivery.specs.Windows.{Stamp, Stamps, no_stamps, stamps_after, AreWithin, KeepsWindows, KeepsLimits}
+use Rattle.sctp_delivery.specs.Asks.{AreAsked}
+use Rattle.sctp_delivery.specs.Answered.{none_asked, KeepsResets}
+use Rattle.sctp_delivery.specs.StreamEpochs.{all_open, offer_epochs, told_of, failed_in}
+use Rattle.sctp_delivery.specs.GivenUp.{told_by, given_up}
+use Rattle.sctp_delivery.specs.Delivery.{ReportsAreTrue, Delivers, MessagesAreDelivered, NoResetIsRefused}
 use Rattle.sctp_delivery.specs.Ending.{stamps_along, MessagesAreDeliveredThen}
 use Rattle.sctp_delivery.proofs.FilledLemmas.{filled_new}
 use Rattle.sctp_delivery.proofs.LimitLemmas.{all_accepted_short}
-use Rattle.sctp_delivery.proofs.FlowLemmas.{queue_flows}
+use Rattle.sctp_delivery.proofs.ClaimLemmas.{Direction}
 use Rattle.sctp_delivery.proofs.SenderKeepsLemmas.{sender_keeps}
 use Rattle.sctp_delivery.proofs.ReceiverKeepsLemmas.{receiver_keeps}
 use Rattle.sctp_delivery.proofs.DirectionLemmas.{Flows}
@@ -35,16 +39,28 @@ use Rattle.sctp_delivery.proofs.GoingLemmas.{Parts}
 use Rattle.sctp_delivery.proofs.TakenLemmas.{sends_taken, receives_in_taken}
 use Rattle.sctp_delivery.proofs.OfferedLemmas.{offered_out, offered_in}
 use Rattle.sctp_delivery.proofs.BesideLemmas.{stays}
-use Rattle.sctp_delivery.proofs.FitsLemmas.{message_of, lifecycle_of, all_short}
-use Rattle.sctp_delivery.proofs.DeliveryLemmas.{AreSilent, silent_goes, of_end, FlowsFrom, delivers_on, reports_then}
+use Rattle.sctp_delivery.proofs.FitsLemmas.{message_of, lifecycle_of, all_short, get_behind}
+use Rattle.sctp_delivery.proofs.DeliveryLemmas.{AreSilent, silent_goes, of_end, so_far, FlowsFrom, DeliversOn, delivers_on, TellsThen, tells_then}
 
 -- ---- at first nothing was accepted, and nothing came
 
+-- no stream was reset, and none was asked for
+abbrev first : Direction
+first = record { rules = first_epoch; asks = []; done = 0; answered = 0 }
+
+none_asks : AreAsked first_epoch [] 0 0
+none_asks = record {
+  opened = λ s. refl;
+  performed = λ s. refl;
+  fine = λ j a h. cc;
+  sent = λ j a h. cc;
+  order = (omega arith, omega arith, omega arith);
+}
+
 first_flows : (message : ℕ → Message) (lifecycle : ℕ → Option ℕ) (mixed : Bool) (of : Stamp → ℕ) (short : (p : ℕ) → length (message p).payload < 2 ^ 32) (o q : Options) (words others : Stream)
-    → Flows message lifecycle mixed of (new_side o words) (new_side q others) 0 [] [] [] start
+    → Flows message lifecycle mixed of (new_side o words) (new_side q others) 0 [] [] [] (record { streams = all_open; epochs = []; asked = 0 }) first
 first_flows message lifecycle mixed of short o q words others = record {
-  kept = at_start message mixed;
-  written = own_at_start;
+  kept = record { epochs = epochs_at_first message mixed; asked = none_asks };
   filled = filled_new message 0;
   short = short;
   sends = record {
@@ -52,28 +68,38 @@ first_flows message lifecycle mixed of short o q words others = record {
     acknowledged = refl;
     no_points = refl;
     no_reports = refl;
+    none_reset = beginning_follows.none;
+    none_asked = refl;
     shows = new_shows message lifecycle o;
+    follows = beginning_follows.new o (no_items false false);
   };
-  flows = queue_flows o;
   receives = record {
     none_handed = refl;
     no_sacks = refl;
+    none_done = refl;
     receives = λ options size. first_receives message mixed 0 options size;
     near = λ first size. record { tsns = new_is_near mixed first 0 size; mids = λ m. new_mids message mixed size; start = λ e. refl };
   };
   accepted_is = refl;
   out = tt;
   answers = tt;
+  streams = λ s. (refl, (λ h. refl), λ h. cc);
+  many = refl;
+  epochs = λ p n h. cc;
+  asked = λ a h. cc;
+  answered = refl;
+  performed = λ k. refl;
+  none_failed = refl;
 }
 
 at_first : (message : ℕ → Message) (lifecycle : ℕ → Option ℕ) (mixed from_a : Bool) (short : (p : ℕ) → length (message p).payload < 2 ^ 32) (a b : Options) (words_a words_b : Stream)
-    → FlowsFrom message lifecycle mixed from_a (course.start a b words_a words_b) no_stamps 0 [] start
+    → FlowsFrom message lifecycle mixed from_a (course.start a b words_a words_b) no_stamps 0 [] (so_far from_a all_open [] none_asked) first
 at_first message lifecycle mixed true short a b words_a words_b = first_flows message lifecycle mixed (of_end true) short a b words_a words_b
 at_first message lifecycle mixed false short a b words_a words_b = first_flows message lifecycle mixed (of_end false) short b a words_b words_a
 
 -- nor was anything told
 accounted_first : (lifecycle : ℕ → Option ℕ) (from_a : Bool) (a b : Options) (words_a words_b : Stream)
-    → Accounted lifecycle (side_of from_a (course.start a b words_a words_b)) [] start
+    → Accounted lifecycle (side_of from_a (course.start a b words_a words_b)) [] first
 accounted_first lifecycle true a b words_a words_b = record { gone_is = λ p. refl; once = refl; told_is = refl }
 accounted_first lifecycle false a b words_a words_b = record { gone_is = λ p. refl; once = refl; told_is = refl }
 
@@ -92,22 +118,69 @@ all_parts message lifecycle mixed = record {
 
 -- ---- the law
 
+-- nothing was told yet
+quiet : (a b : Options) (words_a words_b : Stream) → AreSilent (course.start a b words_a words_b)
+quiet a b words_a words_b = record { a = record { told = refl }; b = record { told = refl } }
+
+module _ (a b : Options) (words_a words_b : Stream) (turns : List (Bool × Turn)) (own : AreGiven a) (other : AreGiven b) (follows : FollowsTheRules turns (course.start a b words_a words_b))
+    (none : HasNotEnded (run turns (course.start a b words_a words_b))) (windows : KeepsWindows turns (course.start a b words_a words_b) no_stamps)
+    (resets : KeepsResets turns (course.start a b words_a words_b)) (from_a : Bool) where
+  abbrev w : Pair
+  w = course.start a b words_a words_b
+
+  -- of these messages, the first are those that are accepted along the course
+  along : (all more : List Offer) (few : length all < 2 ^ 32) → all ≡ accepted from_a turns w ++ more → ((p : ℕ) → length (message_of all p).payload < 2 ^ 32)
+      → DeliversOn all (offer_epochs from_a turns w all_open) (agreed a b).message_interleaving (all_parts (message_of all) (lifecycle_of all) (agreed a b).message_interleaving) a b own other refl few
+      from_a turns w no_stamps [] [] [] first
+  along all more few split short =
+      let mixed : Bool = (agreed a b).message_interleaving in
+      let epochs : List ℕ = offer_epochs from_a turns w all_open in
+      delivers_on all epochs mixed (all_parts (message_of all) (lifecycle_of all) mixed) a b own other refl few from_a turns w no_stamps follows none windows none_asked resets.answered resets.few
+      (first_halves a b words_a words_b) (quiet a b words_a words_b) [] more split all_open [] [] (sym (append-nil epochs)) [] [] (sym (nothing_ready (not from_a) a b words_a words_b)) [] first
+      (at_first (message_of all) (lifecycle_of all) mixed from_a short a b words_a words_b) (accounted_first (lifecycle_of all) from_a a b words_a words_b)
+
+  -- the messages that are accepted are those, or the first of them
+  delivers : (all more : List Offer) (few : length all < 2 ^ 32) (split : all ≡ accepted from_a turns w ++ more) (short : (p : ℕ) → length (message_of all p).payload < 2 ^ 32)
+      → Delivers from_a turns w
+  delivers all more few split short =
+      let d = along all more few split short in
+      let at : (p : ℕ) (o : Offer) → slice_get (accepted from_a turns w) p ≡ Some o → slice_get all p ≡ Some o =
+      λ p o h. ap (λ (l : List Offer). slice_get l p) split ∙ get_behind (accepted from_a turns w) more p o h in
+      record {
+        places = d.places;
+        fits = λ early late is. (d.points early late is).fits;
+        skipped = λ early late is. (d.points early late is).skipped;
+        reports = λ early late is. (d.points early late is).reports;
+        once = λ early late is. (d.points early late is).once;
+        rest = λ early late is. (d.points early late is).rest;
+        epochs = record {
+          least = λ early late e is k n o l h there of_epoch. (d.in_epochs early late e is k n o l h (at (slice_index d.places k) o there) of_epoch).0;
+          most = λ early late e is k n o l h there of_epoch. (d.in_epochs early late e is k n o l h (at (slice_index d.places k) o there) of_epoch).1;
+        };
+      }
+
+  -- no reset fails
+  none_refused : (all more : List Offer) (few : length all < 2 ^ 32) (split : all ≡ accepted from_a turns w ++ more) (short : (p : ℕ) → length (message_of all p).payload < 2 ^ 32)
+      → failed_in (told_of from_a turns w) ≡ false
+  none_refused all more few split short = (along all more few split short).leads.flows.none_failed
+
+-- as short as a limit below 2^32 lets them be
+short_along : (a b : Options) (words_a words_b : Stream) (turns : List (Bool × Turn)) → AreGiven a → AreGiven b → KeepsLimits turns → (from_a : Bool)
+    → (p : ℕ) → length (message_of (accepted from_a turns (course.start a b words_a words_b)) p).payload < 2 ^ 32
+short_along a b words_a words_b turns own other limits from_a =
+    all_short (accepted from_a turns (course.start a b words_a words_b)) (all_accepted_short a b words_a words_b own other turns limits from_a)
+
 pub delivered : MessagesAreDelivered
 delivered a b words_a words_b turns own other follows none bounds from_a =
-    let w : Pair = course.start a b words_a words_b in
-    let all : List Offer = accepted from_a turns w in
-    let mixed : Bool = (agreed a b).message_interleaving in
-    let d = delivers_on all mixed (all_parts (message_of all) (lifecycle_of all) mixed) a b own other refl (bounds.few from_a) from_a turns w no_stamps follows none bounds.windows bounds.streams
-    (first_halves a b words_a words_b) (record { a = record { told = refl }; b = record { told = refl } }) [] [] (sym (append-nil all)) [] [] (sym (nothing_ready (not from_a) a b words_a words_b)) [] start
-    (at_first (message_of all) (lifecycle_of all) mixed from_a (all_short all (all_accepted_short a b words_a words_b own other turns bounds.limits from_a)) a b words_a words_b) (accounted_first (lifecycle_of all) from_a a b words_a words_b) in
-    record {
-      places = d.places;
-      fits = λ early late is. (d.points early late is).fits;
-      skipped = λ early late is. (d.points early late is).skipped;
-      reports = λ early late is. (d.points early late is).reports;
-      once = λ early late is. (d.points early late is).once;
-      rest = λ early late is. (d.points early late is).rest;
-    }
+    let all : List Offer = accepted from_a turns (course.start a b words_a words_b) in
+    delivers a b words_a words_b turns own other follows none bounds.windows bounds.resets from_a all [] (bounds.few from_a) (sym (append-nil all))
+    (short_along a b words_a words_b turns own other bounds.limits from_a)
+
+pub refused_none : NoResetIsRefused
+refused_none a b words_a words_b turns own other follows none bounds from_a =
+    let all : List Offer = accepted from_a turns (course.start a b words_a words_b) in
+    none_refused a b words_a words_b turns own other follows none bounds.windows bounds.resets from_a all [] (bounds.few from_a) (sym (append-nil all))
+    (short_along a b words_a words_b turns own other bounds.limits from_a)
 
 -- ---- and at one more turn
 
@@ -137,12 +210,8 @@ accepted_more x (d ∷ es) e w =
     ap (λ (l : List Offer). accepted_at x d.0 d.1 w ++ l) (accepted_more x es e (goes d.0 d.1 w))
     ∙ sym (append_assoc (accepted_at x d.0 d.1 w) (accepted x es (goes d.0 d.1 w)) (accepted_at x e.0 e.1 (run es (goes d.0 d.1 w))))
 
-resets_parts : (es : List (Bool × Turn)) (e : Bool × Turn) → KeepsStreams (es ++ e ∷ []) → KeepsStreams es × (resets e.1 ≡ false)
-resets_parts es e h =
-    let both = or_parts (list_any (λ (e : Bool × Turn). resets e.1) es) (resets e.1 || false) (sym (list_any-append (λ (e : Bool × Turn). resets e.1) es (e ∷ [])) ∙ h) in
-    (both.0, (or_parts (resets e.1) false both.1).0)
-
 pub delivered_then : MessagesAreDeliveredThen
+unfolding delivers
 delivered_then a b words_a words_b turns from_a last own other follows none k =
     let w : Pair = course.start a b words_a words_b in
     let v : Pair = course.run turns w in
@@ -153,25 +222,17 @@ delivered_then a b words_a words_b turns from_a last own other follows none k =
     let split : all ≡ accepted from_a turns w ++ os =
     accepted_more from_a turns (from_a, last) w ∙ ap (λ (l : List Offer). accepted from_a turns w ++ l) (accepted_by_own from_a last v) in
     let rules : FollowsTheRules turns w = follows_front turns ((from_a, last) ∷ []) w follows in
-    let quiet : AreSilent w = record { a = record { told = refl }; b = record { told = refl } } in
-    let streams = resets_parts turns (from_a, last) k.streams in
-    let d = delivers_on all mixed parts a b own other refl k.few from_a turns w no_stamps rules none k.windows streams.0 (first_halves a b words_a words_b) quiet [] os split [] []
-    (sym (nothing_ready (not from_a) a b words_a words_b)) [] start
-    (at_first (message_of all) (lifecycle_of all) mixed from_a
-    (all_short all (all_accepted_short a b words_a words_b own other (turns ++ (from_a, last) ∷ []) k.limits from_a)) a b words_a words_b)
-    (accounted_first (lifecycle_of all) from_a a b words_a words_b) in
+    let short = short_along a b words_a words_b (turns ++ (from_a, last) ∷ []) own other k.limits from_a in
+    let d = along a b words_a words_b turns own other rules none k.windows k.resets from_a all os k.few split short in
+    let then : (early late : List (Event Carried)) → (told_by last (side_of from_a v) (side_of (not from_a) v)).events ≡ early ++ late → endings early ≡ 0
+        → TellsThen (side_of from_a v).told early (accepted from_a turns w ++ os) (take (length (readied (not from_a) turns w)) d.places) =
+    λ early late told before.
+    tells_then all (offer_epochs from_a turns w all_open) mixed parts k.few from_a a b own other refl v (stamps_along turns w no_stamps)
+    (run_joined a b own other turns w rules none (first_halves a b words_a words_b)) (silent_run turns w (quiet a b words_a words_b)) (within_last turns w no_stamps k.windows) k.resets.few none last
+    (follows_last turns (from_a, last) w follows) k.timely (accepted from_a turns w) split (readied (not from_a) turns w) (given_up from_a turns w) d.places d.leads early late told before in
     record {
-      delivers = record {
-        places = d.places;
-        fits = λ early late is. (d.points early late is).fits;
-        skipped = λ early late is. (d.points early late is).skipped;
-        reports = λ early late is. (d.points early late is).reports;
-        once = λ early late is. (d.points early late is).once;
-        rest = λ early late is. (d.points early late is).rest;
-      };
+      delivers = delivers a b words_a words_b turns own other rules none k.windows k.resets from_a all os k.few split short;
       reports = λ early late told before.
-          subst (λ (l : List Offer). ReportsAreTrue l ((side_of from_a v).told ++ early) (take (length (readied (not from_a) turns w)) d.places)) (sym split)
-          (reports_then all mixed parts k.few from_a a b own other refl v (stamps_along turns w no_stamps) (run_joined a b own other turns w rules none (first_halves a b words_a words_b))
-          (silent_run turns w quiet) (within_last turns w no_stamps k.windows) none last (follows_last turns (from_a, last) w follows) streams.1 k.timely (accepted from_a turns w) split
-          (readied (not from_a) turns w) (given_up from_a turns w) d.places d.leads early late told before);
+          subst (λ (l : List Offer). ReportsAreTrue l ((side_of from_a v).told ++ early) (take (length (readied (not from_a) turns w)) d.places)) (sym split) (then early late told before).reports;
+      none_refused = λ early late told before. (then early late told before).none_refused;
     }

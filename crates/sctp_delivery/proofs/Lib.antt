@@ -13,12 +13,15 @@ pub mod SenderToolLemmas
 pub mod SenderAsksLemmas
 pub mod SenderHeavyLemmas
 pub mod SenderLightLemmas
+pub mod SenderResetLemmas
 pub mod SenderOpeningLemmas
 pub mod SenderKeepsLemmas
+pub mod ResetCallLemmas
 pub mod TrackerStaysLemmas
 pub mod ReceiverToolLemmas
 pub mod ReceiverDataLemmas
 pub mod ReceiverSackLemmas
+pub mod ReceiverResetLemmas
 pub mod ReceiverStepLemmas
 pub mod ReceiverActsLemmas
 pub mod ReceiverKeepsLemmas
@@ -30,10 +33,12 @@ pub mod GoingLemmas
 pub mod ComingLemmas
 pub mod FitsLemmas
 pub mod DoneLemmas
+pub mod EpochPointLemmas
 pub mod DeliveryLemmas
 pub mod TakenLemmas
 pub mod OfferingLemmas
 pub mod OfferedLemmas
+pub mod LeavesLemmas
 pub mod BesideLemmas
 pub mod LawLemmas
 pub mod ProperQueueLemmas
@@ -46,7 +51,6 @@ pub mod BoundsLemmas
 pub mod SkippingLemmas
 pub mod AsksLemmas
 pub mod ResetRunLemmas
-pub mod EpochClaimLemmas
 pub mod StreamEpochLemmas
 pub mod AskedNextLemmas
 pub mod AnswersLemmas

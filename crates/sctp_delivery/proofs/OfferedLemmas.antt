@@ -1,11 +1,11 @@
 -- Calls that offer messages: what an end says and shows as a sender, and as a receiver, after them.
-use Rattle.std.proofs.Common.{◌≡◌, ℕ, ◌+◌, ◌^◌, ◌<◌, Bool, true, Option, List, [], ◌∷◌, length, All, refl, sym, ap, subst, ◌∙◌, arith}
+use Rattle.std.proofs.Common.{◌≡◌, ℕ, ◌+◌, ◌^◌, ◌<◌, Bool, true, false, Option, List, [], ◌∷◌, length, slice_get, All, inl, refl, sym, ap, subst, ◌∙◌, arith}
 use Rattle.std.proofs.lemmas.List.Elements.{All-nil}
 use Rattle.sctp_serial.specs.Messages as messages
 use Rattle.sctp_packet.specs.Chunk.{ChunkTree}
 use Rattle.sctp_state.specs.Options.{SendOptions}
-use Rattle.sctp_state.specs.Events.{Told}
-use Rattle.sctp_rules.specs.State.{Message, Transfer, count}
+use Rattle.sctp_state.specs.Events.{Event, Told}
+use Rattle.sctp_rules.specs.State.{Message, count}
 use Rattle.sctp_tx_rules.specs.Led.{recorded, delivered}
 use Rattle.sctp_table.specs.Association.{Context, Standing, Endpoint, with_context}
 use Rattle.sctp_table.specs.Sending.{send_in}
@@ -20,16 +20,21 @@ use Rattle.sctp_course.proofs.CallActsLemmas.{does_offer, does_offer_all, does_s
 use Rattle.sctp_course.proofs.JoinActsLemmas.{Setting, InvAt}
 use Rattle.sctp_course.proofs.JoinKeepsLemmas.{Rules}
 use Rattle.sctp_course.proofs.JoinFrameLemmas.{joins}
-use Rattle.sctp_delivery.specs.Accepted.{accepted_of, accepted_by}
+use Rattle.sctp_delivery.specs.Accepted.{Offer, accepted_of, accepted_by}
+use Rattle.sctp_delivery.specs.Answered.{performed_in}
+use Rattle.sctp_delivery.specs.Asks.{Ask}
+use Rattle.sctp_delivery.specs.StreamEpochs.{StreamEpoch, shut, reopened, performed_of, resets_told, failed_in}
 use Rattle.sctp_delivery.specs.Windows.{queue_of}
-use Rattle.sctp_delivery.proofs.ClaimLemmas.{first_out, first_in, SaysOut, SaysIn, IsFlowing, SendsIn, SenderClaim, ReceiverClaim, HearsSacks, HearsData, SenderGoes, SenderPremises, ReceiverGoes, ReceiverPremises}
+use Rattle.sctp_delivery.proofs.ClaimLemmas.{Direction, transfer_of, goes_out, first_out, first_in, SaysOut, SaysIn, AreSo, SendsIn, SenderClaim, ReceiverClaim, HearsSacks, HearsData, SenderGoes, SenderPremises, ReceiverGoes, ReceiverPremises}
 use Rattle.sctp_delivery.proofs.FrameLemmas.{Joined, KeepsJoined}
 use Rattle.sctp_delivery.proofs.FrameLemmas as frames
-use Rattle.sctp_delivery.proofs.SenderToolLemmas.{reports_none}
+use Rattle.sctp_delivery.proofs.ResetEventsLemmas.{resets_in, performed_counts, performed_names, failed_still, told_counts}
+use Rattle.sctp_delivery.proofs.SenderToolLemmas.{goes_none, reports_none}
 use Rattle.sctp_delivery.proofs.DirectionLemmas.{IsSilent}
-use Rattle.sctp_delivery.proofs.TurnLemmas.{Stay}
-use Rattle.sctp_delivery.proofs.GoingLemmas.{AreOffered, is_offer, OffersOut}
-use Rattle.sctp_delivery.proofs.OfferingLemmas.{offers_packets, OfferedTo, IsOffering, offers_all}
+use Rattle.sctp_delivery.proofs.PremisesLemmas.{AsksSoon}
+use Rattle.sctp_delivery.proofs.TurnLemmas.{AreOffered, Offers, Stay}
+use Rattle.sctp_delivery.proofs.GoingLemmas.{is_offer, OffersOut}
+use Rattle.sctp_delivery.proofs.OfferingLemmas.{offers_packets, offers_resets, OfferedTo, IsOffering, offers_all}
 
 -- ---- the rest of such a call is like one that says nothing
 
@@ -63,6 +68,13 @@ how_offered (Send m how) d = how
 how_offered (SendMany ms how) d = how
 how_offered call d = d
 
+-- there are two such calls
+each_offer : (P : Call → Type 0) → ((m : messages.Message) (how : SendOptions) → P (Send m how)) → ((ms : List messages.Message) (how : SendOptions) → P (SendMany ms how))
+    → (call : Call) → is_offer call ≡ true → P call
+each_offer P one many (Send m how) h = one m how
+each_offer P one many (SendMany ms how) h = many ms how
+each_offer P one many call h = cc
+
 module _ (g : Setting) {R : Making Carried → Making Carried → Type 0} (k : KeepsJoined g NoPacket R) (e : Endpoint Carried) where
   then_many : (ms : List messages.Message) (how : SendOptions) → Rules g (SendMany ms how) → HasNoEnd (calm (called (SendMany ms how) e)) → InvAt g (calm e)
       → R (offering ms how e) (calm (called (SendMany ms how) e))
@@ -91,7 +103,8 @@ module _ (g : Setting) {R : Making Carried → Making Carried → Type 0} (k : K
 no_heard : {tag : ℕ} {chunk : ChunkTree} → IsHeard NoPacket tag chunk → ⊥
 no_heard h = let e = h.given in cc
 
-sacks_of_none : (call : Call) (first : ℕ) (x y : Transfer) → y.acknowledged ≡ x.acknowledged → count y.sender ≡ count x.sender → HearsSacks call first x → HearsSacks NoPacket first y
+sacks_of_none : (call : Call) (first : ℕ) (x y : Direction) → (transfer_of y).acknowledged ≡ (transfer_of x).acknowledged → count (transfer_of y).sender ≡ count (transfer_of x).sender
+    → HearsSacks call first x → HearsSacks NoPacket first y
 sacks_of_none call first x y a c h =
     let past = h.past in
     let young = h.young in
@@ -104,7 +117,7 @@ sacks_of_none call first x y a c h =
       says = λ tag chunk is. absurd (no_heard is);
     }
 
-data_of_none : (message : ℕ → Message) (mixed : Bool) (call : Call) (first : ℕ) (x : Transfer) → HearsData message mixed call first x → HearsData message mixed NoPacket first x
+data_of_none : (message : ℕ → Message) (mixed : Bool) (call : Call) (first : ℕ) (x : Direction) → HearsData message mixed call first x → HearsData message mixed NoPacket first x
 data_of_none message mixed call first x h = record {
   least = h.least;
   most = h.most;
@@ -114,11 +127,47 @@ data_of_none message mixed call first x h = record {
   says = λ tag chunk is. absurd (no_heard is);
 }
 
-module _ (message : ℕ → Message) (lifecycle : ℕ → Option ℕ) (mixed : Bool) (g : Setting) (x : Transfer) (s : Side) where
+-- nor is anything told of resets
+record TellsNoReset (es : List (Event Carried)) : Type 0 where
+  counted : performed_in es ≡ 0
+  named : performed_of es ≡ []
+  none_failed : failed_in es ≡ false
+
+tells_none : (es : List (Event Carried)) → resets_in es ≡ [] → TellsNoReset es
+tells_none es none = record {
+  counted = sym (performed_counts es) ∙ ap (λ (fs : List (Event Carried)). performed_in fs) none;
+  named = sym (performed_names es) ∙ ap (λ (fs : List (Event Carried)). performed_of fs) none;
+  none_failed = sym (failed_still es) ∙ ap (λ (fs : List (Event Carried)). failed_in fs) none;
+}
+
+told_so : (es : List (Event Carried)) (x : Direction) (f : ℕ → StreamEpoch) → TellsNoReset es → AreSo f x.rules → AreSo (reopened (performed_of es) (shut [] f)) x.rules
+told_so es x f none so = subst (λ (ns : List ℕ). AreSo (reopened ns (shut [] f)) x.rules) (sym none.named) so
+
+answered_so : (n : ℕ) (es : List (Event Carried)) → TellsNoReset es → n ≡ n + performed_in es
+answered_so n es none = let c = none.counted in omega (arith, c)
+
+same_count : (k : ℕ) (es fs : List (Event Carried)) → resets_in fs ≡ resets_in es → resets_told k fs ≡ resets_told k es
+same_count k es fs same = sym (told_counts k fs) ∙ (ap (λ (gs : List (Event Carried)). resets_told k gs) same ∙ told_counts k es)
+
+performed_so : (k a b : ℕ) (es fs : List (Event Carried)) → resets_in fs ≡ resets_in es → a ≡ b + resets_told k es → a ≡ b + resets_told k fs
+performed_so k a b es fs same e = let c = same_count k es fs same in omega (arith, c, e)
+
+-- the ask that waits is the same
+near_then : (message : ℕ → Message) (mixed : Bool) (n : ℕ) (x mid : Direction) → Offers message mixed n x mid → AsksSoon x → AsksSoon mid
+near_then message mixed n x mid o soon a there =
+    let c = o.counted in
+    let l = soon a (sym (ap (λ (k : ℕ). slice_get x.asks k) o.answered) ∙ (sym (ap (λ (l : List Ask). slice_get l mid.answered) o.asks) ∙ there)) in
+    omega (arith, c, l)
+
+module _ (message : ℕ → Message) (lifecycle : ℕ → Option ℕ) (mixed : Bool) (g : Setting) (x : Direction) (s : Side) where
+  -- where these are offered at an end
+  abbrev offered_at : List messages.Message → SendOptions → Context Carried
+  offered_at ms how = offer_all ms how (shown_state (state_of s)) s.end.standing.context
+
   -- ---- the sender
 
   module _ (stay : Stay message lifecycle mixed)
-      (sender_keeps : (from : Transfer) → SenderPremises message lifecycle mixed g NoPacket from → KeepsJoined g NoPacket (SenderGoes message lifecycle mixed from)) where
+      (sender_keeps : (from : Direction) → SenderPremises message lifecycle mixed g NoPacket from → KeepsJoined g NoPacket (SenderGoes message lifecycle mixed from)) where
     -- once the messages are offered
     premises_then : (call : Call) (c : Context Carried) (n : ℕ) → SenderPremises message lifecycle mixed g call x → (o : OfferedTo message lifecycle mixed (state_of s) c x n)
         → SenderPremises message lifecycle mixed g NoPacket o.mid
@@ -126,52 +175,73 @@ module _ (message : ℕ → Message) (lifecycle : ℕ → Option ℕ) (mixed : B
       kept = o.is.kept;
       own = p.own;
       mode = p.mode;
+      few = subst (λ (l : List Ask). length l < 2 ^ 32) (sym o.offers.asks) p.few;
       handed = p.handed;
-      beside = stay.receives g.beside p.handed x o.mid p.kept o.offers.goes p.beside;
-      hears = sacks_of_none call (first_in g.beside) x o.mid o.offers.acknowledged o.same p.hears;
+      beside = stay.receives g.beside p.handed x o.mid p.kept o.offers.goes o.offers.done p.beside;
+      hears = sacks_of_none call (first_in g.beside) x o.mid o.offers.acknowledged o.offers.counted p.hears;
     }
 
-    claim_then : (ms : List messages.Message) (how : SendOptions) (n : ℕ) → IsSilent s
-        → (o : OfferedTo message lifecycle mixed (state_of s) (offer_all ms how (shown_state (state_of s)) s.end.standing.context) x n)
-        → SenderClaim message lifecycle mixed o.mid (offering ms how s.end) o.mid
-    claim_then ms how n q o = record {
-      kept = o.is.kept;
-      goes = record { events = []; may = tt; all = refl; leads = refl };
-      shown = o.is.shown;
-      flows = o.is.flows;
-      gone = o.is.gone;
-      reported = reports_none lifecycle o.mid o.mid [] (offering ms how s.end).context.told.events refl o.is.reported;
-      told = subst (λ (ps : List Carried). All (λ (p : Carried). All (SaysOut message mixed (first_out (state_of s)) o.mid.acknowledged o.mid) p.chunks) ps)
-          (sym (offers_packets ms how (shown_state (state_of s)) s.end.standing.context ∙ ap (λ (t : Told Carried). packets_in t.events) q.told)) (All-nil _);
-      made = All-nil _;
-    }
+    claim_then : (ms : List messages.Message) (how : SendOptions) (n : ℕ) → IsSilent s → AsksSoon x
+        → (o : OfferedTo message lifecycle mixed (state_of s) (offered_at ms how) x n) → SenderClaim message lifecycle mixed o.mid [] (offering ms how s.end) o.mid
+    claim_then ms how n q soon o =
+        let told : List (Event Carried) = (offered_at ms how).told.events in
+        let none : TellsNoReset told = tells_none told o.is.no_reset in
+        record {
+          kept = o.is.kept;
+          goes = goes_none message mixed goes_out o.mid;
+          done = refl;
+          shown = o.is.shown;
+          near = near_then message mixed n x o.mid o.offers soon;
+          since = λ a there. inl there;
+          gone = o.is.gone;
+          reported = reports_none lifecycle (transfer_of o.mid) (transfer_of o.mid) [] told refl o.is.reported;
+          performed = answered_so o.mid.answered told none;
+          epochs = λ f so. told_so told o.mid f none so;
+          none_failed = none.none_failed;
+          told = subst (λ (ps : List Carried). All (λ (p : Carried). All (SaysOut message mixed (first_out (state_of s)) (transfer_of o.mid).acknowledged (count (transfer_of o.mid).sender) o.mid) p.chunks) ps)
+              (sym (offers_packets ms how (shown_state (state_of s)) s.end.standing.context ∙ ap (λ (t : Told Carried). packets_in t.events) q.told)) (All-nil _);
+          made = All-nil _;
+        }
 
-    module _ (call : Call) (q : IsSilent s) (p : SenderPremises message lifecycle mixed g call x) (shown : SendsIn message lifecycle mixed (state_of s) (queue_of s) x)
-        (flows : IsFlowing (queue_of s)) where
+    module _ (call : Call) (q : IsSilent s) (p : SenderPremises message lifecycle mixed g call x) (shown : SendsIn message lifecycle mixed (state_of s) (queue_of s) x) (soon : AsksSoon x) where
       is_offering : IsOffering message lifecycle mixed (state_of s) s.end.standing.context x
-      is_offering = record { kept = p.kept; shown = shown; flows = flows; gone = ap (λ (t : Told Carried). recorded t) q.told; reported = ap (λ (t : Told Carried). delivered t.events) q.told }
+      is_offering = record {
+        kept = p.kept;
+        shown = shown;
+        gone = ap (λ (t : Told Carried). recorded t) q.told;
+        reported = ap (λ (t : Told Carried). delivered t.events) q.told;
+        no_reset = ap (λ (t : Told Carried). resets_in t.events) q.told;
+      }
 
       -- where the rest of the call is done behind the offers
-      goes_out : (ms : List messages.Message) (how : SendOptions) → AreOffered message lifecycle x.sender.accepted (accepted_of ms how (shown_state (state_of s)) s.end.standing.context)
-          → x.sender.accepted + length (accepted_of ms how (shown_state (state_of s)) s.end.standing.context) < 2 ^ 32
-          → ((mid : Transfer) → KeepsJoined g NoPacket (SenderGoes message lifecycle mixed mid) → SenderGoes message lifecycle mixed mid (offering ms how s.end) (calm (called call s.end)))
-          → OffersOut message lifecycle mixed x (length (accepted_of ms how (shown_state (state_of s)) s.end.standing.context)) (calm (called call s.end))
-      goes_out ms how are few goes =
-          let n : ℕ = length (accepted_of ms how (shown_state (state_of s)) s.end.standing.context) in
-          let o : OfferedTo message lifecycle mixed (state_of s) (offer_all ms how (shown_state (state_of s)) s.end.standing.context) x n =
+      behind_offers : (ms : List messages.Message) (how : SendOptions) → AreOffered message lifecycle (transfer_of x).sender.accepted (accepted_of ms how (shown_state (state_of s)) s.end.standing.context)
+          → (transfer_of x).sender.accepted + length (accepted_of ms how (shown_state (state_of s)) s.end.standing.context) < 2 ^ 32
+          → ((mid : Direction) → KeepsJoined g NoPacket (SenderGoes message lifecycle mixed mid) → SenderGoes message lifecycle mixed mid (offering ms how s.end) (calm (called call s.end)))
+          → OffersOut message lifecycle mixed x (accepted_of ms how (shown_state (state_of s)) s.end.standing.context) (calm (called call s.end))
+      behind_offers ms how are few goes =
+          let os : List Offer = accepted_of ms how (shown_state (state_of s)) s.end.standing.context in
+          let o : OfferedTo message lifecycle mixed (state_of s) (offered_at ms how) x (length os) =
           offers_all message lifecycle mixed ms (state_of s) s.end.standing.context x how is_offering are few in
-          let c = goes o.mid (sender_keeps o.mid (premises_then call (offer_all ms how (shown_state (state_of s)) s.end.standing.context) n p o)) o.mid (claim_then ms how n q o) in
-          record { mid = o.mid; offers = o.offers; same = o.same; to = c.0; claim = c.1 }
+          let c = goes o.mid (sender_keeps o.mid (premises_then call (offered_at ms how) (length os) p o)) [] o.mid (claim_then ms how (length os) q soon o) in
+          record { mid = o.mid; offers = o.offers; to = c.0; claim = c.1 }
+
+    -- each such call
+    abbrev GoesOut : Call → Type 0
+    GoesOut call = Rules g call → SenderPremises message lifecycle mixed g call x
+        → AreOffered message lifecycle (transfer_of x).sender.accepted (accepted_by call s) → (transfer_of x).sender.accepted + length (accepted_by call s) < 2 ^ 32
+        → HasNoEnd (calm (called call s.end)) → InvAt g (calm s.end) → IsSilent s → SendsIn message lifecycle mixed (state_of s) (queue_of s) x → AsksSoon x
+        → OffersOut message lifecycle mixed x (accepted_by call s) (calm (called call s.end))
 
     pub offered_out : (call : Call) → Rules g call → is_offer call ≡ true → SenderPremises message lifecycle mixed g call x
-        → AreOffered message lifecycle x.sender.accepted (accepted_by call s) → x.sender.accepted + length (accepted_by call s) < 2 ^ 32
-        → HasNoEnd (calm (called call s.end)) → InvAt g (calm s.end) → IsSilent s → SendsIn message lifecycle mixed (state_of s) (queue_of s) x → IsFlowing (queue_of s)
-        → OffersOut message lifecycle mixed x (length (accepted_by call s)) (calm (called call s.end))
-    offered_out (Send m how) r offer p are few none inv q shown flows =
-        goes_out (Send m how) q p shown flows (m ∷ []) how are few (λ mid k. then_one g k s.end m how r none inv)
-    offered_out (SendMany ms how) r offer p are few none inv q shown flows =
-        goes_out (SendMany ms how) q p shown flows ms how are few (λ mid k. then_many g k s.end ms how r none inv)
-    offered_out call r offer p are few none inv q shown flows = cc
+        → AreOffered message lifecycle (transfer_of x).sender.accepted (accepted_by call s) → (transfer_of x).sender.accepted + length (accepted_by call s) < 2 ^ 32
+        → HasNoEnd (calm (called call s.end)) → InvAt g (calm s.end) → IsSilent s → SendsIn message lifecycle mixed (state_of s) (queue_of s) x → AsksSoon x
+        → OffersOut message lifecycle mixed x (accepted_by call s) (calm (called call s.end))
+    offered_out call r offer =
+        each_offer GoesOut
+        (λ m how r p are few none inv q shown soon.
+        behind_offers (Send m how) q p shown soon (m ∷ []) how are few (λ mid k. then_one g k s.end m how r none inv))
+        (λ ms how r p are few none inv q shown soon.
+        behind_offers (SendMany ms how) q p shown soon ms how are few (λ mid k. then_many g k s.end ms how r none inv)) call offer r
 
   -- ---- the receiver
 
@@ -182,31 +252,39 @@ module _ (message : ℕ → Message) (lifecycle : ℕ → Option ℕ) (mixed : B
       kept = p.kept;
       own = p.own;
       mode = p.mode;
+      few_asks = p.few_asks;
       queue = p.queue;
       beside = p.beside;
       windows = p.windows;
-      written = p.written;
       few = p.few;
       short = p.short;
       hears = data_of_none message mixed call (first_out g.beside) x p.hears;
     }
 
     -- the offers themselves are nothing to it
-    claim_offering : (ms : List messages.Message) (how : SendOptions) (z : Transfer) → ReceiverClaim message mixed x handed (calm s.end) z
+    claim_offering : (ms : List messages.Message) (how : SendOptions) (z : Direction) → ReceiverClaim message mixed x handed (calm s.end) z
         → ReceiverClaim message mixed x handed (offering ms how s.end) z
-    claim_offering ms how z c = record {
-      kept = c.kept;
-      goes = c.goes;
-      shown = c.shown;
-      told = subst (λ (ps : List Carried). All (λ (p : Carried). All (SaysIn (first_in (state_of s)) x.acknowledged (count x.sender) z) p.chunks) ps)
-          (sym (offers_packets ms how (shown_state (state_of s)) s.end.standing.context)) c.told;
-      made = c.made;
-    }
+    claim_offering ms how z c =
+        let before : List (Event Carried) = s.end.standing.context.told.events in
+        let told : List (Event Carried) = (offered_at ms how).told.events in
+        record {
+          kept = c.kept;
+          goes = c.goes;
+          stay = c.stay;
+          shown = c.shown;
+          performed = λ k. performed_so k (z.rules.performed k) (x.rules.performed k) before told (offers_resets ms how (shown_state (state_of s)) s.end.standing.context) (c.performed k);
+          told = subst (λ (ps : List Carried). All (λ (p : Carried). All (SaysIn (first_in (state_of s)) (transfer_of x).acknowledged (count (transfer_of x).sender) z) p.chunks) ps)
+              (sym (offers_packets ms how (shown_state (state_of s)) s.end.standing.context)) c.told;
+          made = c.made;
+        }
+
+    abbrev GoesIn : Call → Type 0
+    GoesIn call = Rules g call → ReceiverPremises message lifecycle mixed g call x → HasNoEnd (calm (called call s.end)) → InvAt g (calm s.end)
+        → ReceiverGoes message lifecycle mixed x handed (calm s.end) (calm (called call s.end))
 
     pub offered_in : (call : Call) → Rules g call → is_offer call ≡ true → ReceiverPremises message lifecycle mixed g call x → HasNoEnd (calm (called call s.end))
         → InvAt g (calm s.end) → ReceiverGoes message lifecycle mixed x handed (calm s.end) (calm (called call s.end))
-    offered_in (Send m how) r offer p none inv z c =
-        then_one g (receiver_keeps (none_premises (Send m how) p)) s.end m how r none inv z (claim_offering (m ∷ []) how z c)
-    offered_in (SendMany ms how) r offer p none inv z c =
-        then_many g (receiver_keeps (none_premises (SendMany ms how) p)) s.end ms how r none inv z (claim_offering ms how z c)
-    offered_in call r offer p none inv z c = cc
+    offered_in call r offer =
+        each_offer GoesIn
+        (λ m how r p none inv z c. then_one g (receiver_keeps (none_premises (Send m how) p)) s.end m how r none inv z (claim_offering (m ∷ []) how z c))
+        (λ ms how r p none inv z c. then_many g (receiver_keeps (none_premises (SendMany ms how) p)) s.end ms how r none inv z (claim_offering ms how z c)) call offer r

@@ -1,8 +1,8 @@
 -- Messages that an end accepts take the next places, one after the other; then fragments go out.
-use Rattle.std.proofs.Common.{◌≡◌, ℕ, ◌+◌, ◌==◌, ◌^◌, ◌<◌, not, Bool, true, false, Option, Some, None, List, [], ◌∷◌, ◌++◌, length, refl, sym, ap, subst, ◌∙◌, length-append, arith}
+use Rattle.std.proofs.Common.{◌≡◌, ℕ, ◌+◌, ◌==◌, ◌^◌, ◌<◌, not, Bool, true, false, inl, inr, Option, Some, None, List, [], ◌∷◌, ◌++◌, length, refl, sym, ap, subst, ◌∙◌, append-nil, length-append, arith}
 use Rattle.std.specs.Prelude.{unwrap_or}
 use Rattle.std.proofs.lemmas.Bool.Decides.{nat_tests}
-use Rattle.std.proofs.lemmas.Bool.{true≢false}
+use Rattle.std.proofs.lemmas.Bool.{cases_lt, true≢false}
 use Rattle.std.proofs.Math.Bool.{not-not}
 use Rattle.sctp_serial.specs.Messages as messages
 use Rattle.sctp_state.specs.declared.api.SocketState.{SocketState}
@@ -10,13 +10,17 @@ use Rattle.sctp_state.specs.declared.api.errors.SendError.{SendError}
 use Rattle.sctp_state.specs.Options.{SendOptions}
 use Rattle.sctp_send_queue.specs.Queue.{Queued, Queue, expiry_of, added}
 use Rattle.sctp_outstanding.specs.Items.{no_items}
-use Rattle.sctp_rules.specs.State.{Message, Sender, Transfer, IsAmong, count, stream_of}
+use Rattle.sctp_rules.specs.State.{Message, Sender, Transfer, IsAmong, put, count, stream_of}
 use Rattle.sctp_rules.specs.Rules.{accept, accepts, after}
 use Rattle.sctp_rules.specs.Kept.{Kept}
-use Rattle.sctp_rules.proofs.KeepsLemmas.{keeps}
+use Rattle.sctp_rules.specs.Resets.{transfers, goes}
+use Rattle.sctp_rules.proofs.BasedLemmas.{keeps_epochs}
+use Rattle.sctp_rules.proofs.ToolsLemmas.{put_at, put_off}
 use Rattle.sctp_tx_rules.specs.Led.{recorded, delivered}
 use Rattle.sctp_tx_rules.specs.Rows.{offered}
 use Rattle.sctp_tx_rules.proofs.AcceptLemmas.{accept_row}
+use Rattle.sctp_tx_rules.proofs.AskedLemmas.{calls_keep_asked}
+use Rattle.sctp_tx_rules.proofs.FollowLemmas.{beginning_follows, accepting_follows}
 use Rattle.sctp_table.specs.Association.{State, Closed, CookieWait, Open, Context}
 use Rattle.sctp_table.specs.Calls.{shown_state, refusal_by, refusal, queued, offer, offer_all}
 use Rattle.sctp_table.specs.Calls as calls
@@ -24,11 +28,12 @@ use Rattle.sctp_table_laws.specs.Mapped.{Carried}
 use Rattle.sctp_course.specs.Course.{packets_in}
 use Rattle.sctp_course.proofs.ToldLemmas.{tells_refused, quiet_refused}
 use Rattle.sctp_delivery.specs.Accepted.{Offer, unless_refused, accepted_of}
-use Rattle.sctp_delivery.proofs.ClaimLemmas.{IsFlowing, IsWaiting, SendsIn}
-use Rattle.sctp_delivery.proofs.FlowLemmas.{added_flows}
+use Rattle.sctp_delivery.proofs.AsksLemmas.{asks_stay}
+use Rattle.sctp_delivery.proofs.ClaimLemmas.{Direction, transfer_of, IsKept, IsWaiting, SendsIn}
+use Rattle.sctp_delivery.proofs.ResetEventsLemmas.{resets_in, resets_refused}
+use Rattle.sctp_delivery.proofs.SenderAsksLemmas.{asking_stays}
 use Rattle.sctp_delivery.proofs.SenderToolLemmas.{goes_on, same_packets, same_delivered}
-use Rattle.sctp_delivery.proofs.TurnLemmas.{is_outgoing, Offers, offers_none}
-use Rattle.sctp_delivery.proofs.GoingLemmas.{message_in, AreOffered}
+use Rattle.sctp_delivery.proofs.TurnLemmas.{is_outgoing, Offers, offers_none, message_in, AreOffered}
 
 -- ---- what is told
 
@@ -36,6 +41,11 @@ offered_packets : (r : Option SendError) (m : messages.Message) (how : SendOptio
     → packets_in (calls.offered r m how c).told.events ≡ packets_in c.told.events
 offered_packets None m how c = refl
 offered_packets (Some e) m how c = same_packets c.told (calls.offered (Some e) m how c).told (tells_refused e how.lifecycle_id c.told)
+
+offered_resets : (r : Option SendError) (m : messages.Message) (how : SendOptions) (c : Context Carried)
+    → resets_in (calls.offered r m how c).told.events ≡ resets_in c.told.events
+offered_resets None m how c = refl
+offered_resets (Some e) m how c = resets_refused e how.lifecycle_id c.told
 
 offered_gone : (r : Option SendError) (m : messages.Message) (how : SendOptions) (c : Context Carried) → recorded (calls.offered r m how c).told ≡ recorded c.told
 offered_gone None m how c = refl
@@ -45,6 +55,11 @@ pub offers_packets : (ms : List messages.Message) (how : SendOptions) (shown : S
     → packets_in (offer_all ms how shown c).told.events ≡ packets_in c.told.events
 offers_packets [] how shown c = refl
 offers_packets (m ∷ ms) how shown c = offers_packets ms how shown (offer m how shown c) ∙ offered_packets (refusal m shown c) m how c
+
+pub offers_resets : (ms : List messages.Message) (how : SendOptions) (shown : SocketState) (c : Context Carried)
+    → resets_in (offer_all ms how shown c).told.events ≡ resets_in c.told.events
+offers_resets [] how shown c = refl
+offers_resets (m ∷ ms) how shown c = offers_resets ms how shown (offer m how shown c) ∙ offered_resets (refusal m shown c) m how c
 
 -- ---- a message as it is queued
 
@@ -86,9 +101,9 @@ not_empty n e = grind (arith, nat_tests, e)
 
 module _ (message : ℕ → Message) (lifecycle : ℕ → Option ℕ) (mixed : Bool) where
   -- what waits meets the invariant in either mode
-  waits_plain : (q : Queue) (x : Transfer) → Kept message mixed x → IsWaiting message lifecycle mixed q x → Kept message false x
+  waits_plain : (q : Queue) (x : Direction) → Kept message mixed (transfer_of x) → IsWaiting message lifecycle mixed q x → Kept message false (transfer_of x)
   waits_plain q x k h =
-      let none : count x.sender ≡ 0 = ap count h.sender in
+      let none : count (transfer_of x).sender ≡ 0 = ap count h.sender in
       record {
         outgoing = k.outgoing;
         incoming = k.incoming;
@@ -104,87 +119,110 @@ module _ (message : ℕ → Message) (lifecycle : ℕ → Option ℕ) (mixed : B
         reports_true = k.reports_true;
       }
 
-  module _ (x : Transfer) (kept : Kept message mixed x) (p_few : x.sender.accepted + 1 < 2 ^ 32) (expires : Option ℕ) (limit : ℕ) (some : 0 < length (message x.sender.accepted).payload) where
+  -- the next message is accepted
+  abbrev accepts_one : Direction → Direction
+  accepts_one x = record x { rules = goes message mixed x.rules (transfers accept) }
+
+  kept_more : (x : Direction) → IsKept message mixed x → IsKept message mixed (accepts_one x)
+  kept_more x k = record {
+    epochs = keeps_epochs message mixed x.rules k.epochs (transfers accept) (tt, tt);
+    asked = asks_stay message mixed x.rules x.asks x.done x.answered k.asked accept k.epochs.order.kept tt;
+  }
+
+  module _ (x : Direction) (kept : IsKept message mixed x) (p_few : (transfer_of x).sender.accepted + 1 < 2 ^ 32) (expires : Option ℕ) (limit : ℕ)
+      (some : 0 < length (message (transfer_of x).sender.accepted).payload) where
     abbrev next_queue : Queue → Queue
-    next_queue q = added (stream_of message x.sender.accepted) (offered message lifecycle x.sender.accepted expires limit) q
+    next_queue q = added (stream_of message (transfer_of x).sender.accepted) (offered message lifecycle (transfer_of x).sender.accepted expires limit) q
 
-    abbrev next_state : Transfer
-    next_state = after message mixed x accept
+    waits_more : (q : Queue) → IsWaiting message lifecycle mixed q x → IsWaiting message lifecycle mixed (next_queue q) (accepts_one x)
+    waits_more q h =
+        let plain : Kept message false (transfer_of x) = waits_plain q x kept.epochs.order.kept h in
+        record {
+          sender = ap (λ (o : Sender). accepts o) h.sender;
+          acknowledged = h.acknowledged;
+          no_points = h.no_points;
+          no_reports = h.no_reports;
+          none_reset = beginning_follows.accepting message mixed x.rules h.none_reset;
+          none_asked = h.none_asked;
+          shows = accept_row message lifecycle false (transfer_of x) q (no_items false false) h.shows plain expires limit some p_few;
+          follows = accepting_follows message lifecycle false x.rules q (no_items false false) plain h.shows h.follows expires limit;
+        }
 
-    waits_more : (q : Queue) → IsWaiting message lifecycle mixed q x → IsWaiting message lifecycle mixed (next_queue q) next_state
-    waits_more q h = record {
-      sender = ap (λ (o : Sender). accepts o) h.sender;
-      acknowledged = h.acknowledged;
-      no_points = h.no_points;
-      no_reports = h.no_reports;
-      shows = accept_row message lifecycle false x q (no_items false false) h.shows (waits_plain q x kept h) expires limit some p_few;
-    }
-
-    sends_more : (s : State) (q : Queue) → SendsIn message lifecycle mixed s q x → SendsIn message lifecycle mixed s (next_queue q) next_state
+    sends_more : (s : State) (q : Queue) → SendsIn message lifecycle mixed s q x → SendsIn message lifecycle mixed s (next_queue q) (accepts_one x)
     sends_more Closed q h = waits_more q h
     sends_more (CookieWait tag first t1) q h = waits_more q h
     sends_more (Open phase t) q h = record {
-      shows = accept_row message lifecycle mixed x q t.sender.outstanding.items h.shows kept expires limit some p_few;
+      shows = accept_row message lifecycle mixed (transfer_of x) q t.sender.outstanding.items h.shows kept.epochs.order.kept expires limit some p_few;
+      follows = accepting_follows message lifecycle mixed x.rules q t.sender.outstanding.items kept.epochs.order.kept h.shows h.follows expires limit;
       first = h.first;
       room = h.room;
-      no_request = h.no_request;
+      asks = asking_stays t.identity.my_first x.answered x.asks q (next_queue q) t.requests
+          (calls_keep_asked.accepting (stream_of message (transfer_of x).sender.accepted) (offered message lifecycle (transfer_of x).sender.accepted expires limit) q) h.asks;
     }
 
-  number_is : (s : State) (q : Queue) (x : Transfer) → SendsIn message lifecycle mixed s q x → q.next_number ≡ x.sender.accepted
+  number_is : (s : State) (q : Queue) (x : Direction) → SendsIn message lifecycle mixed s q x → q.next_number ≡ (transfer_of x).sender.accepted
   number_is Closed q x h = h.shows.queue.accepted
   number_is (CookieWait tag first t1) q x h = h.shows.queue.accepted
   number_is (Open phase t) q x h = h.shows.queue.accepted
 
   -- ---- as messages are offered
 
-  pub record IsOffering (s : State) (c : Context Carried) (x : Transfer) : Type 0 where
-    pub kept : Kept message mixed x
+  pub record IsOffering (s : State) (c : Context Carried) (x : Direction) : Type 0 where
+    pub kept : IsKept message mixed x
     pub shown : SendsIn message lifecycle mixed s c.queue x
-    pub flows : IsFlowing c.queue
     pub gone : recorded c.told ≡ []
     pub reported : delivered c.told.events ≡ []
+    pub no_reset : resets_in c.told.events ≡ []
 
-  pub record OfferedTo (s : State) (c : Context Carried) (x : Transfer) (n : ℕ) : Type 0 where
-    pub mid : Transfer
+  pub record OfferedTo (s : State) (c : Context Carried) (x : Direction) (n : ℕ) : Type 0 where
+    pub mid : Direction
     pub offers : Offers message mixed n x mid
-    pub same : count mid.sender ≡ count x.sender
     pub is : IsOffering s c mid
 
-  abbrev offered_none : (s : State) (c : Context Carried) (x : Transfer) → IsOffering s c x → OfferedTo s c x 0
-  offered_none s c x h = record { mid = x; offers = offers_none message mixed x h.kept; same = refl; is = h }
+  abbrev offered_none : (s : State) (c : Context Carried) (x : Direction) → IsOffering s c x → OfferedTo s c x 0
+  offered_none s c x h = record { mid = x; offers = offers_none message mixed x h.kept; is = h }
 
-  accepted_one : (s : State) (c : Context Carried) (x : Transfer) (m : messages.Message) (how : SendOptions) → IsOffering s c x → refusal m (shown_state s) c ≡ None
-      → message x.sender.accepted ≡ message_in (offer_of m how) → lifecycle x.sender.accepted ≡ how.lifecycle_id → x.sender.accepted + 1 < 2 ^ 32
+  -- one more message, of its stream's newest epoch
+  offers_one : (x : Direction) → IsKept message mixed x → Offers message mixed 1 x (accepts_one x)
+  offers_one x k = record {
+    goes = record { events = transfers accept ∷ []; may = ((tt, tt), tt); all = refl; leads = refl; more = []; asks = sym (append-nil x.asks); further = 0; done = omega arith; answered = omega arith };
+    kept = kept_more x k;
+    accepted = omega arith;
+    acknowledged = refl;
+    given_up = refl;
+    reports = refl;
+    counted = refl;
+    asks = refl;
+    done = refl;
+    answered = refl;
+    raised = refl;
+    opened = refl;
+    performed = refl;
+    old = λ p l. put_off x.rules.epoch (transfer_of x).sender.accepted (x.rules.raised (stream_of message (transfer_of x).sender.accepted)) p (λ e. omega (arith, l, e));
+    new = λ p a b.
+        let e : p ≡ (transfer_of x).sender.accepted = omega (arith, a, b) in
+        put_at x.rules.epoch (transfer_of x).sender.accepted (x.rules.raised (stream_of message (transfer_of x).sender.accepted)) p e
+        ∙ ap (λ (n : ℕ). x.rules.raised (stream_of message n)) (sym e);
+  }
+
+  accepted_one : (s : State) (c : Context Carried) (x : Direction) (m : messages.Message) (how : SendOptions) → IsOffering s c x → refusal m (shown_state s) c ≡ None
+      → message (transfer_of x).sender.accepted ≡ message_in (offer_of m how) → lifecycle (transfer_of x).sender.accepted ≡ how.lifecycle_id → (transfer_of x).sender.accepted + 1 < 2 ^ 32
       → OfferedTo s (calls.accepted m how c) x 1
   accepted_one s c x m how h fine is id few = record {
-    mid = y;
-    offers = record {
-      goes = record { events = accept ∷ []; may = (tt, tt); all = refl; leads = refl };
-      kept = kept;
-      accepted = omega arith;
-      acknowledged = refl;
-      given_up = refl;
-      reports = refl;
-    };
-    same = refl;
+    mid = accepts_one x;
+    offers = offers_one x h.kept;
     is = record {
-      kept = kept;
-      shown = subst (λ (q : Queue). SendsIn message lifecycle mixed s q y) (sym same)
+      kept = kept_more x h.kept;
+      shown = subst (λ (q : Queue). SendsIn message lifecycle mixed s q (accepts_one x)) (sym same)
           (sends_more x h.kept few (expiry_of c.now how.lifetime) (unwrap_or how.max_retransmissions 65535) some s c.queue h.shown);
-      flows = added_flows m.stream (queued c.queue.next_number c.now m how) c.queue h.flows;
       gone = h.gone;
       reported = h.reported;
+      no_reset = h.no_reset;
     };
   }
     where
       p : ℕ
-      p = x.sender.accepted
-
-      y : Transfer
-      y = after message mixed x accept
-
-      kept : Kept message mixed y
-      kept = keeps message mixed x h.kept accept tt
+      p = (transfer_of x).sender.accepted
 
       some : 0 < length (message p).payload
       some =
@@ -198,8 +236,8 @@ module _ (message : ℕ → Message) (lifecycle : ℕ → Option ℕ) (mixed : B
           ∙ ap (λ (z : Message). added z.stream (offered message lifecycle p (expiry_of c.now how.lifetime) (unwrap_or how.max_retransmissions 65535)) c.queue) (sym is)
 
   -- then others
-  offers_both : (n k : ℕ) (x y z : Transfer) → Kept message mixed x → Offers message mixed n x y → Offers message mixed k y z → Offers message mixed (n + k) x z
-  offers_both n k x y z kept a b =
+  offers_both : (n k : ℕ) (x y z : Direction) → Offers message mixed n x y → Offers message mixed k y z → Offers message mixed (n + k) x z
+  offers_both n k x y z a b =
       let p = a.accepted in
       let q = b.accepted in
       record {
@@ -209,23 +247,32 @@ module _ (message : ℕ → Message) (lifecycle : ℕ → Option ℕ) (mixed : B
         acknowledged = b.acknowledged ∙ a.acknowledged;
         given_up = b.given_up ∙ a.given_up;
         reports = b.reports ∙ a.reports;
+        counted = b.counted ∙ a.counted;
+        asks = b.asks ∙ a.asks;
+        done = b.done ∙ a.done;
+        answered = b.answered ∙ a.answered;
+        raised = b.raised ∙ a.raised;
+        opened = b.opened ∙ a.opened;
+        performed = b.performed ∙ a.performed;
+        old = λ r l. b.old r (omega (arith, l, p)) ∙ a.old r l;
+        new = λ r l m.
+            elim (cases_lt r (transfer_of y).sender.accepted) [
+              | inl below ↦ b.old r below ∙ a.new r l below
+              | inr past ↦ b.new r (omega (arith, past)) m ∙ ap (λ (f : ℕ → ℕ). f (stream_of message r)) a.raised
+            ];
       }
 
-  offered_then : (n k : ℕ) (s : State) (c d : Context Carried) (x : Transfer) → IsOffering s c x → (a : OfferedTo s d x n) → (e : Context Carried) → OfferedTo s e a.mid k → OfferedTo s e x (n + k)
-  offered_then n k s c d x h a e b = record {
-    mid = b.mid;
-    offers = offers_both n k x a.mid b.mid h.kept a.offers b.offers;
-    same = b.same ∙ a.same;
-    is = b.is;
-  }
+  offered_then : (n k : ℕ) (s : State) (d : Context Carried) (x : Direction) → (a : OfferedTo s d x n) → (e : Context Carried) → OfferedTo s e a.mid k → OfferedTo s e x (n + k)
+  offered_then n k s d x a e b = record { mid = b.mid; offers = offers_both n k x a.mid b.mid a.offers b.offers; is = b.is }
 
   -- the first, whether it is refused or not, and what is left
-  pub record OffersFirst (s : State) (d : Context Carried) (x : Transfer) (n : ℕ) (rest : List Offer) : Type 0 where
+  pub record OffersFirst (s : State) (d : Context Carried) (x : Direction) (n : ℕ) (rest : List Offer) : Type 0 where
     pub first : OfferedTo s d x n
-    pub are : AreOffered message lifecycle first.mid.sender.accepted rest
+    pub are : AreOffered message lifecycle (transfer_of first.mid).sender.accepted rest
 
-  offers_first : (r : Option SendError) (s : State) (c : Context Carried) (x : Transfer) (m : messages.Message) (how : SendOptions) (rest : List Offer) → refusal m (shown_state s) c ≡ r
-      → IsOffering s c x → AreOffered message lifecycle x.sender.accepted (unless_refused r m how ++ rest) → x.sender.accepted + length (unless_refused r m how ++ rest) < 2 ^ 32
+  offers_first : (r : Option SendError) (s : State) (c : Context Carried) (x : Direction) (m : messages.Message) (how : SendOptions) (rest : List Offer) → refusal m (shown_state s) c ≡ r
+      → IsOffering s c x → AreOffered message lifecycle (transfer_of x).sender.accepted (unless_refused r m how ++ rest)
+      → (transfer_of x).sender.accepted + length (unless_refused r m how ++ rest) < 2 ^ 32
       → OffersFirst s (calls.offered r m how c) x (length (unless_refused r m how)) rest
   offers_first None s c x m how rest is h are few =
       let one : OfferedTo s (calls.accepted m how c) x 1 = accepted_one s c x m how h is are.0 are.1 (omega (arith, few)) in
@@ -234,15 +281,16 @@ module _ (message : ℕ → Message) (lifecycle : ℕ → Option ℕ) (mixed : B
     first = offered_none s (calls.refused e how.lifecycle_id c) x (record {
       kept = h.kept;
       shown = h.shown;
-      flows = h.flows;
       gone = h.gone;
       reported = same_delivered c.told (calls.refused e how.lifecycle_id c).told (quiet_refused e how.lifecycle_id c.told) ∙ h.reported;
+      no_reset = resets_refused e how.lifecycle_id c.told ∙ h.no_reset;
     });
     are = are;
   }
 
-  pub offers_all : (ms : List messages.Message) (s : State) (c : Context Carried) (x : Transfer) (how : SendOptions) → IsOffering s c x
-      → AreOffered message lifecycle x.sender.accepted (accepted_of ms how (shown_state s) c) → x.sender.accepted + length (accepted_of ms how (shown_state s) c) < 2 ^ 32
+  pub offers_all : (ms : List messages.Message) (s : State) (c : Context Carried) (x : Direction) (how : SendOptions) → IsOffering s c x
+      → AreOffered message lifecycle (transfer_of x).sender.accepted (accepted_of ms how (shown_state s) c)
+      → (transfer_of x).sender.accepted + length (accepted_of ms how (shown_state s) c) < 2 ^ 32
       → OfferedTo s (offer_all ms how (shown_state s) c) x (length (accepted_of ms how (shown_state s) c))
   offers_all [] s c x how h are few = offered_none s c x h
   offers_all (m ∷ ms) s c x how h are few =
@@ -253,5 +301,5 @@ module _ (message : ℕ → Message) (lifecycle : ℕ → Option ℕ) (mixed : B
       let n = length-append (unless_refused r m how) rest in
       let p = f.first.offers.accepted in
       subst (λ (k : ℕ). OfferedTo s (offer_all ms how (shown_state s) d) x k) (sym n)
-      (offered_then (length (unless_refused r m how)) (length rest) s c d x h f.first (offer_all ms how (shown_state s) d)
+      (offered_then (length (unless_refused r m how)) (length rest) s d x f.first (offer_all ms how (shown_state s) d)
       (offers_all ms s d f.first.mid how f.first.is f.are (omega (arith, few, n, p))))

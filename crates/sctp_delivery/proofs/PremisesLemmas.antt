@@ -28,7 +28,7 @@ use Rattle.sctp_delivery.specs.StreamEpochs.{StreamEpoch, shut, reopened, perfor
 use Rattle.sctp_delivery.specs.Windows.{Stamp, IsWithin, queue_of}
 use Rattle.sctp_delivery.proofs.ClaimLemmas.{Direction, transfer_of, goes_out, goes_in, SaysOut, SaysIn, first_out, first_in, WasSaid, AreSo, SendsIn, SenderClaim, ReceiverClaim, HearsSacks, HearsData, SenderPremises, ReceiverPremises}
 use Rattle.sctp_delivery.proofs.AsksLemmas.{get_below}
-use Rattle.sctp_delivery.proofs.SenderToolLemmas.{goes_none, reports_none}
+use Rattle.sctp_delivery.proofs.SenderToolLemmas.{goes_none, reports_none, IsNear}
 use Rattle.sctp_delivery.proofs.WithinLemmas.{numbered_is, Holds, within}
 use Rattle.sctp_delivery.proofs.FilledLemmas.{short_index}
 use Rattle.sctp_delivery.proofs.DirectionLemmas.{IsUnderWay, says_out, says_in, Stands, none_stands, same_out, SoFar, Flows, IsSilent}
@@ -144,7 +144,7 @@ module _ (message : ℕ → Message) (lifecycle : ℕ → Option ℕ) (mixed : B
 
 -- it goes out soon
 abbrev pub AsksSoon : Direction → Type 0
-AsksSoon x = (a : Ask) → slice_get x.asks x.answered ≡ Some a → count (transfer_of x).sender < a.upto + 2 ^ 30
+AsksSoon x = IsNear x x
 
 -- ---- both ends
 

@@ -1,10 +1,10 @@
--- What an end hears of the other as sender is read as it was meant: fragments, forward points and responses to requests.
-use Rattle.std.proofs.Common.{◌≡◌, ℕ, suc, ◌+◌, ◌-◌, ◌%◌, ◌^◌, ◌<◌, ◌≤◌, max, Bool, true, false, cond, inl, inr, List, [], ◌∷◌, map, refl, sym, ap, ◌∙◌, subst, arith}
+-- What an end hears of the other as sender is read as it was meant: fragments, forward points, and the last TSNs of requests.
+use Rattle.std.proofs.Common.{◌≡◌, ℕ, suc, ◌+◌, ◌-◌, ◌%◌, ◌^◌, ◌<◌, ◌≤◌, max, Bool, true, false, cond, inl, inr, List, [], ◌∷◌, map, All, leb, ltb, ◌||◌, refl, sym, ap, ◌∙◌, subst, arith}
 use Rattle.std.specs.Prelude.{not}
-use Rattle.std.specs.List.{list_all}
-use Rattle.std.proofs.lemmas.Bool.{cond-true, cond-false}
+use Rattle.std.proofs.lemmas.Bool.{cond-true, cond-false, cases_lt, lt-ltb, le-ltb}
+use Rattle.std.proofs.lemmas.Bool.Decides.{nat_tests}
 use Rattle.sctp_serial.specs.Messages as messages
-use Rattle.sctp_serial.specs.Unwrapped.{origin, words, halves, wire}
+use Rattle.sctp_serial.specs.Unwrapped.{origin, words, halves, wire, nearest}
 use Rattle.sctp_serial.specs.declared.types.StreamKey.TheVariants.{Ordered, Unordered}
 use Rattle.sctp_wire.specs.Parameter.{ParameterTree}
 use Rattle.sctp_packet.specs.Chunk.{ChunkTree, FragmentTree, data_chunk, idata_chunk, re_config_chunk, forward_tsn_chunk, i_forward_tsn_chunk}
@@ -13,24 +13,26 @@ use Rattle.sctp_chunk.specs.declared.forward_tsn.SkippedStream.{SkippedStream}
 use Rattle.sctp_chunk.specs.declared.forward_tsn.SkippedStream.TheVariants.{IForwardTsn}
 use Rattle.sctp_outstanding.specs.Entries.{ssn_skip, mid_skip}
 use Rattle.sctp_rx.specs.Tracker as tracker
-use Rattle.sctp_rx.specs.Tracker.{DataTracker, IsTracker}
+use Rattle.sctp_rx.specs.Seen.{in_runs}
+use Rattle.sctp_rx.specs.Tracker.{DataTracker, Tracker, IsTracker}
 use Rattle.sctp_rx.specs.ReassemblyQueue.{Reassembly}
+use Rattle.sctp_tracker.proofs.SeenRunsLemmas.{next_is_new}
 use Rattle.sctp_rules.specs.State.{Message, Entry, ForwardPoint, Transfer, IsAmong, fragment, place_of, count, ordered_of}
 use Rattle.sctp_rules.specs.Rules.{covers}
 use Rattle.sctp_rules.specs.Kept.{Kept}
-use Rattle.sctp_rules.specs.Lifted.{no_base}
 use Rattle.sctp_rules.specs.Points.{AreApart}
-use Rattle.sctp_rules.specs.Windows.{Windows}
 use Rattle.sctp_rules.proofs.ToolsLemmas.{not_both}
+use Rattle.sctp_rules.proofs.WindowsLemmas.{front_window}
 use Rattle.sctp_tx_rules.specs.Shown.{tree_of}
 use Rattle.sctp_tx_rules.specs.Points.{skip_of, chunk_of}
+use Rattle.sctp_rx_rules.specs.View.{was_seen}
 use Rattle.sctp_rx_rules.specs.Read.{Carries}
 use Rattle.sctp_rx_rules.specs.Receives.{Receives}
-use Rattle.sctp_rx_rules.specs.Near.{IsWritten, IsEntry, AreEntries}
+use Rattle.sctp_rx_rules.specs.Near.{IsWritten, IsEntry, AreEntries, IsInWindow}
 use Rattle.sctp_rx_rules.proofs.NearNumberLemmas.{among_covers}
 use Rattle.sctp_rx_rules.proofs.NearTsnLemmas.{tracker_reads}
-use Rattle.sctp_course.specs.Acts.{is_response}
-use Rattle.sctp_delivery.proofs.ClaimLemmas.{SaysData, SaysPoint, SaysOut, WasSaid, AreShort}
+use Rattle.sctp_delivery.specs.Asks.{SaysOutgoing}
+use Rattle.sctp_delivery.proofs.ClaimLemmas.{Direction, transfer_of, SaysData, SaysPoint, SaysOut, WasSaid, AreShort}
 
 -- ---- a fragment
 
@@ -50,7 +52,10 @@ plain_part f = record f { mid = 0; fsn = 0 }
 abbrev mixed_part : FragmentTree → FragmentTree
 mixed_part f = record f { ssn = 0; ppid = cond f.is_beginning f.ppid 0; fsn = cond f.is_beginning 0 f.fsn }
 
-module _ (message : ℕ → Message) (mixed : Bool) (x : Transfer) (first least : ℕ) where
+module _ (message : ℕ → Message) (mixed : Bool) (d : Direction) (first least most : ℕ) where
+  abbrev x : Transfer
+  x = transfer_of d
+
   ssn_of : (k : ℕ) → ordered_of message (place_of x.sender k) ≡ true → (tree_of message x.sender (fragment x.sender k)).ssn ≡ wire halves 0 (origin + x.sender.written (place_of x.sender k))
   ssn_of k o = ap (λ (b : Bool). wire halves 0 (cond b (origin + x.sender.written (place_of x.sender k)) origin)) o
 
@@ -116,7 +121,7 @@ module _ (message : ℕ → Message) (mixed : Bool) (x : Transfer) (first least 
         }
 
   said_plain : (tsn : ℕ) (is_immediate : Bool) (f : FragmentTree) (said : ChunkTree) → data_chunk tsn is_immediate f ≡ carried said
-      → SaysOut message mixed first least x said → DataSaid message mixed first least x tsn f
+      → SaysOut message mixed first least most d said → DataSaid message mixed first least x tsn f
   said_plain tsn is_immediate f (data_chunk other more g) e h =
       subst (λ n. DataSaid message mixed first least x n f) (tsn_same e) (plain_said other f g h.1 (part_same e) h.0)
     where
@@ -128,7 +133,7 @@ module _ (message : ℕ → Message) (mixed : Bool) (x : Transfer) (first least 
   said_plain tsn is_immediate f said e h = cc
 
   said_mixed : AreShort x.sender → (tsn : ℕ) (is_immediate : Bool) (f : FragmentTree) (said : ChunkTree)
-      → idata_chunk tsn is_immediate f ≡ carried said → SaysOut message mixed first least x said → DataSaid message mixed first least x tsn f
+      → idata_chunk tsn is_immediate f ≡ carried said → SaysOut message mixed first least most d said → DataSaid message mixed first least x tsn f
   said_mixed short tsn is_immediate f (idata_chunk other more g) e h =
       subst (λ n. DataSaid message mixed first least x n f) (tsn_same e) (mixed_said short other f g h.1 (part_same e) h.0)
     where
@@ -140,23 +145,23 @@ module _ (message : ℕ → Message) (mixed : Bool) (x : Transfer) (first least 
   said_mixed short tsn is_immediate f said e h = cc
 
   plain_mode : (tsn : ℕ) (is_immediate : Bool) (f : FragmentTree) (said : ChunkTree) → data_chunk tsn is_immediate f ≡ carried said
-      → SaysOut message mixed first least x said → mixed ≡ false
+      → SaysOut message mixed first least most d said → mixed ≡ false
   plain_mode tsn is_immediate f (data_chunk other more g) e h = h.0
   plain_mode tsn is_immediate f said e h = cc
 
   mixed_mode : (tsn : ℕ) (is_immediate : Bool) (f : FragmentTree) (said : ChunkTree) → idata_chunk tsn is_immediate f ≡ carried said
-      → SaysOut message mixed first least x said → mixed ≡ true
+      → SaysOut message mixed first least most d said → mixed ≡ true
   mixed_mode tsn is_immediate f (idata_chunk other more g) e h = h.0
   mixed_mode tsn is_immediate f said e h = cc
 
   -- DATA is heard of a sender without interleaving, I-DATA of one with it
-  pub data_was_said : (tsn : ℕ) (is_immediate : Bool) (f : FragmentTree) → WasSaid (SaysOut message mixed first least x) (data_chunk tsn is_immediate f)
+  pub data_was_said : (tsn : ℕ) (is_immediate : Bool) (f : FragmentTree) → WasSaid (SaysOut message mixed first least most d) (data_chunk tsn is_immediate f)
       → (mixed ≡ false) × DataSaid message mixed first least x tsn f
   data_was_said tsn is_immediate f h =
       (plain_mode tsn is_immediate f h.said h.is h.says, said_plain tsn is_immediate f h.said h.is h.says)
 
   pub idata_was_said : AreShort x.sender → (tsn : ℕ) (is_immediate : Bool) (f : FragmentTree)
-      → WasSaid (SaysOut message mixed first least x) (idata_chunk tsn is_immediate f) → (mixed ≡ true) × DataSaid message mixed first least x tsn f
+      → WasSaid (SaysOut message mixed first least most d) (idata_chunk tsn is_immediate f) → (mixed ≡ true) × DataSaid message mixed first least x tsn f
   idata_was_said short tsn is_immediate f h =
       let both : mixed ≡ true = mixed_mode tsn is_immediate f h.said h.is h.says in
       (both, said_mixed short tsn is_immediate f h.said h.is h.says)
@@ -218,9 +223,9 @@ module _ (first : ℕ) (tsn : ℕ) (skipped : List SkippedStream) (f : ForwardPo
       skipped_same : i_forward_tsn_chunk tsn skipped ≡ chunk_of true first f → skipped ≡ map mid_skip (map (skip_of true) f.entries)
       skipped_same e = cc
 
-module _ (message : ℕ → Message) (mixed : Bool) (x : Transfer) (kept : Kept message mixed x) (first least : ℕ) where
+module _ (message : ℕ → Message) (mixed : Bool) (d : Direction) (kept : Kept message mixed (transfer_of d)) (first least most : ℕ) where
   -- without interleaving each entry is of an ordered stream
-  are_ordered : mixed ≡ false → (f : ForwardPoint) → IsAmong f x.forward_points → (e : Entry) → IsAmong e f.entries → e.ordered ≡ true
+  are_ordered : mixed ≡ false → (f : ForwardPoint) → IsAmong f (transfer_of d).forward_points → (e : Entry) → IsAmong e f.entries → e.ordered ≡ true
   are_ordered plain f sent e a = go e.ordered refl
     where
       go : (b : Bool) → e.ordered ≡ b → b ≡ true
@@ -229,10 +234,10 @@ module _ (message : ℕ → Message) (mixed : Bool) (x : Transfer) (kept : Kept 
           absurd (not_both (subst (λ (z : Bool). covers f.entries z e.stream e.number ≡ true) o (among_covers e f.entries a))
           ((kept.forwards_true f sent).only_ordered plain e.stream e.number))
 
-  point_said : (tsn : ℕ) (skipped : List SkippedStream) (f : ForwardPoint) → IsAmong f x.forward_points → AreApart f.entries → least < f.upto
-      → tsn ≡ wire words first (origin + f.upto - 1) → AreEntries mixed skipped f.entries → PointSaid mixed first least x tsn skipped
+  point_said : (tsn : ℕ) (skipped : List SkippedStream) (f : ForwardPoint) → IsAmong f (transfer_of d).forward_points → AreApart f.entries → least < f.upto
+      → tsn ≡ wire words first (origin + f.upto - 1) → AreEntries mixed skipped f.entries → PointSaid mixed first least (transfer_of d) tsn skipped
   point_said tsn skipped f sent apart ahead tsn_is entries =
-      let within : f.upto ≤ count x.sender = (kept.forwards_true f sent).within in
+      let within : f.upto ≤ count (transfer_of d).sender = (kept.forwards_true f sent).within in
       let k : ℕ = f.upto - 1 in
       let same : origin + f.upto - 1 ≡ origin + k = omega (arith, ahead) in
       record {
@@ -247,8 +252,8 @@ module _ (message : ℕ → Message) (mixed : Bool) (x : Transfer) (kept : Kept 
         entries = entries;
       }
 
-  plain_point : (tsn : ℕ) (skipped : List SkippedStream) → SaysPoint mixed first least x (forward_tsn_chunk tsn skipped)
-      → (mixed ≡ false) × PointSaid mixed first least x tsn skipped
+  plain_point : (tsn : ℕ) (skipped : List SkippedStream) → SaysPoint mixed first least (transfer_of d) (forward_tsn_chunk tsn skipped)
+      → (mixed ≡ false) × PointSaid mixed first least (transfer_of d) tsn skipped
   plain_point tsn skipped h =
       let c = plain_chunk first tsn skipped h.point mixed h.written in
       let es : List Entry = h.point.entries in
@@ -256,8 +261,8 @@ module _ (message : ℕ → Message) (mixed : Bool) (x : Transfer) (kept : Kept 
       let written : AreEntries mixed skipped es = subst (λ (m : Bool). AreEntries m skipped es) (sym c.0) (subst (λ (z : List SkippedStream). AreEntries false z es) (sym c.2) are) in
       (c.0, point_said tsn skipped h.point h.sent h.apart h.ahead c.1 written)
 
-  mixed_point : (tsn : ℕ) (skipped : List SkippedStream) → SaysPoint mixed first least x (i_forward_tsn_chunk tsn skipped)
-      → (mixed ≡ true) × PointSaid mixed first least x tsn skipped
+  mixed_point : (tsn : ℕ) (skipped : List SkippedStream) → SaysPoint mixed first least (transfer_of d) (i_forward_tsn_chunk tsn skipped)
+      → (mixed ≡ true) × PointSaid mixed first least (transfer_of d) tsn skipped
   mixed_point tsn skipped h =
       let c = mixed_chunk first tsn skipped h.point mixed h.written in
       let es : List Entry = h.point.entries in
@@ -265,46 +270,104 @@ module _ (message : ℕ → Message) (mixed : Bool) (x : Transfer) (kept : Kept 
       (c.0, point_said tsn skipped h.point h.sent h.apart h.ahead c.1 written)
 
   -- a point is heard as it was sent
-  pub point_was_said : (tsn : ℕ) (skipped : List SkippedStream) → WasSaid (SaysOut message mixed first least x) (forward_tsn_chunk tsn skipped)
-      → (mixed ≡ false) × PointSaid mixed first least x tsn skipped
+  pub point_was_said : (tsn : ℕ) (skipped : List SkippedStream) → WasSaid (SaysOut message mixed first least most d) (forward_tsn_chunk tsn skipped)
+      → (mixed ≡ false) × PointSaid mixed first least (transfer_of d) tsn skipped
   point_was_said tsn skipped h = go h.said h.is h.says
     where
-      go : (said : ChunkTree) → forward_tsn_chunk tsn skipped ≡ carried said → SaysOut message mixed first least x said
-          → (mixed ≡ false) × PointSaid mixed first least x tsn skipped
-      go (forward_tsn_chunk other more) e s = plain_point tsn skipped (subst (λ (c : ChunkTree). SaysPoint mixed first least x c) (sym e) s)
+      go : (said : ChunkTree) → forward_tsn_chunk tsn skipped ≡ carried said → SaysOut message mixed first least most d said
+          → (mixed ≡ false) × PointSaid mixed first least (transfer_of d) tsn skipped
+      go (forward_tsn_chunk other more) e s = plain_point tsn skipped (subst (λ (c : ChunkTree). SaysPoint mixed first least (transfer_of d) c) (sym e) s)
       go said e s = cc
 
-  pub ipoint_was_said : (tsn : ℕ) (skipped : List SkippedStream) → WasSaid (SaysOut message mixed first least x) (i_forward_tsn_chunk tsn skipped)
-      → (mixed ≡ true) × PointSaid mixed first least x tsn skipped
+  pub ipoint_was_said : (tsn : ℕ) (skipped : List SkippedStream) → WasSaid (SaysOut message mixed first least most d) (i_forward_tsn_chunk tsn skipped)
+      → (mixed ≡ true) × PointSaid mixed first least (transfer_of d) tsn skipped
   ipoint_was_said tsn skipped h = go h.said h.is h.says
     where
-      go : (said : ChunkTree) → i_forward_tsn_chunk tsn skipped ≡ carried said → SaysOut message mixed first least x said
-          → (mixed ≡ true) × PointSaid mixed first least x tsn skipped
-      go (i_forward_tsn_chunk other more) e s = mixed_point tsn skipped (subst (λ (c : ChunkTree). SaysPoint mixed first least x c) (sym e) s)
+      go : (said : ChunkTree) → i_forward_tsn_chunk tsn skipped ≡ carried said → SaysOut message mixed first least most d said
+          → (mixed ≡ true) × PointSaid mixed first least (transfer_of d) tsn skipped
+      go (i_forward_tsn_chunk other more) e s = mixed_point tsn skipped (subst (λ (c : ChunkTree). SaysPoint mixed first least (transfer_of d) c) (sym e) s)
       go said e s = cc
 
--- ---- responses
+-- ---- requests and answers
 
--- no request of a reset is heard
-pub responses_were_said : (message : ℕ → Message) (mixed : Bool) (x : Transfer) (first least : ℕ) (ps : List ParameterTree)
-    → WasSaid (SaysOut message mixed first least x) (re_config_chunk ps) → list_all is_response ps ≡ true
-responses_were_said message mixed x first least ps h = go h.said h.is h.says
+-- each parameter was said
+pub parameters_were_said : (message : ℕ → Message) (mixed : Bool) (d : Direction) (first least most : ℕ) (ps : List ParameterTree)
+    → WasSaid (SaysOut message mixed first least most d) (re_config_chunk ps) → All (SaysOutgoing first most d.asks) ps
+parameters_were_said message mixed d first least most ps h = go h.said h.is h.says
   where
-    go : (said : ChunkTree) → re_config_chunk ps ≡ carried said → SaysOut message mixed first least x said → list_all is_response ps ≡ true
-    go (re_config_chunk qs) e s = ap (list_all is_response) (same e) ∙ s
+    go : (said : ChunkTree) → re_config_chunk ps ≡ carried said → SaysOut message mixed first least most d said → All (SaysOutgoing first most d.asks) ps
+    go (re_config_chunk qs) e s = subst (λ (z : List ParameterTree). All (SaysOutgoing first most d.asks) z) (sym (same e)) s
       where
         same : re_config_chunk ps ≡ re_config_chunk qs → ps ≡ qs
         same e = cc
     go said e s = cc
 
--- ---- its number
+-- ---- the front
+
+-- the first fragment above the tracker's front
+abbrev pub front_of : Tracker → ℕ
+front_of t = suc t.seen.front - origin
+
+module _ (message : ℕ → Message) (mixed : Bool) (base : Bool → ℕ → ℕ) (shift : ℕ) (x : Transfer) (kept : Kept message mixed x) (handed : List messages.Message) (t : Tracker) (r : Reassembly)
+    (shown : Receives message mixed base shift x handed t r) (is : IsTracker t) where
+  pub front_at : origin + front_of t ≡ suc t.seen.front
+  front_at = let l = is.least in let b = is.begun in omega (arith, l, b)
+
+  pub front_unseen : was_seen t (front_of t) ≡ false
+  front_unseen = go (was_seen t (front_of t)) (next_is_new t.seen.front (origin + front_of t) t.seen.runs is.runs (let e = front_at in omega (arith, e)))
+    where
+      go : (b : Bool) → true ≡ not b → b ≡ false
+      go false e = refl
+      go true e = cc
+
+  pub below_front : (n : ℕ) → n < front_of t → was_seen t n ≡ true
+  below_front n l = go (in_runs t.seen.runs (origin + n)) t.seen.front (front_of t) front_at l
+    where
+      go : (b : Bool) (c d : ℕ) → origin + d ≡ suc c → n < d → (leb (origin + n) c || b) ≡ true
+      go b c d e l = grind (arith, nat_tests)
+
+  -- it lies between what is acknowledged and what is numbered
+  pub front_between : (x.acknowledged ≤ front_of t) × (front_of t ≤ count x.sender)
+  front_between = front_window message mixed x kept (front_of t) (sym (shown.seen (front_of t)) ∙ front_unseen) (λ n l. sym (shown.seen n) ∙ below_front n l)
+
+-- ---- numbers as the tracker reads them
+
+-- a number less than half its space away is read as it was meant, also the one before the first
+words_near : (first near n : ℕ) → near < n + 2 ^ 31 → n < near + 2 ^ 31 → 2 ^ 31 ≤ near → nearest words first near (wire words first n) ≡ n
+words_near first near n a b far =
+    let ahead = (wire (2 ^ 32) first n + 2 ^ 32 - wire (2 ^ 32) first near) % 2 ^ 32 in
+    elim (cases_lt ahead (2 ^ 31)) [
+      | inl p ↦ let e : near + ahead ≡ n = omega (arith, a, b, far, p) in cond-true (ltb ahead (2 ^ 31)) (near + ahead) ((near + ahead) - 2 ^ 32) (lt-ltb ahead (2 ^ 31) p) ∙ e
+      | inr p ↦ let e : (near + ahead) - 2 ^ 32 ≡ n = omega (arith, a, b, far, p) in cond-false (ltb ahead (2 ^ 31)) (near + ahead) ((near + ahead) - 2 ^ 32) (le-ltb ahead (2 ^ 31) p) ∙ e
+    ]
 
 -- the tracker reads the number that was written, in a packet that is not older than 2^30 fragments
-pub number_is_read : (message : ℕ → Message) (mixed : Bool) (shift : ℕ) (x : Transfer) (handed : List messages.Message) (d : DataTracker) (r : Reassembly) (k least most tsn : ℕ)
-    → Kept message mixed x → Windows message x → Receives message mixed no_base shift x handed d.tracker r → IsTracker d.tracker → k < count x.sender → least ≤ k
+pub number_is_read : (message : ℕ → Message) (mixed : Bool) (base : Bool → ℕ → ℕ) (shift : ℕ) (x : Transfer) (handed : List messages.Message) (d : DataTracker) (r : Reassembly) (k least most tsn : ℕ)
+    → Kept message mixed x → IsInWindow x → Receives message mixed base shift x handed d.tracker r → IsTracker d.tracker → k < count x.sender → least ≤ k
     → most ≤ least + 2 ^ 30 → most ≤ count x.sender → count x.sender < most + 2 ^ 30 → tsn ≡ wire words d.first (origin + k)
     → tracker.number_of d tsn ≡ origin + k
-number_is_read message mixed shift x handed d r k least most tsn kept windows receives is_tracker below from near past young tsn_is =
+number_is_read message mixed base shift x handed d r k least most tsn kept window receives is_tracker below from near past young tsn_is =
     let n : ℕ = max most (suc k) in
     ap (λ (w : ℕ). tracker.number_of d w) tsn_is
-    ∙ tracker_reads message mixed no_base shift x handed d r k n kept windows.items receives is_tracker (omega arith) (omega (arith, from, near)) (omega (arith, below, past), omega (arith, young))
+    ∙ tracker_reads message mixed base shift x handed d r k n kept window receives is_tracker (omega arith) (omega (arith, from, near)) (omega (arith, below, past), omega (arith, young))
+
+-- and the last TSN of a request that goes out before 2^30 fragments more are numbered: where it is the one before the first, too
+pub last_is_read : (message : ℕ → Message) (mixed : Bool) (base : Bool → ℕ → ℕ) (shift : ℕ) (x : Transfer) (handed : List messages.Message) (d : DataTracker) (r : Reassembly) (upto most tsn : ℕ)
+    → Kept message mixed x → IsInWindow x → Receives message mixed base shift x handed d.tracker r → IsTracker d.tracker → upto ≤ count x.sender
+    → most < upto + 2 ^ 30 → count x.sender < most + 2 ^ 30 → tsn ≡ wire words d.first (origin + upto - 1)
+    → suc (tracker.number_of d tsn) ≡ origin + upto
+last_is_read message mixed base shift x handed d r upto most tsn kept window receives is_tracker within near young tsn_is =
+    let f : ℕ = front_of d.tracker in
+    let e : origin + f ≡ suc d.tracker.seen.front = front_at message mixed base shift x kept handed d.tracker r receives is_tracker in
+    let w = front_between message mixed base shift x kept handed d.tracker r receives is_tracker in
+    let lo = w.0 in
+    let hi = w.1 in
+    let ahead : upto < f + 2 ^ 31 =
+    elim (cases_lt x.acknowledged (count x.sender)) [
+      | inl l ↦ let i = window l in omega (arith, within, lo, i)
+      | inr h ↦ omega (arith, within, lo, h)
+    ] in
+    let n : ℕ = origin + upto - 1 in
+    let read : tracker.number_of d tsn ≡ n =
+    ap (λ (w : ℕ). tracker.number_of d w) tsn_is ∙ words_near d.first d.tracker.seen.front n (omega (arith, e, hi, near, young)) (omega (arith, e, ahead)) (omega (arith, e)) in
+    omega (arith, read)

@@ -1,30 +1,36 @@
--- What an end hears as sender, in the middle of its turn: a SACK has the number there that the receiver meant.
-use Rattle.std.proofs.Common.{◌≡◌, ℕ, ◌+◌, ◌-◌, ◌%◌, ◌^◌, ◌<◌, ◌≤◌, Bool, true, inl, inr, Option, Some, List, sym, ap, ◌∙◌, subst, arith, ltb}
+-- What an end hears as sender, in the middle of its turn: a SACK has the number there that the receiver meant, and an answer that is final is
+-- to a request that was performed.
+use Rattle.std.proofs.Common.{◌≡◌, ℕ, ◌+◌, ◌-◌, ◌%◌, ◌^◌, ◌<◌, ◌≤◌, Bool, true, inl, inr, Option, Some, List, length, All, sym, ap, ◌∙◌, subst, arith, ltb}
 use Rattle.std.proofs.lemmas.Bool.{cases_lt, cond-true, cond-false, lt-ltb, le-ltb}
 use Rattle.sctp_serial.specs.Messages as messages
+use Rattle.sctp_serial.specs.declared.types.tsn.Tsn.{Tsn}
 use Rattle.sctp_serial.specs.Unwrapped.{origin, words, wire, nearest}
-use Rattle.sctp_packet.specs.Chunk.{ChunkTree, SackTree, sack_chunk}
+use Rattle.sctp_wire.specs.Parameter.{ParameterTree, reset_response}
+use Rattle.sctp_packet.specs.Chunk.{ChunkTree, SackTree, sack_chunk, re_config_chunk}
 use Rattle.sctp_packet.specs.Grammar.{carried}
 use Rattle.sctp_send_queue.specs.Queue.{Queue}
 use Rattle.sctp_outstanding.specs.Items.{Outstanding, number_of}
 use Rattle.sctp_rules.specs.State.{Message, Receiver, Transfer, IsAmong, count}
 use Rattle.sctp_rules.specs.Kept.{Kept}
 use Rattle.sctp_table.specs.Association.{Tcb, Phase, State, Closed, CookieWait, Open}
+use Rattle.sctp_table.specs.Requests.{is_final}
 use Rattle.sctp_table.specs.Laws.{Call}
 use Rattle.sctp_table_laws.specs.Mapped.{Carried}
-use Rattle.sctp_course.specs.Acts.{Making, in_open, IsHeard, point_of}
+use Rattle.sctp_course.specs.Acts.{Making, in_open, IsHeard, IsAsked, point_of}
+use Rattle.sctp_course.proofs.AddedLemmas.{all_at}
 use Rattle.sctp_course.proofs.JoinActsLemmas.{Setting, InvAt}
 use Rattle.sctp_course.proofs.JoinLemmas.{Draw, view_of, own_draw, Faces}
-use Rattle.sctp_delivery.proofs.ClaimLemmas.{SaysSack, SaysIn, WasSaid, IsFresh, IsSending, ReceivesIn, first_in, SenderPremises}
+use Rattle.sctp_delivery.specs.Asks.{SaysDone, SaysIncoming}
+use Rattle.sctp_delivery.proofs.ClaimLemmas.{Direction, transfer_of, IsKept, SaysSack, SaysIn, WasSaid, IsFresh, IsSending, ReceivesIn, first_in, SenderPremises}
 
 -- ---- the point of a SACK
 
 -- it was sent
-pub sack_was_said : (first least most : ℕ) (x : Transfer) (k : SackTree) → WasSaid (SaysIn first least most x) (sack_chunk k) → SaysSack first least most x k
+pub sack_was_said : (first least most : ℕ) (x : Direction) (k : SackTree) → WasSaid (SaysIn first least most x) (sack_chunk k) → SaysSack first least most (transfer_of x) k
 sack_was_said first least most x k h = go h.said h.is h.says
   where
-    go : (said : ChunkTree) → sack_chunk k ≡ carried said → SaysIn first least most x said → SaysSack first least most x k
-    go (sack_chunk other) e s = subst (SaysSack first least most x) (same e) s
+    go : (said : ChunkTree) → sack_chunk k ≡ carried said → SaysIn first least most x said → SaysSack first least most (transfer_of x) k
+    go (sack_chunk other) e s = subst (SaysSack first least most (transfer_of x)) (same e) s
       where
         same : sack_chunk k ≡ sack_chunk other → other ≡ k
         same e = cc
@@ -72,20 +78,29 @@ module _ (message : ℕ → Message) (mixed : Bool) (from x : Transfer) (before 
       let tsn_is : k.cumulative_tsn_ack ≡ wire words d.first (origin + c - 1) = s.written ∙ ap (λ (z : ℕ). wire words z (origin + c - 1)) (sym first_is) in
       sack_number d x.acknowledged c k.cumulative_tsn_ack point tsn_is (omega (arith, left, young, near, from_is)) (omega (arith, to_is, near, past, grows))
 
+-- ---- answers
+
+-- what each answer of a RE-CONFIG says
+answers_were_said : (first least most : ℕ) (x : Direction) (ps : List ParameterTree) → WasSaid (SaysIn first least most x) (re_config_chunk ps) → All (SaysIncoming first x.done (length x.asks)) ps
+answers_were_said first least most x ps h = go h.said h.is h.says
+  where
+    go : (said : ChunkTree) → re_config_chunk ps ≡ carried said → SaysIn first least most x said → All (SaysIncoming first x.done (length x.asks)) ps
+    go (re_config_chunk qs) e s = subst (All (SaysIncoming first x.done (length x.asks))) (same e) s
+      where
+        same : re_config_chunk ps ≡ re_config_chunk qs → qs ≡ ps
+        same e = cc
+    go said e s = cc
+
 -- ---- the first TSN is the own one
 
-module _ (message : ℕ → Message) (mixed : Bool) (handed : List messages.Message) (x : Transfer) (least most : ℕ) (k : SackTree) where
-  -- without a control block no SACK was sent
-  no_sack : IsFresh message mixed handed x → (first : ℕ) → SaysSack first least most x k → ⊥
-  no_sack fresh first h = subst (IsAmong h.point) fresh.no_sacks h.sent
-
-  own_first : (s : State) (t : Tcb) → ReceivesIn message mixed s handed x → Faces (view_of s).holds (Some (own_draw t)) → SaysSack (first_in s) least most x k
-      → SaysSack t.identity.my_first least most x k
-  own_first Closed t receives faced h = absurd (no_sack receives 0 h)
-  own_first (CookieWait tag my_first t1) t receives faced h = absurd (no_sack receives 0 h)
-  own_first (Open phase u) t receives faced h =
-      let crossed : t.identity.my_first ≡ u.identity.peer_first = ap (λ (d : Draw). d.first) faced in
-      subst (λ (n : ℕ). SaysSack n least most x k) (receives.first ∙ sym crossed) h
+-- of what no receiver without a control block said
+own_first : (message : ℕ → Message) (mixed : Bool) (handed : List messages.Message) (x : Direction) (Said : ℕ → Type 0) → (IsFresh message mixed handed x → Said 0 → ⊥)
+    → (s : State) (t : Tcb) → ReceivesIn message mixed s handed x → Faces (view_of s).holds (Some (own_draw t)) → Said (first_in s) → Said t.identity.my_first
+own_first message mixed handed x Said none Closed t receives faced h = absurd (none receives h)
+own_first message mixed handed x Said none (CookieWait tag my_first t1) t receives faced h = absurd (none receives h)
+own_first message mixed handed x Said none (Open phase u) t receives faced h =
+    let crossed : t.identity.my_first ≡ u.identity.peer_first = ap (λ (d : Draw). d.first) faced in
+    subst Said (receives.first ∙ sym crossed) h
 
 -- ---- what is heard
 
@@ -95,18 +110,34 @@ pub record SackHeard (x : Transfer) (t : Tcb) (k : SackTree) : Type 0 where
   pub sent : IsAmong point x.sacks
   pub number_is : point_of k t + 1 ≡ origin + point
 
-pub sack_is_heard : (message : ℕ → Message) (lifecycle : ℕ → Option ℕ) (mixed : Bool) (g : Setting) (call : Call) (from : Transfer)
-    → SenderPremises message lifecycle mixed g call from → (phase : Phase) (t : Tcb) (m : Making Carried) → InvAt g (in_open phase t m)
-    → (q : Queue) (x : Transfer) → Kept message mixed from → Kept message mixed x → IsSending message lifecycle mixed t q x
-    → x.receiver ≡ from.receiver → x.sacks ≡ from.sacks → from.acknowledged ≤ x.acknowledged
-    → (tag : ℕ) (k : SackTree) → IsHeard call tag (sack_chunk k) → SackHeard x t k
-sack_is_heard message lifecycle mixed g call from premises phase t m inv q x before kept shown receiver sacks grows tag k heard =
-    let h = premises.hears in
-    let said : SaysSack (first_in g.beside) h.least h.most from k = sack_was_said (first_in g.beside) h.least h.most from k (h.says tag (sack_chunk k) heard) in
-    let own : SaysSack t.identity.my_first h.least h.most from k = own_first message mixed premises.handed from h.least h.most k g.beside t premises.beside inv.stands.faced said in
-    record {
-      point = own.point;
-      sent = subst (IsAmong own.point) (sym sacks) own.sent;
-      number_is = sack_is_read message mixed from x before kept receiver t.identity.my_first h.least h.most t.sender.outstanding k shown.first shown.shows.items.point grows
-          h.past h.near h.young own;
-    }
+module _ (message : ℕ → Message) (lifecycle : ℕ → Option ℕ) (mixed : Bool) (g : Setting) (call : Call) (from : Direction) (premises : SenderPremises message lifecycle mixed g call from)
+    (phase : Phase) (t : Tcb) (m : Making Carried) (inv : InvAt g (in_open phase t m)) where
+  own : (Said : ℕ → Type 0) → (IsFresh message mixed premises.handed from → Said 0 → ⊥) → Said (first_in g.beside) → Said t.identity.my_first
+  own Said none h = own_first message mixed premises.handed from Said none g.beside t premises.beside inv.stands.faced h
+
+  pub sack_is_heard : (q : Queue) (x : Direction) → IsKept message mixed x → IsSending message lifecycle mixed t q x
+      → (transfer_of x).receiver ≡ (transfer_of from).receiver → (transfer_of x).sacks ≡ (transfer_of from).sacks → (transfer_of from).acknowledged ≤ (transfer_of x).acknowledged
+      → (tag : ℕ) (k : SackTree) → IsHeard call tag (sack_chunk k) → SackHeard (transfer_of x) t k
+  sack_is_heard q x kept shown receiver sacks grows tag k heard =
+      let h = premises.hears in
+      let said = sack_was_said (first_in g.beside) h.least h.most from k (h.says tag (sack_chunk k) heard) in
+      let s : SaysSack t.identity.my_first h.least h.most (transfer_of from) k =
+      own (λ n. SaysSack n h.least h.most (transfer_of from) k) (λ fresh s. subst (IsAmong s.point) fresh.no_sacks s.sent) said in
+      record {
+        point = s.point;
+        sent = subst (IsAmong s.point) (sym sacks) s.sent;
+        number_is = sack_is_read message mixed (transfer_of from) (transfer_of x) premises.kept.epochs.order.kept kept.epochs.order.kept receiver t.identity.my_first h.least h.most
+            t.sender.outstanding k shown.first shown.shows.items.point grows h.past h.near h.young s;
+      }
+
+  -- an answer that is final
+  pub answer_is_heard : (number result : ℕ) (sender receiver : Option Tsn) → IsAsked call (reset_response number result sender receiver) → is_final result ≡ true
+      → SaysDone t.identity.my_first from.done (length from.asks) number result
+  answer_is_heard number result sender receiver asked final =
+      let h = premises.hears in
+      let p : ParameterTree = reset_response number result sender receiver in
+      let said = answers_were_said (first_in g.beside) h.least h.most from asked.parameters (h.says asked.tag (re_config_chunk asked.parameters) asked.heard) in
+      let one : SaysIncoming (first_in g.beside) from.done (length from.asks) p =
+      all_at (SaysIncoming (first_in g.beside) from.done (length from.asks)) asked.among.before asked.among.behind p
+      (subst (All (SaysIncoming (first_in g.beside) from.done (length from.asks))) asked.among.split said) in
+      own (λ n. SaysDone n from.done (length from.asks) number result) (λ fresh s. let b = s.below in let none = fresh.none_done in absurd (omega (arith, b, none))) (one final)

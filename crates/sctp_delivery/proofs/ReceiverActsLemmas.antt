@@ -1,6 +1,6 @@
 -- Acts that leave the rules of a receiver where they are, or make them go on: packets, what opens and shuts an association, and
 -- what the peer sends.
-use Rattle.std.proofs.Common.{◌≡◌, ℕ, ◌++◌, not, Bool, true, false, Option, List, [], ◌∷◌, All, refl, sym, ap, ◌∙◌, subst, append-nil}
+use Rattle.std.proofs.Common.{◌≡◌, ℕ, ◌+◌, ◌++◌, not, Bool, true, false, inl, inr, Option, List, [], ◌∷◌, All, refl, sym, ap, ◌∙◌, subst, arith, append-nil}
 use Rattle.std.proofs.lemmas.Bool.{and_parts, true≢false}
 use Rattle.sctp_serial.specs.Messages as messages
 use Rattle.sctp_serial.specs.Unwrapped.{origin}
@@ -14,12 +14,11 @@ use Rattle.sctp_rx.specs.Tracker as tracker
 use Rattle.sctp_rx.specs.Tracker.{is_valid}
 use Rattle.sctp_rx.specs.ReassemblyQueue.{reassembly}
 use Rattle.sctp_rx.specs.Sack.{reported}
-use Rattle.sctp_rules.specs.State.{Message, Sender, Transfer, count}
-use Rattle.sctp_rules.specs.Windows.{Windows}
-use Rattle.sctp_rules.specs.Lifted.{no_base}
-use Rattle.sctp_rules.specs.Written.{AreTheirOwn}
+use Rattle.sctp_rules.specs.State.{Message, Sender, count}
+use Rattle.sctp_rules.specs.Based.{EpochWindows}
 use Rattle.sctp_rx_rules.specs.Receives.{Receives}
 use Rattle.sctp_rx_rules.specs.Near.{AreFew}
+use Rattle.sctp_rx_rules.specs.Resets.{base_now}
 use Rattle.sctp_table.specs.Association.{Identity, Tcb, tcb, Phase, CookieEchoed, ShutdownPending, State, Closed, CookieWait, Open}
 use Rattle.sctp_table.specs.Data.{is_full, takes, taken, forwarded}
 use Rattle.sctp_table.specs.Sending.{selective_ack, acknowledged}
@@ -29,15 +28,15 @@ use Rattle.sctp_course.specs.Acts.{Making, IsHeard, with_chunk, in_open, in_stat
 use Rattle.sctp_course.specs.Course.{packets_in}
 use Rattle.sctp_course.proofs.AddedLemmas.{holds_added}
 use Rattle.sctp_course.proofs.JoinActsLemmas.{Setting, InvAt, packets_both}
-use Rattle.sctp_delivery.proofs.ClaimLemmas.{is_receiving, SaysIn, first_in, IsFresh, IsReceiving, ReceivesIn, ReceiverClaim, ReceiverPremises, ReceiverGoes}
+use Rattle.sctp_delivery.proofs.ClaimLemmas.{Direction, transfer_of, SaysIn, first_in, IsFresh, IsReceiving, ReceivesIn, ReceiverClaim, ReceiverPremises, ReceiverGoes}
 use Rattle.sctp_delivery.proofs.FrameLemmas.{Lasts, GoesOnShut}
-use Rattle.sctp_delivery.proofs.ReadingDataLemmas.{windows_stay, own_stay, few_stay, data_is_heard, idata_is_heard, point_is_heard, ipoint_is_heard}
+use Rattle.sctp_delivery.proofs.ReadingDataLemmas.{windows_stay, few_stay, data_is_heard, idata_is_heard, point_is_heard, ipoint_is_heard}
 use Rattle.sctp_delivery.proofs.TrackerStaysLemmas.{tracker_new, tracker_told}
 use Rattle.sctp_delivery.proofs.ReceiverToolLemmas.{SameSender, sender_stays, no_chunks_said, no_packets_said}
-use Rattle.sctp_delivery.proofs.SenderToolLemmas.{goes_none}
+use Rattle.sctp_delivery.proofs.ResetEventsLemmas.{resets_in, none_behind}
 use Rattle.sctp_delivery.proofs.ReceiverDataLemmas.{Leads, taken_leads, passed_leads}
-use Rattle.sctp_delivery.proofs.ReceiverSackLemmas.{sack_sent, sack_goes, sack_shown, sack_says}
-use Rattle.sctp_delivery.proofs.ReceiverStepLemmas.{plain_says, acknowledging_changes, step_claims, goes_through, goes_same, goes_led, goes_adding, goes_begun, goes_emitted}
+use Rattle.sctp_delivery.proofs.ReceiverSackLemmas.{sack_made}
+use Rattle.sctp_delivery.proofs.ReceiverStepLemmas.{plain_says, told_same, acknowledging_changes, step_claims, stays_by, goes_through, goes_same, goes_led, goes_adding, goes_begun, goes_emitted}
 
 -- an event that is no packet
 pub one_more : (es : List (events.Event Carried)) (e : events.Event Carried) → packets_in (e ∷ []) ≡ [] → packets_in (es ++ e ∷ []) ≡ packets_in es
@@ -45,7 +44,7 @@ one_more es e none = packets_both es (e ∷ []) ∙ (ap (λ (ps : List Carried).
 
 -- ---- a control block is made
 
-module _ (message : ℕ → Message) (mixed : Bool) (handed : List messages.Message) (x : Transfer) where
+module _ (message : ℕ → Message) (mixed : Bool) (handed : List messages.Message) (x : Direction) where
   fresh_at : (s : State) → is_opened s ≡ false → ReceivesIn message mixed s handed x → IsFresh message mixed handed x
   fresh_at Closed e h = h
   fresh_at (CookieWait tag first t1) e h = h
@@ -57,15 +56,16 @@ module _ (message : ℕ → Message) (mixed : Bool) (handed : List messages.Mess
       let size : ℕ = o.max_receiver_window_buffer_size in
       let made : IsReceiving message mixed handed (record (tcb o i a_rwnd k) { reassembly = reassembly size mixed }) x = record {
         shift = 0;
-        receives = subst (λ (ms : List messages.Message). Receives message mixed no_base 0 x ms (tracker.tracker o origin) (reassembly size mixed)) (sym h.none_handed) (h.receives o size);
+        receives = subst (λ (ms : List messages.Message). Receives message mixed (base_now x.rules) 0 (transfer_of x) ms (tracker.tracker o origin) (reassembly size mixed)) (sym h.none_handed) (h.receives o size);
         near = h.near i.peer_first size;
         is_tracker = tracker_new o;
-        not_deferred = refl;
+        waiting = tt;
         first = refl;
+        answers = let none = h.none_done in inl (record { last = omega (arith, none); result = inr (refl, h.none_done); none = refl });
       } in
       subst (λ (b : Bool). IsReceiving message mixed handed (record (tcb o i a_rwnd k) { reassembly = reassembly size b }) x) mode made
 
-module _ (message : ℕ → Message) (lifecycle : ℕ → Option ℕ) (mixed : Bool) (g : Setting) (call : Call) (from : Transfer)
+module _ (message : ℕ → Message) (lifecycle : ℕ → Option ℕ) (mixed : Bool) (g : Setting) (call : Call) (from : Direction)
     (p : ReceiverPremises message lifecycle mixed g call from) (handed : List messages.Message) where
   abbrev Goes : (a b : Making Carried) → Type 0
   Goes a b = ReceiverGoes message lifecycle mixed from handed a b
@@ -75,34 +75,30 @@ module _ (message : ℕ → Message) (lifecycle : ℕ → Option ℕ) (mixed : B
   pub goes_packets : (act : PacketAct Carried call) → InvAt g (before_packets act) → Goes (before_packets act) (after_packets act)
   goes_packets (begins packet m new summed) inv = goes_begun message lifecycle mixed from handed packet m new
   goes_packets (adds_plain chunk m plain others) inv =
-      goes_adding message lifecycle mixed from handed m chunk (λ x. plain_says (first_in m.state) from.acknowledged (count from.sender) x chunk plain)
+      goes_adding message lifecycle mixed from handed m chunk (λ x claim. plain_says (first_in m.state) (transfer_of from).acknowledged (count (transfer_of from).sender) x chunk plain)
   goes_packets (emits m some bundled) inv = goes_emitted message lifecycle mixed from handed m inv.packing
   goes_packets (complains kind text m) inv =
       goes_same message lifecycle mixed from handed m (after_packets {call = call} (complains kind text m)) (λ x h. h) refl
-      (one_more m.context.told.events (OnError kind text) refl) refl
-  goes_packets (counts m) inv = goes_same message lifecycle mixed from handed m (after_packets {call = call} (counts m)) (λ x h. h) refl refl refl
+      (one_more m.context.told.events (OnError kind text) refl) (none_behind m.context.told.events (OnError kind text ∷ []) refl) refl
+  goes_packets (counts m) inv = goes_same message lifecycle mixed from handed m (after_packets {call = call} (counts m)) (λ x h. h) refl refl refl refl
 
   -- ---- opening
 
   -- nothing came before
   goes_opened : (a b : Making Carried) → is_opened a.state ≡ false
-      → ((x : Transfer) → IsFresh message mixed handed x → ReceivesIn message mixed b.state handed x)
-      → packets_in b.context.told.events ≡ packets_in a.context.told.events → b.packet.chunks ≡ a.packet.chunks → Goes a b
-  goes_opened a b closed shown packets chunks x claim =
+      → ((x : Direction) → IsFresh message mixed handed x → ReceivesIn message mixed b.state handed x)
+      → packets_in b.context.told.events ≡ packets_in a.context.told.events → resets_in b.context.told.events ≡ resets_in a.context.told.events
+      → b.packet.chunks ≡ a.packet.chunks → Goes a b
+  goes_opened a b closed shown packets resets chunks x claim =
       let fresh : IsFresh message mixed handed x = fresh_at message mixed handed x a.state closed claim.shown in
       let one : ℕ = first_in a.state in
-      let other : ℕ = first_in b.state in (
-        x,
-        step_claims message lifecycle mixed from handed a b x x claim
-            (record {
-              goes = goes_none message mixed is_receiving x;
-              shown = shown x fresh;
-              told = λ h. subst (λ (ps : List Carried). All (λ (q : Carried). All (SaysIn other from.acknowledged (count from.sender) x) q.chunks) ps) (sym packets)
-                  (no_packets_said x fresh.no_sacks one other from.acknowledged (count from.sender) (packets_in a.context.told.events) h);
-              made = λ h. subst (λ (cs : List ChunkTree). All (SaysIn other from.acknowledged (count from.sender) x) cs) (sym chunks)
-                  (no_chunks_said x fresh.no_sacks one other from.acknowledged (count from.sender) a.packet.chunks h);
-            }),
-      )
+      let other : ℕ = first_in b.state in
+      let least : ℕ = (transfer_of from).acknowledged in
+      let most : ℕ = count (transfer_of from).sender in
+      stays_by message lifecycle mixed from handed a b x claim (shown x fresh) (λ s. told_same s a.context.told.events b.context.told.events resets)
+      (λ h. subst (λ (ps : List Carried). All (λ (q : Carried). All (SaysIn other least most x) q.chunks) ps) (sym packets)
+      (no_packets_said x fresh.no_sacks fresh.none_done one other least most (packets_in a.context.told.events) h))
+      (λ h. subst (λ (cs : List ChunkTree). All (SaysIn other least most x) cs) (sym chunks) (no_chunks_said x fresh.no_sacks fresh.none_done one other least most a.packet.chunks h))
 
   -- in the mode that was agreed on
   mode_is : (k : Capabilities) → k ≡ agreed g.own g.other → mixed ≡ k.message_interleaving
@@ -111,115 +107,114 @@ module _ (message : ℕ → Message) (lifecycle : ℕ → Option ℕ) (mixed : B
   pub goes_opening : (act : OpeningAct Carried call) → Lasts act → InvAt g (before_opening act) → InvAt g (after_opening act)
       → Goes (before_opening act) (after_opening act)
   goes_opening (connects m is) lasts inv next =
-      goes_same message lifecycle mixed from handed (in_state Closed m) (after_opening {call = call} (connects m is)) (λ x h. h) refl refl refl
-  goes_opening (adds_init tag first t1 m to) lasts inv next = goes_adding message lifecycle mixed from handed (in_state (CookieWait tag first t1) m) _ (λ x. tt)
+      goes_same message lifecycle mixed from handed (in_state Closed m) (after_opening {call = call} (connects m is)) (λ x h. h) refl refl refl refl
+  goes_opening (adds_init tag first t1 m to) lasts inv next = goes_adding message lifecycle mixed from handed (in_state (CookieWait tag first t1) m) _ (λ x claim. tt)
   goes_opening (answers_new tag i m heard to) lasts inv next =
       let drawn : Making Carried = in_state Closed (drew_two m) in
       let act : OpeningAct Carried call = answers_new tag i m heard to in
       goes_through message lifecycle mixed from handed (in_state Closed m) drawn (after_opening act)
-      (goes_same message lifecycle mixed from handed (in_state Closed m) drawn (λ x h. h) refl refl refl)
-      (goes_adding message lifecycle mixed from handed drawn _ (λ x. tt))
+      (goes_same message lifecycle mixed from handed (in_state Closed m) drawn (λ x h. h) refl refl refl refl)
+      (goes_adding message lifecycle mixed from handed drawn _ (λ x claim. tt))
   goes_opening (answers_waiting tag i my_tag first t1 m heard to) lasts inv next =
-      goes_adding message lifecycle mixed from handed (in_state (CookieWait my_tag first t1) m) _ (λ x. tt)
+      goes_adding message lifecycle mixed from handed (in_state (CookieWait my_tag first t1) m) _ (λ x claim. tt)
   goes_opening (answers_echoed tag i t1 cookie t m heard to) lasts inv next =
-      goes_adding message lifecycle mixed from handed (in_open (CookieEchoed t1 cookie) t m) _ (λ x. tt)
+      goes_adding message lifecycle mixed from handed (in_open (CookieEchoed t1 cookie) t m) _ (λ x claim. tt)
   goes_opening (answers_again tag i phase t m heard late to) lasts inv next =
       let drawn : Making Carried = in_open phase t (drew_one m) in
       let act : OpeningAct Carried call = answers_again tag i phase t m heard late to in
       goes_through message lifecycle mixed from handed (in_open phase t m) drawn (after_opening act)
-      (goes_same message lifecycle mixed from handed (in_open phase t m) drawn (λ x h. h) refl refl refl)
-      (goes_adding message lifecycle mixed from handed drawn _ (λ x. tt))
+      (goes_same message lifecycle mixed from handed (in_open phase t m) drawn (λ x h. h) refl refl refl refl)
+      (goes_adding message lifecycle mixed from handed drawn _ (λ x claim. tt))
   goes_opening (echoes tag i cookie my_tag first t1 m heard brought) lasts inv next =
       goes_opened (in_state (CookieWait my_tag first t1) m) (after_opening {call = call} (echoes tag i cookie my_tag first t1 m heard brought)) refl
       (λ x h. fresh_receives message mixed handed x m.context.options _ _ _ (mode_is _ next.stands.can) h)
-      refl refl
+      refl refl refl
   goes_opening (adds_cookie t1 cookie t m to) lasts inv next =
-      goes_adding message lifecycle mixed from handed (in_open (CookieEchoed t1 cookie) t m) (cookie_echo_chunk cookie) (λ x. tt)
+      goes_adding message lifecycle mixed from handed (in_open (CookieEchoed t1 cookie) t m) (cookie_echo_chunk cookie) (λ x claim. tt)
   goes_opening (establishes tag t1 cookie t m heard) lasts inv next =
       goes_same message lifecycle mixed from handed (in_open (CookieEchoed t1 cookie) t m) (after_opening {call = call} (establishes tag t1 cookie t m heard))
-      (λ x h. h) refl (one_more m.context.told.events OnConnected refl) refl
+      (λ x h. h) refl (one_more m.context.told.events OnConnected refl) (none_behind m.context.told.events (OnConnected ∷ []) refl) refl
   goes_opening (opens tag k m echoed closed own) lasts inv next =
       goes_opened m (after_opening {call = call} (opens tag k m echoed closed own)) closed
       (λ x h. fresh_receives message mixed handed x m.context.options _ _ _ (mode_is _ next.stands.can) h)
-      (one_more m.context.told.events OnConnected refl) refl
+      (one_more m.context.told.events OnConnected refl) (none_behind m.context.told.events (OnConnected ∷ []) refl) refl
   goes_opening (restarts tag k phase t m echoed verdict) lasts inv next = absurd lasts
   goes_opening (opens_again tag k phase t m echoed verdict) lasts inv next = absurd lasts
   goes_opening (maintains tag k t1 cookie t m echoed verdict) lasts inv next =
       goes_same message lifecycle mixed from handed (in_open (CookieEchoed t1 cookie) t m) (after_opening {call = call} (maintains tag k t1 cookie t m echoed verdict))
-      (λ x h. h) refl (one_more m.context.told.events OnConnected refl) refl
-  goes_opening (adds_cookie_ack tag back phase t m echoed late) lasts inv next = goes_adding message lifecycle mixed from handed (in_open phase t m) cookie_ack_chunk (λ x. tt)
+      (λ x h. h) refl (one_more m.context.told.events OnConnected refl) (none_behind m.context.told.events (OnConnected ∷ []) refl) refl
+  goes_opening (adds_cookie_ack tag back phase t m echoed late) lasts inv next = goes_adding message lifecycle mixed from handed (in_open phase t m) cookie_ack_chunk (λ x claim. tt)
 
   -- ---- closing
 
   pub goes_closing : (act : ClosingAct Carried call) → GoesOnShut act → Goes (before_closing act) (after_closing act)
   goes_closing (closes e m there is) shut = absurd shut
   goes_closing (shuts phase t m is early) shut =
-      goes_same message lifecycle mixed from handed (in_open phase t m) (in_open ShutdownPending t m) (λ x h. h) refl refl refl
+      goes_same message lifecycle mixed from handed (in_open phase t m) (in_open ShutdownPending t m) (λ x h. h) refl refl refl refl
   goes_closing (shuts_on phase next t m late later) shut =
-      goes_same message lifecycle mixed from handed (in_open phase t m) (in_open next t m) (λ x h. h) refl refl refl
+      goes_same message lifecycle mixed from handed (in_open phase t m) (in_open next t m) (λ x h. h) refl refl refl refl
 
   -- ---- what the peer sent
 
-  module _ (phase : Phase) (t : Tcb) (m : Making Carried) (inv : InvAt g (in_open phase t m)) (x : Transfer)
+  module _ (phase : Phase) (t : Tcb) (m : Making Carried) (inv : InvAt g (in_open phase t m)) (x : Direction)
       (claim : ReceiverClaim message mixed from handed (in_open phase t m) x) where
-    same : SameSender message mixed from x
+    same : SameSender message mixed from.rules x.rules
     same = sender_stays message mixed from x claim.goes
 
-    windows : Windows message x
-    windows = windows_stay message lifecycle mixed g call from p handed phase t m inv x claim.kept claim.shown same.sender same.acknowledged same.forward_points
+    windows : EpochWindows message x.rules
+    windows = windows_stay message lifecycle mixed g call from p handed phase t m inv x claim.kept claim.shown same claim.stay.0
 
-    few : AreFew x.sender
-    few = few_stay message lifecycle mixed g call from p handed phase t m inv x claim.kept claim.shown same.sender same.acknowledged same.forward_points
-
-    own : AreTheirOwn x.sender x.forward_points
-    own = own_stay message lifecycle mixed g call from p handed phase t m inv x claim.kept claim.shown same.sender same.acknowledged same.forward_points
+    few : AreFew (transfer_of x).sender
+    few = few_stay message lifecycle mixed g call from p handed phase t m inv x claim.kept claim.shown same claim.stay.0
 
     data_leads : (tag tsn : ℕ) (is_immediate : Bool) (f : FragmentTree) → IsHeard call tag (data_chunk tsn is_immediate f) → takes tsn t ≡ true
         → Leads message mixed handed x (taken tsn is_immediate f t)
     data_leads tag tsn is_immediate f heard may =
-        let h = data_is_heard message lifecycle mixed g call from p handed phase t m inv x claim.kept claim.shown same.sender same.acknowledged same.forward_points
+        let h = data_is_heard message lifecycle mixed g call from p handed phase t m inv x claim.kept claim.shown same claim.stay.0
         tag tsn is_immediate f heard in
         let valid = and_parts (not (is_full t.reassembly)) (is_valid t.tracker.tracker (tracker.number_of t.tracker tsn)) may in
-        taken_leads message mixed handed x t claim.shown claim.kept windows own few tsn is_immediate f h.1 valid.1
+        taken_leads message mixed handed x t claim.shown claim.kept windows few tsn is_immediate f h.1 valid.1
 
     idata_leads : (tag tsn : ℕ) (is_immediate : Bool) (f : FragmentTree) → IsHeard call tag (idata_chunk tsn is_immediate f) → takes tsn t ≡ true
         → Leads message mixed handed x (taken tsn is_immediate f t)
     idata_leads tag tsn is_immediate f heard may =
-        let h = idata_is_heard message lifecycle mixed g call from p handed phase t m inv x claim.kept claim.shown same.sender same.acknowledged same.forward_points
+        let h = idata_is_heard message lifecycle mixed g call from p handed phase t m inv x claim.kept claim.shown same claim.stay.0
         tag tsn is_immediate f heard in
         let valid = and_parts (not (is_full t.reassembly)) (is_valid t.tracker.tracker (tracker.number_of t.tracker tsn)) may in
-        taken_leads message mixed handed x t claim.shown claim.kept windows own few tsn is_immediate f h.1 valid.1
+        taken_leads message mixed handed x t claim.shown claim.kept windows few tsn is_immediate f h.1 valid.1
 
     point_leads : (tag tsn : ℕ) (skipped : List SkippedStream) → IsHeard call tag (forward_tsn_chunk tsn skipped)
         → is_valid t.tracker.tracker (tracker.number_of t.tracker tsn) ≡ true → Leads message mixed handed x (forwarded tsn skipped t)
     point_leads tag tsn skipped heard valid =
-        let h = point_is_heard message lifecycle mixed g call from p handed phase t m inv x claim.kept claim.shown same.sender same.acknowledged same.forward_points
+        let h = point_is_heard message lifecycle mixed g call from p handed phase t m inv x claim.kept claim.shown same claim.stay.0
         tag tsn skipped heard in
-        passed_leads message mixed handed x t claim.shown claim.kept windows own few tsn skipped h.1 valid
+        passed_leads message mixed handed x t claim.shown claim.kept windows few tsn skipped h.1 valid
 
     ipoint_leads : (tag tsn : ℕ) (skipped : List SkippedStream) → IsHeard call tag (i_forward_tsn_chunk tsn skipped)
         → is_valid t.tracker.tracker (tracker.number_of t.tracker tsn) ≡ true → Leads message mixed handed x (forwarded tsn skipped t)
     ipoint_leads tag tsn skipped heard valid =
-        let h = ipoint_is_heard message lifecycle mixed g call from p handed phase t m inv x claim.kept claim.shown same.sender same.acknowledged same.forward_points
+        let h = ipoint_is_heard message lifecycle mixed g call from p handed phase t m inv x claim.kept claim.shown same claim.stay.0
         tag tsn skipped heard in
-        passed_leads message mixed handed x t claim.shown claim.kept windows own few tsn skipped h.1 valid
+        passed_leads message mixed handed x t claim.shown claim.kept windows few tsn skipped h.1 valid
 
-    ack_leads : (y : Transfer) × ReceiverClaim message mixed from handed (with_chunk (selective_ack t) (in_open phase (acknowledged t) m)) y
+    ack_leads : (y : Direction) × ReceiverClaim message mixed from handed (with_chunk (selective_ack t) (in_open phase (acknowledged t) m)) y
     ack_leads =
-        let sent : Transfer = sack_sent message mixed x claim.kept handed windows t claim.shown in
-        let says : SaysIn t.tracker.first x.acknowledged (count x.sender) sent (selective_ack t) = sack_says message mixed x claim.kept handed windows t claim.shown in
-        let shown : IsReceiving message mixed handed t sent = sack_shown message mixed x claim.kept handed windows t claim.shown in
-        let there : SaysIn t.tracker.first from.acknowledged (count from.sender) sent (selective_ack t) =
-        subst (λ (o : Sender). SaysIn t.tracker.first from.acknowledged (count o) sent (selective_ack t)) same.sender
-        (subst (λ (n : ℕ). SaysIn t.tracker.first n (count x.sender) sent (selective_ack t)) same.acknowledged says) in (
-          sent,
-          step_claims message lifecycle mixed from handed (in_open phase t m) (with_chunk (selective_ack t) (in_open phase (acknowledged t) m)) x sent claim
+        let made = sack_made message mixed x claim.kept handed t claim.shown in
+        let l : Leads message mixed handed x t = made.0 in
+        let says : SaysIn t.tracker.first (transfer_of x).acknowledged (count (transfer_of x).sender) l.to (selective_ack t) = made.1 in
+        let there : SaysIn t.tracker.first (transfer_of from).acknowledged (count (transfer_of from).sender) l.to (selective_ack t) =
+        subst (λ (o : Sender). SaysIn t.tracker.first (transfer_of from).acknowledged (count o) l.to (selective_ack t)) same.sender
+        (subst (λ (n : ℕ). SaysIn t.tracker.first n (count (transfer_of x).sender) l.to (selective_ack t)) same.acknowledged says) in (
+          l.to,
+          step_claims message lifecycle mixed from handed (in_open phase t m) (with_chunk (selective_ack t) (in_open phase (acknowledged t) m)) x l.to claim
               (record {
-                goes = sack_goes message mixed x claim.kept handed windows t claim.shown;
-                shown = acknowledging_changes message mixed handed t (reported t.tracker.tracker) sent refl
-                    (tracker_told t.tracker.tracker claim.shown.is_tracker) shown;
+                goes = l.goes;
+                kept = l.kept;
+                stay = l.stay;
+                shown = acknowledging_changes message mixed handed t (reported t.tracker.tracker) l.to refl (tracker_told t.tracker.tracker claim.shown.is_tracker) l.shown;
+                performed = λ s. let e = l.performed s in omega (arith, e);
                 told = λ h. h;
-                made = λ h. holds_added (λ tag. SaysIn t.tracker.first from.acknowledged (count from.sender) sent) m.packet (selective_ack t) h there;
+                made = λ h. holds_added (λ tag. SaysIn t.tracker.first (transfer_of from).acknowledged (count (transfer_of from).sender) l.to) m.packet (selective_ack t) h there;
               }),
         )
 

@@ -1,92 +1,67 @@
 -- An acknowledgement that a receiver makes, by the rules: what it says is true, and the values show the state after it.
-use Rattle.std.proofs.Common.{◌≡◌, ℕ, suc, ◌+◌, ◌-◌, ◌≤◌, ◌<◌, Bool, true, false, not, inl, List, [], ◌∷◌, leb, ◌||◌, refl, sym, ap, ◌∙◌, arith}
-use Rattle.std.proofs.lemmas.Bool.Decides.{nat_tests}
+use Rattle.std.proofs.Common.{◌≡◌, ℕ, ◌+◌, ◌-◌, Bool, inl, List, [], ◌∷◌, refl, ap, arith}
 use Rattle.sctp_serial.specs.Messages as messages
 use Rattle.sctp_serial.specs.Unwrapped.{origin, words, wire}
-use Rattle.sctp_rx.specs.Seen.{in_runs}
-use Rattle.sctp_rx.specs.Tracker.{Tracker, IsTracker}
-use Rattle.sctp_rx.specs.ReassemblyQueue.{Reassembly}
-use Rattle.sctp_tracker.proofs.SeenRunsLemmas.{next_is_new}
-use Rattle.sctp_rules.specs.State.{Message, Transfer, count}
-use Rattle.sctp_rules.specs.Rules.{IsAllowed, send_sack, after}
-use Rattle.sctp_rules.specs.Kept.{Kept}
-use Rattle.sctp_rules.specs.Lifted.{no_base}
-use Rattle.sctp_rules.specs.Windows.{Windows}
-use Rattle.sctp_rules.proofs.WindowsLemmas.{front_window}
-use Rattle.sctp_rx_rules.specs.View.{was_seen}
-use Rattle.sctp_rx_rules.specs.Receives.{Receives}
+use Rattle.sctp_rules.specs.State.{Message, count}
+use Rattle.sctp_rules.specs.Rules.{IsAllowed, send_sack}
+use Rattle.sctp_rx_rules.specs.Resets.{base_now}
 use Rattle.sctp_rx_rules.proofs.RowLemmas.{sack_allowed, sender_goes}
 use Rattle.sctp_rx_rules.proofs.NearRowLemmas.{sender_keeps}
 use Rattle.sctp_rx_rules.proofs.NearKeptLemmas.{sender_keeps_mids}
 use Rattle.sctp_table.specs.Association.{Tcb}
 use Rattle.sctp_table.specs.Sending.{selective_ack}
-use Rattle.sctp_delivery.proofs.ClaimLemmas.{is_receiving, GoesOn, IsReceiving, SaysIn}
+use Rattle.sctp_delivery.proofs.ClaimLemmas.{Direction, transfer_of, IsKept, IsReceiving, SaysIn}
+use Rattle.sctp_delivery.proofs.ReadingLemmas.{front_of, front_at, front_between}
+use Rattle.sctp_delivery.proofs.ReceiverToolLemmas.{led, receiving_goes, led_kept, waits_still}
+use Rattle.sctp_delivery.proofs.ReceiverDataLemmas.{Leads}
 
--- the first fragment above the front
-abbrev pub front_of : Tracker → ℕ
-front_of t = suc t.seen.front - origin
+module _ (message : ℕ → Message) (mixed : Bool) (x : Direction) (kept : IsKept message mixed x) (handed : List messages.Message) (t : Tcb) (shown : IsReceiving message mixed handed t x) where
+  abbrev point : ℕ
+  point = front_of t.tracker.tracker
 
-module _ (message : ℕ → Message) (mixed : Bool) (x : Transfer) (kept : Kept message mixed x) (handed : List messages.Message) where
-  module _ (shift : ℕ) (t : Tracker) (r : Reassembly) (shown : Receives message mixed no_base shift x handed t r) (is : IsTracker t) where
-    front_at : origin + front_of t ≡ suc t.seen.front
-    front_at = let l = is.least in let b = is.begun in omega (arith, l, b)
+  may : IsAllowed message mixed (transfer_of x) (send_sack point)
+  may =
+      sack_allowed message mixed shown.shift (base_now x.rules) (transfer_of x) handed t.tracker.tracker t.reassembly shown.receives kept.epochs.order.kept point
+      (front_at message mixed (base_now x.rules) shown.shift (transfer_of x) kept.epochs.order.kept handed t.tracker.tracker t.reassembly shown.receives shown.is_tracker)
 
-    unseen : was_seen t (front_of t) ≡ false
-    unseen = go (was_seen t (front_of t)) (next_is_new t.seen.front (origin + front_of t) t.seen.runs is.runs (let e = front_at in omega (arith, e)))
-      where
-        go : (b : Bool) → true ≡ not b → b ≡ false
-        go false e = refl
-        go true e = cc
+  abbrev sack_sent : Direction
+  sack_sent = led message mixed x (send_sack point ∷ [])
 
-    below : (n : ℕ) → n < front_of t → was_seen t n ≡ true
-    below n l = go (in_runs t.seen.runs (origin + n)) t.seen.front (front_of t) front_at l
-      where
-        go : (b : Bool) (c d : ℕ) → origin + d ≡ suc c → n < d → (leb (origin + n) c || b) ≡ true
-        go b c d e l = grind (arith, nat_tests)
-
-    -- it lies between what is acknowledged and what is numbered
-    front_between : (x.acknowledged ≤ front_of t) × (front_of t ≤ count x.sender)
-    front_between = front_window message mixed x kept (front_of t) (sym (shown.seen (front_of t)) ∙ unseen) (λ n l. sym (shown.seen n) ∙ below n l)
-
-    front_allowed : IsAllowed message mixed x (send_sack (front_of t))
-    front_allowed = sack_allowed message mixed shift no_base x handed t r shown kept (front_of t) front_at
-
-  module _ (windows : Windows message x) (t : Tcb) (shown : IsReceiving message mixed handed t x) where
-    abbrev point : ℕ
-    point = front_of t.tracker.tracker
-
-    may : IsAllowed message mixed x (send_sack point)
-    may = front_allowed shown.shift t.tracker.tracker t.reassembly shown.receives shown.is_tracker
-
-    abbrev pub sack_sent : Transfer
-    sack_sent = after message mixed x (send_sack point)
-
-    pub sack_goes : GoesOn message mixed is_receiving x sack_sent
-    sack_goes = record { events = send_sack point ∷ []; may = (may, tt); all = refl; leads = refl }
-
-    pub sack_shown : IsReceiving message mixed handed t sack_sent
-    sack_shown = record {
+  abbrev sack_leads : Leads message mixed handed x t
+  sack_leads = record {
+    to = sack_sent;
+    goes = receiving_goes message mixed x (send_sack point ∷ []) ((may, tt), tt) refl;
+    kept = led_kept message mixed x (send_sack point ∷ []) kept ((may, tt), tt);
+    stay = (refl, refl);
+    performed = λ s. refl;
+    shown = record {
       shift = shown.shift;
-      receives = sender_goes message mixed shown.shift no_base x handed t.tracker.tracker t.reassembly shown.receives (send_sack point) kept may refl;
+      receives = sender_goes message mixed shown.shift (base_now x.rules) (transfer_of x) handed t.tracker.tracker t.reassembly shown.receives (send_sack point) kept.epochs.order.kept may refl;
       near = record {
-        tsns = sender_keeps message mixed t.tracker.first shown.shift x (send_sack point) t.reassembly kept may refl shown.near.tsns;
-        mids = λ m. sender_keeps_mids message mixed x kept m (send_sack point) may refl no_base t.reassembly (shown.near.mids m);
+        tsns = sender_keeps message mixed t.tracker.first shown.shift (transfer_of x) (send_sack point) t.reassembly kept.epochs.order.kept may refl shown.near.tsns;
+        mids = λ m. sender_keeps_mids message mixed (transfer_of x) kept.epochs.order.kept m (send_sack point) may refl (base_now x.rules) t.reassembly (shown.near.mids m);
         start = shown.near.start;
       };
       is_tracker = shown.is_tracker;
-      not_deferred = shown.not_deferred;
+      waiting = waits_still x.rules sack_sent.rules refl (λ r a. a) shown.shift t.reassembly.first t.reassembly.deferred shown.waiting;
       first = shown.first;
-    }
+      answers = shown.answers;
+    };
+  }
 
-    pub sack_says : SaysIn t.tracker.first x.acknowledged (count x.sender) sack_sent (selective_ack t)
-    sack_says =
-        let at = front_at shown.shift t.tracker.tracker t.reassembly shown.receives shown.is_tracker in
-        let between = front_between shown.shift t.tracker.tracker t.reassembly shown.receives shown.is_tracker in
-        let front : t.tracker.tracker.seen.front ≡ origin + point - 1 = omega (arith, at) in
-        record {
-          point = point;
-          sent = inl refl;
-          written = ap (λ n. wire words t.tracker.first n) front;
-          from = between.0;
-          to = between.1;
-        }
+  sack_says : SaysIn t.tracker.first (transfer_of x).acknowledged (count (transfer_of x).sender) sack_sent (selective_ack t)
+  sack_says =
+      let at = front_at message mixed (base_now x.rules) shown.shift (transfer_of x) kept.epochs.order.kept handed t.tracker.tracker t.reassembly shown.receives shown.is_tracker in
+      let between = front_between message mixed (base_now x.rules) shown.shift (transfer_of x) kept.epochs.order.kept handed t.tracker.tracker t.reassembly shown.receives shown.is_tracker in
+      let front : t.tracker.tracker.seen.front ≡ origin + point - 1 = omega (arith, at) in
+      record {
+        point = point;
+        sent = inl refl;
+        written = ap (λ n. wire words t.tracker.first n) front;
+        from = between.0;
+        to = between.1;
+      }
+
+  -- it leads on, and says what is true then
+  pub sack_made : (l : Leads message mixed handed x t) × SaysIn t.tracker.first (transfer_of x).acknowledged (count (transfer_of x).sender) l.to (selective_ack t)
+  sack_made = (sack_leads, sack_says)

@@ -1,16 +1,18 @@
 -- For an act of a receiver: its claim after it, where the rules stay or go on, where a chunk is put into the packet, and where
 -- the packet goes out.
-use Rattle.std.proofs.Common.{◌≡◌, ℕ, ◌+◌, Bool, true, Option, List, [], ◌∷◌, All, sym, ap, ◌∙◌, subst}
+use Rattle.std.proofs.Common.{◌≡◌, ℕ, ◌+◌, Bool, true, inl, inr, Option, List, [], ◌∷◌, ◌++◌, All, refl, sym, ap, ◌∙◌, subst, arith}
 use Rattle.std.proofs.lemmas.List.Elements.{All-nil, All-push}
 use Rattle.sctp_serial.specs.Messages as messages
 use Rattle.sctp_serial.specs.Unwrapped.{origin}
-use Rattle.sctp_packet.specs.Chunk.{ChunkTree, sack_chunk}
+use Rattle.sctp_packet.specs.Chunk.{ChunkTree, sack_chunk, re_config_chunk}
 use Rattle.sctp_state.specs.Rtt.{Rtt}
+use Rattle.sctp_state.specs.Events as events
 use Rattle.sctp_state.specs.Events.{SendPacket}
 use Rattle.sctp_tx.specs.Retransmission.{Sender}
 use Rattle.sctp_rx.specs.Seen.{Seen, contains}
+use Rattle.sctp_rx.specs.ReassemblyQueue.{Deferred}
 use Rattle.sctp_rx.specs.Tracker.{Tracker, IsTracker}
-use Rattle.sctp_rules.specs.State.{Message, Transfer, count}
+use Rattle.sctp_rules.specs.State.{Message, count}
 use Rattle.sctp_table.specs.Association.{Tcb, Phase, Packing}
 use Rattle.sctp_table.specs.Packets.{Packet, add_all, header_to, emit_if}
 use Rattle.sctp_table.specs.Requests.{Requests}
@@ -19,32 +21,47 @@ use Rattle.sctp_course.specs.Acts.{Making, is_plain, with_chunk, with_packet, in
 use Rattle.sctp_course.specs.Course.{as_carried, packets_in}
 use Rattle.sctp_course.proofs.AddedLemmas.{holds_added, holds_all_added}
 use Rattle.sctp_course.proofs.JoinActsLemmas.{packets_both}
-use Rattle.sctp_delivery.proofs.ClaimLemmas.{is_receiving, GoesOn, SaysIn, first_in, IsReceiving, ReceivesIn, ReceiverClaim, ReceiverGoes}
-use Rattle.sctp_delivery.proofs.ReceiverToolLemmas.{chunks_said, packets_said}
-use Rattle.sctp_delivery.proofs.SenderToolLemmas.{goes_none, goes_on, goes_kept}
+use Rattle.sctp_delivery.specs.Asks.{Ask, IsAnswering}
+use Rattle.sctp_delivery.specs.StreamEpochs.{resets_told}
+use Rattle.sctp_delivery.proofs.ClaimLemmas.{Direction, transfer_of, goes_in, IsKept, GoesOn, AsksStay, SaysIn, first_in, IsReceiving, ReceivesIn, ReceiverClaim, ReceiverGoes}
+use Rattle.sctp_delivery.proofs.ResetEventsLemmas.{resets_in, told_counts, none_behind}
+use Rattle.sctp_delivery.proofs.SenderToolLemmas.{goes_none, goes_on, all_in_stay, told_in_stays}
 use Rattle.sctp_delivery.proofs.ReceiverDataLemmas.{Leads}
 
 -- chunks of no weight here
-pub plain_says : (first least most : ℕ) (x : Transfer) (chunk : ChunkTree) → is_plain chunk ≡ true → SaysIn first least most x chunk
+pub plain_says : (first least most : ℕ) (x : Direction) (chunk : ChunkTree) → is_plain chunk ≡ true → SaysIn first least most x chunk
 plain_says first least most x (sack_chunk k) e = cc
+plain_says first least most x (re_config_chunk parameters) e = cc
 plain_says first least most x chunk e = tt
+
+-- what else tells of no reset
+pub told_same : (s : ℕ) (es fs : List (events.Event Carried)) → resets_in fs ≡ resets_in es → resets_told s fs ≡ resets_told s es
+told_same s es fs e = sym (told_counts s fs) ∙ (ap (λ (xs : List (events.Event Carried)). resets_told s xs) e ∙ told_counts s es)
+
+-- with the same last request of the peer
+answers_by : (first done : ℕ) (asks : List Ask) (q r : Requests) (d : Option Deferred) → q.last ≡ r.last → q.result ≡ r.result → IsAnswering first done asks r d → IsAnswering first done asks q d
+answers_by first done asks q r d last result (inl p) =
+    inl (record { last = last ∙ p.last; result = elim p.result [ inl e ↦ inl (result ∙ e) | inr e ↦ inr (result ∙ e.0, e.1) ]; none = p.none })
+answers_by first done asks q r d last result (inr p) =
+    inr (record { ask = p.ask; there = p.there; last = last ∙ p.last; result = result ∙ p.result; reset = p.reset; is = p.is; streams = p.streams })
 
 module _ (message : ℕ → Message) (mixed : Bool) (handed : List messages.Message) where
   -- ---- other parts of a control block
 
-  pub rest_changes : (t : Tcb) (s : Sender) (r : Rtt) (q : Requests) (x : Transfer) → IsReceiving message mixed handed t x
+  pub rest_changes : (t : Tcb) (s : Sender) (r : Rtt) (q : Requests) (x : Direction) → q.last ≡ t.requests.last → q.result ≡ t.requests.result → IsReceiving message mixed handed t x
       → IsReceiving message mixed handed (record t { sender = s; rtt = r; requests = q }) x
-  rest_changes t s r q x h = record {
+  rest_changes t s r q x last result h = record {
     shift = h.shift;
     receives = h.receives;
     near = h.near;
     is_tracker = h.is_tracker;
-    not_deferred = h.not_deferred;
+    waiting = h.waiting;
     first = h.first;
+    answers = answers_by t.identity.peer_first x.done x.asks q t.requests t.reassembly.deferred last result h.answers;
   }
 
   -- a tracker that has seen the same
-  pub acknowledging_changes : (t : Tcb) (u : Tracker) (x : Transfer) → u.seen ≡ t.tracker.tracker.seen → IsTracker u → IsReceiving message mixed handed t x
+  pub acknowledging_changes : (t : Tcb) (u : Tracker) (x : Direction) → u.seen ≡ t.tracker.tracker.seen → IsTracker u → IsReceiving message mixed handed t x
       → IsReceiving message mixed handed (record t { tracker = record t.tracker { tracker = u } }) x
   acknowledging_changes t u x same is h = record {
     shift = h.shift;
@@ -59,18 +76,25 @@ module _ (message : ℕ → Message) (mixed : Bool) (handed : List messages.Mess
     };
     near = h.near;
     is_tracker = is;
-    not_deferred = h.not_deferred;
+    waiting = h.waiting;
     first = h.first;
+    answers = h.answers;
   }
 
-module _ (message : ℕ → Message) (lifecycle : ℕ → Option ℕ) (mixed : Bool) (from : Transfer) (handed : List messages.Message) where
-  abbrev Says : (first : ℕ) → Transfer → List ChunkTree → Type 0
-  Says first x chunks = All (SaysIn first from.acknowledged (count from.sender) x) chunks
+module _ (message : ℕ → Message) (lifecycle : ℕ → Option ℕ) (mixed : Bool) (from : Direction) (handed : List messages.Message) where
+  abbrev least : ℕ
+  least = (transfer_of from).acknowledged
 
-  abbrev SaysAll : (first : ℕ) → Transfer → List Carried → Type 0
-  SaysAll first x ps = All (λ (p : Carried). All (SaysIn first from.acknowledged (count from.sender) x) p.chunks) ps
+  abbrev most : ℕ
+  most = count (transfer_of from).sender
 
-  abbrev Claim : Making Carried → Transfer → Type 0
+  abbrev Says : (first : ℕ) → Direction → List ChunkTree → Type 0
+  Says first x chunks = All (SaysIn first least most x) chunks
+
+  abbrev SaysAll : (first : ℕ) → Direction → List Carried → Type 0
+  SaysAll first x ps = All (λ (p : Carried). All (SaysIn first least most x) p.chunks) ps
+
+  abbrev Claim : Making Carried → Direction → Type 0
   Claim m x = ReceiverClaim message mixed from handed m x
 
   abbrev Goes : (a b : Making Carried) → Type 0
@@ -78,50 +102,71 @@ module _ (message : ℕ → Message) (lifecycle : ℕ → Option ℕ) (mixed : B
 
   -- ---- the claim after an act
 
-  pub record ReceiverStep (a b : Making Carried) (x y : Transfer) : Type 0 where
-    pub goes : GoesOn message mixed is_receiving x y
+  pub record ReceiverStep (a b : Making Carried) (x y : Direction) : Type 0 where
+    pub goes : GoesOn message mixed goes_in x y
+    pub kept : IsKept message mixed y
+    pub stay : AsksStay x y
     pub shown : ReceivesIn message mixed b.state handed y
+    pub performed : (s : ℕ) → y.rules.performed s + resets_told s a.context.told.events ≡ x.rules.performed s + resets_told s b.context.told.events
     pub told : SaysAll (first_in a.state) y (packets_in a.context.told.events) → SaysAll (first_in b.state) y (packets_in b.context.told.events)
     pub made : Says (first_in a.state) y a.packet.chunks → Says (first_in b.state) y b.packet.chunks
 
-  pub step_claims : (a b : Making Carried) (x y : Transfer) → Claim a x → ReceiverStep a b x y → Claim b y
+  pub step_claims : (a b : Making Carried) (x y : Direction) → Claim a x → ReceiverStep a b x y → Claim b y
   step_claims a b x y c s =
       let first = first_in a.state in
       record {
-        kept = goes_kept message mixed is_receiving x y c.kept s.goes;
-        goes = goes_on message mixed is_receiving from x y c.goes s.goes;
+        kept = s.kept;
+        goes = goes_on message mixed goes_in from x y c.goes s.goes;
+        stay = (s.stay.0 ∙ c.stay.0, s.stay.1 ∙ c.stay.1);
         shown = s.shown;
-        told = s.told (packets_said message mixed x y s.goes first from.acknowledged (count from.sender) (packets_in a.context.told.events) c.told);
-        made = s.made (chunks_said message mixed x y s.goes first from.acknowledged (count from.sender) a.packet.chunks c.made);
+        performed = λ n. let p = c.performed n in let q = s.performed n in omega (arith, p, q);
+        told = s.told (told_in_stays message mixed goes_in x y c.kept.epochs s.goes first least most (packets_in a.context.told.events) c.told);
+        made = s.made (all_in_stay message mixed goes_in x y c.kept.epochs s.goes first least most a.packet.chunks c.made);
       }
 
   pub goes_through : (a b c : Making Carried) → Goes a b → Goes b c → Goes a c
   goes_through a b c g h x claim = let y = g x claim in h y.0 y.1
 
-  -- to the same state of the rules
-  pub goes_same : (a b : Making Carried) → ((x : Transfer) → ReceivesIn message mixed a.state handed x → ReceivesIn message mixed b.state handed x)
-      → first_in b.state ≡ first_in a.state → packets_in b.context.told.events ≡ packets_in a.context.told.events → b.packet.chunks ≡ a.packet.chunks → Goes a b
-  goes_same a b shown first packets chunks x claim = (
+  -- to the same state of the rules, with chunks in the packet or packets told
+  pub stays_by : (a b : Making Carried) (x : Direction) → Claim a x → ReceivesIn message mixed b.state handed x
+      → ((s : ℕ) → resets_told s b.context.told.events ≡ resets_told s a.context.told.events)
+      → (SaysAll (first_in a.state) x (packets_in a.context.told.events) → SaysAll (first_in b.state) x (packets_in b.context.told.events))
+      → (Says (first_in a.state) x a.packet.chunks → Says (first_in b.state) x b.packet.chunks) → (y : Direction) × Claim b y
+  stays_by a b x claim shown resets told made = (
     x,
     step_claims a b x x claim
         (record {
-          goes = goes_none message mixed is_receiving x;
-          shown = shown x claim.shown;
-          told = λ h. subst (λ (n : ℕ). SaysAll n x (packets_in b.context.told.events)) (sym first) (subst (SaysAll (first_in a.state) x) (sym packets) h);
-          made = λ h. subst (λ (n : ℕ). Says n x b.packet.chunks) (sym first) (subst (Says (first_in a.state) x) (sym chunks) h);
+          goes = goes_none message mixed goes_in x;
+          kept = claim.kept;
+          stay = (refl, refl);
+          shown = shown;
+          performed = λ s. let e = resets s in omega (arith, e);
+          told = told;
+          made = made;
         }),
   )
 
+  pub goes_same : (a b : Making Carried) → ((x : Direction) → ReceivesIn message mixed a.state handed x → ReceivesIn message mixed b.state handed x)
+      → first_in b.state ≡ first_in a.state → packets_in b.context.told.events ≡ packets_in a.context.told.events
+      → resets_in b.context.told.events ≡ resets_in a.context.told.events → b.packet.chunks ≡ a.packet.chunks → Goes a b
+  goes_same a b shown first packets resets chunks x claim =
+      stays_by a b x claim (shown x claim.shown) (λ s. told_same s a.context.told.events b.context.told.events resets)
+      (λ h. subst (λ (n : ℕ). SaysAll n x (packets_in b.context.told.events)) (sym first) (subst (SaysAll (first_in a.state) x) (sym packets) h))
+      (λ h. subst (λ (n : ℕ). Says n x b.packet.chunks) (sym first) (subst (Says (first_in a.state) x) (sym chunks) h))
+
   -- the rules go on, and nothing is told or put into the packet
   pub goes_led : (phase next : Phase) (t u : Tcb) (m : Making Carried) → u.tracker.first ≡ t.tracker.first
-      → ((x : Transfer) → Claim (in_open phase t m) x → Leads message mixed handed x u) → Goes (in_open phase t m) (in_open next u m)
+      → ((x : Direction) → Claim (in_open phase t m) x → Leads message mixed handed x u) → Goes (in_open phase t m) (in_open next u m)
   goes_led phase next t u m first leads x claim =
       let l = leads x claim in (
         l.to,
         step_claims (in_open phase t m) (in_open next u m) x l.to claim
             (record {
               goes = l.goes;
+              kept = l.kept;
+              stay = l.stay;
               shown = l.shown;
+              performed = λ s. let e = l.performed s in omega (arith, e);
               told = λ h. subst (λ (n : ℕ). SaysAll n l.to (packets_in m.context.told.events)) (sym first) h;
               made = λ h. subst (λ (n : ℕ). Says n l.to m.packet.chunks) (sym first) h;
             }),
@@ -130,42 +175,21 @@ module _ (message : ℕ → Message) (lifecycle : ℕ → Option ℕ) (mixed : B
   -- ---- packets
 
   pub goes_adding : (m : Making Carried) (chunk : ChunkTree)
-      → ((x : Transfer) → SaysIn (first_in m.state) from.acknowledged (count from.sender) x chunk) → Goes m (with_chunk chunk m)
-  goes_adding m chunk says x claim = (
-    x,
-    step_claims m (with_chunk chunk m) x x claim
-        (record {
-          goes = goes_none message mixed is_receiving x;
-          shown = claim.shown;
-          told = λ h. h;
-          made = λ h. holds_added (λ tag. SaysIn (first_in m.state) from.acknowledged (count from.sender) x) m.packet chunk h (says x);
-        }),
-  )
+      → ((x : Direction) → Claim m x → SaysIn (first_in m.state) least most x chunk) → Goes m (with_chunk chunk m)
+  goes_adding m chunk says x claim =
+      stays_by m (with_chunk chunk m) x claim claim.shown (λ s. refl) (λ h. h)
+      (λ h. holds_added (λ tag. SaysIn (first_in m.state) least most x) m.packet chunk h (says x claim))
 
   pub goes_adding_all : (m : Making Carried) (chunks : List ChunkTree)
-      → ((x : Transfer) → Says (first_in m.state) x chunks) → Goes m (with_packet (add_all chunks m.packet) m)
-  goes_adding_all m chunks says x claim = (
-    x,
-    step_claims m (with_packet (add_all chunks m.packet) m) x x claim
-        (record {
-          goes = goes_none message mixed is_receiving x;
-          shown = claim.shown;
-          told = λ h. h;
-          made = λ h. holds_all_added (λ tag. SaysIn (first_in m.state) from.acknowledged (count from.sender) x) chunks m.packet h (λ tag. says x);
-        }),
-  )
+      → ((x : Direction) → Says (first_in m.state) x chunks) → Goes m (with_packet (add_all chunks m.packet) m)
+  goes_adding_all m chunks says x claim =
+      stays_by m (with_packet (add_all chunks m.packet) m) x claim claim.shown (λ s. refl) (λ h. h)
+      (λ h. holds_all_added (λ tag. SaysIn (first_in m.state) least most x) chunks m.packet h (λ tag. says x))
 
   pub goes_begun : (p : Packet) (m : Making Carried) → p.chunks ≡ [] → Goes m (with_packet p m)
-  goes_begun p m new x claim = (
-    x,
-    step_claims m (with_packet p m) x x claim
-        (record {
-          goes = goes_none message mixed is_receiving x;
-          shown = claim.shown;
-          told = λ h. h;
-          made = λ h. subst (Says (first_in m.state) x) (sym new) (All-nil (SaysIn (first_in m.state) from.acknowledged (count from.sender) x));
-        }),
-  )
+  goes_begun p m new x claim =
+      stays_by m (with_packet p m) x claim claim.shown (λ s. refl) (λ h. h)
+      (λ h. subst (Says (first_in m.state) x) (sym new) (All-nil (SaysIn (first_in m.state) least most x)))
 
   pub goes_emitted : (m : Making Carried) → m.context.pack ≡ as_carried
       → Goes m (record m { context = emit_if true m.packet m.context; packet = record m.packet { chunks = [] } })
@@ -175,13 +199,8 @@ module _ (message : ℕ → Message) (lifecycle : ℕ → Option ℕ) (mixed : B
       let p : Carried = m.context.pack.write header m.packet.is_summed m.packet.chunks in
       let is : p ≡ as_carried.write header m.packet.is_summed m.packet.chunks = ap (λ (f : Packing Carried). f.write header m.packet.is_summed m.packet.chunks) packing in
       let Q : Carried → Type 0 = λ q. Says first x q.chunks in
-      let says : Q p = subst Q (sym is) claim.made in (
-        x,
-        step_claims m (record m { context = emit_if true m.packet m.context; packet = record m.packet { chunks = [] } }) x x claim
-            (record {
-              goes = goes_none message mixed is_receiving x;
-              shown = claim.shown;
-              told = λ h. subst (SaysAll first x) (sym (packets_both m.context.told.events (SendPacket p ∷ []))) (All-push Q (packets_in m.context.told.events) p h says);
-              made = λ h. All-nil (SaysIn first from.acknowledged (count from.sender) x);
-            }),
-      )
+      let says : Q p = subst Q (sym is) claim.made in
+      stays_by m (record m { context = emit_if true m.packet m.context; packet = record m.packet { chunks = [] } }) x claim claim.shown
+      (λ s. told_same s m.context.told.events (m.context.told.events ++ SendPacket p ∷ []) (none_behind m.context.told.events (SendPacket p ∷ []) refl))
+      (λ h. subst (SaysAll first x) (sym (packets_both m.context.told.events (SendPacket p ∷ []))) (All-push Q (packets_in m.context.told.events) p h says))
+      (λ h. All-nil (SaysIn first least most x))

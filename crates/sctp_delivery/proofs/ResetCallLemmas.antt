@@ -3,7 +3,7 @@ use Rattle.std.proofs.Common.{◌≡◌, ℕ, ◌+◌, Bool, true, false, Option
 use Rattle.rand_core.specs.Stream.{Stream}
 use Rattle.sctp_serial.specs.Messages as messages
 use Rattle.sctp_state.specs.declared.api.errors.ResetStreamsError.{ResetStreamsError}
-use Rattle.sctp_state.specs.Events.{Told}
+use Rattle.sctp_state.specs.Events.{Told, silent}
 use Rattle.sctp_rules.specs.State.{Message, count}
 use Rattle.sctp_table.specs.Association.{Phase, Tcb, State, Closed, CookieWait, Open, Context, Standing, Endpoint, with_context}
 use Rattle.sctp_table.specs.Sending.{send_in}
@@ -11,8 +11,7 @@ use Rattle.sctp_table.specs.Input.{on_standing}
 use Rattle.sctp_table.specs.Resets.{unless_supported, reset_refusal, prepared, prepare_all, reset_if}
 use Rattle.sctp_table.specs.Laws.{Call, ResetStreams, NoPacket, called}
 use Rattle.sctp_table_laws.specs.Mapped.{Carried}
-use Rattle.sctp_course.specs.Acts.{Making, idle, in_open, calm, IsReset, prepares, HasNoEnd, Keeps, KeepsUntilEnd}
-use Rattle.sctp_course.specs.Acts as acts
+use Rattle.sctp_course.specs.Acts.{Making, idle, calm, IsReset, prepares, HasNoEnd, Keeps, KeepsUntilEnd}
 use Rattle.sctp_course.specs.Course.{Side, packets_in, state_of}
 use Rattle.sctp_course.proofs.ToldLemmas.{tells_prepared}
 use Rattle.sctp_course.proofs.UntilLemmas.{none_before, Until, frame}
@@ -21,12 +20,13 @@ use Rattle.sctp_course.proofs.CallActsLemmas.{does_send_in}
 use Rattle.sctp_course.proofs.JoinActsLemmas.{Setting, InvAt}
 use Rattle.sctp_course.proofs.JoinKeepsLemmas.{Rules}
 use Rattle.sctp_course.proofs.JoinFrameLemmas.{joins}
-use Rattle.sctp_delivery.specs.StreamEpochs.{resets_told}
+use Rattle.sctp_delivery.specs.StreamEpochs.{performed_of, resets_told}
 use Rattle.sctp_delivery.proofs.ClaimLemmas.{Direction, transfer_of, first_in, SaysIn, SenderClaim, ReceiverClaim}
 use Rattle.sctp_delivery.proofs.FrameLemmas.{Joined, KeepsJoined}
 use Rattle.sctp_delivery.proofs.FrameLemmas as frames
 use Rattle.sctp_delivery.proofs.ResetEventsLemmas.{resets_in, told_counts, resets_prepared}
 use Rattle.sctp_delivery.proofs.SenderToolLemmas.{same_packets}
+use Rattle.sctp_delivery.proofs.SenderResetLemmas.{prepares_claims, prepared_answers}
 
 -- where these are prepared
 abbrev pub preparing : List ℕ → Endpoint Carried → Making Carried
@@ -71,26 +71,23 @@ module _ (g : Setting) (quiet : Rules g NoPacket) {R : Making Carried → Making
 -- ---- the sender
 
 module _ (message : ℕ → Message) (lifecycle : ℕ → Option ℕ) (mixed : Bool) (from : Direction) where
-  -- each stream
-  abbrev pub PreparesOne : Type 0
-  PreparesOne =
-      (id : ℕ) (phase : Phase) (t : Tcb) (m : Making Carried) (before : List ℕ) (x : Direction) → SenderClaim message lifecycle mixed from before (in_open phase t m) x
-      → (y : Direction) × SenderClaim message lifecycle mixed from (before ++ id ∷ []) (in_open phase t (acts.with_context (prepared id m.context) m)) y
+  claims_prepared : (phase : Phase) (t : Tcb) (w : Stream) (ids before : List ℕ) (c : Context Carried) (x : Direction) → performed_of c.told.events ≡ []
+      → SenderClaim message lifecycle mixed from before (idle (Open phase t) c w) x
+      → (y : Direction) × SenderClaim message lifecycle mixed from (before ++ ids) (idle (Open phase t) (prepare_all ids c) w) y
+  claims_prepared phase t w [] before c x none h =
+      (x, subst (λ (ps : List ℕ). SenderClaim message lifecycle mixed from ps (idle (Open phase t) c w) x) (sym (append-nil before)) h)
+  claims_prepared phase t w (id ∷ ids) before c x none h =
+      let m : Making Carried = idle (Open phase t) c w in
+      let a = prepares_claims message lifecycle mixed from before id phase t m x none h in
+      let b = claims_prepared phase t w ids (before ++ id ∷ []) (prepared id c) a.0 (prepared_answers message lifecycle mixed from id m none) a.1 in
+      (b.0, subst (λ (ps : List ℕ). SenderClaim message lifecycle mixed from ps (idle (Open phase t) (prepare_all ids (prepared id c)) w) b.0) (append_assoc before (id ∷ []) ids) b.1)
 
-  module _ (one : PreparesOne) (phase : Phase) (t : Tcb) (w : Stream) where
-    claims_prepared : (ids before : List ℕ) (c : Context Carried) (x : Direction) → SenderClaim message lifecycle mixed from before (idle (Open phase t) c w) x
-        → (y : Direction) × SenderClaim message lifecycle mixed from (before ++ ids) (idle (Open phase t) (prepare_all ids c) w) y
-    claims_prepared [] before c x h = (x, subst (λ (ps : List ℕ). SenderClaim message lifecycle mixed from ps (idle (Open phase t) c w) x) (sym (append-nil before)) h)
-    claims_prepared (id ∷ ids) before c x h =
-        let a = one id phase t (idle (Open phase t) c w) before x h in
-        let b = claims_prepared ids (before ++ id ∷ []) (prepared id c) a.0 a.1 in
-        (b.0, subst (λ (ps : List ℕ). SenderClaim message lifecycle mixed from ps (idle (Open phase t) (prepare_all ids (prepared id c)) w) b.0) (append_assoc before (id ∷ []) ids) b.1)
-
-  pub claim_prepared : PreparesOne → (s : State) (c : Context Carried) (w : Stream) (ids : List ℕ) → reset_refusal s ≡ None → (x : Direction)
+  -- where nothing was told yet
+  pub claim_prepared : (s : State) (c : Context Carried) (w : Stream) (ids : List ℕ) → reset_refusal s ≡ None → c.told ≡ silent → (x : Direction)
       → SenderClaim message lifecycle mixed from [] (idle s c w) x → (y : Direction) × SenderClaim message lifecycle mixed from ids (idle s (prepare_all ids c) w) y
-  claim_prepared one Closed c w ids fine x h = cc
-  claim_prepared one (CookieWait tag first t1) c w ids fine x h = cc
-  claim_prepared one (Open phase t) c w ids fine x h = claims_prepared one phase t w ids [] c x h
+  claim_prepared Closed c w ids fine none x h = cc
+  claim_prepared (CookieWait tag first t1) c w ids fine none x h = cc
+  claim_prepared (Open phase t) c w ids fine none x h = claims_prepared phase t w ids [] c x (ap (λ (t : Told Carried). performed_of t.events) none) h
 
 -- ---- the receiver, to which that is nothing
 

@@ -1,5 +1,5 @@
 -- What is told of resets, and that whatever sends, acknowledges, gives up or settles a stream's values tells nothing of them.
-use Rattle.std.proofs.Common.{◌≡◌, ℕ, zero, suc, ◌+◌, ◌-◌, ◌&&◌, Bool, true, false, cond, not, ◌||◌, nat_lt, Option, Some, None, unwrap_or, option_map, List, [], ◌∷◌, ◌++◌, length, take, slice_get, is_some, refl, sym, ap, ◌∙◌, append-nil}
+use Rattle.std.proofs.Common.{◌≡◌, ℕ, zero, suc, ◌+◌, ◌-◌, ◌&&◌, Bool, true, false, cond, not, ◌||◌, nat_lt, Option, Some, None, unwrap_or, option_map, List, [], ◌∷◌, ◌++◌, length, take, slice_get, is_some, refl, ap, ◌∙◌, append-nil, append_assoc, sym, arith}
 use Rattle.sctp_chunk.specs.declared.sack.GapAckBlock.{GapAckBlock}
 use Rattle.sctp_state.specs.declared.api.errors.SendError.{SendError}
 use Rattle.sctp_state.specs.declared.api.errors.SendError.TheVariants.{EmptyPayload, MessageTooLarge, ShuttingDown, ResourceExhaustion as QueueFull, Memory, Failed}
@@ -7,7 +7,7 @@ use Rattle.sctp_state.specs.declared.api.GivenUpCause.TheVariants.{Lifetime, Ret
 use Rattle.sctp_state.specs.Events.{Event, OnStreamsResetFailed, OnStreamsResetPerformed, OnIncomingStreamReset, OnBufferedAmountLow, OnTotalBufferedAmountLow, Told, tell_all, give_up, expiry}
 use Rattle.sctp_state.specs.Thresholds.{crosses}
 use Rattle.sctp_send_queue.specs.Queue.{Queued, Stream, Streams, Queue, stream, watched_amount, watched_total}
-use Rattle.sctp_send_queue.specs.Produced.{Produced, Turn, is_stale, dropped, when, fully_sent, production, told_made, told_of, streams_after, streams_without_stale, advanced, next_fragment, turn, next_stream, idle, produce_within, produce}
+use Rattle.sctp_send_queue.specs.Produced.{Produced, Turn, is_stale, dropped, when, fully_sent, production, told_made, streams_after, streams_without_stale, advanced, next_fragment, turn, next_stream, idle, produce_within, produce}
 use Rattle.sctp_send_queue.specs.Settings.{Changed, set_low_threshold, with_threshold, front_discarded, streams_discarded, discard_from, discard}
 use Rattle.sctp_send_queue.specs.Resets.{is_partly, told_waiting, prepare_reset}
 use Rattle.sctp_outstanding.specs.Item as item
@@ -19,7 +19,7 @@ use Rattle.sctp_outstanding.specs.Sack.{report, reports, leaving, staying, repor
 use Rattle.sctp_tx.specs.Windows.{is_open}
 use Rattle.sctp_tx.specs.Retransmission.{Sender, told_if}
 use Rattle.sctp_tx.specs.Resent.{resent, may_send_new}
-use Rattle.sctp_tx.specs.Sending.{Filling, Turned, appended, turned_if, turned, offered, fill, discard_all, without_discards, filled_with, filled, send}
+use Rattle.sctp_tx.specs.Sending.{Filling, Turned, appended, turned_if, turned, offered, fill, discard_all, without_discards, filled_with, send}
 use Rattle.sctp_table.specs.Calls.{refusal_events, ended}
 use Rattle.sctp_delivery.specs.Answered.{performed_in}
 use Rattle.sctp_delivery.specs.StreamEpochs.{are_named, performed_of, resets_told, failed_in}
@@ -72,6 +72,37 @@ module _ {P : Type 0} where
 
   none_both : (es fs : List (Event P)) → resets_in es ≡ [] → resets_in fs ≡ [] → resets_in (es ++ fs) ≡ []
   none_both es fs a b = none_behind es fs b ∙ a
+
+-- ---- what is told behind
+
+module _ {P : Type 0} where
+  pub performed_both : (es fs : List (Event P)) → performed_in (es ++ fs) ≡ performed_in es + performed_in fs
+  performed_both [] fs = omega arith
+  performed_both (OnStreamsResetPerformed streams ∷ es) fs = let h = performed_both es fs in omega (arith, h)
+  performed_both (e ∷ es) fs = performed_both es fs
+
+  pub named_both : (es fs : List (Event P)) → performed_of (es ++ fs) ≡ performed_of es ++ performed_of fs
+  named_both [] fs = refl
+  named_both (OnStreamsResetPerformed streams ∷ es) fs = ap (λ (ns : List ℕ). streams ++ ns) (named_both es fs) ∙ sym (append_assoc streams (performed_of es) (performed_of fs))
+  named_both (e ∷ es) fs = named_both es fs
+
+  pub told_both : (s : ℕ) (es fs : List (Event P)) → resets_told s (es ++ fs) ≡ resets_told s es + resets_told s fs
+  told_both s [] fs = omega arith
+  told_both s (OnIncomingStreamReset streams ∷ es) fs = go (are_named streams s) (told_both s es fs)
+    where
+      go : (b : Bool) → resets_told s (es ++ fs) ≡ resets_told s es + resets_told s fs
+          → (let n : ℕ = cond b (1 + resets_told s (es ++ fs)) (resets_told s (es ++ fs)) in n) ≡ cond b (1 + resets_told s es) (resets_told s es) + resets_told s fs
+      go true ih = omega (arith, ih)
+      go false ih = ih
+  told_both s (e ∷ es) fs = told_both s es fs
+
+  pub failed_more : (es fs : List (Event P)) → failed_in (es ++ fs) ≡ (failed_in es || failed_in fs)
+  failed_more [] fs = refl
+  failed_more (OnStreamsResetFailed streams ∷ es) fs = refl
+  failed_more (e ∷ es) fs = failed_more es fs
+
+  pub none_failed_both : (es fs : List (Event P)) → failed_in es ≡ false → failed_in fs ≡ false → failed_in (es ++ fs) ≡ false
+  none_failed_both es fs h k = failed_more es fs ∙ (ap (λ (b : Bool). b || failed_in fs) h ∙ k)
 
 -- ---- what tells none
 

@@ -1,16 +1,15 @@
 -- What an end that asks for resets of its streams holds, as its queue or its requests change; and how its streams stand once it has told an
 -- answer.
-use Rattle.std.proofs.Common.{◌≡◌, ℕ, zero, suc, ◌+◌, ◌<◌, ◌≤◌, Bool, true, false, cond, inl, inr, Option, Some, None, List, [], ◌∷◌, ◌++◌, refl, sym, ap, ◌∙◌, subst, arith, append-nil, append_assoc}
+use Rattle.std.proofs.Common.{◌≡◌, ℕ, zero, suc, ◌+◌, ◌<◌, ◌≤◌, Bool, true, false, cond, inl, inr, Option, Some, None, List, [], ◌∷◌, ◌++◌, refl, sym, ap, ◌∙◌, subst, arith, append_assoc}
 use Rattle.std.specs.Prelude.{◌||◌, ◌==◌, option_map, slice_get}
-use Rattle.std.proofs.lemmas.Bool.{cases_eq, eq-eqb, ne_eqb}
+use Rattle.std.proofs.lemmas.Bool.{cases_eq, eq-eqb, ne_eqb, or_right}
 use Rattle.std.proofs.lemmas.Bool.Decides.{nat_tests}
 use Rattle.sctp_state.specs.Events.{Event, OnStreamsResetFailed, OnStreamsResetPerformed}
 use Rattle.sctp_send_queue.specs.Queue.{Queue}
-use Rattle.sctp_rules.specs.State.{has}
+use Rattle.sctp_rules.specs.State.{IsAmong, has}
 use Rattle.sctp_rules.specs.Resets.{Epochs}
-use Rattle.sctp_rules.proofs.ToolsLemmas.{not_both}
 use Rattle.sctp_tx_rules.specs.Asked.{AreSameAsked}
-use Rattle.sctp_table.specs.Requests.{Request, Requests, Outcome, Unsettled, Done, outcome, outcome_by, outcome_if, is_final, is_success, awake, woken, put_off, answered_by, answered_if, answered_in}
+use Rattle.sctp_table.specs.Requests.{Request, Requests, Unsettled, Done, outcome, outcome_by, outcome_if, is_final, is_success, awake, woken, put_off, answered_by, answered_if, answered_in}
 use Rattle.sctp_table.specs.Requests as requests
 use Rattle.sctp_course.proofs.JoinLemmas.{some_same}
 use Rattle.sctp_delivery.specs.Asks.{Ask, named_in, IsRequestOf, IsAsking}
@@ -154,23 +153,10 @@ named_later s n m asks a there named l =
     let up = named_up s (suc n) m asks (omega (arith, l)) in
     omega (arith, one, up)
 
--- ---- what is told
-
-module _ {P : Type 0} where
-  pub named_both : (es fs : List (Event P)) → performed_of (es ++ fs) ≡ performed_of es ++ performed_of fs
-  named_both [] fs = refl
-  named_both (OnStreamsResetPerformed streams ∷ es) fs = ap (λ (ns : List ℕ). streams ++ ns) (named_both es fs) ∙ sym (append_assoc streams (performed_of es) (performed_of fs))
-  named_both (e ∷ es) fs = named_both es fs
-
-  pub counted_both : (es fs : List (Event P)) → performed_in (es ++ fs) ≡ performed_in es + performed_in fs
-  counted_both [] fs = omega arith
-  counted_both (OnStreamsResetPerformed streams ∷ es) fs = let h = counted_both es fs in omega (arith, h)
-  counted_both (e ∷ es) fs = counted_both es fs
-
-  pub failed_both : (es fs : List (Event P)) → failed_in es ≡ false → failed_in fs ≡ false → failed_in (es ++ fs) ≡ false
-  failed_both [] fs h k = k
-  failed_both (OnStreamsResetFailed streams ∷ es) fs h k = cc
-  failed_both (e ∷ es) fs h k = failed_both es fs h k
+pub has_from : (k : ℕ) (ids : List ℕ) → IsAmong k ids → has k ids ≡ true
+has_from k [] a = absurd a
+has_from k (id ∷ ids) (inl e) = ap (λ (b : Bool). b || has k ids) (eq-eqb k id e)
+has_from k (id ∷ ids) (inr a) = or_right (k == id) (has k ids) (has_from k ids a)
 
 -- ---- streams that are told as reset
 

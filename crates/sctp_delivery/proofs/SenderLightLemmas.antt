@@ -1,6 +1,6 @@
 -- Acts that leave the rules of a sender where they are: what it shows stays, no message is given up, and what is put into a
 -- packet says nothing of the transfer, nor of a reset.
-use Rattle.std.proofs.Common.{◌≡◌, ℕ, ◌++◌, ◌≤◌, ◌*◌, ◌-◌, Bool, true, false, Option, Some, None, List, [], ◌∷◌, All, refl, sym, ap, ◌∙◌, subst, arith, append-nil}
+use Rattle.std.proofs.Common.{◌≡◌, ℕ, ◌++◌, ◌≤◌, ◌*◌, ◌-◌, Bool, true, false, Option, List, [], ◌∷◌, All, refl, sym, ap, ◌∙◌, subst, arith, append-nil}
 use Rattle.std.specs.Prelude.{◌/◌}
 use Rattle.std.specs.List.{list_all}
 use Rattle.std.proofs.lemmas.Bool.{and_parts}
@@ -25,9 +25,9 @@ use Rattle.sctp_tx_rules.proofs.AskedLemmas.{calls_keep_asked, watch_asked}
 use Rattle.sctp_tx_rules.proofs.KeyLemmas.{written_keyed}
 use Rattle.sctp_tx_rules.proofs.LineRowLemmas.{calls_keep_line}
 use Rattle.sctp_tx_rules.proofs.PauseRowLemmas.{settings_pause}
-use Rattle.sctp_table.specs.Association.{Identity, Tcb, Phase, ShutdownPending, State, Closed, CookieWait, Open, Context, Packing}
+use Rattle.sctp_table.specs.Association.{Identity, Tcb, Phase, ShutdownPending, State, Closed, CookieWait, Open, Packing}
 use Rattle.sctp_table.specs.Packets.{Packet, emptied, header_to, say, emit_if}
-use Rattle.sctp_table.specs.Requests.{Requests, nothing_to_do, performed, in_progress, processed}
+use Rattle.sctp_table.specs.Requests.{nothing_to_do, performed, in_progress, processed}
 use Rattle.sctp_table.specs.Data.{taken, forwarded}
 use Rattle.sctp_table.specs.Input.{at_end}
 use Rattle.sctp_table.specs.Laws.{Call}
@@ -41,8 +41,8 @@ use Rattle.sctp_delivery.specs.Asks.{Ask, SaysOutgoing, IsAsking}
 use Rattle.sctp_delivery.specs.StreamEpochs.{performed_of, failed_in}
 use Rattle.sctp_delivery.proofs.ClaimLemmas.{Direction, transfer_of, SaysOut, first_out, IsWaiting, IsSending, SendsIn, SenderClaim, SenderGoes}
 use Rattle.sctp_delivery.proofs.FrameLemmas.{GoesOnShut, IsSetting}
-use Rattle.sctp_delivery.proofs.ResetEventsLemmas.{resets_in, none_behind, resets_threshold, resets_refused}
-use Rattle.sctp_delivery.proofs.SenderAsksLemmas.{asking_stays, asking_reads, named_both, counted_both}
+use Rattle.sctp_delivery.proofs.ResetEventsLemmas.{resets_in, none_behind, resets_threshold, resets_refused, performed_both, named_both}
+use Rattle.sctp_delivery.proofs.SenderAsksLemmas.{asking_stays, asking_reads}
 use Rattle.sctp_delivery.proofs.SenderToolLemmas.{same_packets, same_delivered, reports_none, reports_then, TellsNoAnswer, no_answer, tells_no_answer, SaysAll, SaysPackets}
 
 -- ---- a stream's settings
@@ -102,6 +102,7 @@ module _ (message : ℕ → Message) (lifecycle : ℕ → Option ℕ) (mixed : B
           done = claim.done;
           shown = shown x claim.shown;
           near = claim.near;
+          since = claim.since;
           gone = gone ∙ claim.gone;
           reported = reports_then lifecycle (transfer_of from) (transfer_of x) (transfer_of x) [] es fs claim.reported
               (reports_none lifecycle (transfer_of x) (transfer_of x) es fs refl reports);
@@ -141,6 +142,7 @@ module _ (message : ℕ → Message) (lifecycle : ℕ → Option ℕ) (mixed : B
       done = claim.done;
       shown = claim.shown;
       near = claim.near;
+      since = claim.since;
       gone = claim.gone;
       reported = claim.reported;
       performed = claim.performed;
@@ -208,6 +210,7 @@ module _ (message : ℕ → Message) (lifecycle : ℕ → Option ℕ) (mixed : B
           done = claim.done;
           shown = claim.shown;
           near = claim.near;
+          since = claim.since;
           gone = claim.gone;
           reported = reports_then lifecycle (transfer_of from) (transfer_of x) (transfer_of x) [] es fs claim.reported
               (reports_none lifecycle (transfer_of x) (transfer_of x) es fs refl (delivered_more es (SendPacket _ ∷ []) ∙ append-nil (delivered es)));
@@ -229,6 +232,7 @@ module _ (message : ℕ → Message) (lifecycle : ℕ → Option ℕ) (mixed : B
       done = claim.done;
       shown = claim.shown;
       near = claim.near;
+      since = claim.since;
       gone = claim.gone;
       reported = claim.reported;
       performed = claim.performed;
@@ -362,7 +366,7 @@ module _ (message : ℕ → Message) (lifecycle : ℕ → Option ℕ) (mixed : B
       let es = m.context.told.events in
       let b : Making Carried = in_open phase u (with_context (say e m.context) m) in
       let said : TellsQuietly m.context.told b.context.told = quiet_all (e ∷ []) m.context.told refl in
-      let n = counted_both es (e ∷ []) in
+      let n = performed_both es (e ∷ []) in
       goes_same (in_open phase t m) b
       (λ x h. sends_as t u m.context.queue x refl refl refl (asking_reads t.identity.my_first x.answered x.asks m.context.queue t.requests u.requests refl refl) h) refl refl
       (same_packets m.context.told b.context.told (lightly m.context.told b.context.told said)) (same_delivered m.context.told b.context.told said)

@@ -1,6 +1,6 @@
 -- Rules that lead on: what an end says stays true, and what one end's rules leave of the other's part. For an act of a sender:
 -- its claim after it.
-use Rattle.std.proofs.Common.{◌≡◌, ℕ, suc, ◌+◌, ◌^◌, ◌<◌, ◌≤◌, ◌&&◌, Bool, true, false, Option, Some, slice_get, inr, List, [], ◌∷◌, ◌++◌, length, map, All, refl, sym, ap, ◌∙◌, subst, arith, append-nil, append_assoc, length-append}
+use Rattle.std.proofs.Common.{◌≡◌, ℕ, suc, ◌+◌, ◌^◌, ◌<◌, ◌≤◌, ◌&&◌, ◌⊎◌, Bool, true, false, Option, Some, slice_get, inr, List, [], ◌∷◌, ◌++◌, length, map, All, refl, sym, ap, ◌∙◌, subst, arith, append-nil, append_assoc, length-append}
 use Rattle.std.specs.List.{list_all}
 use Rattle.std.proofs.lemmas.List.Folds.{list_all-append}
 use Rattle.std.proofs.lemmas.List.Elements.{All-weaker}
@@ -15,7 +15,7 @@ use Rattle.sctp_rules.specs.Resets.{Request, Epochs, ResetEvent, transfers, rese
 use Rattle.sctp_rules.specs.Based.{InEpochs}
 use Rattle.sctp_rules.proofs.BasedLemmas.{keeps_epochs, all_in_epochs}
 use Rattle.sctp_rules.proofs.StepLemmas.{later}
-use Rattle.sctp_tx_rules.specs.Led.{given_ups, recorded, is_sending, delivered, ids_at}
+use Rattle.sctp_tx_rules.specs.Led.{given_ups, recorded, delivered, ids_at}
 use Rattle.sctp_tx_rules.proofs.LedLemmas.{given_more}
 use Rattle.sctp_tx_rules.proofs.PausedLemmas.{go_more, may_more}
 use Rattle.sctp_tx_rules.proofs.SackLemmas.{delivered_more, ids_more}
@@ -34,7 +34,7 @@ use Rattle.sctp_delivery.proofs.ResetEventsLemmas.{resets_in, performed_counts, 
 
 -- ---- one run after another
 
-transfer_more : (es fs : List ResetEvent) → of_transfer (es ++ fs) ≡ of_transfer es ++ of_transfer fs
+pub transfer_more : (es fs : List ResetEvent) → of_transfer (es ++ fs) ≡ of_transfer es ++ of_transfer fs
 transfer_more [] fs = refl
 transfer_more (transfers e ∷ es) fs = ap (λ (gs : List Event). e ∷ gs) (transfer_more es fs)
 transfer_more (reset_stream s ∷ es) fs = transfer_more es fs
@@ -99,7 +99,7 @@ module _ (message : ℕ → Message) (mixed : Bool) where
   abbrev pub with_transfer : Direction → Transfer → Direction
   with_transfer x t = record x { rules = record x.rules { transfer = t } }
 
-  pub transfers_go : (kind : ResetEvent → Bool) (x : Direction) (t : Transfer) (es : List Event) → MayAll message mixed x.rules (map transfers es) → list_all kind (map transfers es) ≡ true
+  abbrev pub transfers_go : (kind : ResetEvent → Bool) (x : Direction) (t : Transfer) (es : List Event) → MayAll message mixed x.rules (map transfers es) → list_all kind (map transfers es) ≡ true
       → go_all message mixed x.rules (map transfers es) ≡ record x.rules { transfer = t } → GoesOn message mixed kind x (with_transfer x t)
   transfers_go kind x t es may all leads = record {
     events = map transfers es;
@@ -432,6 +432,10 @@ asked_still x y asks done answered opened performed requests grows are = record 
 abbrev pub IsNear : (from x : Direction) → Type 0
 IsNear from x = (a : Ask) → slice_get x.asks x.answered ≡ Some a → count (transfer_of from).sender < a.upto + 2 ^ 30
 
+-- it waited before this turn, or is of this turn
+abbrev pub IsSince : (from x : Direction) → Type 0
+IsSince from x = (a : Ask) → slice_get x.asks x.answered ≡ Some a → (slice_get from.asks x.answered ≡ Some a) ⊎ (count (transfer_of from).sender ≤ a.upto)
+
 pub so_still : (f : ℕ → StreamEpoch) (x y : Epochs) → y.raised ≡ x.raised → y.opened ≡ x.opened → AreSo f x → AreSo f y
 so_still f x y raised opened h s =
     let i = h s in
@@ -485,6 +489,7 @@ module _ (message : ℕ → Message) (lifecycle : ℕ → Option ℕ) (mixed : B
     pub done : y.done ≡ x.done
     pub shown : SendsIn message lifecycle mixed b.state b.context.queue y
     pub near : IsNear from x → IsNear from y
+    pub since : IsSince from x → IsSince from y
     pub gone : recorded b.context.told ≡ recorded a.context.told ++ given_ups (of_transfer goes.events)
     pub reported : Reports lifecycle (transfer_of x) (transfer_of y) a.context.told.events b.context.told.events
     pub resets : TellsResets prepared later a.context.told.events b.context.told.events x y
@@ -509,6 +514,7 @@ module _ (message : ℕ → Message) (lifecycle : ℕ → Option ℕ) (mixed : B
         done = s.done ∙ c.done;
         shown = s.shown;
         near = s.near c.near;
+        since = s.since c.since;
         gone = s.gone ∙ (ap (λ (ps : List ℕ). ps ++ given_ups (of_transfer s.goes.events)) c.gone ∙ sym g.1);
         reported = reports_then lifecycle (transfer_of from) (transfer_of x) (transfer_of y) [] a.context.told.events b.context.told.events c.reported s.reported;
         performed = omega (arith, so_far, now);

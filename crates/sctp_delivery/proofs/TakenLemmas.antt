@@ -6,30 +6,30 @@ use Rattle.sctp_send_queue.specs.Queue.{Queue}
 use Rattle.sctp_rx.specs.Tracker.{Tracker}
 use Rattle.sctp_rx.specs.ReassemblyQueue.{Reassembly}
 use Rattle.sctp_rules.specs.State.{Message, Transfer}
-use Rattle.sctp_rules.specs.Lifted.{no_base}
 use Rattle.sctp_rx_rules.specs.View.{view_with, IsSeenAs}
 use Rattle.sctp_rx_rules.specs.Receives.{Receives}
 use Rattle.sctp_rx_rules.specs.Near.{ReadsNear}
+use Rattle.sctp_rx_rules.specs.Resets.{base_now}
 use Rattle.sctp_table.specs.Association.{State, Closed, CookieWait, Open}
 use Rattle.sctp_table.specs.Calls.{ready_in, taken_in}
-use Rattle.sctp_delivery.proofs.ClaimLemmas.{SendsIn, IsFresh, ReceivesIn}
+use Rattle.sctp_delivery.proofs.ClaimLemmas.{Direction, transfer_of, SendsIn, IsFresh, ReceivesIn}
 
 -- ---- the sender's part
 
-pub sends_taken : (message : ℕ → Message) (lifecycle : ℕ → Option ℕ) (mixed : Bool) (s : State) (q : Queue) (x : Transfer) → SendsIn message lifecycle mixed s q x
+pub sends_taken : (message : ℕ → Message) (lifecycle : ℕ → Option ℕ) (mixed : Bool) (s : State) (q : Queue) (x : Direction) → SendsIn message lifecycle mixed s q x
     → SendsIn message lifecycle mixed (taken_in s) q x
 sends_taken message lifecycle mixed Closed q x h = h
 sends_taken message lifecycle mixed (CookieWait tag first t1) q x h = h
-sends_taken message lifecycle mixed (Open phase t) q x h = record { shows = h.shows; first = h.first; room = h.room; no_request = h.no_request }
+sends_taken message lifecycle mixed (Open phase t) q x h = record { shows = h.shows; follows = h.follows; first = h.first; room = h.room; asks = h.asks }
 
 -- ---- the receiver's part
 
 abbrev without_first : Reassembly → Reassembly
 without_first r = record r { ready = drop 1 r.ready }
 
-module _ (message : ℕ → Message) (mixed : Bool) (x : Transfer) where
-  receives_taken : (shift : ℕ) (handed : List messages.Message) (t : Tracker) (r : Reassembly) → Receives message mixed no_base shift x handed t r
-      → Receives message mixed no_base shift x (handed ++ take 1 r.ready) t (without_first r)
+module _ (message : ℕ → Message) (mixed : Bool) (base : Bool → ℕ → ℕ) (x : Transfer) where
+  receives_taken : (shift : ℕ) (handed : List messages.Message) (t : Tracker) (r : Reassembly) → Receives message mixed base shift x handed t r
+      → Receives message mixed base shift x (handed ++ take 1 r.ready) t (without_first r)
   receives_taken shift handed t r h =
       let all : handed ++ r.ready ≡ (handed ++ take 1 r.ready) ++ drop 1 r.ready =
       ap (λ (ms : List messages.Message). handed ++ ms) (sym (take-append-drop 1 r.ready)) ∙ sym (append_assoc handed (take 1 r.ready) (drop 1 r.ready)) in
@@ -43,13 +43,15 @@ module _ (message : ℕ → Message) (mixed : Bool) (x : Transfer) where
         fresh = h.fresh;
       }
 
-  near_taken : (first shift : ℕ) (r : Reassembly) → ReadsNear message mixed no_base first shift x r → ReadsNear message mixed no_base first shift x (without_first r)
+  near_taken : (first shift : ℕ) (r : Reassembly) → ReadsNear message mixed base first shift x r → ReadsNear message mixed base first shift x (without_first r)
   near_taken first shift r h = record {
     tsns = h.tsns;
     mids = λ m. record { streams = (h.mids m).streams; points = (h.mids m).points };
     start = h.start;
   }
 
+-- the control block, or none
+module _ (message : ℕ → Message) (mixed : Bool) (x : Direction) where
   fresh_taken : (handed : List messages.Message) → IsFresh message mixed handed x → IsFresh message mixed (handed ++ []) x
   fresh_taken handed h = subst (λ (ms : List messages.Message). IsFresh message mixed ms x) (sym (append-nil handed)) h
 
@@ -58,9 +60,10 @@ module _ (message : ℕ → Message) (mixed : Bool) (x : Transfer) where
   receives_in_taken (CookieWait tag first t1) handed h = fresh_taken handed h
   receives_in_taken (Open phase t) handed h = record {
     shift = h.shift;
-    receives = receives_taken h.shift handed t.tracker.tracker t.reassembly h.receives;
-    near = near_taken t.tracker.first h.shift t.reassembly h.near;
+    receives = receives_taken message mixed (base_now x.rules) (transfer_of x) h.shift handed t.tracker.tracker t.reassembly h.receives;
+    near = near_taken message mixed (base_now x.rules) (transfer_of x) t.tracker.first h.shift t.reassembly h.near;
     is_tracker = h.is_tracker;
-    not_deferred = h.not_deferred;
+    waiting = h.waiting;
     first = h.first;
+    answers = h.answers;
   }

@@ -23,8 +23,9 @@ use Rattle.sctp_delivery.specs.StreamEpochs.{StreamEpoch, are_named, shut, reope
 use Rattle.sctp_delivery.specs.Windows.{Stamp, numbered, queue_of, stamped}
 use Rattle.sctp_delivery.proofs.AsksLemmas.{get_below}
 use Rattle.sctp_delivery.proofs.ClaimLemmas.{Direction, transfer_of, goes_out, goes_in, IsKept, GoesOn, AsksStay, first_out, first_in, AreSo, SendsIn, ReceivesIn, SenderClaim, ReceiverClaim}
+use Rattle.sctp_delivery.proofs.ResetEventsLemmas.{performed_both, told_both, none_failed_both}
 use Rattle.sctp_delivery.proofs.FilledLemmas.{fills, filled_goes, receives_filled}
-use Rattle.sctp_delivery.proofs.SenderToolLemmas.{Grows, goes_grows, goes_none, receiver_stays, SameSender, sender_stays}
+use Rattle.sctp_delivery.proofs.SenderToolLemmas.{Grows, goes_grows, goes_none, receiver_stays, SameSender, sender_stays, so_still}
 use Rattle.sctp_delivery.proofs.WithinLemmas.{numbered_is}
 use Rattle.sctp_delivery.proofs.DirectionLemmas.{Saying, IsUnderWay, AllUnderWay, each_behind, says_out, says_in, out_on, in_on, out_first, in_first, Stands, SoFar, Flows}
 use Rattle.sctp_delivery.proofs.PremisesLemmas.{waits, is_asked, waits_again}
@@ -168,7 +169,7 @@ outgoing_has (send_request s) h = refl
 outgoing_has (perform r) h = refl
 outgoing_has (commit s) h = refl
 
-outgoing : (message : ℕ → Message) (mixed : Bool) (x y : Direction) → GoesOn message mixed goes_out x y → GoesOn message mixed is_outgoing x y
+pub outgoing : (message : ℕ → Message) (mixed : Bool) (x y : Direction) → GoesOn message mixed goes_out x y → GoesOn message mixed is_outgoing x y
 outgoing message mixed x y g = record {
   events = g.events;
   may = g.may;
@@ -203,39 +204,7 @@ more_under_way Says of now from y past told ss is near left numbered says h =
     subst (λ (ps : List Carried). AllUnderWay Says of y ps (ss ++ replicate (length ps - length (packets_in past)) now)) (sym (packets_both past told))
     (each_behind P now (packets_in past) (packets_in told) ss h new)
 
--- ---- what is told of resets
-
-module _ {P : Type 0} where
-  pub performed_more : (es fs : List (Event P)) → performed_in (es ++ fs) ≡ performed_in es + performed_in fs
-  performed_more [] fs = omega arith
-  performed_more (OnStreamsResetPerformed streams ∷ es) fs = let e = performed_more es fs in omega (arith, e)
-  performed_more (e ∷ es) fs = performed_more es fs
-
-  pub resets_more : (s : ℕ) (es fs : List (Event P)) → resets_told s (es ++ fs) ≡ resets_told s es + resets_told s fs
-  resets_more s [] fs = omega arith
-  resets_more s (OnIncomingStreamReset streams ∷ es) fs = go (are_named streams s) (resets_more s es fs)
-    where
-      go : (b : Bool) → resets_told s (es ++ fs) ≡ resets_told s es + resets_told s fs
-          → cond b (1 + resets_told s (es ++ fs)) (resets_told s (es ++ fs)) ≡ cond b (1 + resets_told s es) (resets_told s es) + resets_told s fs
-      go true e = omega (arith, e)
-      go false e = e
-  resets_more s (e ∷ es) fs = resets_more s es fs
-
-  pub none_failed_more : (es fs : List (Event P)) → failed_in es ≡ false → failed_in fs ≡ false → failed_in (es ++ fs) ≡ false
-  none_failed_more [] fs h k = k
-  none_failed_more (OnStreamsResetFailed streams ∷ es) fs h k = cc
-  none_failed_more (e ∷ es) fs h k = none_failed_more es fs h k
-
 -- ---- how the streams stand
-
-so_on : (f : ℕ → StreamEpoch) (x y : Epochs) → y.raised ≡ x.raised → y.opened ≡ x.opened → AreSo f x → AreSo f y
-so_on f x y raised opened so s =
-    let r = ap (λ (g : ℕ → ℕ). g s) raised in
-    let o = ap (λ (g : ℕ → ℕ). g s) opened in (
-      (so s).0 ∙ sym r,
-      λ h. r ∙ ((so s).1 h ∙ sym o),
-      λ h. r ∙ ((so s).2 h ∙ ap suc (sym o)),
-    )
 
 pub so_again : (f g : ℕ → StreamEpoch) (x : Epochs) → ((s : ℕ) → g s ≡ f s) → AreSo f x → AreSo g x
 so_again f g x same so s =
@@ -373,7 +342,7 @@ module _ (message : ℕ → Message) (lifecycle : ℕ → Option ℕ) (mixed : B
         out = more_under_way (says_out message mixed (first_out e.standing.state)) of now mid y s.told told stamps_s
             (at_now ∙ sym counted) (omega (arith, near, counted, acked)) grows.left grows.numbered c.told old;
         answers = answers;
-        streams = c.epochs so_far.streams (so_on so_far.streams x.rules mid.rules offers.raised offers.opened f.streams);
+        streams = c.epochs so_far.streams (so_still so_far.streams x.rules mid.rules offers.raised offers.opened f.streams);
         many = length-append so_far.epochs (epochs_of os so_far.streams) ∙ (ap (λ (n : ℕ). n + length (epochs_of os so_far.streams)) many
             ∙ ap (λ (n : ℕ). accepted + n) (length-map os (λ (o : Offer). (so_far.streams o.message.stream).epoch)));
         epochs = λ p n h. ap (λ (g : ℕ → ℕ). g p) same.epoch
@@ -382,9 +351,9 @@ module _ (message : ℕ → Message) (lifecycle : ℕ → Option ℕ) (mixed : B
             (let a = offers.answered in let b = c.goes.answered in omega (arith, a, b))
             (λ a h. elim (c.since a h) [ inl g ↦ inl (subst (λ (l : List Ask). slice_get l y.answered ≡ Some a) offers.asks g) | inr l ↦ inr (omega (arith, l, counted)) ])
             so_far.asked f.asked;
-        answered = let a = f.answered in let b = offers.answered in let d = c.performed in let g = performed_more s.told told in omega (arith, a, b, d, g);
+        answered = let a = f.answered in let b = offers.answered in let d = c.performed in let g = performed_both s.told told in omega (arith, a, b, d, g);
         performed = λ k. ap (λ (g : ℕ → ℕ). g k) ((receiver_stays message mixed mid y c.goes).performed ∙ offers.performed) ∙ f.performed k;
-        none_failed = none_failed_more s.told told f.none_failed c.none_failed;
+        none_failed = none_failed_both s.told told f.none_failed c.none_failed;
       }
 
   -- of the receiver, which hands out these
@@ -408,11 +377,11 @@ module _ (message : ℕ → Message) (lifecycle : ℕ → Option ℕ) (mixed : B
         out = out_on message mixed goes_in x y f.kept.epochs c.goes (first_out (state_of s)) of (emitted s) stamps_s f.out;
         answers = more_under_way (says_in message mixed (first_in e.standing.state)) of now x y r.told told stamps_r
             at_now near grows.left grows.numbered c.told old;
-        streams = so_on so_far.streams x.rules y.rules same.raised same.opened f.streams;
+        streams = so_still so_far.streams x.rules y.rules same.raised same.opened f.streams;
         many = f.many;
         epochs = λ p n h. ap (λ (g : ℕ → ℕ). g p) same.epoch ∙ f.epochs p n h;
         asked = λ a h. f.asked a (sym (ap (λ (l : List Ask). slice_get l y.answered) c.stay.0 ∙ ap (λ (n : ℕ). slice_get x.asks n) c.stay.1) ∙ h);
         answered = c.stay.1 ∙ f.answered;
-        performed = λ k. let a = c.performed k in let b = f.performed k in let d = resets_more k r.told told in omega (arith, a, b, d);
+        performed = λ k. let a = c.performed k in let b = f.performed k in let d = told_both k r.told told in omega (arith, a, b, d);
         none_failed = f.none_failed;
       }

@@ -1,5 +1,5 @@
 -- Where one more turn of a course may end an association: what the end tells before that.
-use Rattle.std.specs.Prelude.{◌≡◌, ◌^◌, ◌<◌, not, Bool, List, [], ◌∷◌, ◌++◌, length, take}
+use Rattle.std.specs.Prelude.{◌≡◌, ◌^◌, ◌<◌, not, Bool, false, List, [], ◌∷◌, ◌++◌, length, take}
 use Rattle.rand_core.specs.Stream.{Stream}
 use Rattle.sctp_state.specs.Events.{Event}
 use Rattle.sctp_state.specs.Options.{Options}
@@ -11,6 +11,7 @@ use Rattle.sctp_delivery.specs.Accepted.{accepted}
 use Rattle.sctp_delivery.specs.GivenUp.{told_by}
 use Rattle.sctp_delivery.specs.Windows.{stamp, Stamps, no_stamps, stamps_after, stamps_for, IsTimely, KeepsWindows, KeepsLimits}
 use Rattle.sctp_delivery.specs.Answered.{KeepsResets}
+use Rattle.sctp_delivery.specs.StreamEpochs.{failed_in}
 use Rattle.sctp_delivery.specs.Delivery.{ReportsAreTrue, Delivers}
 
 -- the stamps of all packets behind these turns
@@ -26,13 +27,16 @@ pub record IsInBoundsThen (from_a : Bool) (turns : List (Bool × Turn)) (last : 
   pub few : length (accepted from_a (turns ++ (from_a, last) ∷ []) w) < 2 ^ 32
   pub limits : KeepsLimits (turns ++ (from_a, last) ∷ [])
 
--- The list of places that serves the course serves what the sender tells at that turn too, up to the first end of an association.
+-- The list of places that serves the course serves what the sender tells at that turn too, up to the first end of an association; nor
+-- does it tell up to there that a reset failed.
 pub record DeliversThen (from_a : Bool) (turns : List (Bool × Turn)) (last : Turn) (w : Pair) : Type 0 where
   pub delivers : Delivers from_a turns w
   pub reports : (early late : List (Event Carried)) → (told_by last (side_of from_a (run turns w)) (side_of (not from_a) (run turns w))).events ≡ early ++ late
       → endings early ≡ 0
       → ReportsAreTrue (accepted from_a (turns ++ (from_a, last) ∷ []) w) ((side_of from_a (run turns w)).told ++ early)
       (take (length (readied (not from_a) turns w)) delivers.places)
+  pub none_refused : (early late : List (Event Carried)) → (told_by last (side_of from_a (run turns w)) (side_of (not from_a) (run turns w))).events ≡ early ++ late
+      → endings early ≡ 0 → failed_in ((side_of from_a (run turns w)).told ++ early) ≡ false
 
 -- Along each course that follows the rules, and one more turn, which may end an association.
 abbrev pub MessagesAreDeliveredThen : Type 0

@@ -354,10 +354,10 @@ module _ (g : Setting) (call : Call) (r : Rules g call) (hears : (tag : ℕ) (ch
         said_lightly method m.context.told (after_reset act).context.told (light_reset act) h.4,
       )
   w_resets (defers number response last_tsn streams phase t m asked known ahead) h =
-      ((processed_fits number t.requests _ (known_small number t.requests known h.0.0) refl refl refl h.0.0, h.0.1), h.1, h.2, h.3, h.4)
+      ((processed_fits number t.requests _ (known_small number t.requests known.known h.0.0) refl refl refl h.0.0, h.0.1), h.1, h.2, h.3, h.4)
   w_resets (performs number response last_tsn streams phase t m asked known there) h =
       let act : ResetAct Carried call = performs number response last_tsn streams phase t m asked known there in (
-        (processed_fits number t.requests _ (known_small number t.requests known h.0.0) refl refl refl h.0.0, h.0.1),
+        (processed_fits number t.requests _ (known_small number t.requests known.known h.0.0) refl refl refl h.0.0, h.0.1),
         h.1,
         h.2,
         h.3,
@@ -371,7 +371,7 @@ module _ (g : Setting) (call : Call) (r : Rules g call) (hears : (tag : ℕ) (ch
       ((answered_in_fits t.requests.current m.context.now rto number result t.requests h.0.0.current h.0.0, h.0.1), h.1, h.2, h.3, h.4)
   w_resets (adds_responses responses phase t m are answers) h =
       whole_added method (Open phase t) m.context.queue m.context.told.events (re_config_chunk responses) m.packet
-      (responses_whole call number_small responses answers) h
+      (responses_whole call number_small t.requests responses answers) h
 
   -- ---- handover, and the end of a packet
 

@@ -144,16 +144,16 @@ pub request_whole : (r : Request) → r.number < words → is_whole (request_chu
 request_whole r h = both_true (nat_lt r.number words) true (lt-ltb r.number words h) refl
 
 -- an answer has the number of a request that was heard
-response_fits : (call : Call) → ((number : ℕ) → HasRequest call number → number < words) → (p : ParameterTree) → Answers call p → number_fits p ≡ true
-response_fits call f (reset_response number result sender receiver) h = lt-ltb number words (f number h)
-response_fits call f p h = absurd h
+response_fits : (call : Call) → ((number : ℕ) → HasRequest call number → number < words) → (r : Requests) (p : ParameterTree) → Answers call r p → number_fits p ≡ true
+response_fits call f r (reset_response number result sender receiver) h = lt-ltb number words (f number h.0)
+response_fits call f r p h = absurd h
 
-pub responses_whole : (call : Call) → ((number : ℕ) → HasRequest call number → number < words) → (ps : List ParameterTree) → All (Answers call) ps
+pub responses_whole : (call : Call) → ((number : ℕ) → HasRequest call number → number < words) → (r : Requests) (ps : List ParameterTree) → All (Answers call r) ps
     → list_all number_fits ps ≡ true
-responses_whole call f [] h = refl
-responses_whole call f (p ∷ ps) h =
-    both_true (number_fits p) (list_all number_fits ps) (response_fits call f p (All-head (Answers call) p ps h))
-    (responses_whole call f ps (All-tail (Answers call) p ps h))
+responses_whole call f r [] h = refl
+responses_whole call f r (p ∷ ps) h =
+    both_true (number_fits p) (list_all number_fits ps) (response_fits call f r p (All-head (Answers call r) p ps h))
+    (responses_whole call f r ps (All-tail (Answers call r) p ps h))
 
 -- ---- request numbers
 
