@@ -1,5 +1,5 @@
 -- A world's log is made of blocks, one a turn of its course; and what holds of each beginning of it.
-use Rattle.std.proofs.Common.{◌≡◌, ◌⊎◌, inl, inr, ℕ, suc, not, Bool, true, false, Some, List, [], ◌∷◌, ◌++◌, length, drop, refl, sym, ap, subst, ◌∙◌, append-nil, append_assoc}
+use Rattle.std.proofs.Common.{◌≡◌, ◌⊎◌, inl, inr, ℕ, suc, not, ◌&&◌, Bool, true, false, Some, List, [], ◌∷◌, ◌++◌, length, drop, refl, sym, ap, subst, ◌∙◌, append-nil, append_assoc}
 use Rattle.std.specs.Prelude.{⊤}
 use Rattle.std.specs.List.{flat_map}
 use Rattle.std.proofs.lemmas.Grind.{flat_map-append}
@@ -15,16 +15,27 @@ use Rattle.sctp_course.specs.Handing.{ready_at, new_behind, handed_by, handed_at
 use Rattle.sctp_delivery.specs.Accepted.{Offer, accepted_at, accepted}
 use Rattle.sctp_delivery.proofs.LawLemmas.{accepted_more}
 use Rattle.sctp_delivery.specs.GivenUp.{given_up_at, given_up}
+use Rattle.sctp_delivery.specs.Proper.{reset_at}
+use Rattle.sctp_delivery.specs.StreamEpochs as courses
+use Rattle.sctp_delivery.specs.StreamEpochs.{StreamEpoch, all_open, are_named, shut_if, shut, opened_if, reopened, performed_of, told_at, epochs_of}
+use Rattle.sctp_delivery.proofs.CourseResetLemmas.{told_goes}
+use Rattle.sctp_delivery.proofs.StreamEpochLemmas.{epochs_go_on}
 use Rattle.sctp_tx_rules.specs.Led.{delivered}
 use Rattle.sctp_table_laws.specs.Mapped.{Carried}
 use Rattle.sctp_state.specs.Events.{Event}
 use Rattle.sctp_network_table.specs.Judge as judge
 use Rattle.sctp_network_table.specs.Judge.{End, A, B, Entry, ready_by, ready, handed_out_by, handed_out, given_up_by}
 use Rattle.sctp_network_laws.specs.Courses.{is_a}
-use Rattle.sctp_network_laws.specs.Delivered.{offers_by, offers, gone, reported_by, reported}
+use Rattle.sctp_network_laws.specs.Delivered.{offers_by, offers, happened_by, happened, reset_by, epochs_after, offer_epochs, gone, reported_by, reported}
 use Rattle.sctp_network_laws.proofs.WorldLemmas.{gone_more, numbers_of}
+use Rattle.sctp_network_laws.proofs.HappenedLemmas.{bare, bare_both, bare_names}
+use Rattle.sctp_network_laws.proofs.LoggedEpochLemmas.{epochs_along, along_both, epochs_both, none_offered, event_along, same_epochs, along_more}
 use Rattle.sctp_network_laws.proofs.TellingLemmas.{IsTold, none_new}
-use Rattle.sctp_network_laws.proofs.PrefixLemmas.{one_is_longer, no_front}
+use Rattle.sctp_network_laws.proofs.PrefixLemmas.{none_before, none_behind, one_is_longer, no_front, split_tail}
+
+pub same_front : {X : Type 0} (a xs ys : List X) → a ++ xs ≡ a ++ ys → xs ≡ ys
+same_front [] xs ys h = h
+same_front (z ∷ a) xs ys h = same_front a xs ys (split_tail z z (a ++ xs) (a ++ ys) h)
 
 -- ---- courses, by one turn more
 
@@ -75,7 +86,7 @@ abbrev pub Stands : List (Bool × Turn) → Pair → Type 0
 Stands [] c = ⊤
 Stands (e ∷ es) c = StandsAt e.0 e c × Stands es (goes e.0 e.1 c)
 
-blocks_longer : (es : List (Bool × Turn)) (c : Pair) (log longer : List Entry) → AreBlocks es c log longer → (more : List Entry) × (longer ≡ log ++ more)
+pub blocks_longer : (es : List (Bool × Turn)) (c : Pair) (log longer : List Entry) → AreBlocks es c log longer → (more : List Entry) × (longer ≡ log ++ more)
 blocks_longer [] c log longer h = ([], h ∙ sym (append-nil log))
 blocks_longer (e ∷ es) c log longer h =
     let l = blocks_longer es (goes e.0 e.1 c) h.0 longer h.2 in
@@ -143,6 +154,64 @@ reported_turn B (true, t) c log mid b h = more_of (reported_by B) log mid (b.fir
 reported_turn A (false, t) c log mid b h = more_of (reported_by A) log mid (b.first ∷ b.more) [] b.logged b.none_reported ∙ (append-nil (reported A log) ∙ h)
 reported_turn B (false, t) c log mid b h = b.reports
 
+first_resets : (x : End) (e : Bool × Turn) (c : Pair) (log mid : List Entry) (b : IsBlock e c log mid) → reset_by x b.first ≡ reset_at (is_a x) e.0 e.1 c
+first_resets A (true, t) c log mid b = b.resets
+first_resets B (true, t) c log mid b = b.no_resets
+first_resets A (false, t) c log mid b = b.no_resets
+first_resets B (false, t) c log mid b = b.resets
+
+abbrev AreTold : End → List Entry → Pair → Type 0
+AreTold x log c = happened x log ≡ bare (side_of (is_a x) c).told
+
+told_turn : (x : End) (e : Bool × Turn) (c : Pair) (log mid : List Entry) → IsBlock e c log mid → AreTold x log c → AreTold x mid (goes e.0 e.1 c)
+told_turn A (true, t) c log mid b h = b.tells
+told_turn B (true, t) c log mid b h = more_of (happened_by B) log mid (b.first ∷ b.more) [] b.logged b.tells_none ∙ (append-nil (happened B log) ∙ h)
+told_turn A (false, t) c log mid b h = more_of (happened_by A) log mid (b.first ∷ b.more) [] b.logged b.tells_none ∙ (append-nil (happened A log) ∙ h)
+told_turn B (false, t) c log mid b h = b.tells
+
+-- what it tells
+block_told : (x : End) (e : Bool × Turn) (c : Pair) (log mid : List Entry) (b : IsBlock e c log mid) → AreTold x log c
+    → happened x (b.first ∷ b.more) ≡ bare (told_at (is_a x) e.0 e.1 c)
+block_told x e c log mid b h =
+    same_front (bare (side_of (is_a x) c).told) (happened x (b.first ∷ b.more)) (bare (told_at (is_a x) e.0 e.1 c))
+    (ap (λ (es : List (Event (List ℕ))). es ++ happened x (b.first ∷ b.more)) (sym h)
+    ∙ (sym (flat_map-append (happened_by x) log (b.first ∷ b.more))
+    ∙ (ap (happened x) (sym b.logged)
+    ∙ (told_turn x e c log mid b h
+    ∙ (ap (λ (es : List (Event Carried)). bare es) (told_goes (is_a x) e.0 e.1 c) ∙ bare_both (side_of (is_a x) c).told (told_at (is_a x) e.0 e.1 c))))))
+
+-- ---- epochs
+
+-- as in the course
+pub record HasEpochs (x : End) (log : List Entry) (done : List (Bool × Turn)) (c : Pair) : Type 0 where
+  pub epochs : offer_epochs x log all_open ≡ courses.offer_epochs (is_a x) done c all_open
+  pub streams : (s : ℕ) → epochs_along x log all_open s ≡ courses.epochs_along (is_a x) done c all_open s
+
+epochs_turn : (x : End) (done : List (Bool × Turn)) (e : Bool × Turn) (c : Pair) (log mid : List Entry) → IsBlock e (run done c) log mid → AreTold x log (run done c)
+    → HasEpochs x log done c → HasEpochs x mid (done ++ e ∷ []) c
+epochs_turn x done e c log mid b told h =
+    let d : Pair = run done c in
+    let here : ℕ → StreamEpoch = epochs_along x log all_open in
+    let there : ℕ → StreamEpoch = courses.epochs_along (is_a x) done c all_open in
+    let new : List Offer = accepted_at (is_a x) e.0 e.1 d in
+    record {
+      epochs =
+          ap (λ (l : List Entry). offer_epochs x l all_open) b.logged
+          ∙ (epochs_both x log (b.first ∷ b.more) all_open
+          ∙ (ap (λ (ns : List ℕ). offer_epochs x log all_open ++ (epochs_of (offers_by x b.first) here ++ ns)) (none_offered x b.more (epochs_after x b.first here) (b.quiet x))
+          ∙ (ap (λ (os : List Offer). offer_epochs x log all_open ++ (epochs_of os here ++ [])) (first_offers x e d log mid b)
+          ∙ (ap (λ (ns : List ℕ). offer_epochs x log all_open ++ (ns ++ [])) (same_epochs new here there h.streams)
+          ∙ (ap (λ (ns : List ℕ). ns ++ (epochs_of new there ++ [])) h.epochs ∙ sym (epochs_go_on (is_a x) done (e ∷ []) c all_open))))));
+      streams = λ s.
+          ap (λ (l : List Entry). epochs_along x l all_open s) b.logged
+          ∙ (ap (λ (f : ℕ → StreamEpoch). f s) (along_both x log (b.first ∷ b.more) all_open)
+          ∙ (event_along x b.first b.more here s (b.resets_nothing x)
+          ∙ (ap (λ (ids : List ℕ). reopened ids (shut (reset_by x b.first) here) s) (ap (λ (es : List (Event (List ℕ))). performed_of es) (block_told x e d log mid b told) ∙ bare_names (told_at (is_a x) e.0 e.1 d))
+          ∙ (ap (λ (ids : List ℕ). reopened (performed_of (told_at (is_a x) e.0 e.1 d)) (shut ids here) s) (first_resets x e d log mid b)
+          ∙ (ap (λ (z : StreamEpoch). opened_if (are_named (performed_of (told_at (is_a x) e.0 e.1 d)) s) (shut_if (are_named (reset_at (is_a x) e.0 e.1 d) s && z.is_open) z)) (h.streams s)
+          ∙ sym (along_more (is_a x) done e c all_open s))))));
+    }
+
 -- ---- whole runs
 
 joins : {X : Type 0} (last mid log rest new : List X) → last ≡ mid ++ rest → mid ≡ log ++ new → last ≡ log ++ (new ++ rest)
@@ -175,6 +244,8 @@ pub record IsReached (c : Pair) (done : List (Bool × Turn)) (log : List Entry) 
   pub handed_are : (x : End) → handed_out x log ≡ handed (is_a x) done c
   pub gone_are : (x : End) → gone x log ≡ given_up (is_a x) done c
   pub reported_are : (x : End) → reported x log ≡ delivered (side_of (is_a x) (run done c)).told
+  pub told_are : (x : End) → AreTold x log (run done c)
+  pub epochs_are : (x : End) → HasEpochs x log done c
 
 -- nothing was told yet
 pub nothing_yet : (c : Pair) → ((x : Bool) → (side_of x c).told ≡ []) → IsReached c [] []
@@ -184,6 +255,8 @@ nothing_yet c none = record {
   handed_are = λ x. refl;
   gone_are = λ x. refl;
   reported_are = λ x. sym (ap (λ (es : List (Event Carried)). delivered es) (none (is_a x)));
+  told_are = λ x. sym (ap (λ (es : List (Event Carried)). bare es) (none (is_a x)));
+  epochs_are = λ x. record { epochs = refl; streams = λ s. refl };
 }
 
 pub reached_more : (c : Pair) (done : List (Bool × Turn)) (e : Bool × Turn) (log mid : List Entry) → IsReached c done log → IsBlock e (run done c) log mid → IsReached c (done ++ e ∷ []) mid
@@ -193,11 +266,9 @@ reached_more c done e log mid r b = record {
   handed_are = λ x. handed_turn x e (run done c) log mid b ∙ (ap (λ (z : List Message). z ++ handed_at (is_a x) e.0 e.1 (run done c)) (r.handed_are x) ∙ sym (handed_more (is_a x) done e c));
   gone_are = λ x. gone_turn x e (run done c) log mid b ∙ (ap (λ (z : List ℕ). z ++ given_up_at (is_a x) e.0 e.1 (run done c)) (r.gone_are x) ∙ sym (given_up_more (is_a x) done e c));
   reported_are = λ x. reported_turn x e (run done c) log mid b (r.reported_are x) ∙ sym (ap (λ (z : Pair). delivered (side_of (is_a x) z).told) (run_more done e c));
+  told_are = λ x. told_turn x e (run done c) log mid b (r.told_are x) ∙ sym (ap (λ (z : Pair). bare (side_of (is_a x) z).told) (run_more done e c));
+  epochs_are = λ x. epochs_turn x done e c log mid b (r.told_are x) (r.epochs_are x);
 }
-
-pub same_front : (a xs ys : List Entry) → a ++ xs ≡ a ++ ys → xs ≡ ys
-same_front [] xs ys h = h
-same_front (z ∷ a) xs ys h = same_front a xs ys (ap (λ (l : List Entry). elim l [ [] ↦ a ++ xs | u ∷ us ↦ us ]) h)
 
 -- What holds after each turn, and within each block where it holds before and behind it, holds of each beginning.
 module _ (all : List (Bool × Turn)) (c : Pair) (P : List Entry → Type 0)
@@ -240,14 +311,6 @@ module _ (all : List (Bool × Turn)) (c : Pair) (P : List Entry → Type 0)
       ]
 
 -- ---- what is read off a beginning that ends within a block
-
-pub none_behind : {X : Type 0} (xs ys : List X) → xs ++ ys ≡ [] → ys ≡ []
-none_behind [] ys h = h
-none_behind (z ∷ xs) ys h = cc
-
-pub none_before : {X : Type 0} (xs ys : List X) → xs ++ ys ≡ [] → xs ≡ []
-none_before [] ys h = refl
-none_before (z ∷ xs) ys h = cc
 
 module _ (e : Bool × Turn) (d : Pair) (log mid front behind : List Entry) (b : IsBlock e d log mid) (split : b.more ≡ front ++ behind) where
   abbrev early : List Entry

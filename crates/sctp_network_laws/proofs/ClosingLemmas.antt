@@ -18,20 +18,22 @@ use Rattle.sctp_course.specs.Handing.{handed_by, handed_at}
 use Rattle.sctp_course.specs.Handing as handing
 use Rattle.sctp_delivery.specs.Accepted.{Offer, accepted_at}
 use Rattle.sctp_delivery.specs.Accepted as turns
+use Rattle.sctp_delivery.specs.Proper.{reset_by}
 use Rattle.sctp_network_table.specs.Judge as judge
 use Rattle.sctp_network_table.specs.Judge.{End, A, B, Entry, Called, Given, Foreign, GaveUp, Call, Connect, Shutdown, ready_by, handed_out_by, given_up_by}
 use Rattle.sctp_network_table.specs.World as worlds
 use Rattle.sctp_network_table.specs.World.{Side, World, Action, CallOf, Give, GiveForeign, TellTime, ComesTo, told, skipped, Happens, Runs, side_of, other, news_of, association, associated_if, association_entries, told_entries, gone_entries, ready_entries, ready_before, calls, call_entry, after_call, tells_time, time_entry, after_time, clock, step_of}
 use Rattle.sctp_network_laws.specs.Courses.{is_a, end_of, IsTurnOf}
-use Rattle.sctp_network_laws.specs.Delivered.{offers_by, reported_by}
+use Rattle.sctp_network_laws.specs.Delivered.{offers_by, happened_by, reported_by}
 use Rattle.sctp_network_laws.specs.Joined.{ended_by, times_ended, Stands}
 use Rattle.sctp_network_laws.proofs.EventLemmas.{mapped}
 use Rattle.sctp_network_laws.proofs.LoggedLemmas.{IsQuietOnTold, behind_none, none_ready, none_associated, none_told, quiet_offers, quiet_ready, quiet_handed, quiet_reported}
 use Rattle.sctp_network_laws.proofs.StandingLemmas.{times_more}
 use Rattle.sctp_network_laws.proofs.WorldLemmas.{Both}
-use Rattle.sctp_network_laws.proofs.TellingLemmas.{not_other, BeginsWith, call_begins, time_begins, give_begins, foreign_begins, given_accepts, given_hands, foreign_accepts, foreign_hands}
-use Rattle.sctp_network_laws.proofs.PrefixLemmas.{Longer, one_is_longer, split_head, split_tail}
-use Rattle.sctp_network_laws.proofs.BlockLemmas.{same_front, none_before}
+use Rattle.sctp_network_laws.proofs.HappenedLemmas.{quiet_happened}
+use Rattle.sctp_network_laws.proofs.TellingLemmas.{not_other, BeginsWith, call_begins, time_begins, give_begins, foreign_begins, given_accepts, given_hands, given_resets, foreign_accepts, foreign_hands, foreign_resets}
+use Rattle.sctp_network_laws.proofs.PrefixLemmas.{none_before, Longer, one_is_longer, split_head, split_tail}
+use Rattle.sctp_network_laws.proofs.BlockLemmas.{same_front}
 use Rattle.sctp_network_laws.proofs.DeliveredLemmas.{calls_log, time_log}
 
 -- ---- an event's entries
@@ -49,6 +51,7 @@ pub record IsParted (x : End) (turn : Turn) (own : course.Side) (log longer : Li
   pub ready : (y : End) → flat_map (ready_by y) rest ≡ []
   pub gone : (y : End) → flat_map (given_up_by y) rest ≡ []
   pub reported : flat_map (reported_by (other x)) rest ≡ []
+  pub happened : flat_map (happened_by (other x)) rest ≡ []
   pub ended : (y : End) → flat_map (ended_by y) behind ≡ []
 
 none_front : {X : Type 0} (f : Entry → List X) (x : End) → IsQuietOnTold f x → (b : Bool) (a : Option Association) (n : ℕ) (es : List (Event (List ℕ)))
@@ -84,6 +87,7 @@ module _ (f : Mapping Carried (List ℕ)) (x : End) (own : course.Side) (w u : W
         ready = λ y. none_front (ready_by y) x (quiet_ready y x).telling same (association after) n es;
         gone = λ y. none_front (given_up_by y) x (record { associated = λ a. refl; emitted = λ k. refl; happened = λ e. refl }) same (association after) n es;
         reported = none_front (reported_by (other x)) x (quiet_reported (other x) x (not_other x)).telling same (association after) n es;
+        happened = none_front (happened_by (other x)) x (quiet_happened (other x) x (not_other x)).telling same (association after) n es;
         ended = λ y.
             flat_map-append (ended_by y) gone last
             ∙ (ap (λ (l : List End). l ++ flat_map (ended_by y) last) (none_over x y after.standing.context.told.gone)
@@ -100,14 +104,15 @@ module _ (f : Mapping Carried (List ℕ)) (x : End) (own : course.Side) (w u : W
       parted_by (time_entry x now s) (subst (λ (z : Turn). BeginsWith x z own (time_entry x now s)) (sym t) (time_begins f x own s now)) (λ y. refl) (after_time now s)
       (ap (λ (z : World). z.log) e ∙ time_log x now w)
 
-  give_parted : (packet : ℕ) → turns.accepted_in turn own ≡ [] → handed_by turn own ≡ [] → worlds.Gives x packet w u → IsParted x turn own w.log u.log
-  give_parted packet h k g = parted_by (Given x (clock s) packet) (give_begins f x own turn (clock s) packet h k) (λ y. refl) g.told.after g.told.logged
+  give_parted : (packet : ℕ) → turns.accepted_in turn own ≡ [] → handed_by turn own ≡ [] → reset_by turn own ≡ [] → worlds.Gives x packet w u → IsParted x turn own w.log u.log
+  give_parted packet h k l g = parted_by (Given x (clock s) packet) (give_begins f x own turn (clock s) packet h k l) (λ y. refl) g.told.after g.told.logged
 
-  foreign_parted : (bytes : List ℕ) → turns.accepted_in turn own ≡ [] → handed_by turn own ≡ [] → ComesTo x bytes (side_of x w) (side_of x u) w.log u.log → IsParted x turn own w.log u.log
-  foreign_parted bytes h k (told t judged) = parted_by (Foreign x (clock s) (Some bytes)) (foreign_begins f x own turn (clock s) (Some bytes) h k) (λ y. refl) t.after t.logged
-  foreign_parted bytes h k (skipped judged stays logged) = record {
+  foreign_parted : (bytes : List ℕ) → turns.accepted_in turn own ≡ [] → handed_by turn own ≡ [] → reset_by turn own ≡ [] → ComesTo x bytes (side_of x w) (side_of x u) w.log u.log
+      → IsParted x turn own w.log u.log
+  foreign_parted bytes h k l (told t judged) = parted_by (Foreign x (clock s) (Some bytes)) (foreign_begins f x own turn (clock s) (Some bytes) h k l) (λ y. refl) t.after t.logged
+  foreign_parted bytes h k l (skipped judged stays logged) = record {
     first = Foreign x (clock s) None;
-    begins = foreign_begins f x own turn (clock s) None h k;
+    begins = foreign_begins f x own turn (clock s) None h k l;
     no_end = λ y. refl;
     rest = [];
     behind = [];
@@ -117,6 +122,7 @@ module _ (f : Mapping Carried (List ℕ)) (x : End) (own : course.Side) (w u : W
     ready = λ y. refl;
     gone = λ y. refl;
     reported = refl;
+    happened = refl;
     ended = λ y. refl;
   }
 
@@ -126,13 +132,15 @@ module _ (word_of_a word_of_b : List ℕ → ℕ) where
   parted_of (CallOf A call) w u c turn e is h = call_parted (as_bytes word_of_a) A c.a w u h.a.image.socket turn call is e
   parted_of (CallOf B call) w u c turn e is h = call_parted (as_bytes word_of_b) B c.b w u h.b.image.socket turn call is e
   parted_of (Give n A) w u c turn g is h =
-      give_parted (as_bytes word_of_a) A c.a w u h.a.image.socket turn n (given_accepts word_of_a word_of_b n c.a c.b c.a turn is) (given_hands word_of_a word_of_b n c.a c.b c.a turn is) g
+      give_parted (as_bytes word_of_a) A c.a w u h.a.image.socket turn n (given_accepts word_of_a word_of_b n c.a c.b c.a turn is) (given_hands word_of_a word_of_b n c.a c.b c.a turn is)
+      (given_resets word_of_a word_of_b n c.a c.b c.a turn is) g
   parted_of (Give n B) w u c turn g is h =
-      give_parted (as_bytes word_of_b) B c.b w u h.b.image.socket turn n (given_accepts word_of_b word_of_a n c.b c.a c.b turn is) (given_hands word_of_b word_of_a n c.b c.a c.b turn is) g
+      give_parted (as_bytes word_of_b) B c.b w u h.b.image.socket turn n (given_accepts word_of_b word_of_a n c.b c.a c.b turn is) (given_hands word_of_b word_of_a n c.b c.a c.b turn is)
+      (given_resets word_of_b word_of_a n c.b c.a c.b turn is) g
   parted_of (GiveForeign A bytes) w u c turn g is h =
-      foreign_parted (as_bytes word_of_a) A c.a w u h.a.image.socket turn bytes (foreign_accepts bytes c.a turn is) (foreign_hands bytes c.a turn is) g.comes
+      foreign_parted (as_bytes word_of_a) A c.a w u h.a.image.socket turn bytes (foreign_accepts bytes c.a turn is) (foreign_hands bytes c.a turn is) (foreign_resets bytes c.a turn is) g.comes
   parted_of (GiveForeign B bytes) w u c turn g is h =
-      foreign_parted (as_bytes word_of_b) B c.b w u h.b.image.socket turn bytes (foreign_accepts bytes c.b turn is) (foreign_hands bytes c.b turn is) g.comes
+      foreign_parted (as_bytes word_of_b) B c.b w u h.b.image.socket turn bytes (foreign_accepts bytes c.b turn is) (foreign_hands bytes c.b turn is) (foreign_resets bytes c.b turn is) g.comes
   parted_of (TellTime A now) w u c turn e is h = time_parted (as_bytes word_of_a) A c.a w u h.a.image.socket turn now is e
   parted_of (TellTime B now) w u c turn e is h = time_parted (as_bytes word_of_b) B c.b w u h.b.image.socket turn now is e
 

@@ -1,24 +1,28 @@
 -- A world that a new one was led to is led on by each run, and composes.
-use Rattle.std.proofs.Common.{◌≡◌, ◌⊎◌, inl, inr, ◌^◌, ◌<◌, ℕ, Bool, true, false, List, [], ◌∷◌, ◌++◌, length, refl, sym, ap, subst, ◌∙◌, append-nil, append_assoc}
-use Rattle.std.specs.Prelude.{All}
+use Rattle.std.proofs.Common.{◌≡◌, ◌⊎◌, inl, inr, ◌^◌, ◌<◌, ℕ, Bool, true, false, List, [], ◌∷◌, ◌++◌, length, refl, sym, ap, subst, ◌∙◌, append-nil, append_assoc, arith}
+use Rattle.std.specs.Prelude.{slice_index, All}
 use Rattle.std.specs.List.{list_any}
 use Rattle.std.proofs.lemmas.List.Elements.{All-nil, All-cons, All-head, All-tail, All-append}
+use Rattle.sctp_serial.specs.Messages.{Message}
 use Rattle.sctp_rx.specs.Delivery as orders
 use Rattle.sctp_course.proofs.JoinLemmas.{not_both}
 use Rattle.sctp_course.proofs.CourseLemmas.{ends_joined}
+use Rattle.sctp_delivery.specs.Answered.{none_asked}
 use Rattle.sctp_delivery.specs.Windows.{no_stamps}
 use Rattle.sctp_delivery.specs.Delivery as courses
-use Rattle.sctp_delivery.specs.Delivery.{AllAreDone, MessagesAreDelivered}
+use Rattle.sctp_delivery.specs.Delivery.{AllAreDone, MessagesAreDelivered, NoResetIsRefused}
+use Rattle.sctp_delivery.specs.Ending as courses_then
 use Rattle.sctp_delivery.specs.Ending.{MessagesAreDeliveredThen}
-use Rattle.sctp_network_table.specs.Judge.{End, A, B, Connect, Shutdown, Entry, Called, ready, handed_out}
-use Rattle.sctp_network_table.specs.World.{World, Action, Happens, Runs, other, is_at_rest}
+use Rattle.sctp_delivery.specs.StreamEpochs.{failed_in}
+use Rattle.sctp_network_table.specs.Judge.{End, A, B, Connect, Shutdown, Entry, Called, BecameReady, ready, handed_out}
+use Rattle.sctp_network_table.specs.World.{World, Action, Runs, other, is_at_rest}
 use Rattle.sctp_network_table.proofs.RunLemmas.{Runs-append}
 use Rattle.sctp_network_laws.specs.Courses.{ActionFits, IsInBytes, IsLed, origin, is_a, end_of}
 use Rattle.sctp_network_laws.specs.Joined.{asks, was_asked, Stands, MayFollow, FollowsTheRules, AreJoined}
-use Rattle.sctp_network_laws.specs.Delivered.{AlongRun, resets, sets_more, offers, gone, ready_places, Delivers, IsInBounds}
+use Rattle.sctp_network_laws.specs.Delivered.{AlongRun, sets_more, offers, happened, gone, ready_places, IsInItsEpoch, Delivers, IsInBounds}
 use Rattle.sctp_network_laws.specs.Composed.{WorldsCompose}
 use Rattle.sctp_network_laws.proofs.SidesLemmas.{any_more}
-use Rattle.sctp_network_laws.proofs.StandingLemmas.{stands_front}
+use Rattle.sctp_network_laws.proofs.StandingLemmas.{times_more, stands_front}
 use Rattle.sctp_network_laws.proofs.WorldLemmas.{Extends, extends_same, in_bytes_before}
 use Rattle.sctp_network_laws.proofs.RunsLemmas.{runs_extends}
 use Rattle.sctp_network_laws.proofs.JoinedLemmas.{are_joined}
@@ -26,7 +30,7 @@ use Rattle.sctp_network_laws.proofs.UpToEndLemmas.{IsOver, UpToEnd, up_to_end}
 use Rattle.sctp_network_laws.proofs.PrefixLemmas.{one_is_longer}
 use Rattle.sctp_tx_rules.specs.Records.{are_distinct}
 use Rattle.sctp_network_laws.proofs.PointsLemmas.{IsDeliveredAt}
-use Rattle.sctp_network_laws.proofs.LastingLemmas.{first_pair, r, IsKept, course_delivers, delivered_front, once, rests, prefix, prefix_then, delivered_beside, delivered_own, ends_delivering, b_parted, stands_first, behind_first, logged_first}
+use Rattle.sctp_network_laws.proofs.LastingLemmas.{first_pair, r, IsKept, course_delivers, delivered_front, epochs_front, none_failed, none_failed_front, once, rests, prefix, step, prefix_then, none_ready_then, delivered_beside, none_failed_beside, delivered_own, none_failed_own, ends_delivering, b_parted, stands_first, behind_first, logged_first}
 use Rattle.sctp_network_laws.proofs.ProperLemmas.{worlds_proper}
 
 pub led_on : (w v : World) (actions : List Action) → IsLed w → All ActionFits actions → Runs actions w v → IsInBytes v → IsLed v
@@ -166,7 +170,8 @@ module _ (w : World) (l : IsLed w) (rules : FollowsTheRules w) where
     kept : IsKept u led u_rules up.stands
     kept = record {
       windows = up.windows no_stamps k.windows;
-      streams = up.none_such resets k.streams;
+      answered = up.requests none_asked k.resets.answered;
+      few_resets = λ x. k.resets.few x u.log up.later.more up.later.logged up.stands;
       few = λ x. k.few x u.log up.later.more up.later.logged up.stands;
       limits = up.none_such sets_more k.limits;
     }
@@ -174,11 +179,35 @@ module _ (w : World) (l : IsLed w) (rules : FollowsTheRules w) where
     abbrev Given : End → Type 0
     Given x = courses.Delivers (is_a x) (r u led u_rules up.stands).turns (first_pair u led u_rules up.stands)
 
+    -- a message that becomes ready last
+    abbrev LastIsInItsEpoch : (x : End) → Given x → List Entry → Type 0
+    LastIsInItsEpoch x from log =
+        (before : List Entry) (m : Message) → log ≡ before ++ BecameReady (other x) m ∷ [] → IsInItsEpoch x before m.stream (slice_index from.places (length (ready (other x) before)))
+
+    epochs_before : (x : End) (from : Given x) (early late : List Entry) → u.log ≡ early ++ late → LastIsInItsEpoch x from early
+    epochs_before x from early late e before m is =
+        epochs_front u led u_rules up.stands x from before late m
+        (e ∙ (ap (λ (l : List Entry). l ++ late) is ∙ append_assoc before (BecameReady (other x) m ∷ []) late))
+
+    epochs_then : (o : Over) (x : End) (from : Given x) (early late : List Entry) → w.log ≡ early ++ late → Stands early → LastIsInItsEpoch x from early
+    epochs_then o x from =
+        at_early (LastIsInItsEpoch x from) o (epochs_before x from)
+        (λ more behind e st before m is.
+        let there = none_ready_then u led u_rules up.stands o.action o.next w o.fits o.happens o.ends o.later rules more behind e st (other x) m before is in
+        epochs_front u led u_rules up.stands x from before there.0 m there.1)
+
+    -- it ends no association
+    stands_ready : (x : End) (early : List Entry) (m : Message) → Stands early → Stands (early ++ BecameReady x m ∷ [])
+    stands_ready x early m st y = let sum = times_more y early (BecameReady x m ∷ []) in let before = st y in omega (arith, sum, before)
+
     given : (x : End) (from : Given x) → ((early late : List Entry) → w.log ≡ early ++ late → Stands early → IsDeliveredAt x from.places early)
+        → ((early late : List Entry) → w.log ≡ early ++ late → Stands early → LastIsInItsEpoch x from early)
         → Delivers x l.actions (origin l) w l.runs
-    given x from each = record {
+    given x from each in_epochs = record {
       places = from.places;
       fits = λ early late e st. (each early late e st).fits;
+      epochs = λ early late m e st.
+          in_epochs (early ++ BecameReady (other x) m ∷ []) late (e ∙ sym (append_assoc early (BecameReady (other x) m ∷ []) late)) (stands_ready (other x) early m st) early m refl;
       skipped = λ early late e st. (each early late e st).skipped;
       reports = λ early late e st. (each early late e st).reports;
       once = up.along_run (λ z. are_distinct (gone x z.log) ≡ true) (once u led u_rules up.stands x from);
@@ -200,15 +229,21 @@ module _ (w : World) (l : IsLed w) (rules : FollowsTheRules w) where
         ∙ append_assoc (u.log ++ first ∷ []) behind o.later.more))
         (stands_first u led u_rules up.stands o.action o.next w o.fits o.happens o.ends o.later rules)
 
+    ends_then : MessagesAreDeliveredThen → (o : Over) → courses_then.DeliversThen (is_a (end_of o.action)) (r u led u_rules up.stands).turns
+        (step u led u_rules up.stands o.action o.next w o.fits o.happens o.ends o.later rules).turn (first_pair u led u_rules up.stands)
+    ends_then then o =
+        ends_delivering u led u_rules up.stands o.action o.next w o.fits o.happens o.ends o.later rules then kept
+        (o.timely no_stamps k.windows) (o.none_such sets_more k.limits) (few_then o)
+
     -- by the end whose event it is
     by_own : MessagesAreDeliveredThen → (o : Over) → Delivers (end_of o.action) l.actions (origin l) w l.runs
     by_own then o =
-        let from = ends_delivering u led u_rules up.stands o.action o.next w o.fits o.happens o.ends o.later rules then kept
-        (o.timely no_stamps k.windows) (o.none_such resets k.streams) (o.none_such sets_more k.limits) (few_then o) in
+        let from = ends_then then o in
         given (end_of o.action) from.delivers
         (at_early (IsDeliveredAt (end_of o.action) from.delivers.places) o (delivered_front u led u_rules up.stands (end_of o.action) from.delivers)
         (λ more behind e st.
         delivered_own u led u_rules up.stands o.action o.next w o.fits o.happens o.ends o.later rules more behind e st from (whole_front (end_of o.action) from.delivers)))
+        (epochs_then o (end_of o.action) from.delivers)
 
     by_other : MessagesAreDelivered → (o : Over) → Delivers (other (end_of o.action)) l.actions (origin l) w l.runs
     by_other law o =
@@ -217,6 +252,7 @@ module _ (w : World) (l : IsLed w) (rules : FollowsTheRules w) where
         (at_early (IsDeliveredAt (other (end_of o.action)) from.places) o (delivered_front u led u_rules up.stands (other (end_of o.action)) from)
         (λ more behind e st.
         delivered_beside u led u_rules up.stands o.action o.next w o.fits o.happens o.ends o.later rules more behind e st from.places (whole_front (other (end_of o.action)) from)))
+        (epochs_then o (other (end_of o.action)) from)
 
     pub delivers_then : MessagesAreDelivered → MessagesAreDeliveredThen → (x : End) → Delivers x l.actions (origin l) w l.runs
     delivers_then law then x =
@@ -224,6 +260,7 @@ module _ (w : World) (l : IsLed w) (rules : FollowsTheRules w) where
           | inl same ↦
               let from : Given x = course_delivers u led u_rules up.stands law kept x in
               given x from (λ early late e st. delivered_front u led u_rules up.stands x from early late (ap (λ (z : World). z.log) (sym same) ∙ e))
+              (λ early late e st. epochs_before x from early late (ap (λ (z : World). z.log) (sym same) ∙ e))
           | inr o ↦
               elim (same_or_other x (end_of o.action)) [
                 | inl own ↦ subst (λ (y : End). Delivers y l.actions (origin l) w l.runs) (sym own) (by_own then o)
@@ -231,13 +268,48 @@ module _ (w : World) (l : IsLed w) (rules : FollowsTheRules w) where
               ]
         ]
 
-pub compose : MessagesAreDelivered → MessagesAreDeliveredThen → WorldsCompose
-compose law then w l = record {
+    -- ---- what is told as failed
+
+    abbrev NoneFails : End → List Entry → Type 0
+    NoneFails x log = failed_in (happened x log) ≡ false
+
+    none_fails_so_far : NoResetIsRefused → (x : End) → NoneFails x u.log
+    none_fails_so_far refuses x = none_failed u led u_rules up.stands refuses kept x
+
+    none_fails_before : NoResetIsRefused → (x : End) (early late : List Entry) → u.log ≡ early ++ late → NoneFails x early
+    none_fails_before refuses x early late e = none_failed_front u led u_rules up.stands x (none_fails_so_far refuses x) early late e
+
+    own_fails_none : NoResetIsRefused → MessagesAreDeliveredThen → (o : Over) (early late : List Entry) → w.log ≡ early ++ late → Stands early → NoneFails (end_of o.action) early
+    own_fails_none refuses then o =
+        at_early (NoneFails (end_of o.action)) o (none_fails_before refuses (end_of o.action))
+        (λ more behind e st.
+        none_failed_own u led u_rules up.stands o.action o.next w o.fits o.happens o.ends o.later rules more behind e st (ends_then then o))
+
+    other_fails_none : NoResetIsRefused → (o : Over) (early late : List Entry) → w.log ≡ early ++ late → Stands early → NoneFails (other (end_of o.action)) early
+    other_fails_none refuses o =
+        at_early (NoneFails (other (end_of o.action))) o (none_fails_before refuses (other (end_of o.action)))
+        (λ more behind e st.
+        none_failed_beside u led u_rules up.stands o.action o.next w o.fits o.happens o.ends o.later rules more behind e st (none_fails_so_far refuses (other (end_of o.action))))
+
+    pub none_fails : NoResetIsRefused → MessagesAreDeliveredThen → (x : End) (early late : List Entry) → w.log ≡ early ++ late → Stands early → NoneFails x early
+    none_fails refuses then x early late is stands =
+        elim up.over [
+          | inl same ↦ none_fails_before refuses x early late (ap (λ (z : World). z.log) (sym same) ∙ is)
+          | inr o ↦
+              elim (same_or_other x (end_of o.action)) [
+                | inl own ↦ subst (λ (y : End). NoneFails y early) (sym own) (own_fails_none refuses then o early late is stands)
+                | inr beside ↦ subst (λ (y : End). NoneFails y early) (sym beside) (other_fails_none refuses o early late is stands)
+              ]
+        ]
+
+pub compose : MessagesAreDelivered → NoResetIsRefused → MessagesAreDeliveredThen → WorldsCompose
+compose law refuses then w l = record {
   joined = λ rules.
       along_led (λ z. Stands z.log → AreJoined l.a l.b z) (origin l) [] l.actions (origin l) w refl l.runs (All-nil ActionFits) l.fit
       (λ front y fit before later stands.
       are_joined ends_joined y (led_before w y l front fit before later) (record { follows = rules_before y w later rules; stands = stands }));
   handed = λ rules. handed_then w l rules;
   delivers = λ rules k. delivers_then w l rules k law then;
+  none_refused = λ rules k. none_fails w l rules k refuses then;
   proper = worlds_proper l.a l.b l.words_a l.words_b l.word_of_a l.word_of_b l.actions w l.fits_a l.fits_b l.fit l.runs l.bytes;
 }

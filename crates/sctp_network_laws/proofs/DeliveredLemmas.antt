@@ -17,6 +17,10 @@ use Rattle.sctp_course.proofs.CourseLemmas.{Halves, before_run, goes_joined}
 use Rattle.sctp_course.proofs.HandingLemmas.{hands_at}
 use Rattle.sctp_delivery.specs.Accepted.{Offer, accepted}
 use Rattle.sctp_delivery.specs.Accepted as turns
+use Rattle.sctp_delivery.specs.Answered as requests
+use Rattle.sctp_delivery.specs.Answered.{Asked, asked_by, IsAnswered}
+use Rattle.sctp_delivery.specs.Proper.{reset_by}
+use Rattle.sctp_delivery.specs.StreamEpochs.{all_open}
 use Rattle.sctp_delivery.specs.Windows as windows
 use Rattle.sctp_delivery.specs.Windows.{numbered, IsWithin, Stamp, Stamps, IsYoung}
 use Rattle.sctp_delivery.specs.GivenUp.{given_up_by, given_up_at}
@@ -26,13 +30,15 @@ use Rattle.sctp_network_table.specs.Judge as judge
 use Rattle.sctp_network_table.specs.Judge.{End, A, B, same_end, all_unless, unrefused, Entry, Called, Given, Foreign, Answer, Sent, SentMany, accepted_in, accepted_by, Call, Connect, Shutdown, Close, Send, SendMany, Receive, Reset, SetPriority, SetMaxMessageSize, SetLowThreshold, HandOver, ready, handed_out}
 use Rattle.sctp_network_table.specs.World.{Side, World, Action, CallOf, Give, GiveForeign, TellTime, ComesTo, told, skipped, Gives, Happens, Runs, side_of, settled, news_of, clock, calls, call_entry, after_call, tells_time, time_entry, after_time, step_of}
 use Rattle.sctp_network_laws.specs.Courses.{ActionFits, IsInBytes, is_a, end_of, hearing, IsTurnOf}
-use Rattle.sctp_network_laws.specs.Delivered.{gone, reported, AlongRun, SideIsWithin, AreWithin, stamp, stamped, stamps_after, IsTimely, KeepsWindows, resets, asks_more, sets_more, offers_in, offers_by, offers, OffersAreAccepted}
+use Rattle.sctp_network_laws.specs.Delivered.{gone, reported, AlongRun, SideIsWithin, AreWithin, stamp, stamped, stamps_after, IsTimely, KeepsWindows, asked_after, AreAnswered, KeepsRequests, asks_more, sets_more, offers_in, offers_by, offers, happened, OffersAreAccepted, OffersHaveEpochs}
 use Rattle.sctp_network_laws.specs.Joined.{Stands}
 use Rattle.sctp_network_laws.proofs.StandingLemmas.{stands_front}
 use Rattle.sctp_network_laws.proofs.UpToEndLemmas.{stamps_along}
 use Rattle.sctp_network_laws.proofs.WorldLemmas.{Both, Extends, extends_then, in_bytes_before, Stepped, steps}
 use Rattle.sctp_network_laws.proofs.RunsLemmas.{runs_extends, happens_extends, ran}
-use Rattle.sctp_network_laws.proofs.TellingLemmas.{BeginsWith, IsTold, goes_on_told, skipped_told, call_begins, time_begins, give_begins, foreign_begins, given_accepts, given_hands, foreign_accepts, foreign_hands}
+use Rattle.sctp_network_laws.proofs.HappenedLemmas.{bare, happened_is}
+use Rattle.sctp_network_laws.proofs.LoggedEpochLemmas.{epochs_are_many}
+use Rattle.sctp_network_laws.proofs.TellingLemmas.{BeginsWith, IsTold, goes_on_told, skipped_told, call_begins, time_begins, give_begins, foreign_begins, given_accepts, given_hands, given_resets, foreign_accepts, foreign_hands, foreign_resets}
 use Rattle.sctp_network_laws.proofs.BlockLemmas as block
 use Rattle.sctp_network_laws.proofs.BlockLemmas.{IsBlock, AreBlocks, StandsAt, run_more, IsReached, reached_more}
 use Rattle.sctp_network_laws.proofs.ReportedLemmas.{reported_is}
@@ -57,13 +63,14 @@ time_log B now w = refl
 
 module _ (f : Mapping Carried (List ℕ)) (x : End) (own beside next : course.Side) (w u : World) (is : (side_of x w).socket ≡ map_end f own.end) (is_next : (side_of x u).socket ≡ map_end f next.end)
     (stands : (a : Association) → association_in (state_of own) ≡ Some a → association_in (state_of next) ≡ Some a) (turn : Turn)
-    (gave_up : gone x u.log ≡ gone x w.log ++ given_up_by turn own beside) (reports : reported x u.log ≡ delivered next.told) where
+    (gave_up : gone x u.log ≡ gone x w.log ++ given_up_by turn own beside) (reports : reported x u.log ≡ delivered next.told)
+    (tells : happened x u.log ≡ bare next.told) where
   abbrev s : Endpoint (List ℕ)
   s = (side_of x w).socket
 
   goes_told : (first : Entry) → BeginsWith x turn own first → (after : Endpoint (List ℕ)) → side_of x u ≡ settled (side_of x w) after → u.log ≡ w.log ++ first ∷ news_of x (side_of x w) after
       → IsTold x turn own beside next w.log u.log
-  goes_told first b after at logged = goes_on_told f x turn own beside next w.log u.log (side_of x w) (side_of x u) is is_next stands gave_up reports first b after at logged
+  goes_told first b after at logged = goes_on_told f x turn own beside next w.log u.log (side_of x w) (side_of x u) is is_next stands gave_up reports tells first b after at logged
 
   call_told : (call : Call) → turn ≡ Calls (step_of call) → u ≡ calls x call w → IsTold x turn own beside next w.log u.log
   call_told call t e =
@@ -75,13 +82,15 @@ module _ (f : Mapping Carried (List ℕ)) (x : End) (own beside next : course.Si
       goes_told (time_entry x now s) (subst (λ (z : Turn). BeginsWith x z own (time_entry x now s)) (sym t) (time_begins f x own s now)) (after_time now s)
       (ap (side_of x) e ∙ time_side x now w) (ap (λ (z : World). z.log) e ∙ time_log x now w)
 
-  give_told : (packet : ℕ) → turns.accepted_in turn own ≡ [] → handed_by turn own ≡ [] → Gives x packet w u → IsTold x turn own beside next w.log u.log
-  give_told packet h k g = goes_told (Given x (clock s) packet) (give_begins f x own turn (clock s) packet h k) g.told.after g.told.side g.told.logged
+  give_told : (packet : ℕ) → turns.accepted_in turn own ≡ [] → handed_by turn own ≡ [] → reset_by turn own ≡ [] → Gives x packet w u → IsTold x turn own beside next w.log u.log
+  give_told packet h k l g = goes_told (Given x (clock s) packet) (give_begins f x own turn (clock s) packet h k l) g.told.after g.told.side g.told.logged
 
-  foreign_told : (bytes : List ℕ) → turns.accepted_in turn own ≡ [] → handed_by turn own ≡ [] → ComesTo x bytes (side_of x w) (side_of x u) w.log u.log → IsTold x turn own beside next w.log u.log
-  foreign_told bytes h k (told t judged) = goes_told (Foreign x (clock s) (Some bytes)) (foreign_begins f x own turn (clock s) (Some bytes) h k) t.after t.side t.logged
-  foreign_told bytes h k (skipped judged stays logged) =
-      skipped_told f x turn own beside next w.log u.log (side_of x w) (side_of x u) is is_next stands gave_up reports (Foreign x (clock s) None) (foreign_begins f x own turn (clock s) None h k) stays logged
+  foreign_told : (bytes : List ℕ) → turns.accepted_in turn own ≡ [] → handed_by turn own ≡ [] → reset_by turn own ≡ [] → ComesTo x bytes (side_of x w) (side_of x u) w.log u.log
+      → IsTold x turn own beside next w.log u.log
+  foreign_told bytes h k l (told t judged) = goes_told (Foreign x (clock s) (Some bytes)) (foreign_begins f x own turn (clock s) (Some bytes) h k l) t.after t.side t.logged
+  foreign_told bytes h k l (skipped judged stays logged) =
+      skipped_told f x turn own beside next w.log u.log (side_of x w) (side_of x u) is is_next stands gave_up reports tells (Foreign x (clock s) None)
+      (foreign_begins f x own turn (clock s) None h k l) stays logged
 
 module _ (word_of_a word_of_b : List ℕ → ℕ) where
   block_of : (action : Action) (w u : World) (c : Pair) (turn : Turn) → Happens action w u → IsTurnOf word_of_a word_of_b action turn c → Both word_of_a word_of_b w c
@@ -90,32 +99,42 @@ module _ (word_of_a word_of_b : List ℕ → ℕ) where
       → IsBlock (is_a (end_of action), turn) c w.log u.log
   block_of (CallOf A call) w u c turn e is h k stands gives_up =
       call_told (as_bytes word_of_a) A c.a c.b (turned turn c.a c.b) w u h.a.image.socket k.a.image.socket stands turn (gives_up A)
-      (reported_is word_of_a A u.log u.b.packets u.a (turned turn c.a c.b) k.a) call is e
+      (reported_is word_of_a A u.log u.b.packets u.a (turned turn c.a c.b) k.a)
+      (happened_is word_of_a A u.log u.b.packets u.a (turned turn c.a c.b) k.a) call is e
   block_of (CallOf B call) w u c turn e is h k stands gives_up =
       call_told (as_bytes word_of_b) B c.b c.a (turned turn c.b c.a) w u h.b.image.socket k.b.image.socket stands turn (gives_up B)
-      (reported_is word_of_b B u.log u.a.packets u.b (turned turn c.b c.a) k.b) call is e
+      (reported_is word_of_b B u.log u.a.packets u.b (turned turn c.b c.a) k.b)
+      (happened_is word_of_b B u.log u.a.packets u.b (turned turn c.b c.a) k.b) call is e
   block_of (Give n A) w u c turn g is h k stands gives_up =
       give_told (as_bytes word_of_a) A c.a c.b (turned turn c.a c.b) w u h.a.image.socket k.a.image.socket stands turn (gives_up A)
-      (reported_is word_of_a A u.log u.b.packets u.a (turned turn c.a c.b) k.a) n
-      (given_accepts word_of_a word_of_b n c.a c.b c.a turn is) (given_hands word_of_a word_of_b n c.a c.b c.a turn is) g
+      (reported_is word_of_a A u.log u.b.packets u.a (turned turn c.a c.b) k.a)
+      (happened_is word_of_a A u.log u.b.packets u.a (turned turn c.a c.b) k.a) n
+      (given_accepts word_of_a word_of_b n c.a c.b c.a turn is) (given_hands word_of_a word_of_b n c.a c.b c.a turn is)
+      (given_resets word_of_a word_of_b n c.a c.b c.a turn is) g
   block_of (Give n B) w u c turn g is h k stands gives_up =
       give_told (as_bytes word_of_b) B c.b c.a (turned turn c.b c.a) w u h.b.image.socket k.b.image.socket stands turn (gives_up B)
-      (reported_is word_of_b B u.log u.a.packets u.b (turned turn c.b c.a) k.b) n
-      (given_accepts word_of_b word_of_a n c.b c.a c.b turn is) (given_hands word_of_b word_of_a n c.b c.a c.b turn is) g
+      (reported_is word_of_b B u.log u.a.packets u.b (turned turn c.b c.a) k.b)
+      (happened_is word_of_b B u.log u.a.packets u.b (turned turn c.b c.a) k.b) n
+      (given_accepts word_of_b word_of_a n c.b c.a c.b turn is) (given_hands word_of_b word_of_a n c.b c.a c.b turn is)
+      (given_resets word_of_b word_of_a n c.b c.a c.b turn is) g
   block_of (GiveForeign A bytes) w u c turn g is h k stands gives_up =
       foreign_told (as_bytes word_of_a) A c.a c.b (turned turn c.a c.b) w u h.a.image.socket k.a.image.socket stands turn (gives_up A)
-      (reported_is word_of_a A u.log u.b.packets u.a (turned turn c.a c.b) k.a) bytes
-      (foreign_accepts bytes c.a turn is) (foreign_hands bytes c.a turn is) g.comes
+      (reported_is word_of_a A u.log u.b.packets u.a (turned turn c.a c.b) k.a)
+      (happened_is word_of_a A u.log u.b.packets u.a (turned turn c.a c.b) k.a) bytes
+      (foreign_accepts bytes c.a turn is) (foreign_hands bytes c.a turn is) (foreign_resets bytes c.a turn is) g.comes
   block_of (GiveForeign B bytes) w u c turn g is h k stands gives_up =
       foreign_told (as_bytes word_of_b) B c.b c.a (turned turn c.b c.a) w u h.b.image.socket k.b.image.socket stands turn (gives_up B)
-      (reported_is word_of_b B u.log u.a.packets u.b (turned turn c.b c.a) k.b) bytes
-      (foreign_accepts bytes c.b turn is) (foreign_hands bytes c.b turn is) g.comes
+      (reported_is word_of_b B u.log u.a.packets u.b (turned turn c.b c.a) k.b)
+      (happened_is word_of_b B u.log u.a.packets u.b (turned turn c.b c.a) k.b) bytes
+      (foreign_accepts bytes c.b turn is) (foreign_hands bytes c.b turn is) (foreign_resets bytes c.b turn is) g.comes
   block_of (TellTime A now) w u c turn e is h k stands gives_up =
       time_told (as_bytes word_of_a) A c.a c.b (turned turn c.a c.b) w u h.a.image.socket k.a.image.socket stands turn (gives_up A)
-      (reported_is word_of_a A u.log u.b.packets u.a (turned turn c.a c.b) k.a) now is e
+      (reported_is word_of_a A u.log u.b.packets u.a (turned turn c.a c.b) k.a)
+      (happened_is word_of_a A u.log u.b.packets u.a (turned turn c.a c.b) k.a) now is e
   block_of (TellTime B now) w u c turn e is h k stands gives_up =
       time_told (as_bytes word_of_b) B c.b c.a (turned turn c.b c.a) w u h.b.image.socket k.b.image.socket stands turn (gives_up B)
-      (reported_is word_of_b B u.log u.a.packets u.b (turned turn c.b c.a) k.b) now is e
+      (reported_is word_of_b B u.log u.a.packets u.b (turned turn c.b c.a) k.b)
+      (happened_is word_of_b B u.log u.a.packets u.b (turned turn c.b c.a) k.b) now is e
 
   -- ---- windows
 
@@ -183,46 +202,29 @@ module _ (word_of_a word_of_b : List ℕ → ℕ) where
   timely (GiveForeign x bytes) w c turn s h (inr is) t = subst (λ (z : Turn). windows.IsTimely z (windows.stamp c) (windows.stamps_for (is_a x) s)) (sym is) tt
   timely (TellTime x now) w c turn s h is t = subst (λ (z : Turn). windows.IsTimely z (windows.stamp c) (windows.stamps_for (is_a x) s)) (sym is) tt
 
-  -- ---- resets
+  -- ---- requests to reset streams
 
-  call_resets : (call : Call) → windows.resets (Calls (step_of call)) ≡ resets (CallOf A call)
-  call_resets Connect = refl
-  call_resets Shutdown = refl
-  call_resets Close = refl
-  call_resets (Send m o) = refl
-  call_resets (SendMany ms o) = refl
-  call_resets Receive = refl
-  call_resets (Reset streams) = refl
-  call_resets (SetPriority stream priority) = refl
-  call_resets (SetMaxMessageSize bytes) = refl
-  call_resets (SetLowThreshold stream bytes) = refl
-  call_resets HandOver = refl
+  answered_same : (f : Mapping Carried (List ℕ)) (side : Side) (end : course.Side) (n : ℕ) → side.socket ≡ map_end f end.end → IsAnswered side.socket.standing.state n → IsAnswered (state_of end) n
+  answered_same f side end n e h = subst (λ (s : State). IsAnswered s n) (state_same f side end e) h
 
-  same_resets : (x : End) (call : Call) → resets (CallOf A call) ≡ resets (CallOf x call)
-  same_resets A call = refl
-  same_resets B Connect = refl
-  same_resets B Shutdown = refl
-  same_resets B Close = refl
-  same_resets B (Send m o) = refl
-  same_resets B (SendMany ms o) = refl
-  same_resets B Receive = refl
-  same_resets B (Reset streams) = refl
-  same_resets B (SetPriority stream priority) = refl
-  same_resets B (SetMaxMessageSize bytes) = refl
-  same_resets B (SetLowThreshold stream bytes) = refl
-  same_resets B HandOver = refl
+  are_answered : (w : World) (c : Pair) (k : Asked) → Both word_of_a word_of_b w c → AreAnswered w k → requests.AreAnswered c k
+  are_answered w c k h i = record {
+    a = answered_same (as_bytes word_of_a) w.a c.a k.a h.a.image.socket i.a;
+    b = answered_same (as_bytes word_of_b) w.b c.b k.b h.b.image.socket i.b;
+  }
 
-  hearing_resets : (b : Bool) (n sum : ℕ) → windows.resets (hearing b n sum) ≡ false
-  hearing_resets true n sum = refl
-  hearing_resets false n sum = refl
-
-  pub turn_resets : (action : Action) (turn : Turn) (c : Pair) → IsTurnOf word_of_a word_of_b action turn c → windows.resets turn ≡ resets action
-  turn_resets (CallOf x call) turn c is = ap windows.resets is ∙ (call_resets call ∙ same_resets x call)
-  turn_resets (Give n A) turn c is = ap windows.resets is.heard ∙ hearing_resets _ n _
-  turn_resets (Give n B) turn c is = ap windows.resets is.heard ∙ hearing_resets _ n _
-  turn_resets (GiveForeign x bytes) turn c (inl is) = ap windows.resets is.2
-  turn_resets (GiveForeign x bytes) turn c (inr is) = ap windows.resets is
-  turn_resets (TellTime x now) turn c is = ap windows.resets is
+  pub asked_same : (at_a : Bool) (turn : Turn) (w u : World) (c : Pair) (k : Asked) → Both word_of_a word_of_b w c → Both word_of_a word_of_b u (goes at_a turn c)
+      → asked_after w u k ≡ requests.asked_after at_a turn c k
+  asked_same at_a turn w u c k h i =
+      ap (λ (n : ℕ). record { a = n; b = asked_by w.b.socket.standing.state u.b.socket.standing.state k.b })
+      (by_states w.a.socket.standing.state (state_of c.a) u.a.socket.standing.state (state_of (goes at_a turn c).a) k.a (state_same (as_bytes word_of_a) w.a c.a h.a.image.socket)
+      (state_same (as_bytes word_of_a) u.a (goes at_a turn c).a i.a.image.socket))
+      ∙ ap (λ (n : ℕ). record { a = asked_by (state_of c.a) (state_of (goes at_a turn c).a) k.a; b = n })
+      (by_states w.b.socket.standing.state (state_of c.b) u.b.socket.standing.state (state_of (goes at_a turn c).b) k.b (state_same (as_bytes word_of_b) w.b c.b h.b.image.socket)
+      (state_same (as_bytes word_of_b) u.b (goes at_a turn c).b i.b.image.socket))
+    where
+      by_states : (s t after then : State) (n : ℕ) → s ≡ t → after ≡ then → asked_by s after n ≡ asked_by t then n
+      by_states s t after then n e f = ap (λ (z : State). asked_by z after n) e ∙ ap (λ (z : State). asked_by t z n) f
 
   -- ---- limits
 
@@ -265,7 +267,7 @@ module _ (word_of_a word_of_b : List ℕ → ℕ) where
     pub blocks : block.Stands turns c → AreBlocks turns c w.log v.log
     pub windows_kept : (s : Stamps) → Stands v.log → KeepsWindows actions w v runs s → windows.KeepsWindows turns c s
     pub stamps : (s : Stamps) → stamps_along actions w v runs s ≡ ending.stamps_along turns c s
-    pub streams : list_any (λ (e : Bool × Turn). windows.resets e.1) turns ≡ list_any resets actions
+    pub requests_kept : (k : Asked) → Stands v.log → KeepsRequests actions w v runs k → requests.KeepsRequests turns c k
     pub limits : list_any (λ (e : Bool × Turn). windows.sets_more e.1) turns ≡ list_any sets_more actions
     pub points : (all done : List (Bool × Turn)) (first : Pair) → all ≡ done ++ turns → run done first ≡ c → block.Stands turns c → IsReached first done w.log
         → AlongRun (IsPoint all first) actions w v runs
@@ -277,7 +279,7 @@ module _ (word_of_a word_of_b : List ℕ → ℕ) where
     blocks = λ s. ap (λ (z : World). z.log) r;
     windows_kept = λ s st k. are_within w c h (k (subst (λ (z : World). Stands z.log) r st));
     stamps = λ s. refl;
-    streams = refl;
+    requests_kept = λ k st i. are_answered w c k h (i (subst (λ (z : World). Stands z.log) r st));
     limits = refl;
     points = λ all done first split is s reached.
         record { early = done; late = []; split = split; reached = reached; both = subst (Both word_of_a word_of_b w) (sym is) h };
@@ -301,7 +303,11 @@ module _ (word_of_a word_of_b : List ℕ → ℕ) where
               (subst (λ (z : Stamps). KeepsWindows actions u v r.2 z) (stamps_same at_end step.turn w u c s h step.both) k.1),
         );
         stamps = λ s. rest.stamps (stamps_after w u s) ∙ ap (λ (z : Stamps). ending.stamps_along rest_turns d z) (stamps_same at_end step.turn w u c s h step.both);
-        streams = both_any (turn_resets action step.turn c step.is) rest.streams;
+        requests_kept = λ k st i. (
+          are_answered w c k h (i.0 (stands_front w.log (extends_then w u v first later).more v.log (extends_then w u v first later).logged st)),
+          rest.requests_kept (requests.asked_after at_end step.turn c k) st
+              (subst (λ (z : Asked). KeepsRequests actions u v r.2 z) (asked_same at_end step.turn w u c k h step.both) i.1),
+        );
         limits = both_any (turn_more action step.turn c step.is) rest.limits;
         points = λ all done first split is s reached.
             let e : Bool × Turn = (at_end, step.turn) in
@@ -350,6 +356,9 @@ one_entry x (Called y clock call answer) = go (same_end x y)
     go true = one_call call answer
     go false = refl
 one_entry x e = refl
+
+pub offers_have_epochs : OffersHaveEpochs
+offers_have_epochs x log = epochs_are_many x log all_open
 
 pub offers_accepted : OffersAreAccepted
 offers_accepted x [] = refl

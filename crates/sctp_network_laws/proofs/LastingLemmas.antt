@@ -1,6 +1,8 @@
 -- A world that stands delivers what its course delivers, and so does the log of the next event up to the first end that it tells.
-use Rattle.std.proofs.Common.{◌≡◌, ◌⊎◌, inl, inr, ℕ, ◌+◌, ◌^◌, ◌<◌, ◌||◌, not, Bool, true, false, List, [], ◌∷◌, ◌++◌, length, take, refl, sym, ap, subst, ◌∙◌, append-nil, append_assoc, arith}
+use Rattle.std.proofs.Common.{◌≡◌, ◌⊎◌, inl, inr, ℕ, ◌+◌, ◌-◌, ◌^◌, ◌<◌, ◌||◌, not, Bool, true, false, List, [], ◌∷◌, ◌++◌, length, take, refl, sym, ap, subst, ◌∙◌, append-nil, append_assoc, arith}
+use Rattle.std.specs.Prelude.{slice_index}
 use Rattle.std.specs.List.{flat_map, list_any}
+use Rattle.std.proofs.lemmas.Bool.{or_parts}
 use Rattle.std.proofs.lemmas.Grind.{flat_map-append}
 use Rattle.std.proofs.lemmas.List.{map-append}
 use Rattle.rand_core.specs.Stream.{Stream}
@@ -21,21 +23,26 @@ use Rattle.sctp_course.proofs.CourseLemmas.{before_run}
 use Rattle.sctp_course.proofs.HandingLemmas.{handed_in_order, handed_prefix, first_halves}
 use Rattle.sctp_delivery.specs.Accepted.{Offer, accepted_at, accepted}
 use Rattle.sctp_delivery.specs.GivenUp.{told_by}
+use Rattle.sctp_delivery.specs.Answered as requests
+use Rattle.sctp_delivery.specs.Answered.{none_asked, performed_in}
+use Rattle.sctp_delivery.specs.StreamEpochs.{failed_in}
 use Rattle.sctp_delivery.specs.Windows as windows
 use Rattle.sctp_delivery.specs.Windows.{no_stamps}
 use Rattle.sctp_delivery.specs.Delivery as courses
 use Rattle.sctp_delivery.specs.Delivery.{AllAreDone, IsReady}
 use Rattle.sctp_delivery.specs.Ending as ending
 use Rattle.sctp_delivery.proofs.LawLemmas.{follows_front, accepted_more}
-use Rattle.sctp_delivery.proofs.GoingLemmas.{told_turned}
-use Rattle.sctp_network_table.specs.Judge.{End, A, B, Entry, ready, handed_out, handed_out_by, ready_by, given_up_by}
+use Rattle.sctp_delivery.proofs.CourseResetLemmas.{told_turned, failed_both}
+use Rattle.sctp_network_table.specs.Judge.{End, A, B, Entry, BecameReady, ready, handed_out, handed_out_by, ready_by, given_up_by}
 use Rattle.sctp_network_table.specs.World.{World, Action, Happens, other, is_at_rest, packets_in, told_entries}
 use Rattle.sctp_network_laws.specs.Courses.{ActionFits, IsLed, origin, is_a, end_of, told_in}
-use Rattle.sctp_network_laws.specs.Delivered.{gone, reported_by, reported, AlongRun, ready_places, stamp, IsTimely, KeepsWindows, resets, sets_more, offers_by, offers}
+use Rattle.sctp_network_laws.specs.Delivered.{gone, reported_by, reported, AlongRun, ready_places, stamp, IsTimely, KeepsWindows, KeepsRequests, sets_more, offers_by, offers, happened_by, happened, IsInItsEpoch}
 use Rattle.sctp_network_laws.specs.Joined.{ended_by, times_ended, Stands, FollowsTheRules}
 use Rattle.sctp_network_laws.proofs.EventLemmas.{mapped, entries_both, ended_told}
 use Rattle.sctp_network_laws.proofs.NewsLemmas.{told_both, ended_by_told}
 use Rattle.sctp_network_laws.proofs.StandingLemmas.{times_more}
+use Rattle.sctp_network_laws.proofs.PrefixLemmas.{Longer, one_is_longer, split_head}
+use Rattle.sctp_network_laws.proofs.HappenedLemmas.{bare, bare_both, bare_performed, bare_failed, happened_told, happened_by_told, happened_is, ready_among}
 use Rattle.sctp_network_laws.proofs.WorldLemmas.{Both, Extends, Stepped, steps, numbers_of}
 use Rattle.sctp_network_laws.proofs.RunsLemmas.{may_turn, Ran, ran, fresh_both}
 use Rattle.sctp_network_laws.proofs.JoinedLemmas.{given_of, none_ended}
@@ -45,7 +52,8 @@ use Rattle.sctp_network_laws.proofs.BetweenLemmas.{IsDelivered, same_delivered, 
 use Rattle.sctp_network_laws.proofs.BlockLemmas as block
 use Rattle.sctp_network_laws.proofs.BlockLemmas.{AreBlocks, offers_run, ready_run, handed_run, IsReached, nothing_yet, prefix_each, same_front}
 use Rattle.sctp_network_laws.proofs.PointsLemmas.{IsDeliveredAt, is_a_other, delivered_each, once_at, at_rest}
-use Rattle.sctp_network_laws.proofs.DeliveredLemmas.{timely, turn_resets, turn_more, IsPoint, Delivering, delivering, along_each, stands_along}
+use Rattle.sctp_network_laws.proofs.InEpochLemmas.{each_in_its_epoch}
+use Rattle.sctp_network_laws.proofs.DeliveredLemmas.{timely, turn_more, IsPoint, Delivering, delivering, along_each, stands_along}
 use Rattle.sctp_network_laws.proofs.ClosingLemmas.{IsParted, parted_of, IsFront, in_front, read_front, first_offers, first_hands, still_prefix, IsTelling, told_front}
 
 -- ---- beginnings of courses
@@ -120,6 +128,15 @@ module _ (f : Mapping Carried (List ℕ)) (x : End) (log early late : List Entry
       ∙ (ap (λ (l : List ℕ). delivered past ++ l) (ap (reported x) tells.are ∙ reported_told f x n tells.some)
       ∙ sym (delivered_more past tells.some)))))
 
+  pub tells_happened : happened x (log ++ early) ≡ bare (past ++ tells.some)
+  tells_happened =
+      happened_by_told x (log ++ early)
+      ∙ (ap (happened x) (told_both x log early)
+      ∙ (flat_map-append (happened_by x) (told_in x log) (told_in x early)
+      ∙ (ap (λ (l : List (Event (List ℕ))). l ++ happened x (told_in x early)) (ap (happened x) before ∙ happened_told f x 0 past)
+      ∙ (ap (λ (l : List (Event (List ℕ))). bare past ++ l) (ap (happened x) tells.are ∙ happened_told f x n tells.some)
+      ∙ sym (bare_both past tells.some)))))
+
 -- ---- a world that stands
 
 module _ (w : World) (l : IsLed w) (rules : FollowsTheRules w) (none : Stands w.log) where
@@ -184,6 +201,10 @@ module _ (w : World) (l : IsLed w) (rules : FollowsTheRules w) (none : Stands w.
   offered : (x : End) → offers x w.log ≡ accepted (is_a x) r.turns first_pair
   offered x = offers_run x r.turns first_pair [] w.log blocks
 
+  told_is : (x : End) → happened x w.log ≡ bare (course.side_of (is_a x) c).told
+  told_is A = happened_is word_of_a A w.log w.b.packets w.a c.a r.both.a
+  told_is B = happened_is word_of_b B w.log w.a.packets w.b c.b r.both.b
+
   became_ready : (x : End) → ready x w.log ≡ readied (is_a x) r.turns first_pair
   became_ready x = ready_run x r.turns first_pair [] w.log blocks
 
@@ -197,14 +218,26 @@ module _ (w : World) (l : IsLed w) (rules : FollowsTheRules w) (none : Stands w.
   -- the bounds, until here
   pub record IsKept : Type 0 where
     pub windows : KeepsWindows actions first_world w l.runs no_stamps
-    pub streams : list_any resets actions ≡ false
+    pub answered : KeepsRequests actions first_world w l.runs none_asked
+    pub few_resets : (x : End) → performed_in (happened x w.log) < 2 ^ 32 - 1
     pub few : (x : End) → length (offers x w.log) < 2 ^ 32
     pub limits : list_any sets_more actions ≡ false
+
+  resets_kept : IsKept → requests.KeepsResets r.turns first_pair
+  resets_kept k = record { answered = d.requests_kept none_asked none k.answered; few = λ x. few_at x }
+    where
+      few_of : (x : End) → performed_in (course.side_of (is_a x) c).told < 2 ^ 32 - 1
+      few_of x =
+          subst (λ (n : ℕ). n < 2 ^ 32 - 1) (ap (λ (es : List (Event (List ℕ))). performed_in es) (told_is x) ∙ bare_performed (course.side_of (is_a x) c).told) (k.few_resets x)
+
+      few_at : (x : Bool) → performed_in (course.side_of x c).told < 2 ^ 32 - 1
+      few_at true = few_of A
+      few_at false = few_of B
 
   bounds : IsKept → courses.IsInBounds r.turns first_pair
   bounds k = record {
     windows = d.windows_kept windows.no_stamps none k.windows;
-    streams = d.streams ∙ k.streams;
+    resets = resets_kept k;
     few = λ from_a. few_at from_a;
     limits = d.limits ∙ k.limits;
   }
@@ -218,6 +251,22 @@ module _ (w : World) (l : IsLed w) (rules : FollowsTheRules w) (none : Stands w.
 
   pub delivered_front : (x : End) (from : courses.Delivers (is_a x) r.turns first_pair) (early late : List Entry) → w.log ≡ early ++ late → IsDeliveredAt x from.places early
   delivered_front x from early late e = delivered_each x r.turns first_pair from w.log early late reached blocks e
+
+  pub epochs_front : (x : End) (from : courses.Delivers (is_a x) r.turns first_pair) (early late : List Entry) (m : Message) → w.log ≡ early ++ BecameReady (other x) m ∷ late
+      → IsInItsEpoch x early m.stream (slice_index from.places (length (ready (other x) early)))
+  epochs_front x from early late m e = each_in_its_epoch x r.turns first_pair from w.log early late m reached blocks e
+
+  -- no end told that a reset failed
+  pub none_failed : courses.NoResetIsRefused → IsKept → (x : End) → failed_in (happened x w.log) ≡ false
+  none_failed law k x =
+      ap (λ (es : List (Event (List ℕ))). failed_in es) (told_is x)
+      ∙ (bare_failed (course.side_of (is_a x) c).told ∙ law a b words_a words_b r.turns own theirs follows not_ended (bounds k) (is_a x))
+
+  pub none_failed_front : (x : End) → failed_in (happened x w.log) ≡ false → (early late : List Entry) → w.log ≡ early ++ late → failed_in (happened x early) ≡ false
+  none_failed_front x h early late e =
+      (or_parts (failed_in (happened x early)) (failed_in (happened x late))
+      (sym (failed_both (happened x early) (happened x late))
+      ∙ (ap (λ (es : List (Event (List ℕ))). failed_in es) (sym (flat_map-append (happened_by x) early late)) ∙ (sym (ap (λ (l : List Entry). failed_in (happened x l)) e) ∙ h)))).0
 
   pub rests : (x : End) (from : courses.Delivers (is_a x) r.turns first_pair)
       → AlongRun (λ u. is_at_rest x u ≡ true → AllAreDone (offers x u.log) (gone x u.log) (ready_places x u.log from.places)) actions first_world w l.runs
@@ -299,6 +348,27 @@ module _ (w : World) (l : IsLed w) (rules : FollowsTheRules w) (none : Stands w.
               (subst (λ (l : List Message). orders.Extends l (ready y w.log)) (sym handed_is)
               (still_prefix (is_a y) (is_a x) step.turn c (handed_out y w.log) (ready y w.log) order))
 
+      -- ---- no message becomes ready in it
+
+      pub none_ready_then : (y : End) (m : Message) (before : List Entry) → here ≡ before ++ BecameReady y m ∷ [] → (between : List Entry) × (w.log ≡ before ++ BecameReady y m ∷ between)
+      none_ready_then y m before is = go (one_is_longer w.log early before (BecameReady y m ∷ []) is)
+        where
+          none_new : ready y early ≡ []
+          none_new = elim front [
+            | inl none_there ↦ ap (ready y) none_there
+            | inr h ↦ same_front (ready y w.log) (ready y early) []
+                (sym (flat_map-append (ready_by y) w.log early) ∙ (ready_same h y ∙ sym (append-nil (ready y w.log))))
+          ]
+
+          in_log : (between : List Entry) → w.log ≡ before ++ between → BecameReady y m ∷ [] ≡ between ++ early → (between : List Entry) × (w.log ≡ before ++ BecameReady y m ∷ between)
+          in_log [] made rest = absurd (ready_among y m [] [] early none_new (sym rest))
+          in_log (k ∷ between) made rest =
+              (between, made ∙ ap (λ (e : Entry). before ++ e ∷ between) (sym (split_head (BecameReady y m) k [] (between ++ early) rest)))
+
+          go : Longer w.log before (BecameReady y m ∷ []) early ⊎ Longer before w.log early (BecameReady y m ∷ []) → (between : List Entry) × (w.log ≡ before ++ BecameReady y m ∷ between)
+          go (inl h) = absurd (ready_among y m h.between [] early none_new h.behind)
+          go (inr h) = in_log h.between h.made h.behind
+
       -- ---- what is delivered, from the other end
 
       same_there : (y : End) (places : List ℕ) → early ≡ [] → IsDeliveredAt y places w.log → IsDeliveredAt y places here
@@ -315,6 +385,15 @@ module _ (w : World) (l : IsLed w) (rules : FollowsTheRules w) (none : Stands w.
             (ready_same k (other (other x))) (gone_same k (other x))
             (reads k (reported_by (other x)) b_parted.reported
             ∙ (ap (λ (l : List ℕ). reported (other x) w.log ++ l) (b_parted.begins.reported (other x)) ∙ append-nil (reported (other x) w.log))) h
+      ]
+
+      -- it tells nothing
+      pub none_failed_beside : failed_in (happened (other x) w.log) ≡ false → failed_in (happened (other x) here) ≡ false
+      none_failed_beside h = elim front [
+        | inl none_there ↦ ap (λ (l : List Entry). failed_in (happened (other x) (w.log ++ l))) none_there ∙ (ap (λ (l : List Entry). failed_in (happened (other x) l)) (append-nil w.log) ∙ h)
+        | inr k ↦ ap (λ (es : List (Event (List ℕ))). failed_in es)
+            (reads k (happened_by (other x)) b_parted.happened
+            ∙ (ap (λ (es : List (Event (List ℕ))). happened (other x) w.log ++ es) (b_parted.begins.happened (other x)) ∙ append-nil (happened (other x) w.log))) ∙ h
       ]
 
       -- ---- and from the end that acts
@@ -336,6 +415,14 @@ module _ (w : World) (l : IsLed w) (rules : FollowsTheRules w) (none : Stands w.
 
       none_early : times_ended x early ≡ 0
       none_early = let whole = stands x in let sum = times_more x w.log early in omega (arith, whole, sum)
+
+      pub none_failed_own : ending.DeliversThen (is_a x) r.turns step.turn first_pair → failed_in (happened x here) ≡ false
+      none_failed_own from =
+          let t : IsTelling f x (0 + length (packets_in (mapped f own_side.told))) told_now (told_in x early) =
+          tells f x w.log early late own_side.told told_now before_told after_told in
+          ap (λ (es : List (Event (List ℕ))). failed_in es) (tells_happened f x w.log early late own_side.told told_now before_told after_told)
+          ∙ (bare_failed (own_side.told ++ t.some)
+          ∙ from.none_refused t.some t.more t.split (tells_none f x w.log early late own_side.told told_now before_told after_told none_early))
 
       pub delivered_own : (from : ending.DeliversThen (is_a x) r.turns step.turn first_pair) → IsDeliveredAt x from.delivers.places w.log
           → IsDeliveredAt x from.delivers.places here
@@ -367,16 +454,15 @@ module _ (w : World) (l : IsLed w) (rules : FollowsTheRules w) (none : Stands w.
     -- ---- the bounds, with that event
 
     pub ends_delivering : ending.MessagesAreDeliveredThen → IsKept → IsTimely action (stamp w) (stamps_along actions first_world w l.runs windows.no_stamps)
-        → resets action ≡ false → sets_more action ≡ false → length (offers x (w.log ++ b_parted.first ∷ [])) < 2 ^ 32
+        → sets_more action ≡ false → length (offers x (w.log ++ b_parted.first ∷ [])) < 2 ^ 32
         → ending.DeliversThen (is_a x) r.turns step.turn first_pair
-    ends_delivering law k t no_reset no_more few =
+    ends_delivering law k t no_more few =
         law a b words_a words_b r.turns (is_a x) step.turn own theirs (follows_more r.turns (is_a x, step.turn) first_pair follows may) not_ended (record {
           windows = d.windows_kept windows.no_stamps none k.windows;
           timely =
               subst (λ (s : windows.Stamps). windows.IsTimely step.turn (windows.stamp c) (windows.stamps_for (is_a x) s)) (d.stamps windows.no_stamps)
               (timely word_of_a word_of_b action w c step.turn (stamps_along actions first_world w l.runs windows.no_stamps) r.both step.is t);
-          streams =
-              any_more (λ (e : Bool × Turn). windows.resets e.1) r.turns (is_a x, step.turn) (d.streams ∙ k.streams) (turn_resets word_of_a word_of_b action step.turn c step.is ∙ no_reset);
+          resets = resets_kept k;
           few = subst (λ (l : List Offer). length l < 2 ^ 32) accepted_are few;
           limits =
               any_more (λ (e : Bool × Turn). windows.sets_more e.1) r.turns (is_a x, step.turn) (d.limits ∙ k.limits) (turn_more word_of_a word_of_b action step.turn c step.is ∙ no_more);

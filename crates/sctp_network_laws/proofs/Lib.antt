@@ -12,11 +12,14 @@ pub mod JoinedLemmas
 pub mod FollowsLemmas
 pub mod LoggedLemmas
 pub mod ReportedLemmas
-pub mod TellingLemmas
 pub mod PrefixLemmas
+pub mod HappenedLemmas
+pub mod LoggedEpochLemmas
+pub mod TellingLemmas
 pub mod BetweenLemmas
 pub mod BlockLemmas
 pub mod PointsLemmas
+pub mod InEpochLemmas
 pub mod DeliveredLemmas
 pub mod ClosingLemmas
 pub mod LastingLemmas

@@ -32,13 +32,13 @@ use Rattle.sctp_network_laws.proofs.BlockLemmas.{IsBlock, AreBlocks, IsReached, 
 -- ---- within a block
 
 -- in the other end's block an end says nothing
-record IsBeside (x : End) (block : List Entry) : Type 0 where
-  offers : offers x block ≡ []
-  gone : judge.given_up x block ≡ []
-  reported : reported x block ≡ []
+pub record IsBeside (x : End) (block : List Entry) : Type 0 where
+  pub offers : offers x block ≡ []
+  pub gone : judge.given_up x block ≡ []
+  pub reported : reported x block ≡ []
 
 -- and in its own, nothing becomes ready at the other one
-own_or_beside : (x : End) (e : Bool × Turn) (d : Pair) (log mid : List Entry) (b : IsBlock e d log mid) → (ready (other x) (b.first ∷ b.more) ≡ []) ⊎ IsBeside x (b.first ∷ b.more)
+pub own_or_beside : (x : End) (e : Bool × Turn) (d : Pair) (log mid : List Entry) (b : IsBlock e d log mid) → (ready (other x) (b.first ∷ b.more) ≡ []) ⊎ IsBeside x (b.first ∷ b.more)
 own_or_beside A (true, t) d log mid b = inl b.none_ready
 own_or_beside B (false, t) d log mid b = inl b.none_ready
 own_or_beside A (false, t) d log mid b =

@@ -14,6 +14,14 @@ split_head {X} x y xs ys e = ap (λ (l : List X). elim l [ [] ↦ x | z ∷ zs �
 pub split_tail : {X : Type 0} (x y : X) (xs ys : List X) → x ∷ xs ≡ y ∷ ys → xs ≡ ys
 split_tail {X} x y xs ys e = ap (λ (l : List X). elim l [ [] ↦ xs | z ∷ zs ↦ zs ]) e
 
+pub none_before : {X : Type 0} (xs ys : List X) → xs ++ ys ≡ [] → xs ≡ []
+none_before [] ys h = refl
+none_before (x ∷ xs) ys h = cc
+
+pub none_behind : {X : Type 0} (xs ys : List X) → xs ++ ys ≡ [] → ys ≡ []
+none_behind [] ys h = h
+none_behind (x ∷ xs) ys h = cc
+
 pub record Longer {X : Type 0} (short long last : List X) (rest : List X) : Type 0 where
   pub between : List X
   pub made : long ≡ short ++ between

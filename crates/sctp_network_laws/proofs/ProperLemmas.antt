@@ -9,28 +9,27 @@ use Rattle.rand_core.specs.Stream.{Stream}
 use Rattle.sctp_state.specs.Options.{Options}
 use Rattle.sctp_state.specs.Events.{GivenUp}
 use Rattle.sctp_table.specs.Association.{Endpoint}
-use Rattle.sctp_table.specs.Resets.{reset_refusal}
 use Rattle.sctp_table.specs.Laws as table
 use Rattle.sctp_table_laws.specs.Mapped.{Mapping, Carried, map_end, as_bytes}
 use Rattle.sctp_course.specs.Course as course
 use Rattle.sctp_course.specs.Course.{Pair, Turn, Calls, turned, goes, start}
 use Rattle.sctp_delivery.specs.Accepted.{Offer, accepted_in}
 use Rattle.sctp_delivery.specs.Proper as courses
-use Rattle.sctp_delivery.specs.Proper.{Acceptance, accepted_then, gone_by, gone_at, reset_unless, reset_by, reset_at, forgone_then, IsProper, restores}
+use Rattle.sctp_delivery.specs.Proper.{Acceptance, accepted_then, gone_by, gone_at, reset_by, reset_at, forgone_then, IsProper, restores}
 use Rattle.sctp_delivery.proofs.ProperActsLemmas.{IsProperAt}
 use Rattle.sctp_delivery.proofs.ProperOffersLemmas.{shorter}
 use Rattle.sctp_delivery.proofs.ProperCourseLemmas.{Rests, Turns, accepted_now, goes_on, offers_back, at_first}
-use Rattle.sctp_network_table.specs.Judge.{End, A, B, same_end, none_unless, Entry, Called, Given, Foreign, Timed, GaveUp, Call, Connect, Reset, given_up_by, given_up}
+use Rattle.sctp_network_table.specs.Judge.{End, A, B, same_end, none_unless, Entry, Called, Given, Foreign, Timed, GaveUp, Call, Connect, given_up_by, given_up}
 use Rattle.sctp_network_table.specs.World.{Side, World, Action, CallOf, Give, GiveForeign, TellTime, ComesTo, told, skipped, Gives, Happens, Runs, side_of, other, settled, news_of, calls, call_entry, after_call, tells_time, time_entry, after_time, step_of, answer_to, association, ready_at, fresh_world}
 use Rattle.sctp_network_table.specs.World as worlds
 use Rattle.sctp_network_laws.specs.Courses.{ActionFits, IsInBytes, is_a, end_of, hearing, IsForeign, IsTurnOf}
-use Rattle.sctp_network_laws.specs.Delivered.{offers_by, offers}
-use Rattle.sctp_network_laws.specs.Proper.{clock_if, clock_after, clock_from, clock, reset_in, resets_if, resets_after, resets_from, resets, acceptances_by, acceptances, WorldsAreProper, AcceptancesAreOffers}
+use Rattle.sctp_network_laws.specs.Delivered.{offers_by, offers, reset_in}
+use Rattle.sctp_network_laws.specs.Proper.{clock_if, clock_after, clock_from, clock, resets_if, resets_after, resets_from, resets, acceptances_by, acceptances, WorldsAreProper, AcceptancesAreOffers}
 use Rattle.sctp_network_laws.proofs.LoggedLemmas.{IsQuietOn, none_in_news}
 use Rattle.sctp_course.proofs.JoinLemmas.{not_both}
 use Rattle.sctp_network_laws.proofs.EventLemmas.{same_itself}
 use Rattle.sctp_network_laws.proofs.ClockLemmas.{moves, turn_still}
-use Rattle.sctp_network_laws.proofs.TellingLemmas.{not_other, BeginsWith, call_begins, given_accepts, foreign_accepts}
+use Rattle.sctp_network_laws.proofs.TellingLemmas.{not_other, call_resets, BeginsWith, call_begins, given_accepts, given_resets, foreign_accepts, foreign_resets}
 use Rattle.sctp_network_laws.proofs.WorldLemmas.{Both, Extends, extends_then, in_bytes_before, Stepped, steps}
 use Rattle.sctp_network_laws.proofs.RunsLemmas.{runs_extends, happens_extends, fresh_both}
 use Rattle.sctp_network_laws.proofs.PrefixLemmas.{split_head, split_tail}
@@ -185,11 +184,6 @@ module _ (f : Mapping Carried (List ℕ)) (x : End) (own beside : course.Side) (
       marks_by x turn own next w.log u.log first more (worlds.clock s) logged quiet h offers none (ap (λ (n : ℕ). map (accepted_then n) (accepted_in turn own)) clock_is)
       (clock_is ∙ sym (turn_still turn own beside still))
 
-  -- the streams that a call resets
-  call_resets : (call : Call) → reset_in call (answer_to call s) ≡ reset_by (Calls (step_of call)) own
-  call_resets (Reset streams) = ap (λ (z : Endpoint (List ℕ)). reset_unless (reset_refusal z.standing.state) streams) is
-  call_resets call = refl
-
   cleared_by : (cleared : List ℕ) → cleared ≡ reset_by turn own → (y : End) (rs : List ℕ) → resets_if (same_end y x) cleared rs ≡ resets_if (same_end y x) (reset_by turn own) rs
   cleared_by cleared e y rs = ap (λ (r : List ℕ). resets_if (same_end y x) r rs) e
 
@@ -198,7 +192,7 @@ module _ (f : Mapping Carried (List ℕ)) (x : End) (own beside : course.Side) (
       let b : BeginsWith x (Calls (step_of call)) own (call_entry x call s) = call_begins f x own s is call in
       still_marks (call_entry x call s) (news_of x (side_of x w) (after_call call s)) (ap moves t ∙ call_still call) (ap (λ (z : World). z.log) e ∙ calls_log x call w)
       (quiet_news (after_call call s))
-      (record { right = λ y all now rs. tt; takes = λ y. refl; ticks = λ y m. refl; clears = cleared_by (reset_in call (answer_to call s)) (call_resets call ∙ ap (λ (z : Turn). reset_by z own) (sym t)); gone = λ y. refl })
+      (record { right = λ y all now rs. tt; takes = λ y. refl; ticks = λ y m. refl; clears = cleared_by (reset_in call (answer_to call s)) (call_resets f x own s is call ∙ ap (λ (z : Turn). reset_by z own) (sym t)); gone = λ y. refl })
       (b.offers ∙ ap (λ (z : Turn). accepted_in z own) (sym t)) b.no_offers
 
   time_marks : (now : ℕ) → turn ≡ Calls (table.Advance now) → u ≡ tells_time x now w → Marks x turn own next w.log u.log
@@ -244,14 +238,6 @@ foreign_moves : (bytes : List ℕ) (turn : Turn) → IsForeign bytes turn → mo
 foreign_moves bytes turn (inl h) = ap moves h.2
 foreign_moves bytes turn (inr h) = ap moves h
 
-hearing_resets : (b : Bool) (n sum : ℕ) (own : course.Side) → reset_by (hearing b n sum) own ≡ []
-hearing_resets true n sum own = refl
-hearing_resets false n sum own = refl
-
-foreign_resets : (bytes : List ℕ) (own : course.Side) (turn : Turn) → IsForeign bytes turn → reset_by turn own ≡ []
-foreign_resets bytes own turn (inl h) = ap (λ (z : Turn). reset_by z own) h.2
-foreign_resets bytes own turn (inr h) = ap (λ (z : Turn). reset_by z own) h
-
 module _ (word_of_a word_of_b : List ℕ → ℕ) where
   turn_restores : (action : Action) (turn : Turn) (c : Pair) → IsTurnOf word_of_a word_of_b action turn c → restores turn ≡ false
   turn_restores (CallOf x call) turn c is = ap restores is ∙ call_restores call
@@ -268,10 +254,10 @@ module _ (word_of_a word_of_b : List ℕ → ℕ) where
   marks_of (CallOf B call) w u c turn e is h k = call_marks (as_bytes word_of_b) B c.b c.a turn w u h.b.image.socket k.b.image.socket call is e
   marks_of (Give n A) w u c turn g is h k =
       give_marks (as_bytes word_of_a) A c.a c.b turn w u h.a.image.socket k.a.image.socket n (ap moves is.heard ∙ hearing_moves _ n _)
-      (given_accepts word_of_a word_of_b n c.a c.b c.a turn is) (ap (λ (z : Turn). reset_by z c.a) is.heard ∙ hearing_resets _ n _ c.a) g
+      (given_accepts word_of_a word_of_b n c.a c.b c.a turn is) (given_resets word_of_a word_of_b n c.a c.b c.a turn is) g
   marks_of (Give n B) w u c turn g is h k =
       give_marks (as_bytes word_of_b) B c.b c.a turn w u h.b.image.socket k.b.image.socket n (ap moves is.heard ∙ hearing_moves _ n _)
-      (given_accepts word_of_b word_of_a n c.b c.a c.b turn is) (ap (λ (z : Turn). reset_by z c.b) is.heard ∙ hearing_resets _ n _ c.b) g
+      (given_accepts word_of_b word_of_a n c.b c.a c.b turn is) (given_resets word_of_b word_of_a n c.b c.a c.b turn is) g
   marks_of (GiveForeign A bytes) w u c turn g is h k =
       foreign_marks (as_bytes word_of_a) A c.a c.b turn w u h.a.image.socket k.a.image.socket bytes (foreign_moves bytes turn is) (foreign_accepts bytes c.a turn is) (foreign_resets bytes c.a turn is) g.comes
   marks_of (GiveForeign B bytes) w u c turn g is h k =

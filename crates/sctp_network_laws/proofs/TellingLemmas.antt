@@ -3,11 +3,12 @@ use Rattle.std.proofs.Common.{◌≡◌, inl, inr, ℕ, zero, suc, Bool, true, f
 use Rattle.std.specs.List.{flat_map}
 use Rattle.std.proofs.lemmas.Bool.Decides.{nat_tests}
 use Rattle.sctp_serial.specs.Messages.{Message}
-use Rattle.sctp_state.specs.Events.{GivenUp}
+use Rattle.sctp_state.specs.Events.{Event, GivenUp}
 use Rattle.sctp_tx_rules.specs.Led.{delivered}
 use Rattle.sctp_table.specs.Association.{State, Closed, CookieWait, Open, Endpoint}
 use Rattle.sctp_table.specs.Calls.{shown_state, refusal, ready_in}
 use Rattle.sctp_table.specs.Handover.{readiness}
+use Rattle.sctp_table.specs.Resets.{reset_refusal}
 use Rattle.sctp_table.specs.Shown.{Association, association_in}
 use Rattle.sctp_table.specs.Laws as table
 use Rattle.sctp_table_laws.specs.Mapped.{Mapping, Carried, map_end}
@@ -17,14 +18,17 @@ use Rattle.sctp_course.specs.Handing as handing
 use Rattle.sctp_course.specs.Handing.{new_behind, handed_by}
 use Rattle.sctp_delivery.specs.Accepted.{accepted_by, accepted_in}
 use Rattle.sctp_delivery.specs.GivenUp.{given_up_by}
+use Rattle.sctp_delivery.specs.Proper as turns
+use Rattle.sctp_delivery.specs.Proper.{reset_unless}
 use Rattle.sctp_network_table.specs.Judge.{End, A, B, same_end, same_association, same_numbers, all_unless, Call, Connect, Shutdown, Close, Send, SendMany, Receive, Reset, SetPriority, SetMaxMessageSize, SetLowThreshold, HandOver, Answer, Entry, Called, Given, Foreign, Timed, ready_by, handed_out_in, handed_out_by, given_up}
 use Rattle.sctp_network_table.specs.Judge as judge
 use Rattle.sctp_network_table.specs.World as worlds
 use Rattle.sctp_network_table.specs.World.{Side, World, Action, CallOf, Give, GiveForeign, TellTime, ComesTo, told, skipped, Happens, side_of, other, association, ready_before, news_of, settled, recorded, handed_by as record_by, step_of, answer_to, call_entry, after_call, time_entry, after_time, clock}
 use Rattle.sctp_network_laws.specs.Courses.{hearing, IsHearing, IsForeign}
-use Rattle.sctp_network_laws.specs.Delivered.{offers_in, offers_by, gone, reported_by, reported}
+use Rattle.sctp_network_laws.specs.Delivered.{offers_in, offers_by, happened_by, happened, reset_in, reset_by, gone, reported_by, reported}
 use Rattle.sctp_network_laws.proofs.EventLemmas.{same_itself}
 use Rattle.sctp_network_laws.proofs.LoggedLemmas.{quiet_offers, quiet_handed, quiet_gone, quiet_reported, none_in_news, ready_news, ready_news_other, first_handed, one_offer, many_offers}
+use Rattle.sctp_network_laws.proofs.HappenedLemmas.{bare, begun_by, quiet_resets, quiet_begun, quiet_happened, IsToldFirst, none_told_first, news_told_first}
 
 -- ---- ends
 
@@ -95,6 +99,10 @@ module _ (f : Mapping Carried (List ℕ)) (x : End) (end : course.Side) (s : End
   call_hands (SetMaxMessageSize bytes) = refl
   call_hands (SetLowThreshold stream bytes) = refl
 
+  pub call_resets : (call : Call) → reset_in call (answer_to call s) ≡ turns.reset_by (Calls (step_of call)) end
+  call_resets (Reset streams) = ap (λ (z : Endpoint (List ℕ)). reset_unless (reset_refusal z.standing.state) streams) is
+  call_resets call = refl
+
 -- ---- turns of packets
 
 hearing_accepts : (b : Bool) (n sum : ℕ) (end : course.Side) → accepted_in (hearing b n sum) end ≡ []
@@ -105,11 +113,18 @@ hearing_hands : (b : Bool) (n sum : ℕ) (end : course.Side) → handed_by (hear
 hearing_hands true n sum end = refl
 hearing_hands false n sum end = refl
 
+hearing_resets : (b : Bool) (n sum : ℕ) (end : course.Side) → turns.reset_by (hearing b n sum) end ≡ []
+hearing_resets true n sum end = refl
+hearing_resets false n sum end = refl
+
 pub given_accepts : (f g : List ℕ → ℕ) (n : ℕ) (own beside end : course.Side) (turn : Turn) → IsHearing f g n own beside turn → accepted_in turn end ≡ []
 given_accepts f g n own beside end turn h = ap (λ (t : Turn). accepted_in t end) h.heard ∙ hearing_accepts _ n _ end
 
 pub given_hands : (f g : List ℕ → ℕ) (n : ℕ) (own beside end : course.Side) (turn : Turn) → IsHearing f g n own beside turn → handed_by turn end ≡ []
 given_hands f g n own beside end turn h = ap (λ (t : Turn). handed_by t end) h.heard ∙ hearing_hands _ n _ end
+
+pub given_resets : (f g : List ℕ → ℕ) (n : ℕ) (own beside end : course.Side) (turn : Turn) → IsHearing f g n own beside turn → turns.reset_by turn end ≡ []
+given_resets f g n own beside end turn h = ap (λ (t : Turn). turns.reset_by t end) h.heard ∙ hearing_resets _ n _ end
 
 pub foreign_accepts : (bytes : List ℕ) (end : course.Side) (turn : Turn) → IsForeign bytes turn → accepted_in turn end ≡ []
 foreign_accepts bytes end turn (inl h) = ap (λ (t : Turn). accepted_in t end) h.2
@@ -118,6 +133,10 @@ foreign_accepts bytes end turn (inr h) = ap (λ (t : Turn). accepted_in t end) h
 pub foreign_hands : (bytes : List ℕ) (end : course.Side) (turn : Turn) → IsForeign bytes turn → handed_by turn end ≡ []
 foreign_hands bytes end turn (inl h) = ap (λ (t : Turn). handed_by t end) h.2
 foreign_hands bytes end turn (inr h) = ap (λ (t : Turn). handed_by t end) h
+
+pub foreign_resets : (bytes : List ℕ) (end : course.Side) (turn : Turn) → IsForeign bytes turn → turns.reset_by turn end ≡ []
+foreign_resets bytes end turn (inl h) = ap (λ (t : Turn). turns.reset_by t end) h.2
+foreign_resets bytes end turn (inr h) = ap (λ (t : Turn). turns.reset_by t end) h
 
 -- ---- one event at end x, which was `own` in the course and is `next`, beside the other end
 
@@ -137,8 +156,17 @@ pub record IsTold (x : End) (turn : Turn) (own beside next : course.Side) (log l
   pub none_gone : given_up (other x) (first ∷ more) ≡ []
   pub reports : reported x longer ≡ delivered next.told
   pub none_reported : reported (other x) (first ∷ more) ≡ []
+  pub resets : reset_by x first ≡ turns.reset_by turn own
+  pub no_resets : reset_by (other x) first ≡ []
+  pub resets_nothing : (y : End) → flat_map (reset_by y) more ≡ []
+  pub tells : happened x longer ≡ bare next.told
+  pub tells_none : happened (other x) (first ∷ more) ≡ []
+  pub first_tells : (y : End) → happened_by y first ≡ []
+  pub none_ready_first : (y : End) → ready_by y first ≡ []
+  pub none_begins : flat_map begun_by more ≡ []
+  pub told_first : IsToldFirst more
 
--- the first entries: what they say of messages
+-- the first entries: what they say of messages and resets
 pub record BeginsWith (x : End) (turn : Turn) (own : course.Side) (first : Entry) : Type 0 where
   pub offers : offers_by x first ≡ accepted_in turn own
   pub no_offers : offers_by (other x) first ≡ []
@@ -147,12 +175,15 @@ pub record BeginsWith (x : End) (turn : Turn) (own : course.Side) (first : Entry
   pub none_handed : handed_out_by (other x) first ≡ []
   pub gone : (y : End) → judge.given_up_by y first ≡ []
   pub reported : (y : End) → reported_by y first ≡ []
+  pub resets : reset_by x first ≡ turns.reset_by turn own
+  pub no_resets : reset_by (other x) first ≡ []
+  pub happened : (y : End) → happened_by y first ≡ []
 
 module _ (f : Mapping Carried (List ℕ)) (x : End) (turn : Turn) (own beside next : course.Side) (log longer : List Entry) (side new : Side)
     (is : side.socket ≡ map_end f own.end) (is_next : new.socket ≡ map_end f next.end)
     (stands : (a : Association) → association_in (course.state_of own) ≡ Some a → association_in (course.state_of next) ≡ Some a)
     (gave_up : gone x longer ≡ gone x log ++ given_up_by turn own beside) (reports : reported x longer ≡ delivered next.told)
-    (first : Entry) (b : BeginsWith x turn own first) where
+    (tells : happened x longer ≡ bare next.told) (first : Entry) (b : BeginsWith x turn own first) where
   state_is : side.socket.standing.state ≡ course.state_of own
   state_is = ap (λ (z : Endpoint (List ℕ)). z.standing.state) is
 
@@ -195,6 +226,17 @@ module _ (f : Mapping Carried (List ℕ)) (x : End) (turn : Turn) (own beside ne
         none_reported =
             ap (λ (z : List ℕ). z ++ reported (other x) news) (b.reported (other x))
             ∙ none_in_news (reported_by (other x)) x (quiet_reported (other x) x (not_other x)) (λ z. refl) n m (association side.socket) after;
+        resets = b.resets;
+        no_resets = b.no_resets;
+        resets_nothing = λ y. none_in_news (reset_by y) x (quiet_resets y x) (λ z. refl) n m (association side.socket) after;
+        tells = tells;
+        tells_none =
+            ap (λ (z : List (Event (List ℕ))). z ++ happened (other x) news) (b.happened (other x))
+            ∙ none_in_news (happened_by (other x)) x (quiet_happened (other x) x (not_other x)) (λ z. refl) n m (association side.socket) after;
+        first_tells = b.happened;
+        none_ready_first = b.ready;
+        none_begins = none_in_news begun_by x (quiet_begun x) (λ z. refl) n m (association side.socket) after;
+        told_first = news_told_first x n m (association side.socket) after;
       }
 
   -- where nothing happens
@@ -218,6 +260,15 @@ module _ (f : Mapping Carried (List ℕ)) (x : End) (turn : Turn) (own beside ne
         none_gone = ap (λ (z : List GivenUp). z ++ []) (b.gone (other x));
         reports = reports;
         none_reported = ap (λ (z : List ℕ). z ++ []) (b.reported (other x));
+        resets = b.resets;
+        no_resets = b.no_resets;
+        resets_nothing = λ y. refl;
+        tells = tells;
+        tells_none = ap (λ (z : List (Event (List ℕ))). z ++ []) (b.happened (other x));
+        first_tells = b.happened;
+        none_ready_first = b.ready;
+        none_begins = refl;
+        told_first = none_told_first;
       }
 
 -- ---- first entries
@@ -232,13 +283,49 @@ module _ (f : Mapping Carried (List ℕ)) (x : End) (own : course.Side) where
     none_handed = ap (λ (b : Bool). all_unless b (handed_out_in (answer_to call s))) (not_other x);
     gone = λ y. refl;
     reported = λ y. refl;
+    resets = ap (λ (b : Bool). all_unless b (reset_in call (answer_to call s))) (same_itself x) ∙ call_resets f x own s is call;
+    no_resets = ap (λ (b : Bool). all_unless b (reset_in call (answer_to call s))) (not_other x);
+    happened = λ y. refl;
   }
 
   pub time_begins : (s : Endpoint (List ℕ)) (now : ℕ) → BeginsWith x (Calls (table.Advance now)) own (time_entry x now s)
-  time_begins s now = record { offers = refl; no_offers = refl; ready = λ y. refl; handed = refl; none_handed = refl; gone = λ y. refl; reported = λ y. refl }
+  time_begins s now = record {
+    offers = refl;
+    no_offers = refl;
+    ready = λ y. refl;
+    handed = refl;
+    none_handed = refl;
+    gone = λ y. refl;
+    reported = λ y. refl;
+    resets = refl;
+    no_resets = refl;
+    happened = λ y. refl;
+  }
 
-  pub give_begins : (turn : Turn) (clock packet : ℕ) → accepted_in turn own ≡ [] → handed_by turn own ≡ [] → BeginsWith x turn own (Given x clock packet)
-  give_begins turn clock packet h k = record { offers = sym h; no_offers = refl; ready = λ y. refl; handed = sym k; none_handed = refl; gone = λ y. refl; reported = λ y. refl }
+  pub give_begins : (turn : Turn) (clock packet : ℕ) → accepted_in turn own ≡ [] → handed_by turn own ≡ [] → turns.reset_by turn own ≡ [] → BeginsWith x turn own (Given x clock packet)
+  give_begins turn clock packet h k l = record {
+    offers = sym h;
+    no_offers = refl;
+    ready = λ y. refl;
+    handed = sym k;
+    none_handed = refl;
+    gone = λ y. refl;
+    reported = λ y. refl;
+    resets = sym l;
+    no_resets = refl;
+    happened = λ y. refl;
+  }
 
-  pub foreign_begins : (turn : Turn) (clock : ℕ) (bytes : Option (List ℕ)) → accepted_in turn own ≡ [] → handed_by turn own ≡ [] → BeginsWith x turn own (Foreign x clock bytes)
-  foreign_begins turn clock bytes h k = record { offers = sym h; no_offers = refl; ready = λ y. refl; handed = sym k; none_handed = refl; gone = λ y. refl; reported = λ y. refl }
+  pub foreign_begins : (turn : Turn) (clock : ℕ) (bytes : Option (List ℕ)) → accepted_in turn own ≡ [] → handed_by turn own ≡ [] → turns.reset_by turn own ≡ [] → BeginsWith x turn own (Foreign x clock bytes)
+  foreign_begins turn clock bytes h k l = record {
+    offers = sym h;
+    no_offers = refl;
+    ready = λ y. refl;
+    handed = sym k;
+    none_handed = refl;
+    gone = λ y. refl;
+    reported = λ y. refl;
+    resets = sym l;
+    no_resets = refl;
+    happened = λ y. refl;
+  }

@@ -3,11 +3,12 @@ use Rattle.std.proofs.Common.{◌≡◌, ◌⊎◌, inl, inr, ◌||◌, Bool, fa
 use Rattle.std.specs.Prelude.{All}
 use Rattle.std.specs.List.{list_any}
 use Rattle.std.proofs.lemmas.List.Elements.{All-nil, All-cons, All-head, All-tail}
+use Rattle.sctp_delivery.specs.Answered.{Asked}
 use Rattle.sctp_delivery.specs.Windows.{Stamps}
 use Rattle.sctp_network_table.specs.World.{World, Action, Happens, Runs}
 use Rattle.sctp_network_laws.specs.Courses.{ActionFits}
 use Rattle.sctp_network_laws.specs.Joined.{Stands}
-use Rattle.sctp_network_laws.specs.Delivered.{stamp, stamps_after, IsTimely, KeepsWindows, KeepsFrom, AlongRun}
+use Rattle.sctp_network_laws.specs.Delivered.{stamp, stamps_after, IsTimely, KeepsWindows, KeepsFrom, asked_after, KeepsRequests, AlongRun}
 use Rattle.sctp_network_laws.proofs.StandingLemmas.{stands_front, stands_or_not}
 use Rattle.sctp_network_laws.proofs.WorldLemmas.{Extends, extends_same, extends_then}
 use Rattle.sctp_network_laws.proofs.RunsLemmas.{happens_extends, runs_extends}
@@ -36,6 +37,7 @@ pub record UpToEnd (actions : List Action) (w v : World) (r : Runs actions w v) 
   pub stands : Stands world.log
   pub later : Extends world v
   pub windows : (s : Stamps) → KeepsWindows actions w v r s → KeepsWindows front w world before s
+  pub requests : (k : Asked) → KeepsRequests actions w v r k → KeepsRequests front w world before k
   pub none_such : (test : Action → Bool) → KeepsFrom test actions w v r → list_any test front ≡ false
   pub along_run : (P : World → Type 0) → AlongRun P front w world before → AlongRun (λ z. Stands z.log → P z) actions w v r
   pub over : (v ≡ world) ⊎ IsOver actions w v r front world before
@@ -58,6 +60,7 @@ up_to_end [] w v fit r stands = record {
   stands = stands;
   later = subst (Extends w) (sym r) (extends_same w);
   windows = λ s k. k;
+  requests = λ k h. h;
   none_such = λ test k. refl;
   along_run = λ P h. (λ st. h);
   over = inl r;
@@ -78,6 +81,7 @@ up_to_end (action ∷ actions) w v fit r stands =
           stands = rest.stands;
           later = rest.later;
           windows = λ s k. (k.0, rest.windows (stamps_after w r.0 s) k.1);
+          requests = λ k h. (h.0, rest.requests (asked_after w r.0 k) h.1);
           none_such = λ test k. neither (test action) (list_any test rest.front) (k.0 stands) (rest.none_such test k.1);
           along_run = λ P h. ((λ st. h.0), rest.along_run P h.1);
           over = elim rest.over [
@@ -106,6 +110,7 @@ up_to_end (action ∷ actions) w v fit r stands =
           stands = stands;
           later = extends_then w r.0 v first (runs_extends actions r.0 v r.2);
           windows = λ s k. (λ st. (k.0 st).0);
+          requests = λ k h. h.0;
           none_such = λ test k. refl;
           along_run = λ P h. ((λ st. h), none_stand P actions r.0 v r.2 (λ st. over st));
           over = inr (record {

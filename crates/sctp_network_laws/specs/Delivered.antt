@@ -1,16 +1,19 @@
 -- Messages that become ready at an end of a world are those that the other end accepted, and what became of the others: premises
 -- and claim are read off the log, the actions and the values that the sockets hold between them.
-use Rattle.std.specs.Prelude.{◌≡◌, ℕ, ◌-◌, ◌^◌, ◌<◌, Bool, true, false, Some, None, List, [], ◌∷◌, ◌++◌, length, map, take, replicate, slice_get, nat_le, ⊤}
+use Rattle.std.specs.Prelude.{◌≡◌, ℕ, ◌-◌, ◌^◌, ◌<◌, ◌≤◌, Bool, true, false, Some, None, List, [], ◌∷◌, ◌++◌, length, map, take, replicate, slice_get, slice_index, nat_le, ⊤}
 use Rattle.std.specs.List.{flat_map}
 use Rattle.sctp_serial.specs.Messages.{Message}
-use Rattle.sctp_state.specs.Events.{GivenUp}
+use Rattle.sctp_state.specs.Events.{Event, GivenUp}
 use Rattle.sctp_rules.specs.State.{has}
 use Rattle.sctp_tx_rules.specs.Led.{delivered_by}
 use Rattle.sctp_tx_rules.specs.Records.{are_distinct}
 use Rattle.sctp_delivery.specs.Accepted.{Offer}
+use Rattle.sctp_delivery.specs.Answered.{Asked, none_asked, asked_by, IsAnswered, performed_in}
+use Rattle.sctp_delivery.specs.Proper.{reset_unless}
+use Rattle.sctp_delivery.specs.StreamEpochs.{StreamEpoch, all_open, shut, reopened, performed_of, epochs_of, resets_told}
 use Rattle.sctp_delivery.specs.Windows.{numbered, IsWithin, Stamp, Stamps, no_stamps, IsYoung}
 use Rattle.sctp_delivery.specs.Delivery.{Fits, SkippedAreGivenUp, IsReady, AllAreDone}
-use Rattle.sctp_network_table.specs.Judge.{End, A, B, same_end, all_unless, Call, Send, SendMany, Reset, SetMaxMessageSize, Answer, Sent, SentMany, unrefused, Entry, Called, Happened, accepted, ready, given_up}
+use Rattle.sctp_network_table.specs.Judge.{End, A, B, same_end, none_unless, all_unless, Call, Send, SendMany, Reset, SetMaxMessageSize, Answer, Sent, SentMany, AskedReset, unrefused, Entry, Called, Given, Foreign, Timed, Happened, BecameReady, accepted, ready, given_up}
 use Rattle.sctp_network_table.specs.World.{Side, World, Action, CallOf, Give, GiveForeign, TellTime, Runs, other, is_at_rest}
 use Rattle.sctp_network_laws.specs.Joined.{Stands}
 
@@ -27,6 +30,35 @@ offers_by x entry = []
 
 abbrev pub offers : End → List Entry → List Offer
 offers x log = flat_map (offers_by x) log
+
+-- ---- what an end told, but for packets
+
+abbrev pub happened_by : End → Entry → List (Event (List ℕ))
+happened_by x (Happened y event) = none_unless (same_end x y) event
+happened_by x entry = []
+
+abbrev pub happened : End → List Entry → List (Event (List ℕ))
+happened x log = flat_map (happened_by x) log
+
+-- ---- the epochs of its streams
+
+-- the streams that a call resets: its answer is Ok
+abbrev pub reset_in : Call → Answer → List ℕ
+reset_in (Reset streams) (AskedReset refused) = reset_unless refused streams
+reset_in call answer = []
+
+abbrev pub reset_by : End → Entry → List ℕ
+reset_by x (Called y clock call answer) = all_unless (same_end x y) (reset_in call answer)
+reset_by x entry = []
+
+-- such a call shuts those that are open, and they are open again once the end tells that they were reset
+abbrev pub epochs_after : End → Entry → (ℕ → StreamEpoch) → ℕ → StreamEpoch
+epochs_after x entry f = reopened (performed_of (happened_by x entry)) (shut (reset_by x entry) f)
+
+-- the epoch of each message that was accepted, in their order
+abbrev pub offer_epochs : End → List Entry → (ℕ → StreamEpoch) → List ℕ
+offer_epochs x [] f = []
+offer_epochs x (entry ∷ log) f = epochs_of (offers_by x entry) f ++ offer_epochs x log (epochs_after x entry f)
 
 -- ---- what became of them, as the end that accepted them tells
 
@@ -81,10 +113,6 @@ abbrev pub KeepsFrom : (Action → Bool) → (actions : List Action) (w v : Worl
 KeepsFrom is_such [] w v r = ⊤
 KeepsFrom is_such (action ∷ actions) w v r = (Stands w.log → is_such action ≡ false) × KeepsFrom is_such actions r.0 v r.2
 
-abbrev pub resets : Action → Bool
-resets (CallOf x (Reset streams)) = true
-resets action = false
-
 abbrev pub asks_more : Call → Bool
 asks_more (SetMaxMessageSize bytes) = nat_le (2 ^ 32) bytes
 asks_more call = false
@@ -93,6 +121,48 @@ asks_more call = false
 abbrev pub sets_more : Action → Bool
 sets_more (CallOf x call) = asks_more call
 sets_more action = false
+
+-- ---- requests to reset streams, along a run
+
+-- how many fragments each end had numbered before the event that started the request which waits
+abbrev pub asked_after : (w u : World) → Asked → Asked
+asked_after w u k = record {
+  a = asked_by w.a.socket.standing.state u.a.socket.standing.state k.a;
+  b = asked_by w.b.socket.standing.state u.b.socket.standing.state k.b;
+}
+
+pub record AreAnswered (w : World) (k : Asked) : Type 0 where
+  pub a : IsAnswered w.a.socket.standing.state k.a
+  pub b : IsAnswered w.b.socket.standing.state k.b
+
+-- at each world that stands
+abbrev pub KeepsRequests : (actions : List Action) (w v : World) → Runs actions w v → Asked → Type 0
+KeepsRequests [] w v r k = Stands w.log → AreAnswered w k
+KeepsRequests (action ∷ actions) w v r k = (Stands w.log → AreAnswered w k) × KeepsRequests actions r.0 v r.2 (asked_after w r.0 k)
+
+-- none waits too long, and not too many are told as performed
+pub record KeepsResets (actions : List Action) (w v : World) (runs : Runs actions w v) : Type 0 where
+  pub answered : KeepsRequests actions w v runs none_asked
+  pub few : (x : End) (early late : List Entry) → v.log ≡ early ++ late → Stands early → performed_in (happened x early) < 2 ^ 32 - 1
+
+-- ---- each message becomes ready in its epoch
+
+-- the first entry of an event
+abbrev pub begins_event : Entry → Bool
+begins_event (Called x clock call answer) = true
+begins_event (Given x clock packet) = true
+begins_event (Foreign x clock bytes) = true
+begins_event (Timed x clock now) = true
+begins_event entry = false
+
+-- Of a message on this stream, which end x accepted at this place, and which becomes ready next behind this log: its epoch lies between
+-- the resets of the stream that the other end told before this event, as before any other so far, and those that it told up to here.
+pub record IsInItsEpoch (x : End) (log : List Entry) (stream place : ℕ) : Type 0 where
+  pub epoch : ℕ
+  pub its_own : slice_get (offer_epochs x log all_open) place ≡ Some epoch
+  pub least : (before behind : List Entry) (first : Entry) → log ≡ before ++ first ∷ behind → begins_event first ≡ true
+      → resets_told stream (happened (other x) before) ≤ epoch
+  pub most : epoch ≤ resets_told stream (happened (other x) log)
 
 -- ---- the law
 
@@ -106,12 +176,14 @@ abbrev pub ready_places : End → List Entry → (places : List ℕ) → List �
 ready_places x log places = take (length (ready (other x) log)) places
 
 -- Of what end x accepted: one list of places serves all along the log, until an end first tells that an association is over. At each
--- point its beginning fits; an ordered message that isn't ready, while a later one of its stream is, was given up; and each id that
--- x told as delivered is that of a ready message. Between events, no two records of x name the same message; and where nothing is
--- queued at x and no item kept, each message is ready or was given up.
+-- point its beginning fits; each message becomes ready in its epoch; an ordered message that isn't ready, while a later one of its
+-- stream is, was given up; and each id that x told as delivered is that of a ready message. Between events, no two records of x name
+-- the same message; and where nothing is queued at x and no item kept, each message is ready or was given up.
 pub record Delivers (x : End) (actions : List Action) (w v : World) (runs : Runs actions w v) : Type 0 where
   pub places : List ℕ
   pub fits : (early late : List Entry) → v.log ≡ early ++ late → Stands early → Fits (offers x early) (ready (other x) early) (ready_places x early places)
+  pub epochs : (early late : List Entry) (m : Message) → v.log ≡ early ++ BecameReady (other x) m ∷ late → Stands early
+      → IsInItsEpoch x early m.stream (slice_index places (length (ready (other x) early)))
   pub skipped : (early late : List Entry) → v.log ≡ early ++ late → Stands early → SkippedAreGivenUp (offers x early) (gone x early) (ready_places x early places)
   pub reports : (early late : List Entry) → v.log ≡ early ++ late → Stands early → (id : ℕ) → has id (reported x early) ≡ true
       → IsReady (offers x early) (ready_places x early places) id
@@ -121,10 +193,14 @@ pub record Delivers (x : End) (actions : List Action) (w v : World) (runs : Runs
 -- what a run has to keep until then
 pub record IsInBounds (actions : List Action) (w v : World) (runs : Runs actions w v) : Type 0 where
   pub windows : KeepsWindows actions w v runs no_stamps
-  pub streams : KeepsFrom resets actions w v runs
+  pub resets : KeepsResets actions w v runs
   pub few : (x : End) (early late : List Entry) → v.log ≡ early ++ late → Stands early → length (offers x early) < 2 ^ 32
   pub limits : KeepsFrom sets_more actions w v runs
 
 -- the messages of the offers are those accepted
 abbrev pub OffersAreAccepted : Type 0
 OffersAreAccepted = (x : End) (log : List Entry) → accepted x log ≡ map (λ (o : Offer). o.message) (offers x log)
+
+-- each of them has an epoch
+abbrev pub OffersHaveEpochs : Type 0
+OffersHaveEpochs = (x : End) (log : List Entry) → length (offer_epochs x log all_open) ≡ length (offers x log)

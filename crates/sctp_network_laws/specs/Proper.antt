@@ -6,11 +6,11 @@ use Rattle.rand_core.specs.Stream.{Stream}
 use Rattle.sctp_state.specs.Options.{Options}
 use Rattle.sctp_state.specs.Events.{GivenUp}
 use Rattle.sctp_table_laws.specs.Sound.{OptionsFit}
-use Rattle.sctp_delivery.specs.Proper.{Acceptance, accepted_then, reset_unless, forgone_then, IsProper}
-use Rattle.sctp_network_table.specs.Judge.{End, same_end, Call, Reset, Answer, AskedReset, Entry, Called, Given, Foreign, Timed, GaveUp}
+use Rattle.sctp_delivery.specs.Proper.{Acceptance, accepted_then, forgone_then, IsProper}
+use Rattle.sctp_network_table.specs.Judge.{End, same_end, Entry, Called, Given, Foreign, Timed, GaveUp}
 use Rattle.sctp_network_table.specs.World.{World, Action, Runs, fresh_world}
 use Rattle.sctp_network_laws.specs.Courses.{ActionFits, IsInBytes}
-use Rattle.sctp_network_laws.specs.Delivered.{offers_by, offers}
+use Rattle.sctp_network_laws.specs.Delivered.{offers_by, offers, reset_in}
 
 -- ---- clocks
 
@@ -35,10 +35,6 @@ abbrev pub clock : End → List Entry → ℕ
 clock x log = clock_from x 0 log
 
 -- ---- streams that are reset
-
-abbrev pub reset_in : Call → Answer → List ℕ
-reset_in (Reset streams) (AskedReset refused) = reset_unless refused streams
-reset_in call answer = []
 
 abbrev pub resets_if : Bool → (streams before : List ℕ) → List ℕ
 resets_if true streams before = streams

@@ -4,7 +4,7 @@
 ghost use Rattle.sctp_network_laws.specs.Agreed.{WorldsAgree};
 ghost use Rattle.sctp_network_laws.specs.Composed.{WorldsCompose};
 ghost use Rattle.sctp_network_laws.specs.Courses.{WorldsHaveCourses};
-ghost use Rattle.sctp_network_laws.specs.Delivered.{OffersAreAccepted};
+ghost use Rattle.sctp_network_laws.specs.Delivered.{OffersAreAccepted, OffersHaveEpochs};
 ghost use Rattle.sctp_network_laws.specs.Ended.{EndedAreHandedIn, NoLifecycleEndsTwiceHere};
 ghost use Rattle.sctp_network_laws.specs.Joined.{OpeningFollows, WorldsAreJoined};
 ghost use Rattle.sctp_network_laws.specs.Proper.{AcceptancesAreOffers, WorldsAreProper};
@@ -57,10 +57,16 @@ pub fn worlds_are_joined()
 /// where nothing is queued at the sender and it keeps no item, each message that it accepted is ready or was given up. The bounds
 /// are read off the log and the values of the sockets between events: those of `messages_are_delivered` of `sctp_delivery`.
 ///
-/// The messages of the offers are those that were accepted.
+/// Streams may be reset (RFC 6525). By the log alone, a call of reset that is answered Ok begins the next epoch of each open stream that it
+/// names, and the stream is open again once its end tells that it was reset. Each message becomes ready in its epoch: that lies between
+/// the resets of its stream that the other end told before that event, and those that it told before the message. Within the bounds no
+/// end tells that a reset failed, at any point up to the first end of an association.
+///
+/// The messages of the offers are those that were accepted, and each has an epoch.
 pub fn worlds_compose()
     ensures composes { WorldsCompose }
     ensures offers { OffersAreAccepted }
+    ensures epochs { OffersHaveEpochs }
 {}
 
 /// Each record of a message given up is proper, by what stands before it in the log, whatever rules the run follows, and behind the

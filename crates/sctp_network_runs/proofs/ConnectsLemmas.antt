@@ -7,7 +7,7 @@ use Rattle.sctp_network_table.specs.Judge.{End, A, Entry, Called, Given, Foreign
 use Rattle.sctp_network_table.specs.World.{Side, World, Action, CallOf, Give, GiveForeign, TellTime, ComesTo, told, skipped, Happens, Runs, side_of, association, ready_at, news_of, clock, call_entry, after_call, time_entry, after_time}
 use Rattle.sctp_network_laws.specs.Joined.{MayFollow, FollowsTheRules}
 use Rattle.sctp_network_laws.proofs.LoggedLemmas.{IsQuietOn, none_in_news}
-use Rattle.sctp_network_laws.proofs.BlockLemmas.{none_behind, none_before}
+use Rattle.sctp_network_laws.proofs.PrefixLemmas.{none_behind, none_before}
 use Rattle.sctp_network_laws.proofs.DeliveredLemmas.{calls_log, time_log}
 use Rattle.sctp_network_laws.proofs.FollowsLemmas.{Each, follows_by}
 use Rattle.sctp_network_runs.proofs.NextLemmas.{neither_first, neither_rest}

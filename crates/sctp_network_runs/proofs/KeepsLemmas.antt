@@ -1,4 +1,4 @@
--- A run keeps the windows that its course keeps, where each packet that is given is let through.
+-- A run keeps the windows that its course keeps, where each packet that is given is let through; and its requests are answered as there.
 use Rattle.std.proofs.Common.{◌≡◌, ℕ, Bool, true, false, Some, List, [], ◌∷◌, slice_get, sym, subst}
 use Rattle.std.specs.Prelude.{All}
 use Rattle.std.specs.List.{list_any}
@@ -9,16 +9,18 @@ use Rattle.sctp_table.specs.Wire.{field_of}
 use Rattle.sctp_table_laws.specs.Mapped.{Mapping, Carried, map_end, as_bytes}
 use Rattle.sctp_course.specs.Course as course
 use Rattle.sctp_course.specs.Course.{Pair, Turn, Calls, goes, state_of}
+use Rattle.sctp_delivery.specs.Answered as requests
+use Rattle.sctp_delivery.specs.Answered.{Asked, IsAnswered}
 use Rattle.sctp_delivery.specs.Windows as windows
 use Rattle.sctp_delivery.specs.Windows.{IsWithin, Stamp, Stamps, IsYoung}
 use Rattle.sctp_network_table.specs.Judge.{A, B}
 use Rattle.sctp_network_table.specs.World.{Side, World, Action, CallOf, Give, GiveForeign, TellTime, Runs}
 use Rattle.sctp_network_laws.specs.Courses.{ActionFits, IsInBytes, is_a, end_of, is_let_through, hearing, IsHearing, IsTurnOf, AreTurnsOf}
-use Rattle.sctp_network_laws.specs.Delivered.{SideIsWithin, AreWithin, stamp, stamps_after, IsTimely, KeepsWindows}
+use Rattle.sctp_network_laws.specs.Delivered.{SideIsWithin, AreWithin, stamp, stamps_after, IsTimely, KeepsWindows, asked_after, AreAnswered, KeepsRequests}
 use Rattle.sctp_network_runs.specs.Worlds.{is_foreign, NoneIsForeign}
 use Rattle.sctp_network_laws.proofs.WorldLemmas.{Both, extends_then, in_bytes_before}
 use Rattle.sctp_network_laws.proofs.RunsLemmas.{runs_extends, happens_extends}
-use Rattle.sctp_network_laws.proofs.DeliveredLemmas.{stamp_same, stamps_same}
+use Rattle.sctp_network_laws.proofs.DeliveredLemmas.{stamp_same, stamps_same, asked_same}
 use Rattle.sctp_network_runs.proofs.NextLemmas.{neither_first, neither_rest, goes_next}
 
 -- a packet that isn't let through is heard as none
@@ -82,4 +84,34 @@ module _ (word_of_a word_of_b : List ℕ → ℕ) where
             (neither_rest (is_foreign action) (list_any is_foreign actions) none) (neither_rest (is_of_none turn) (list_any (λ (e : Bool × Turn). is_of_none e.1) es) heard)
             are.2 r.2 small both
             (subst (λ (z : Stamps). windows.KeepsWindows es (goes at_a turn c) z) (sym (stamps_same word_of_a word_of_b at_a turn w u c s h both)) k.2),
+      )
+
+  -- ---- requests to reset streams
+
+  answered_of : (f : Mapping Carried (List ℕ)) (side : Side) (end : course.Side) (n : ℕ) → side.socket ≡ map_end f end.end → IsAnswered (state_of end) n → IsAnswered side.socket.standing.state n
+  answered_of f side end n e h = subst (λ (z : Endpoint (List ℕ)). IsAnswered z.standing.state n) (sym e) h
+
+  are_answered : (w : World) (c : Pair) (k : Asked) → Both word_of_a word_of_b w c → requests.AreAnswered c k → AreAnswered w k
+  are_answered w c k h i = record {
+    a = answered_of (as_bytes word_of_a) w.a c.a k.a h.a.image.socket i.a;
+    b = answered_of (as_bytes word_of_b) w.b c.b k.b h.b.image.socket i.b;
+  }
+
+  pub keeps_requests : (actions : List Action) (turns : List (Bool × Turn)) (w v : World) (c : Pair) (k : Asked) → All ActionFits actions → NoneIsForeign actions
+      → AreTurnsOf word_of_a word_of_b actions turns c → (r : Runs actions w v) → IsInBytes v → Both word_of_a word_of_b w c
+      → requests.KeepsRequests turns c k → KeepsRequests actions w v r k
+  keeps_requests [] [] w v c k fit none are r small h i = λ stands. are_answered w c k h i
+  keeps_requests [] (e ∷ es) w v c k fit none are r small h i = absurd are
+  keeps_requests (action ∷ actions) [] w v c k fit none are r small h i = absurd are
+  keeps_requests (action ∷ actions) ((at_a, turn) ∷ es) w v c k fit none are r small h i =
+      let u : World = r.0 in
+      let here : IsInBytes w = in_bytes_before w v (extends_then w u v (happens_extends action w u r.1) (runs_extends actions u v r.2)) small in
+      let own : is_foreign action ≡ false = neither_first (is_foreign action) (list_any is_foreign actions) none in
+      let both : Both word_of_a word_of_b u (goes at_a turn c) =
+      subst (λ (b : Bool). Both word_of_a word_of_b u (goes b turn c)) (sym are.0)
+      (goes_next word_of_a word_of_b action w u c turn own (All-head ActionFits action actions fit) here r.1 are.1 h) in (
+        (λ stands. are_answered w c k h i.0),
+        keeps_requests actions es u v (goes at_a turn c) (asked_after w u k) (All-tail ActionFits action actions fit)
+            (neither_rest (is_foreign action) (list_any is_foreign actions) none) are.2 r.2 small both
+            (subst (λ (z : Asked). requests.KeepsRequests es (goes at_a turn c) z) (sym (asked_same word_of_a word_of_b at_a turn w u c k h both)) i.1),
       )

@@ -23,7 +23,7 @@ use Rattle.sctp_table_laws.proofs.HeardBackLemmas.{is_accepted}
 use Rattle.sctp_course.specs.Course as course
 use Rattle.sctp_course.specs.Course.{Pair, Turn, Calls, Refuses, emitted, given, foreign_if, turned, goes, run, start}
 use Rattle.sctp_network_table.specs.Judge.{End, A, B, Call, Given}
-use Rattle.sctp_network_table.specs.World.{Side, World, Action, CallOf, Give, GiveForeign, TellTime, Gives, Happens, Runs, clock, recorded, calls, tells_time, fresh_world}
+use Rattle.sctp_network_table.specs.World.{World, Action, CallOf, Give, GiveForeign, TellTime, Gives, Happens, Runs, clock, recorded, calls, tells_time, fresh_world}
 use Rattle.sctp_network_laws.specs.Courses.{ActionFits, IsInBytes, is_a, end_of, is_let_through, hearing, IsHearing, IsTurnOf, AreTurnsOf}
 use Rattle.sctp_network_runs.specs.Worlds.{is_foreign, NoneIsForeign, EmitsBytes, BothEmitBytes, CoursesHaveWorlds}
 use Rattle.sctp_network_laws.proofs.EventLemmas.{Readable, packets_both}

@@ -1,5 +1,5 @@
 -- What a course keeps and shows, its world keeps and shows.
-use Rattle.std.proofs.Common.{◌≡◌, ℕ, ◌+◌, ◌^◌, ◌<◌, ◌==◌, ◌&&◌, not, Bool, true, false, List, [], ◌∷◌, ◌++◌, length, refl, sym, ap, subst, ◌∙◌, append-nil, append_assoc, length-append, arith}
+use Rattle.std.proofs.Common.{◌≡◌, ℕ, ◌+◌, ◌-◌, ◌^◌, ◌<◌, ◌==◌, ◌&&◌, not, Bool, true, false, List, [], ◌∷◌, ◌++◌, length, refl, sym, ap, subst, ◌∙◌, append-nil, append_assoc, length-append, arith}
 use Rattle.std.specs.Prelude.{All}
 use Rattle.std.specs.List.{flat_map, list_any}
 use Rattle.std.proofs.lemmas.Grind.{flat_map-append}
@@ -21,16 +21,22 @@ use Rattle.sctp_course.proofs.HandingLemmas.{first_halves}
 use Rattle.sctp_delivery.specs.Accepted.{Offer, accepted}
 use Rattle.sctp_delivery.specs.Delivery as courses
 use Rattle.sctp_delivery.specs.GivenUp.{kept_in, given_up, IsAtRest}
+use Rattle.sctp_delivery.specs.Answered as requests
+use Rattle.sctp_delivery.specs.Answered.{none_asked, performed_in}
+use Rattle.sctp_delivery.specs.StreamEpochs as epochs
+use Rattle.sctp_delivery.specs.StreamEpochs.{all_open}
 use Rattle.sctp_delivery.specs.Windows as windows
+use Rattle.sctp_delivery.proofs.CourseResetLemmas.{performed_both}
 use Rattle.sctp_network_table.specs.Judge.{End, A, B, Connect, Entry, ready}
 use Rattle.sctp_network_table.specs.World.{Side, World, Action, CallOf, Runs, told_entries, fresh_world, is_at_rest}
-use Rattle.sctp_network_laws.specs.Courses.{ActionFits, IsInBytes, IsLed, origin, AreTurnsOf}
-use Rattle.sctp_network_laws.specs.Delivered.{offers, offers_by, gone, reported, resets, sets_more, KeepsFrom, IsInBounds}
+use Rattle.sctp_network_laws.specs.Courses.{ActionFits, IsInBytes, IsLed, origin, is_a, AreTurnsOf}
+use Rattle.sctp_network_laws.specs.Delivered.{offers, offers_by, happened_by, happened, offer_epochs, gone, reported, sets_more, KeepsFrom, KeepsResets, IsInBounds}
 use Rattle.sctp_network_laws.specs.Joined.{ended_by, FollowsTheRules, times_ended}
 use Rattle.sctp_network_runs.specs.Worlds.{NoneIsForeign, BothEmitBytes}
 use Rattle.sctp_network_laws.proofs.EventLemmas.{mapped}
 use Rattle.sctp_network_laws.proofs.NewsLemmas.{ended_by_told}
 use Rattle.sctp_network_laws.proofs.SidesLemmas.{Good}
+use Rattle.sctp_network_laws.proofs.HappenedLemmas.{bare, bare_performed}
 use Rattle.sctp_network_laws.proofs.WorldLemmas.{Both}
 use Rattle.sctp_network_laws.proofs.RunsLemmas.{Ran, ran, fresh_both}
 use Rattle.sctp_network_laws.proofs.JoinedLemmas.{given_of}
@@ -39,7 +45,7 @@ use Rattle.sctp_network_laws.proofs.BlockLemmas.{AreBlocks, run_more, IsReached,
 use Rattle.sctp_network_laws.proofs.DeliveredLemmas.{Delivering, delivering, stands_along}
 use Rattle.sctp_network_runs.proofs.ConnectsLemmas.{asks_rules, connects_first}
 use Rattle.sctp_network_runs.proofs.NextLemmas.{neither_first, neither_rest, one_course, in_bytes, Reaches, reaches}
-use Rattle.sctp_network_runs.proofs.KeepsLemmas.{AllAreHeard, keeps}
+use Rattle.sctp_network_runs.proofs.KeepsLemmas.{AllAreHeard, keeps, keeps_requests}
 
 -- ---- no association is over
 
@@ -112,6 +118,13 @@ few_front x log early late is small =
     let sizes : length (offers x log) ≡ length (offers x early) + length (offers x late) =
     ap (λ (l : List Offer). length l) parts ∙ length-append (offers x early) (offers x late) in
     omega (arith, sizes, small)
+
+few_performed : (x : End) (log early late : List Entry) (n : ℕ) → log ≡ early ++ late → performed_in (happened x log) < n → performed_in (happened x early) < n
+few_performed x log early late n is small =
+    let parts = ap (λ (l : List Entry). performed_in (happened x l)) is in
+    let both = ap (λ (es : List (Event (List ℕ))). performed_in es) (flat_map-append (happened_by x) early late) in
+    let sum = performed_both (happened x early) (happened x late) in
+    omega (arith, parts, both, sum, small)
 
 -- ---- a course, and its world
 
@@ -191,10 +204,19 @@ module _ (a b : Options) (words_a words_b : Stream) (word_of_a word_of_b : List 
     few h A = subst (λ (l : List Offer). length l < 2 ^ 32) (sym (shows_all.offers_are A)) (h true)
     few h B = subst (λ (l : List Offer). length l < 2 ^ 32) (sym (shows_all.offers_are B)) (h false)
 
-    pub bounds : AllAreHeard turns → list_any resets actions ≡ false → list_any sets_more actions ≡ false → courses.IsInBounds turns first_pair → IsInBounds actions first_world there reached.runs
-    bounds heard streams limits k = record {
+    resets_kept : requests.KeepsResets turns first_pair → KeepsResets actions first_world there reached.runs
+    resets_kept k = record {
+      answered = keeps_requests word_of_a word_of_b actions turns first_world there first_pair none_asked fit none are reached.runs small first_both k.answered;
+      few = λ x early late is stands.
+          few_performed x there.log early late (2 ^ 32 - 1) is
+          (subst (λ (n : ℕ). n < 2 ^ 32 - 1)
+          (sym (ap (λ (es : List (Event (List ℕ))). performed_in es) (shows_all.told_are x) ∙ bare_performed (course.side_of (is_a x) (run turns first_pair)).told)) (k.few (is_a x)));
+    }
+
+    pub bounds : AllAreHeard turns → list_any sets_more actions ≡ false → courses.IsInBounds turns first_pair → IsInBounds actions first_world there reached.runs
+    bounds heard limits k = record {
       windows = keeps word_of_a word_of_b actions turns first_world there first_pair windows.no_stamps fit none heard are reached.runs small first_both k.windows;
-      streams = none_from resets actions first_world there reached.runs streams;
+      resets = resets_kept k.resets;
       few = λ x early late is stands. few_front x there.log early late is (few k.few x);
       limits = none_from sets_more actions first_world there reached.runs limits;
     }
@@ -209,9 +231,12 @@ pub record Shown (actions : List Action) (turns : List (Bool × Turn)) (c : Pair
   pub ready_b : ready B world.log ≡ readied false turns c
   pub gone_a : gone A world.log ≡ given_up true turns c
   pub reported_a : reported A world.log ≡ delivered (run turns c).a.told
+  pub epochs_a : offer_epochs A world.log all_open ≡ epochs.offer_epochs true turns c all_open
+  pub told_a : happened A world.log ≡ bare (run turns c).a.told
+  pub told_b : happened B world.log ≡ bare (run turns c).b.told
   pub over : (x : End) → times_ended x world.log ≡ 0
   pub follows : (rest : List Action) → actions ≡ CallOf A Connect ∷ rest → list_any asks_rules rest ≡ false → FollowsTheRules world
-  pub bounds : AllAreHeard turns → list_any resets actions ≡ false → list_any sets_more actions ≡ false → courses.IsInBounds turns c → IsInBounds led.actions (origin led) world led.runs
+  pub bounds : AllAreHeard turns → list_any sets_more actions ≡ false → courses.IsInBounds turns c → IsInBounds led.actions (origin led) world led.runs
   pub rests : IsAtRest (run turns c).a → is_at_rest A world ≡ true
 
 pub shown : (a b : Options) (words_a words_b : Stream) (word_of_a word_of_b : List ℕ → ℕ) (actions : List Action) (turns : List (Bool × Turn))
@@ -232,6 +257,9 @@ shown a b words_a words_b f g actions turns valid_a valid_b fits_a fits_b fit no
       ready_b = shows.ready_are B;
       gone_a = shows.gone_are A;
       reported_a = shows.reported_are A;
+      epochs_a = (shows.epochs_are A).epochs;
+      told_a = shows.told_are A;
+      told_b = shows.told_are B;
       over = over a b words_a words_b f g actions turns valid_a valid_b fits_a fits_b fit none are bytes follows not_ended;
       follows = λ rest is quiet. connects_first rest from r.world refl quiet (subst (λ (l : List Action). Runs l from r.world) is r.runs);
       bounds = bounds a b words_a words_b f g actions turns valid_a valid_b fits_a fits_b fit none are bytes follows not_ended;

@@ -1,2 +1,3 @@
 pub mod Worlds
 pub mod Skipping
+pub mod Resetting

@@ -1,6 +1,8 @@
-//! Runs of worlds: each course of two ends is one, where no bytes come from elsewhere; and one in which a message is skipped.
+//! Runs of worlds: each course of two ends is one, where no bytes come from elsewhere; one in which a message is skipped; and one in
+//! which a stream is reset.
 #![tactic(auto)]
 
+ghost use Rattle.sctp_network_runs.specs.Resetting.{OneIsReset};
 ghost use Rattle.sctp_network_runs.specs.Skipping.{OneIsSkipped};
 ghost use Rattle.sctp_network_runs.specs.Worlds.{CoursesHaveWorlds};
 
@@ -17,4 +19,11 @@ pub fn courses_have_worlds()
 /// sender is at rest.
 pub fn a_message_is_skipped()
     ensures { OneIsSkipped }
+{}
+
+/// It can be had with resets, too. In one run of a new world, computed, a message is sent, its stream is reset, twice, and another message
+/// is accepted before the answer comes. The first is of epoch 0, the second of epoch 1; both become ready, and each end tells once
+/// that the stream was reset.
+pub fn a_stream_is_reset()
+    ensures { OneIsReset }
 {}

@@ -1,6 +1,6 @@
 use Rattle.std.proofs.Common.{map}
 use Rattle.std.proofs.lemmas.Result.{on_ok_weaker, IfErr-weaker}
-use Rattle.sctp_delivery.proofs.LawLemmas.{delivered, delivered_then}
+use Rattle.sctp_delivery.proofs.LawLemmas.{delivered, refused_none, delivered_then}
 use Rattle.sctp_network_table.specs.World.{World}
 use Rattle.sctp_network_table.proofs.MtuLemmas.{runs_short}
 use Rattle.sctp_network_laws.proofs.AgreedLemmas.{worlds_agree}
@@ -35,7 +35,7 @@ returns-clause-leads g c =
     c.proceed-answer.ensures.ok c.proceed-answer.ensures.lacks c.proceed-answer.ensures.memory c.events_fit.ensures.fit
 
 pub returns-clause-composes : goal.returns-clause-composes
-returns-clause-composes g c = λ l. compose delivered delivered_then _ l
+returns-clause-composes g c = λ l. compose delivered refused_none delivered_then _ l
 
 pub returns-clause-agrees : goal.returns-clause-agrees
 returns-clause-agrees g c = λ l distinct. worlds_agree _ l distinct

@@ -1,7 +1,7 @@
 use Rattle.std.proofs.Common.{[], ◌∷◌, ap}
 use Rattle.std.proofs.lemmas.Result.{on_ok_weaker, IfErr-weaker}
 use Rattle.std.proofs.lemmas.List.Elements.{All-nil, All-cons}
-use Rattle.sctp_delivery.proofs.LawLemmas.{delivered, delivered_then}
+use Rattle.sctp_delivery.proofs.LawLemmas.{delivered, refused_none, delivered_then}
 use Rattle.sctp_network_table.specs.World.{World}
 use Rattle.sctp_network_table.proofs.MtuLemmas.{happens_short}
 use Rattle.sctp_network_table.proofs.RunLemmas.{runs_one}
@@ -44,7 +44,7 @@ returns-clause-leads g c =
     c.happen-answer.ensures.memory (All-cons ActionFits (action_of c.args.event.now) [] c.an_event_fits.ensures.fits (All-nil ActionFits))
 
 pub returns-clause-composes : goal.returns-clause-composes
-returns-clause-composes g c = λ l. compose delivered delivered_then _ l
+returns-clause-composes g c = λ l. compose delivered refused_none delivered_then _ l
 
 pub returns-clause-agrees : goal.returns-clause-agrees
 returns-clause-agrees g c = λ l distinct. worlds_agree _ l distinct
