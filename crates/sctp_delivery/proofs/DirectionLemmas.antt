@@ -12,7 +12,6 @@ use Rattle.sctp_rules.specs.State.{Message, IsAmong, count}
 use Rattle.sctp_rules.specs.Resets.{ResetEvent}
 use Rattle.sctp_rules.specs.Based.{InEpochs}
 use Rattle.sctp_table.specs.Association.{State, Closed, CookieWait, Open}
-use Rattle.sctp_table.specs.Requests.{is_final}
 use Rattle.sctp_table.specs.Shown.{Association, association_in}
 use Rattle.sctp_table_laws.specs.Mapped.{Carried}
 use Rattle.sctp_course.specs.Course.{Side, emitted, state_of}
