@@ -14,7 +14,7 @@ use Rattle.sctp_course.specs.Acts.{calm}
 use Rattle.sctp_course.specs.Course.{Side}
 use Rattle.sctp_delivery.specs.GivenUp.{told_of}
 use Rattle.sctp_delivery.proofs.ClaimLemmas.{Direction, transfer_of, of_transfer, goes_in, GoesOn, SenderClaim}
-use Rattle.sctp_delivery.proofs.SenderToolLemmas.{SameSender, sender_stays}
+use Rattle.sctp_delivery.proofs.ReceiverToolLemmas.{SameSender, sender_stays}
 use Rattle.sctp_delivery.proofs.TurnLemmas.{Offers, after_turn}
 
 -- ---- what rules give up

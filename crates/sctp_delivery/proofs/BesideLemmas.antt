@@ -20,7 +20,7 @@ use Rattle.sctp_table.specs.Requests.{Requests}
 use Rattle.sctp_delivery.specs.Asks.{Ask, IsAsking, IsAnswering}
 use Rattle.sctp_delivery.proofs.AsksLemmas.{get_front}
 use Rattle.sctp_delivery.proofs.ClaimLemmas.{Direction, transfer_of, goes_in, IsKept, GoesOn, AsksStay, IsWaiting, SendsIn, IsFresh, ReceivesIn}
-use Rattle.sctp_delivery.proofs.SenderToolLemmas.{SameSender, sender_stays}
+use Rattle.sctp_delivery.proofs.ReceiverToolLemmas.{SameSender, sender_stays, waits_still}
 use Rattle.sctp_delivery.proofs.LeavesLemmas.{Leaves, by_transfer, by_commit, by_request}
 use Rattle.sctp_delivery.proofs.TurnLemmas.{is_outgoing, Stay}
 
@@ -116,29 +116,6 @@ module _ (message : ℕ → Message) (lifecycle : ℕ → Option ℕ) (mixed : B
         near = λ first shift r h. rest.near first shift r (one.near first shift r h);
       }
 
-  -- what is deferred is so still
-  next_still : (x y : Epochs) → Leaves message mixed x y → (upto : ℕ) (rs : List Request) → AreNextTo x upto rs → AreNextTo y upto rs
-  next_still x y l upto [] h = tt
-  next_still x y l upto (r ∷ rs) h = (
-    record { sent = l.requests r h.0.sent; epoch = h.0.epoch ∙ ap (λ (f : ℕ → ℕ). suc (f r.stream)) (sym l.performed); last = h.0.last },
-    h.1,
-    next_still x y l upto rs h.2,
-  )
-
-  waiting_still : (x y : Epochs) → Leaves message mixed x y → (shift : ℕ) (first : Option ℕ) (d : Option Deferred) → IsWaitingFor shift x first d → IsWaitingFor shift y first d
-  waiting_still x y l shift first None h = tt
-  waiting_still x y l shift first (Some d) h = record {
-    request = h.request;
-    more = h.more;
-    upto = h.upto;
-    next = next_still x y l h.upto (h.request ∷ h.more) h.next;
-    names = h.names;
-    last = h.last;
-    idle = h.idle;
-    told = h.told;
-    begun = h.begun;
-  }
-
   -- as more is asked
   answers_still : (first done : ℕ) (asks more : List Ask) (r : Requests) (d : Option Deferred) → IsAnswering first done asks r d → IsAnswering first done (asks ++ more) r d
   answers_still first done asks more r d (inl h) = inl h
@@ -166,7 +143,7 @@ module _ (message : ℕ → Message) (lifecycle : ℕ → Option ℕ) (mixed : B
       receives = leaves.receives h.shift handed t.tracker.tracker t.reassembly h.receives;
       near = leaves.near t.tracker.first h.shift t.reassembly h.near;
       is_tracker = h.is_tracker;
-      waiting = waiting_still x.rules y.rules leaves h.shift t.reassembly.first t.reassembly.deferred h.waiting;
+      waiting = waits_still x.rules y.rules leaves.performed leaves.requests h.shift t.reassembly.first t.reassembly.deferred h.waiting;
       first = h.first;
       answers = subst (λ (n : ℕ). IsAnswering t.identity.peer_first n y.asks t.requests t.reassembly.deferred) (sym done)
           (subst (λ (l : List Ask). IsAnswering t.identity.peer_first x.done l t.requests t.reassembly.deferred) (sym g.asks)

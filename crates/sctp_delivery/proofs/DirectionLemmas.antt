@@ -5,7 +5,7 @@ use Rattle.std.proofs.lemmas.List.{length-append}
 use Rattle.std.proofs.lemmas.List.Elements.{All-head, All-tail, All-weaker}
 use Rattle.std.specs.Prelude.{⊤}
 use Rattle.sctp_serial.specs.Messages as messages
-use Rattle.sctp_wire.specs.Parameter.{ParameterTree, outgoing_reset_request, incoming_reset_request, reset_response}
+use Rattle.sctp_wire.specs.Parameter.{ParameterTree, outgoing_reset_request, incoming_reset_request}
 use Rattle.sctp_packet.specs.Chunk.{ChunkTree, data_chunk, idata_chunk, sack_chunk, re_config_chunk, forward_tsn_chunk, i_forward_tsn_chunk}
 use Rattle.sctp_state.specs.Events.{silent}
 use Rattle.sctp_rules.specs.State.{Message, IsAmong, count}
@@ -16,12 +16,13 @@ use Rattle.sctp_table.specs.Shown.{Association, association_in}
 use Rattle.sctp_table_laws.specs.Mapped.{Carried}
 use Rattle.sctp_course.specs.Course.{Side, emitted, state_of}
 use Rattle.sctp_delivery.specs.Answered.{performed_in}
-use Rattle.sctp_delivery.specs.Asks.{Ask, SaysOutgoing, SaysIncoming}
+use Rattle.sctp_delivery.specs.Asks.{Ask, SaysOutgoing}
 use Rattle.sctp_delivery.specs.StreamEpochs.{StreamEpoch, resets_told, failed_in}
 use Rattle.sctp_delivery.specs.Windows.{Stamp, queue_of}
 use Rattle.sctp_delivery.proofs.ClaimLemmas.{Direction, transfer_of, IsKept, GoesOn, SaysOut, SaysIn, first_out, first_in, AreSo, SendsIn, ReceivesIn}
 use Rattle.sctp_delivery.proofs.FilledLemmas.{IsFilled}
 use Rattle.sctp_delivery.proofs.SenderToolLemmas.{Grows, goes_grows, all_out_stay, all_in_stay}
+use Rattle.sctp_delivery.proofs.ReceiverToolLemmas.{no_chunks_said}
 
 -- ---- packets and their stamps, one by one
 
@@ -138,10 +139,6 @@ module _ (message : ℕ → Message) (mixed : Bool) where
   asks_anew asks none first new most (incoming_reset_request number streams) h = h
   asks_anew asks none first new most p h = tt
 
-  answers_anew : (done asked : ℕ) → done ≡ 0 → (first new : ℕ) (p : ParameterTree) → SaysIncoming first done asked p → SaysIncoming new done asked p
-  answers_anew done asked none first new (reset_response number result sender receiver) h = λ final. let l = (h final).below in absurd (omega (arith, none, l))
-  answers_anew done asked none first new p h = tt
-
   out_anew : (x : Direction) → count (transfer_of x).sender ≡ 0 → (transfer_of x).forward_points ≡ [] → x.asks ≡ [] → (first new least most : ℕ) (chunk : ChunkTree)
       → SaysOut message mixed first least most x chunk → SaysOut message mixed new least most x chunk
   out_anew x none no_points no_asks first new least most (data_chunk tsn is_immediate f) h = let b = h.1.carries.below in absurd (omega (arith, none, b))
@@ -152,23 +149,16 @@ module _ (message : ℕ → Message) (mixed : Bool) where
       All-weaker (SaysOutgoing first most x.asks) (SaysOutgoing new most x.asks) (λ p. asks_anew x.asks no_asks first new most p) parameters h
   out_anew x none no_points no_asks first new least most chunk h = h
 
-  in_anew : (x : Direction) → (transfer_of x).sacks ≡ [] → x.done ≡ 0 → (first new least most : ℕ) (chunk : ChunkTree) → SaysIn first least most x chunk → SaysIn new least most x chunk
-  in_anew x no_sacks none first new least most (sack_chunk k) h = absurd (subst (λ z. IsAmong h.point z) no_sacks h.sent)
-  in_anew x no_sacks none first new least most (re_config_chunk parameters) h =
-      All-weaker (SaysIncoming first x.done (length x.asks)) (SaysIncoming new x.done (length x.asks)) (λ p. answers_anew x.done (length x.asks) none first new p) parameters h
-  in_anew x no_sacks none first new least most chunk h = h
+  all_anew : (x : Direction) → count (transfer_of x).sender ≡ 0 → (transfer_of x).forward_points ≡ [] → x.asks ≡ [] → (first new least most : ℕ) (chunks : List ChunkTree)
+      → All (SaysOut message mixed first least most x) chunks → All (SaysOut message mixed new least most x) chunks
+  all_anew x none no_points no_asks first new least most chunks h =
+      All-weaker (SaysOut message mixed first least most x) (SaysOut message mixed new least most x) (λ chunk. out_anew x none no_points no_asks first new least most chunk) chunks h
 
-  anew : (Says New : Saying) (x : Direction) → ((least most : ℕ) (chunk : ChunkTree) → Says least most x chunk → New least most x chunk) → (of : Stamp → ℕ)
+  anew : (Says New : Saying) (x : Direction) → ((least most : ℕ) (chunks : List ChunkTree) → All (Says least most x) chunks → All (New least most x) chunks) → (of : Stamp → ℕ)
       (ps : List Carried) (ss : List Stamp) → AllUnderWay Says of x ps ss → AllUnderWay New of x ps ss
   anew Says New x f of ps ss h =
       each_weaker (λ stamp p. IsUnderWay Says x (of stamp) p) (λ stamp p. IsUnderWay New x (of stamp) p)
-      (λ stamp p u. record {
-        least = u.least;
-        past = u.past;
-        near = u.near;
-        below = u.below;
-        says = All-weaker (Says u.least (of stamp) x) (New u.least (of stamp) x) (λ chunk. f u.least (of stamp) chunk) p.chunks u.says;
-      }) ps ss h
+      (λ stamp p u. record { least = u.least; past = u.past; near = u.near; below = u.below; says = f u.least (of stamp) p.chunks u.says }) ps ss h
 
 -- an association that stands is not replaced
 abbrev pub Stands : (before after : State) → Type 0
@@ -193,10 +183,10 @@ module _ (message : ℕ → Message) (lifecycle : ℕ → Option ℕ) (mixed : B
       → (ps : List Carried) (ss : List Stamp) → AllUnderWay (says_out message mixed (first_out s)) of x ps ss → AllUnderWay (says_out message mixed (first_out t)) of x ps ss
   out_first Closed t q r y h k f ps ss a =
       anew message mixed (says_out message mixed 0) (says_out message mixed (first_out t)) x
-      (λ least most. out_anew message mixed x (ap count h.sender) h.no_points h.none_asked 0 (first_out t) least most) of ps ss a
+      (all_anew message mixed x (ap count h.sender) h.no_points h.none_asked 0 (first_out t)) of ps ss a
   out_first (CookieWait tag first t1) t q r y h k f ps ss a =
       anew message mixed (says_out message mixed 0) (says_out message mixed (first_out t)) x
-      (λ least most. out_anew message mixed x (ap count h.sender) h.no_points h.none_asked 0 (first_out t) least most) of ps ss a
+      (all_anew message mixed x (ap count h.sender) h.no_points h.none_asked 0 (first_out t)) of ps ss a
   out_first (Open phase t) Closed q r y h k f ps ss a = absurd (none_stands (f _ refl))
   out_first (Open phase t) (CookieWait tag first t1) q r y h k f ps ss a = absurd (none_stands (f _ refl))
   out_first (Open phase t) (Open next u) q r y h k f ps ss a =
@@ -207,10 +197,10 @@ module _ (message : ℕ → Message) (lifecycle : ℕ → Option ℕ) (mixed : B
       → (ps : List Carried) (ss : List Stamp) → AllUnderWay (says_in message mixed (first_in s)) of x ps ss → AllUnderWay (says_in message mixed (first_in t)) of x ps ss
   in_first Closed t before after y h k f ps ss a =
       anew message mixed (says_in message mixed 0) (says_in message mixed (first_in t)) x
-      (λ least most. in_anew message mixed x h.no_sacks h.none_done 0 (first_in t) least most) of ps ss a
+      (no_chunks_said x h.no_sacks h.none_done 0 (first_in t)) of ps ss a
   in_first (CookieWait tag first t1) t before after y h k f ps ss a =
       anew message mixed (says_in message mixed 0) (says_in message mixed (first_in t)) x
-      (λ least most. in_anew message mixed x h.no_sacks h.none_done 0 (first_in t) least most) of ps ss a
+      (no_chunks_said x h.no_sacks h.none_done 0 (first_in t)) of ps ss a
   in_first (Open phase t) Closed before after y h k f ps ss a = absurd (none_stands (f _ refl))
   in_first (Open phase t) (CookieWait tag first t1) before after y h k f ps ss a = absurd (none_stands (f _ refl))
   in_first (Open phase t) (Open next u) before after y h k f ps ss a =

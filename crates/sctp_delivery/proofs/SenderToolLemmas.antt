@@ -29,7 +29,7 @@ use Rattle.sctp_delivery.specs.Asks.{Ask, request_for, AreAsked, SaysOutgoing, S
 use Rattle.sctp_delivery.specs.Answered.{performed_in}
 use Rattle.sctp_delivery.specs.StreamEpochs.{StreamEpoch, shut, reopened, performed_of, failed_in}
 use Rattle.sctp_delivery.proofs.AsksLemmas.{asks_said, answers_said}
-use Rattle.sctp_delivery.proofs.ClaimLemmas.{Direction, transfer_of, of_transfer, goes_out, goes_in, GoesOn, SaysData, SaysPoint, SaysOut, SaysIn, first_out, SendsIn, Reports, AreSo, SenderClaim}
+use Rattle.sctp_delivery.proofs.ClaimLemmas.{Direction, transfer_of, of_transfer, goes_out, GoesOn, SaysData, SaysPoint, SaysOut, SaysIn, first_out, SendsIn, Reports, AreSo, SenderClaim}
 use Rattle.sctp_delivery.proofs.ResetEventsLemmas.{resets_in, performed_counts, performed_names, failed_still}
 
 -- ---- one run after another
@@ -327,57 +327,6 @@ module _ (message : ℕ → Message) (mixed : Bool) where
 
   pub receiver_stays : (x y : Direction) → GoesOn message mixed goes_out x y → SameReceiver x.rules y.rules
   receiver_stays x y g = subst (λ (z : Epochs). SameReceiver x.rules z) g.leads (same_along g.events x.rules g.all)
-
-  -- ---- a receiver's rules leave the sender as it is
-
-  pub record SameSender (x y : Epochs) : Type 0 where
-    pub sender : y.transfer.sender ≡ x.transfer.sender
-    pub acknowledged : y.transfer.acknowledged ≡ x.transfer.acknowledged
-    pub reports : y.transfer.reports ≡ x.transfer.reports
-    pub forward_points : y.transfer.forward_points ≡ x.transfer.forward_points
-    pub epoch : y.epoch ≡ x.epoch
-    pub raised : y.raised ≡ x.raised
-    pub opened : y.opened ≡ x.opened
-    pub requests : y.requests ≡ x.requests
-
-  sender_once : (x : Epochs) (e : ResetEvent) → goes_in e ≡ true → SameSender x (goes message mixed x e)
-  sender_once x (transfers (data_comes t)) s = record { sender = refl; acknowledged = refl; reports = refl; forward_points = refl; epoch = refl; raised = refl; opened = refl; requests = refl }
-  sender_once x (transfers (late_comes t)) s = record { sender = refl; acknowledged = refl; reports = refl; forward_points = refl; epoch = refl; raised = refl; opened = refl; requests = refl }
-  sender_once x (transfers (deliver p)) s = record { sender = refl; acknowledged = refl; reports = refl; forward_points = refl; epoch = refl; raised = refl; opened = refl; requests = refl }
-  sender_once x (transfers (send_sack c)) s = record { sender = refl; acknowledged = refl; reports = refl; forward_points = refl; epoch = refl; raised = refl; opened = refl; requests = refl }
-  sender_once x (transfers (forward_comes f spared)) s = record { sender = refl; acknowledged = refl; reports = refl; forward_points = refl; epoch = refl; raised = refl; opened = refl; requests = refl }
-  sender_once x (transfers (forget t c)) s = record { sender = refl; acknowledged = refl; reports = refl; forward_points = refl; epoch = refl; raised = refl; opened = refl; requests = refl }
-  sender_once x (transfers accept) s = cc
-  sender_once x (transfers (begin p)) s = cc
-  sender_once x (transfers (number p bytes more)) s = cc
-  sender_once x (transfers (close p)) s = cc
-  sender_once x (transfers (give_up p)) s = cc
-  sender_once x (transfers (leave c)) s = cc
-  sender_once x (transfers (send_forward f)) s = cc
-  sender_once x (reset_stream t) s = cc
-  sender_once x (send_request t) s = cc
-  sender_once x (perform r) s = record { sender = refl; acknowledged = refl; reports = refl; forward_points = refl; epoch = refl; raised = refl; opened = refl; requests = refl }
-  sender_once x (commit t) s = cc
-
-  sender_along : (es : List ResetEvent) (x : Epochs) → list_all goes_in es ≡ true → SameSender x (go_all message mixed x es)
-  sender_along [] x s = record { sender = refl; acknowledged = refl; reports = refl; forward_points = refl; epoch = refl; raised = refl; opened = refl; requests = refl }
-  sender_along (e ∷ es) x s =
-      let parts = and_parts (goes_in e) (list_all goes_in es) s in
-      let one = sender_once x e parts.0 in
-      let rest = sender_along es (goes message mixed x e) parts.1 in
-      record {
-        sender = rest.sender ∙ one.sender;
-        acknowledged = rest.acknowledged ∙ one.acknowledged;
-        reports = rest.reports ∙ one.reports;
-        forward_points = rest.forward_points ∙ one.forward_points;
-        epoch = rest.epoch ∙ one.epoch;
-        raised = rest.raised ∙ one.raised;
-        opened = rest.opened ∙ one.opened;
-        requests = rest.requests ∙ one.requests;
-      }
-
-  pub sender_stays : (x y : Direction) → GoesOn message mixed goes_in x y → SameSender x.rules y.rules
-  sender_stays x y g = subst (λ (z : Epochs). SameSender x.rules z) g.leads (sender_along g.events x.rules g.all)
 
 -- ---- what is told lightly are no packets
 

@@ -25,7 +25,8 @@ use Rattle.sctp_delivery.proofs.AsksLemmas.{get_below}
 use Rattle.sctp_delivery.proofs.ClaimLemmas.{Direction, transfer_of, goes_out, goes_in, IsKept, GoesOn, AsksStay, first_out, first_in, AreSo, SendsIn, ReceivesIn, SenderClaim, ReceiverClaim}
 use Rattle.sctp_delivery.proofs.ResetEventsLemmas.{performed_both, told_both, none_failed_both}
 use Rattle.sctp_delivery.proofs.FilledLemmas.{fills, filled_goes, receives_filled}
-use Rattle.sctp_delivery.proofs.SenderToolLemmas.{Grows, goes_grows, goes_none, receiver_stays, SameSender, sender_stays, so_still}
+use Rattle.sctp_delivery.proofs.SenderToolLemmas.{Grows, goes_grows, goes_none, receiver_stays, so_still}
+use Rattle.sctp_delivery.proofs.ReceiverToolLemmas.{SameSender, sender_stays}
 use Rattle.sctp_delivery.proofs.WithinLemmas.{numbered_is}
 use Rattle.sctp_delivery.proofs.DirectionLemmas.{Saying, IsUnderWay, AllUnderWay, each_behind, says_out, says_in, out_on, in_on, out_first, in_first, Stands, SoFar, Flows}
 use Rattle.sctp_delivery.proofs.PremisesLemmas.{waits, is_asked, waits_again}
