@@ -1,5 +1,5 @@
 -- What the rules of one end leave of the other, beside it.
-use Rattle.std.proofs.Common.{◌≡◌, ℕ, suc, Bool, true, false, inl, inr, Option, Some, None, List, [], ◌∷◌, ◌++◌, refl, sym, ap, subst, ◌∙◌}
+use Rattle.std.proofs.Common.{◌≡◌, ℕ, Bool, true, false, inl, inr, Option, List, [], ◌∷◌, ◌++◌, refl, sym, ap, subst, ◌∙◌}
 use Rattle.std.specs.List.{list_all}
 use Rattle.std.proofs.lemmas.Bool.{and_parts, false≢true}
 use Rattle.sctp_serial.specs.Messages as messages
@@ -14,7 +14,6 @@ use Rattle.sctp_rules.proofs.BasedLemmas.{keeps_epochs}
 use Rattle.sctp_tx_rules.specs.Following.{NoneIsReset, IsOthers}
 use Rattle.sctp_tx_rules.proofs.WholeLemmas.{shown_again}
 use Rattle.sctp_tx_rules.proofs.FollowLemmas.{others_follow}
-use Rattle.sctp_rx_rules.specs.Resets.{AreNextTo, IsWaitingFor}
 use Rattle.sctp_table.specs.Association.{State, Closed, CookieWait, Open}
 use Rattle.sctp_table.specs.Requests.{Requests}
 use Rattle.sctp_delivery.specs.Asks.{Ask, IsAsking, IsAnswering}
