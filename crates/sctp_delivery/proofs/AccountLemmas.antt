@@ -1,7 +1,7 @@
 -- The messages that the rules gave up are those that records of their sender name, and what they reported is what it told.
 use Rattle.std.proofs.Common.{◌≡◌, ℕ, ◌||◌, Bool, true, false, Option, List, [], ◌∷◌, ◌++◌, refl, sym, ap, ◌∙◌, subst, append-nil, append_assoc}
 use Rattle.sctp_rules.specs.State.{Message, has}
-use Rattle.sctp_rules.specs.Rules.{Event, after}
+use Rattle.sctp_rules.specs.Rules.{Event}
 use Rattle.sctp_rules.specs.Resets.{Epochs, ResetEvent, transfers, reset_stream, send_request, perform, commit, goes, MayAll, go_all}
 use Rattle.sctp_tx_rules.specs.Led.{given_up_by, given_ups, recorded, delivered, ids_at}
 use Rattle.sctp_tx_rules.specs.Records.{are_distinct}

@@ -1,29 +1,19 @@
 -- What the rules of one end leave of the other, beside it.
-use Rattle.std.proofs.Common.{◌≡◌, ℕ, suc, Bool, true, false, inl, inr, Option, Some, None, List, [], ◌∷◌, ◌++◌, slice_get, refl, sym, ap, subst, ◌∙◌}
+use Rattle.std.proofs.Common.{◌≡◌, ℕ, Bool, true, false, inl, inr, Option, List, [], ◌∷◌, ◌++◌, refl, sym, ap, subst, ◌∙◌}
 use Rattle.std.specs.List.{list_all}
 use Rattle.std.proofs.lemmas.Bool.{and_parts, false≢true}
 use Rattle.sctp_serial.specs.Messages as messages
 use Rattle.sctp_send_queue.specs.Queue.{Queue}
-use Rattle.sctp_outstanding.specs.Items.{Items, no_items}
-use Rattle.sctp_rx.specs.Tracker.{Tracker}
-use Rattle.sctp_rx.specs.ReassemblyQueue.{Reassembly, Deferred}
-use Rattle.sctp_rules.specs.State.{Message, Sender, Transfer, IsAmong, new_sender}
-use Rattle.sctp_rules.specs.Rules.{Event, accept, begin, number, close, give_up, data_comes, late_comes, deliver, send_sack, leave, send_forward, forward_comes, forget, IsAllowed, after}
-use Rattle.sctp_rules.specs.Kept.{Kept}
-use Rattle.sctp_rules.specs.Lifted.{lifted}
+use Rattle.sctp_outstanding.specs.Items.{no_items}
+use Rattle.sctp_rx.specs.ReassemblyQueue.{Deferred}
+use Rattle.sctp_rules.specs.State.{Message, Sender, Transfer, new_sender}
+use Rattle.sctp_rules.specs.Rules.{Event, accept, begin, number, close, give_up, data_comes, late_comes, deliver, send_sack, leave, send_forward, forward_comes, forget, after}
 use Rattle.sctp_rules.specs.Resets.{Request, Epochs, ResetEvent, transfers, reset_stream, send_request, perform, commit, MayReset, goes, MayAll, go_all}
 use Rattle.sctp_rules.specs.Based.{InEpochs}
 use Rattle.sctp_rules.proofs.BasedLemmas.{keeps_epochs}
-use Rattle.sctp_rules.proofs.WireResetLemmas.{still_shown}
-use Rattle.sctp_tx_rules.specs.Following.{FollowsEpochs, NoneIsReset, IsOthers}
+use Rattle.sctp_tx_rules.specs.Following.{NoneIsReset, IsOthers}
 use Rattle.sctp_tx_rules.proofs.WholeLemmas.{shown_again}
 use Rattle.sctp_tx_rules.proofs.FollowLemmas.{others_follow}
-use Rattle.sctp_rx_rules.specs.Receives.{Receives}
-use Rattle.sctp_rx_rules.specs.Near.{IsOn, ReadsNear}
-use Rattle.sctp_rx_rules.specs.Resets.{base_now, AreNextTo, IsWaitingFor}
-use Rattle.sctp_rx_rules.proofs.RowLemmas.{sender_goes}
-use Rattle.sctp_rx_rules.proofs.NearRowLemmas.{sender_keeps}
-use Rattle.sctp_rx_rules.proofs.NearKeptLemmas.{sender_keeps_mids}
 use Rattle.sctp_table.specs.Association.{State, Closed, CookieWait, Open}
 use Rattle.sctp_table.specs.Requests.{Requests}
 use Rattle.sctp_delivery.specs.Asks.{Ask, IsAsking, IsAnswering}

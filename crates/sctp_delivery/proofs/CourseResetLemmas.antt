@@ -1,7 +1,7 @@
 -- Resets along a course, of what the ends hold and tell alone: what is told only grows; what one end asked stays as the other acts.
-use Rattle.std.proofs.Common.{◌≡◌, ℕ, zero, suc, ◌+◌, ◌<◌, ◌||◌, not, Bool, true, false, cond, Option, Some, None, List, [], ◌∷◌, ◌++◌, length, slice_get, refl, sym, ap, ◌∙◌, append-nil, append_assoc, arith}
+use Rattle.std.proofs.Common.{◌≡◌, ℕ, zero, suc, ◌<◌, not, Bool, true, false, cond, Option, Some, None, List, [], ◌∷◌, ◌++◌, length, slice_get, refl, sym, ap, ◌∙◌, append-nil, append_assoc, arith}
 use Rattle.std.proofs.lemmas.Bool.{eq-eqb}
-use Rattle.sctp_state.specs.Events.{Event, OnStreamsResetPerformed, OnStreamsResetFailed, OnIncomingStreamReset}
+use Rattle.sctp_state.specs.Events.{Event}
 use Rattle.sctp_table.specs.Association.{State}
 use Rattle.sctp_table.specs.Input.{refusal}
 use Rattle.sctp_table_laws.specs.Mapped.{Carried}
@@ -10,7 +10,7 @@ use Rattle.sctp_delivery.specs.Windows.{numbered}
 use Rattle.sctp_delivery.specs.GivenUp.{told_given, told_foreign, told_by}
 use Rattle.sctp_delivery.specs.Answered.{waiting_number, is_same, Asked, asked_by, IsAnswered, AreAnswered, KeepsRequests, performed_in}
 use Rattle.sctp_delivery.proofs.ResetEventsLemmas.{performed_both}
-use Rattle.sctp_delivery.specs.StreamEpochs.{StreamEpoch, are_named, told_at, epochs_after, resets_told, failed_in}
+use Rattle.sctp_delivery.specs.StreamEpochs.{StreamEpoch, told_at, epochs_after}
 
 -- ---- what is told
 

@@ -1,5 +1,5 @@
 -- Along a course each direction is a run of the rules, turn by turn, and at each point what became ready fits, each in its epoch.
-use Rattle.std.proofs.Common.{◌≡◌, ℕ, ◌+◌, ◌-◌, ◌^◌, ◌<◌, ◌≤◌, ◌||◌, not, Bool, true, false, Option, Some, None, List, [], ◌∷◌, ◌++◌, length, map, take, slice_get, refl, sym, ap, subst, ◌∙◌, append-nil, append_assoc, length-append, arith}
+use Rattle.std.proofs.Common.{◌≡◌, ℕ, ◌+◌, ◌-◌, ◌^◌, ◌<◌, ◌||◌, not, Bool, true, false, Option, Some, None, List, [], ◌∷◌, ◌++◌, length, map, take, slice_get, refl, sym, ap, subst, ◌∙◌, append-nil, append_assoc, length-append, arith}
 use Rattle.std.proofs.lemmas.Bool.{or_parts}
 use Rattle.sctp_serial.specs.Messages as messages
 use Rattle.sctp_packet.specs.Packet.{PacketTree}
@@ -24,7 +24,7 @@ use Rattle.sctp_course.proofs.HandingLemmas.{Hands, hands_at}
 use Rattle.sctp_delivery.specs.Accepted.{Offer, accepted_in, accepted_at, accepted}
 use Rattle.sctp_delivery.specs.Windows.{Stamp, stamp, Stamps, stamps_after, stamps_for, IsTimely, AreWithin, KeepsWindows}
 use Rattle.sctp_delivery.specs.Answered.{Asked, asked_after, IsAnswered, AreAnswered, KeepsRequests, performed_in}
-use Rattle.sctp_delivery.specs.StreamEpochs.{StreamEpoch, epochs_after, epochs_of, offer_epochs, told_of, resets_told, failed_in}
+use Rattle.sctp_delivery.specs.StreamEpochs.{StreamEpoch, epochs_after, epochs_of, offer_epochs, told_of, failed_in}
 use Rattle.sctp_delivery.specs.GivenUp.{told_by, given_up_at, given_up}
 use Rattle.sctp_delivery.specs.Delivery.{ReportsAreTrue}
 use Rattle.sctp_delivery.specs.Ending.{stamps_along}

@@ -6,7 +6,7 @@ use Rattle.std.proofs.lemmas.List.Elements.{All-head, All-tail, All-weaker}
 use Rattle.std.specs.Prelude.{⊤}
 use Rattle.sctp_serial.specs.Messages as messages
 use Rattle.sctp_wire.specs.Parameter.{ParameterTree, outgoing_reset_request, incoming_reset_request}
-use Rattle.sctp_packet.specs.Chunk.{ChunkTree, data_chunk, idata_chunk, sack_chunk, re_config_chunk, forward_tsn_chunk, i_forward_tsn_chunk}
+use Rattle.sctp_packet.specs.Chunk.{ChunkTree, data_chunk, idata_chunk, re_config_chunk, forward_tsn_chunk, i_forward_tsn_chunk}
 use Rattle.sctp_state.specs.Events.{silent}
 use Rattle.sctp_rules.specs.State.{Message, IsAmong, count}
 use Rattle.sctp_rules.specs.Resets.{ResetEvent}

@@ -1,6 +1,5 @@
 -- Each turn of the sender's end leaves one direction at a later state of the rules.
-use Rattle.std.proofs.Common.{◌≡◌, inl, inr, ℕ, ◌+◌, ◌-◌, ◌^◌, ◌<◌, ◌≤◌, ◌==◌, ◌||◌, not, Bool, true, false, Option, Some, None, List, [], ◌∷◌, ◌++◌, length, replicate, take, slice_get, All, refl, sym, ap, subst, ◌∙◌, append-nil, append_assoc, arith}
-use Rattle.std.specs.Prelude.{⊤}
+use Rattle.std.proofs.Common.{◌≡◌, inl, inr, ℕ, ◌+◌, ◌-◌, ◌^◌, ◌<◌, ◌≤◌, ◌==◌, ◌||◌, Bool, true, false, Option, Some, None, List, [], ◌∷◌, ◌++◌, length, replicate, take, slice_get, All, refl, sym, ap, subst, ◌∙◌, append-nil, arith}
 use Rattle.std.proofs.lemmas.List.Elements.{All-nil}
 use Rattle.std.proofs.lemmas.Bool.{or_left}
 use Rattle.sctp_serial.specs.Messages as messages
@@ -40,9 +39,8 @@ use Rattle.sctp_delivery.specs.Accepted.{Offer, accepted_by, accepted_in}
 use Rattle.sctp_delivery.specs.GivenUp.{told_of, told_given, told_foreign, told_by, given_up_by}
 use Rattle.sctp_delivery.specs.Windows.{Stamp, IsYoung, IsTimely, IsWithin, queue_of, numbered, stamped}
 use Rattle.sctp_delivery.specs.Proper.{reset_unless, reset_by}
-use Rattle.sctp_delivery.specs.Asks.{Ask}
 use Rattle.sctp_delivery.specs.Answered.{asked_by, IsAnswered, performed_in}
-use Rattle.sctp_delivery.specs.StreamEpochs.{StreamEpoch, shut, reopened, performed_of, epochs_of, failed_in}
+use Rattle.sctp_delivery.specs.StreamEpochs.{shut, reopened, performed_of, epochs_of, failed_in}
 use Rattle.sctp_delivery.proofs.ClaimLemmas.{Direction, transfer_of, goes_out, GoesOn, SaysOut, first_out, first_in, AreSo, SendsIn, ReceivesIn, SenderClaim, HearsSacks, SenderGoes, SenderPremises, ReceiverGoes, ReceiverPremises}
 use Rattle.sctp_delivery.proofs.FrameLemmas.{is_other, KeepsJoined, Joined, not_other, frame, joined_call}
 use Rattle.sctp_delivery.proofs.SenderToolLemmas.{goes_none, goes_on, reports_none}
@@ -52,7 +50,7 @@ use Rattle.sctp_delivery.proofs.ResetCallLemmas as calls
 use Rattle.sctp_delivery.proofs.WithinLemmas.{numbered_is, Holds}
 use Rattle.sctp_delivery.proofs.DirectionLemmas.{AtStamp, each_at, IsUnderWay, says_in, Stands, SoFar, Flows, IsSilent}
 use Rattle.sctp_delivery.proofs.PremisesLemmas.{AsksSoon, in_window, IsNoPacket, hears_no_sacks, hears_sacks, holds_of, sender_premises, begins_out}
-use Rattle.sctp_delivery.proofs.TurnLemmas.{message_in, AreOffered, Offers, offers_none, Stay, is_outgoing, outgoing, so_again, after_turn, so_far_then, ends_out}
+use Rattle.sctp_delivery.proofs.TurnLemmas.{AreOffered, Offers, offers_none, Stay, is_outgoing, outgoing, so_again, after_turn, so_far_then, ends_out}
 use Rattle.sctp_delivery.proofs.AccountLemmas.{Accounted, accounts_still, accounts_out}
 
 -- ---- what becomes ready is of its epoch

@@ -1,5 +1,5 @@
 -- What becomes ready at an end are messages that the other end accepted.
-use Rattle.std.proofs.Common.{◌≡◌, ℕ, ◌+◌, ◌-◌, ◌^◌, ◌<◌, ◌≤◌, not, Bool, true, false, Option, Some, List, [], ◌∷◌, ◌++◌, length, take, slice_get, slice_index, refl, sym, ap, subst, ◌∙◌, append-nil, append_assoc, arith}
+use Rattle.std.proofs.Common.{◌≡◌, ℕ, ◌^◌, ◌<◌, not, Bool, true, false, Option, Some, List, [], ◌∷◌, ◌++◌, length, take, slice_get, slice_index, refl, sym, ap, subst, ◌∙◌, append-nil, append_assoc, arith}
 use Rattle.rand_core.specs.Stream.{Stream}
 use Rattle.sctp_state.specs.Options.{Options}
 use Rattle.sctp_capabilities.specs.Capabilities.{agreed}
@@ -225,7 +225,7 @@ delivered_then a b words_a words_b turns from_a last own other follows none k =
     let short = short_along a b words_a words_b (turns ++ (from_a, last) ∷ []) own other k.limits from_a in
     let d = along a b words_a words_b turns own other rules none k.windows k.resets from_a all os k.few split short in
     let then : (early late : List (Event Carried)) → (told_by last (side_of from_a v) (side_of (not from_a) v)).events ≡ early ++ late → endings early ≡ 0
-        → TellsThen (side_of from_a v).told early (accepted from_a turns w ++ os) (take (length (readied (not from_a) turns w)) d.places) =
+    → TellsThen (side_of from_a v).told early (accepted from_a turns w ++ os) (take (length (readied (not from_a) turns w)) d.places) =
     λ early late told before.
     tells_then all (offer_epochs from_a turns w all_open) mixed parts k.few from_a a b own other refl v (stamps_along turns w no_stamps)
     (run_joined a b own other turns w rules none (first_halves a b words_a words_b)) (silent_run turns w (quiet a b words_a words_b)) (within_last turns w no_stamps k.windows) k.resets.few none last

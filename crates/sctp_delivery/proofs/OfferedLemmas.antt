@@ -25,11 +25,11 @@ use Rattle.sctp_delivery.specs.Answered.{performed_in}
 use Rattle.sctp_delivery.specs.Asks.{Ask}
 use Rattle.sctp_delivery.specs.StreamEpochs.{StreamEpoch, shut, reopened, performed_of, resets_told, failed_in}
 use Rattle.sctp_delivery.specs.Windows.{queue_of}
-use Rattle.sctp_delivery.proofs.ClaimLemmas.{Direction, transfer_of, goes_out, first_out, first_in, SaysOut, SaysIn, AreSo, SendsIn, SenderClaim, ReceiverClaim, HearsSacks, HearsData, SenderGoes, SenderPremises, ReceiverGoes, ReceiverPremises}
+use Rattle.sctp_delivery.proofs.ClaimLemmas.{Direction, transfer_of, goes_out, first_out, first_in, SaysIn, AreSo, SendsIn, SenderClaim, ReceiverClaim, HearsSacks, HearsData, SenderGoes, SenderPremises, ReceiverGoes, ReceiverPremises}
 use Rattle.sctp_delivery.proofs.FrameLemmas.{Joined, KeepsJoined}
 use Rattle.sctp_delivery.proofs.FrameLemmas as frames
 use Rattle.sctp_delivery.proofs.ResetEventsLemmas.{resets_in, performed_counts, performed_names, failed_still, told_counts}
-use Rattle.sctp_delivery.proofs.SenderToolLemmas.{goes_none, reports_none}
+use Rattle.sctp_delivery.proofs.SenderToolLemmas.{goes_none, reports_none, SaysAll, SaysPackets}
 use Rattle.sctp_delivery.proofs.DirectionLemmas.{IsSilent}
 use Rattle.sctp_delivery.proofs.PremisesLemmas.{AsksSoon}
 use Rattle.sctp_delivery.proofs.TurnLemmas.{AreOffered, Offers, Stay}
@@ -56,17 +56,6 @@ module _ (g : Setting) (call : Call) (r : Rules g call) where
 -- where the messages are offered
 abbrev offering : List messages.Message → SendOptions → Endpoint Carried → Making Carried
 offering ms how e = idle e.standing.state (offer_all ms how (shown_state e.standing.state) e.standing.context) e.words
-
--- which they are
-abbrev pub offered_by : Call → List messages.Message
-offered_by (Send m how) = m ∷ []
-offered_by (SendMany ms how) = ms
-offered_by call = []
-
-abbrev pub how_offered : Call → SendOptions → SendOptions
-how_offered (Send m how) d = how
-how_offered (SendMany ms how) d = how
-how_offered call d = d
 
 -- there are two such calls
 each_offer : (P : Call → Type 0) → ((m : messages.Message) (how : SendOptions) → P (Send m how)) → ((ms : List messages.Message) (how : SendOptions) → P (SendMany ms how))
@@ -198,8 +187,9 @@ module _ (message : ℕ → Message) (lifecycle : ℕ → Option ℕ) (mixed : B
           performed = answered_so o.mid.answered told none;
           epochs = λ f so. told_so told o.mid f none so;
           none_failed = none.none_failed;
-          told = subst (λ (ps : List Carried). All (λ (p : Carried). All (SaysOut message mixed (first_out (state_of s)) (transfer_of o.mid).acknowledged (count (transfer_of o.mid).sender) o.mid) p.chunks) ps)
-              (sym (offers_packets ms how (shown_state (state_of s)) s.end.standing.context ∙ ap (λ (t : Told Carried). packets_in t.events) q.told)) (All-nil _);
+          told = subst (SaysPackets message lifecycle mixed o.mid (first_out (state_of s)) o.mid)
+              (sym (offers_packets ms how (shown_state (state_of s)) s.end.standing.context ∙ ap (λ (t : Told Carried). packets_in t.events) q.told))
+              (All-nil (λ (p : Carried). SaysAll message lifecycle mixed o.mid (first_out (state_of s)) o.mid p.chunks));
           made = All-nil _;
         }
 

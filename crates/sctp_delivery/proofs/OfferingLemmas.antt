@@ -10,8 +10,8 @@ use Rattle.sctp_state.specs.declared.api.errors.SendError.{SendError}
 use Rattle.sctp_state.specs.Options.{SendOptions}
 use Rattle.sctp_send_queue.specs.Queue.{Queued, Queue, expiry_of, added}
 use Rattle.sctp_outstanding.specs.Items.{no_items}
-use Rattle.sctp_rules.specs.State.{Message, Sender, Transfer, IsAmong, put, count, stream_of}
-use Rattle.sctp_rules.specs.Rules.{accept, accepts, after}
+use Rattle.sctp_rules.specs.State.{Message, Sender, IsAmong, count, stream_of}
+use Rattle.sctp_rules.specs.Rules.{accept, accepts}
 use Rattle.sctp_rules.specs.Kept.{Kept}
 use Rattle.sctp_rules.specs.Resets.{transfers, goes}
 use Rattle.sctp_rules.proofs.BasedLemmas.{keeps_epochs}

@@ -1,5 +1,5 @@
 -- What a turn begins with: the claim that nothing is done yet, and what is heard, of packets that are under way.
-use Rattle.std.proofs.Common.{◌≡◌, ℕ, suc, ◌+◌, ◌-◌, ◌^◌, ◌<◌, ◌≤◌, Bool, Option, Some, None, inl, inr, List, [], ◌∷◌, length, map, slice_get, All, refl, sym, ap, subst, ◌∙◌, arith}
+use Rattle.std.proofs.Common.{◌≡◌, ℕ, ◌+◌, ◌-◌, ◌^◌, ◌<◌, ◌≤◌, Bool, Option, Some, inl, inr, List, [], ◌∷◌, length, map, slice_get, All, refl, sym, ap, subst, ◌∙◌, arith}
 use Rattle.std.specs.Prelude.{option_map}
 use Rattle.std.proofs.lemmas.Bool.{cases_lt}
 use Rattle.std.proofs.lemmas.List.Elements.{All-nil, All-cons, All-head, All-tail}
@@ -24,7 +24,7 @@ use Rattle.sctp_course.proofs.AddedLemmas.{all_at}
 use Rattle.sctp_course.proofs.CourseLemmas.{setting}
 use Rattle.sctp_delivery.specs.Answered.{waiting_number, IsAnswered, performed_in}
 use Rattle.sctp_delivery.specs.Asks.{Ask, number_of}
-use Rattle.sctp_delivery.specs.StreamEpochs.{StreamEpoch, shut, reopened, performed_of, resets_told, failed_in}
+use Rattle.sctp_delivery.specs.StreamEpochs.{shut, reopened, performed_of, resets_told, failed_in}
 use Rattle.sctp_delivery.specs.Windows.{Stamp, IsWithin, queue_of}
 use Rattle.sctp_delivery.proofs.ClaimLemmas.{Direction, transfer_of, goes_out, goes_in, SaysOut, SaysIn, first_out, first_in, WasSaid, AreSo, SendsIn, SenderClaim, ReceiverClaim, HearsSacks, HearsData, SenderPremises, ReceiverPremises}
 use Rattle.sctp_delivery.proofs.AsksLemmas.{get_below}

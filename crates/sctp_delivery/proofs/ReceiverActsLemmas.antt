@@ -1,6 +1,6 @@
 -- Acts that leave the rules of a receiver where they are, or make them go on: packets, what opens and shuts an association, and
 -- what the peer sends.
-use Rattle.std.proofs.Common.{◌≡◌, ℕ, ◌+◌, ◌++◌, not, Bool, true, false, inl, inr, Option, List, [], ◌∷◌, All, refl, sym, ap, ◌∙◌, subst, arith, append-nil}
+use Rattle.std.proofs.Common.{◌≡◌, ℕ, ◌++◌, not, Bool, true, false, inl, inr, Option, List, [], ◌∷◌, All, refl, sym, ap, ◌∙◌, subst, arith, append-nil}
 use Rattle.std.proofs.lemmas.Bool.{and_parts, true≢false}
 use Rattle.sctp_serial.specs.Messages as messages
 use Rattle.sctp_serial.specs.Unwrapped.{origin}

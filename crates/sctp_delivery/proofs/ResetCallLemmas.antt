@@ -1,5 +1,5 @@
 -- The call that resets streams, unless an end refuses it: each stream is prepared, then what an open end sends goes out.
-use Rattle.std.proofs.Common.{◌≡◌, ℕ, ◌+◌, Bool, true, false, Option, Some, None, List, [], ◌∷◌, ◌++◌, All, refl, sym, ap, subst, ◌∙◌, append_assoc, append-nil}
+use Rattle.std.proofs.Common.{◌≡◌, ℕ, ◌+◌, Bool, true, false, Option, None, List, [], ◌∷◌, ◌++◌, All, refl, sym, ap, subst, ◌∙◌, append_assoc, append-nil}
 use Rattle.rand_core.specs.Stream.{Stream}
 use Rattle.sctp_serial.specs.Messages as messages
 use Rattle.sctp_state.specs.declared.api.errors.ResetStreamsError.{ResetStreamsError}
@@ -9,10 +9,10 @@ use Rattle.sctp_table.specs.Association.{Phase, Tcb, State, Closed, CookieWait, 
 use Rattle.sctp_table.specs.Sending.{send_in}
 use Rattle.sctp_table.specs.Input.{on_standing}
 use Rattle.sctp_table.specs.Resets.{unless_supported, reset_refusal, prepared, prepare_all, reset_if}
-use Rattle.sctp_table.specs.Laws.{Call, ResetStreams, NoPacket, called}
+use Rattle.sctp_table.specs.Laws.{Call, ResetStreams, NoPacket}
 use Rattle.sctp_table_laws.specs.Mapped.{Carried}
 use Rattle.sctp_course.specs.Acts.{Making, idle, calm, IsReset, prepares, HasNoEnd, Keeps, KeepsUntilEnd}
-use Rattle.sctp_course.specs.Course.{Side, packets_in, state_of}
+use Rattle.sctp_course.specs.Course.{packets_in}
 use Rattle.sctp_course.proofs.ToldLemmas.{tells_prepared}
 use Rattle.sctp_course.proofs.UntilLemmas.{none_before, Until, frame}
 use Rattle.sctp_course.proofs.RowActsLemmas.{does_where_open}
@@ -24,7 +24,7 @@ use Rattle.sctp_delivery.specs.StreamEpochs.{performed_of, resets_told}
 use Rattle.sctp_delivery.proofs.ClaimLemmas.{Direction, transfer_of, first_in, SaysIn, SenderClaim, ReceiverClaim}
 use Rattle.sctp_delivery.proofs.FrameLemmas.{Joined, KeepsJoined}
 use Rattle.sctp_delivery.proofs.FrameLemmas as frames
-use Rattle.sctp_delivery.proofs.ResetEventsLemmas.{resets_in, told_counts, resets_prepared}
+use Rattle.sctp_delivery.proofs.ResetEventsLemmas.{told_counts, resets_prepared}
 use Rattle.sctp_delivery.proofs.SenderToolLemmas.{same_packets}
 use Rattle.sctp_delivery.proofs.SenderResetLemmas.{prepares_claims, prepared_answers}
 

@@ -1,10 +1,9 @@
 -- What an end that asks for resets of its streams holds, as its queue or its requests change; and how its streams stand once it has told an
 -- answer.
-use Rattle.std.proofs.Common.{◌≡◌, ℕ, zero, suc, ◌+◌, ◌<◌, ◌≤◌, Bool, true, false, cond, inl, inr, Option, Some, None, List, [], ◌∷◌, ◌++◌, refl, sym, ap, ◌∙◌, subst, arith, append_assoc}
+use Rattle.std.proofs.Common.{◌≡◌, ℕ, zero, suc, ◌<◌, ◌≤◌, Bool, true, false, cond, inl, inr, Option, Some, None, List, [], ◌∷◌, ◌++◌, refl, sym, ap, ◌∙◌, subst, arith}
 use Rattle.std.specs.Prelude.{◌||◌, ◌==◌, option_map, slice_get}
 use Rattle.std.proofs.lemmas.Bool.{cases_eq, eq-eqb, ne_eqb, or_right}
 use Rattle.std.proofs.lemmas.Bool.Decides.{nat_tests}
-use Rattle.sctp_state.specs.Events.{Event, OnStreamsResetFailed, OnStreamsResetPerformed}
 use Rattle.sctp_send_queue.specs.Queue.{Queue}
 use Rattle.sctp_rules.specs.State.{IsAmong, has}
 use Rattle.sctp_rules.specs.Resets.{Epochs}
@@ -13,8 +12,7 @@ use Rattle.sctp_table.specs.Requests.{Request, Requests, Unsettled, Done, outcom
 use Rattle.sctp_table.specs.Requests as requests
 use Rattle.sctp_course.proofs.JoinLemmas.{some_same}
 use Rattle.sctp_delivery.specs.Asks.{Ask, named_in, IsRequestOf, IsAsking}
-use Rattle.sctp_delivery.specs.Answered.{performed_in}
-use Rattle.sctp_delivery.specs.StreamEpochs.{StreamEpoch, are_named, opened_if, reopened, performed_of, failed_in}
+use Rattle.sctp_delivery.specs.StreamEpochs.{StreamEpoch, are_named, opened_if, reopened}
 use Rattle.sctp_delivery.proofs.AsksLemmas.{named_next}
 use Rattle.sctp_delivery.proofs.ClaimLemmas.{AreSo}
 

@@ -1,6 +1,6 @@
 -- Acts of a sender that change its values: lifetimes that end, a timeout, forward points, packets and SACKs. Each is a run of the
 -- rules.
-use Rattle.std.proofs.Common.{◌≡◌, ℕ, zero, suc, ◌+◌, ◌≤◌, nat_lt, Bool, true, false, inl, Option, List, [], ◌∷◌, ◌++◌, length, map, replicate, All, refl, sym, ap, ◌∙◌, subst, arith, append-nil}
+use Rattle.std.proofs.Common.{◌≡◌, ℕ, zero, suc, ◌≤◌, nat_lt, Bool, true, false, inl, Option, List, [], ◌∷◌, ◌++◌, length, map, replicate, All, refl, sym, ap, ◌∙◌, subst, arith, append-nil}
 use Rattle.std.specs.List.{list_all}
 use Rattle.std.proofs.lemmas.List.Elements.{All-nil, All-cons}
 use Rattle.std.proofs.lemmas.List.Folds.{list_all-append}
@@ -28,7 +28,7 @@ use Rattle.sctp_tx_rules.specs.Shown.{Shows}
 use Rattle.sctp_tx_rules.specs.Following.{FollowsEpochs, LeadsInEpochs}
 use Rattle.sctp_tx_rules.specs.Led.{given_ups, recorded, is_sending, LeadsTo, delivered}
 use Rattle.sctp_tx_rules.specs.Points.{chunk_of}
-use Rattle.sctp_tx_rules.specs.Rows.{AllCarry, left}
+use Rattle.sctp_tx_rules.specs.Rows.{AllCarry}
 use Rattle.sctp_tx_rules.proofs.AskedLemmas.{send_asked}
 use Rattle.sctp_tx_rules.proofs.BreakLemmas.{nacks_keep, expiries_keep, points_end}
 use Rattle.sctp_tx_rules.proofs.FollowLemmas.{others_follow}

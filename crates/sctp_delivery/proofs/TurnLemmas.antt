@@ -1,12 +1,12 @@
 -- A turn of either end leaves one direction at a later state of the rules.
-use Rattle.std.proofs.Common.{◌≡◌, ℕ, zero, suc, ◌+◌, ◌-◌, ◌==◌, ◌^◌, ◌<◌, ◌≤◌, not, Bool, true, false, cond, ◌⊎◌, inl, inr, Option, Some, None, List, [], ◌∷◌, ◌++◌, length, replicate, slice_get, All, refl, sym, ap, subst, ◌∙◌, arith}
+use Rattle.std.proofs.Common.{◌≡◌, ℕ, zero, suc, ◌+◌, ◌-◌, ◌^◌, ◌<◌, ◌≤◌, not, Bool, true, false, cond, ◌⊎◌, inl, inr, Option, Some, None, List, [], ◌∷◌, ◌++◌, length, replicate, slice_get, All, refl, sym, ap, subst, ◌∙◌, arith}
 use Rattle.std.specs.Prelude.{⊤}
 use Rattle.std.specs.List.{list_all}
 use Rattle.std.proofs.lemmas.List.{length-append, length-map}
 use Rattle.std.proofs.lemmas.List.Elements.{All-weaker}
-use Rattle.std.proofs.lemmas.Bool.{and_parts, and_from, cases_lt, eq-eqb}
+use Rattle.std.proofs.lemmas.Bool.{and_parts, and_from, eq-eqb}
 use Rattle.sctp_serial.specs.Messages as messages
-use Rattle.sctp_state.specs.Events.{Event, OnStreamsResetPerformed, OnStreamsResetFailed, OnIncomingStreamReset}
+use Rattle.sctp_state.specs.Events.{Event}
 use Rattle.sctp_rules.specs.State.{Message, count, stream_of}
 use Rattle.sctp_rules.specs.Rules.{accept, begin, number, close, give_up, data_comes, late_comes, deliver, send_sack, leave, send_forward, forward_comes, forget}
 use Rattle.sctp_rules.specs.Resets.{Epochs, ResetEvent, transfers, reset_stream, send_request, perform, commit, goes, go_all}
@@ -17,9 +17,9 @@ use Rattle.sctp_course.specs.Acts.{calm}
 use Rattle.sctp_course.specs.Course.{Side, packets_in, emitted, took, state_of}
 use Rattle.sctp_course.proofs.JoinActsLemmas.{packets_both}
 use Rattle.sctp_delivery.specs.Accepted.{Offer}
-use Rattle.sctp_delivery.specs.Answered.{waiting_number, is_same, asked_by, performed_in}
+use Rattle.sctp_delivery.specs.Answered.{waiting_number, is_same, asked_by}
 use Rattle.sctp_delivery.specs.Asks.{Ask, number_of}
-use Rattle.sctp_delivery.specs.StreamEpochs.{StreamEpoch, are_named, shut, reopened, performed_of, epochs_of, resets_told, failed_in}
+use Rattle.sctp_delivery.specs.StreamEpochs.{StreamEpoch, shut, reopened, performed_of, epochs_of}
 use Rattle.sctp_delivery.specs.Windows.{Stamp, numbered, queue_of, stamped}
 use Rattle.sctp_delivery.proofs.AsksLemmas.{get_below}
 use Rattle.sctp_delivery.proofs.ClaimLemmas.{Direction, transfer_of, goes_out, goes_in, IsKept, GoesOn, AsksStay, first_out, first_in, AreSo, SendsIn, ReceivesIn, SenderClaim, ReceiverClaim}
