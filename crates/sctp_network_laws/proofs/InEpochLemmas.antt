@@ -12,7 +12,7 @@ use Rattle.sctp_delivery.specs.Delivery as courses
 use Rattle.sctp_delivery.specs.Delivery.{message_at}
 use Rattle.sctp_delivery.specs.StreamEpochs as epochs
 use Rattle.sctp_delivery.specs.StreamEpochs.{all_open, resets_told, told_of}
-use Rattle.sctp_delivery.proofs.CourseResetLemmas.{resets_told_both}
+use Rattle.sctp_delivery.proofs.ResetEventsLemmas.{told_both}
 use Rattle.sctp_delivery.proofs.StreamEpochLemmas.{epochs_are_many, epochs_go_on}
 use Rattle.sctp_network_table.specs.Judge.{End, A, B, Entry, BecameReady, ready_by, ready}
 use Rattle.sctp_network_table.specs.World.{other}
@@ -261,7 +261,7 @@ module _ (x : End) (all : List (Bool × Turn)) (c : Pair) (from : courses.Delive
   more_told before between log is =
       let parts = ap (λ (l : List Entry). resets_told stream (happened y l)) is in
       let both = ap (λ (es : List (Event (List ℕ))). resets_told stream es) (flat_map-append (happened_by y) before between) in
-      let sum = resets_told_both stream (happened y before) (happened y between) in
+      let sum = told_both stream (happened y before) (happened y between) in
       omega (arith, parts, both, sum)
 
   before_turn : resets_told stream (happened y at.log) ≤ its_epoch.0

@@ -32,7 +32,8 @@ use Rattle.sctp_delivery.specs.Delivery as courses
 use Rattle.sctp_delivery.specs.Delivery.{AllAreDone, IsReady}
 use Rattle.sctp_delivery.specs.Ending as ending
 use Rattle.sctp_delivery.proofs.LawLemmas.{follows_front, accepted_more}
-use Rattle.sctp_delivery.proofs.CourseResetLemmas.{told_turned, failed_both}
+use Rattle.sctp_delivery.proofs.CourseResetLemmas.{told_turned}
+use Rattle.sctp_delivery.proofs.ResetEventsLemmas.{failed_more}
 use Rattle.sctp_network_table.specs.Judge.{End, A, B, Entry, BecameReady, ready, handed_out, handed_out_by, ready_by, given_up_by}
 use Rattle.sctp_network_table.specs.World.{World, Action, Happens, other, is_at_rest, packets_in, told_entries}
 use Rattle.sctp_network_laws.specs.Courses.{ActionFits, IsLed, origin, is_a, end_of, told_in}
@@ -265,7 +266,7 @@ module _ (w : World) (l : IsLed w) (rules : FollowsTheRules w) (none : Stands w.
   pub none_failed_front : (x : End) → failed_in (happened x w.log) ≡ false → (early late : List Entry) → w.log ≡ early ++ late → failed_in (happened x early) ≡ false
   none_failed_front x h early late e =
       (or_parts (failed_in (happened x early)) (failed_in (happened x late))
-      (sym (failed_both (happened x early) (happened x late))
+      (sym (failed_more (happened x early) (happened x late))
       ∙ (ap (λ (es : List (Event (List ℕ))). failed_in es) (sym (flat_map-append (happened_by x) early late)) ∙ (sym (ap (λ (l : List Entry). failed_in (happened x l)) e) ∙ h)))).0
 
   pub rests : (x : End) (from : courses.Delivers (is_a x) r.turns first_pair)
