@@ -16,7 +16,7 @@ use Rattle.sctp_network_laws.specs.Courses.{told_by, told_in}
 use Rattle.sctp_network_laws.specs.Delivered.{happened_by, happened, reset_by, begins_event}
 use Rattle.sctp_network_laws.proofs.EventLemmas.{mapped, same_itself}
 use Rattle.sctp_network_laws.proofs.LoggedLemmas.{IsQuietOn, behind_none, none_ready, none_associated, none_told, quiet_ready}
-use Rattle.sctp_network_laws.proofs.PrefixLemmas.{none_before, none_behind, Longer, one_is_longer, split_head}
+use Rattle.sctp_network_laws.proofs.PrefixLemmas.{none_behind, Longer, one_is_longer, split_head}
 use Rattle.sctp_network_laws.proofs.SidesLemmas.{Good}
 
 -- ---- events but for packets

@@ -26,7 +26,7 @@ use Rattle.sctp_delivery.specs.Answered.{none_asked, performed_in}
 use Rattle.sctp_delivery.specs.StreamEpochs as epochs
 use Rattle.sctp_delivery.specs.StreamEpochs.{all_open}
 use Rattle.sctp_delivery.specs.Windows as windows
-use Rattle.sctp_delivery.proofs.CourseResetLemmas.{performed_both}
+use Rattle.sctp_delivery.proofs.ResetEventsLemmas.{performed_both}
 use Rattle.sctp_network_table.specs.Judge.{End, A, B, Connect, Entry, ready}
 use Rattle.sctp_network_table.specs.World.{Side, World, Action, CallOf, Runs, told_entries, fresh_world, is_at_rest}
 use Rattle.sctp_network_laws.specs.Courses.{ActionFits, IsInBytes, IsLed, origin, is_a, AreTurnsOf}
