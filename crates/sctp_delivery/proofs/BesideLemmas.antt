@@ -90,7 +90,7 @@ module _ (message : ℕ → Message) (lifecycle : ℕ → Option ℕ) (mixed : B
   receiver_once x (late_comes t) s = cc
   receiver_once x (deliver p) s = cc
   receiver_once x (send_sack c) s = cc
-  receiver_once x (forward_comes f spared) s = cc
+  receiver_once x (forward_comes f) s = cc
   receiver_once x (forget t c) s = cc
 
   leaves_once : (x : Epochs) → InEpochs message mixed x → (e : ResetEvent) → MayReset message mixed x e → is_outgoing e ≡ true → Leaves message mixed x (goes message mixed x e)

@@ -53,7 +53,7 @@ is_receiving (deliver p) = true
 is_receiving (send_sack c) = true
 is_receiving (leave c) = false
 is_receiving (send_forward f) = false
-is_receiving (forward_comes f spared) = true
+is_receiving (forward_comes f) = true
 is_receiving (forget s c) = false
 
 abbrev pub goes_out : ResetEvent → Bool

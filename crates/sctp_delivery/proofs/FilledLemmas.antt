@@ -129,7 +129,7 @@ module _ (message : ℕ → Message) where
     filled_once (send_sack c) a b = f
     filled_once (leave c) a b = f
     filled_once (send_forward p) a b = f
-    filled_once (forward_comes p spared) a b = f
+    filled_once (forward_comes p) a b = f
     filled_once (forget s c) a b = f
 
   -- ---- runs
@@ -173,7 +173,7 @@ module _ (message : ℕ → Message) where
     receiving_has (transfers (send_sack c)) h = refl
     receiving_has (transfers (leave c)) h = refl
     receiving_has (transfers (send_forward f)) h = refl
-    receiving_has (transfers (forward_comes f spared)) h = refl
+    receiving_has (transfers (forward_comes f)) h = refl
     receiving_has (transfers (forget s c)) h = refl
     receiving_has (reset_stream s) h = refl
     receiving_has (send_request s) h = refl

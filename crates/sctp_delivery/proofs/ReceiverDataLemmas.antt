@@ -11,7 +11,7 @@ use Rattle.sctp_rx.specs.Tracker.{Tracker, IsTracker, is_valid, has_seen, moves_
 use Rattle.sctp_rx.specs.Streams.{is_far, entries_in}
 use Rattle.sctp_rx.specs.ReassemblyQueue.{Reassembly, Deferred, Waiting, Added, Forwarded, number_of, came, add_now, forward_now, fragment_waits, point_waits, with_waiting, waits, resetting, waiting_in, add, forward}
 use Rattle.sctp_rules.specs.State.{Message, ForwardPoint, IsAmong}
-use Rattle.sctp_rules.specs.Rules.{Event, data_comes, late_comes, forward_comes, deliver, covers, no_stream}
+use Rattle.sctp_rules.specs.Rules.{Event, data_comes, late_comes, forward_comes, deliver, covers}
 use Rattle.sctp_rules.specs.Points.{AreApart}
 use Rattle.sctp_rules.specs.Based.{EpochWindows}
 use Rattle.sctp_rules.proofs.BasedLemmas.{unseen_is_now}
@@ -174,7 +174,7 @@ module _ (message : ℕ → Message) (mixed : Bool) (first : ℕ) (handed : List
     point_by : (b : Bool) → moves_on (origin + k) t ≡ b → Arrives message mixed first handed x (tracker.forward (origin + k) t) (skipped_if b tsn skipped r)
     point_by true moves =
         let l = point_while message mixed first shift x.rules kept.epochs windows.items handed t r shown near waiting is k tsn f few sent last moves tsn_is apart (named moves) skipped are in
-        record { events = forward_comes f no_stream ∷ map deliver l.0; all = ready_is_receiving l.0; shift = shift_after r.first shift k; comes = l.1; is_tracker = passed }
+        record { events = forward_comes f ∷ map deliver l.0; all = ready_is_receiving l.0; shift = shift_after r.first shift k; comes = l.1; is_tracker = passed }
     point_by false old = stays (tracker.forward (origin + k) t) (old_point message mixed shift (base_now x.rules) (transfer_of x) handed t r shown (origin + k) old) passed
 
     pub point_arrives : Arrives message mixed first handed x (tracker.forward (origin + k) t) (skipped_if (moves_on (origin + k) t) tsn skipped r)

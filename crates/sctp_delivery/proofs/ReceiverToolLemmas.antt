@@ -83,7 +83,7 @@ module _ (message : ℕ → Message) (mixed : Bool) where
   same_once x (transfers (late_comes t)) is = none_changed x _ refl refl refl refl refl refl refl refl
   same_once x (transfers (deliver p)) is = none_changed x _ refl refl refl refl refl refl refl refl
   same_once x (transfers (send_sack c)) is = none_changed x _ refl refl refl refl refl refl refl refl
-  same_once x (transfers (forward_comes f spared)) is = none_changed x _ refl refl refl refl refl refl refl refl
+  same_once x (transfers (forward_comes f)) is = none_changed x _ refl refl refl refl refl refl refl refl
   same_once x (transfers (forget s c)) is = cc
   same_once x (transfers accept) is = cc
   same_once x (transfers (begin p)) is = cc

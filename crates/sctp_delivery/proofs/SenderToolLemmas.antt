@@ -135,7 +135,7 @@ module _ (message : ℕ → Message) (mixed : Bool) where
   left_once x (deliver p) = omega arith
   left_once x (send_sack c) = omega arith
   left_once x (send_forward f) = omega arith
-  left_once x (forward_comes f spared) = omega arith
+  left_once x (forward_comes f) = omega arith
   left_once x (forget s c) = omega arith
 
   points_once : (x : Transfer) (e : Event) (f : ForwardPoint) → IsAmong f x.forward_points → IsAmong f (after message mixed x e).forward_points
@@ -150,7 +150,7 @@ module _ (message : ℕ → Message) (mixed : Bool) where
   points_once x (deliver p) f a = a
   points_once x (send_sack c) f a = a
   points_once x (leave c) f a = a
-  points_once x (forward_comes g spared) f a = a
+  points_once x (forward_comes g) f a = a
   points_once x (forget s c) f a = a
 
   sacks_once : (x : Transfer) (e : Event) (n : ℕ) → IsAmong n x.sacks → IsAmong n (after message mixed x e).sacks
@@ -165,7 +165,7 @@ module _ (message : ℕ → Message) (mixed : Bool) where
   sacks_once x (deliver p) n a = a
   sacks_once x (leave c) n a = a
   sacks_once x (send_forward f) n a = a
-  sacks_once x (forward_comes f spared) n a = a
+  sacks_once x (forward_comes f) n a = a
   sacks_once x (forget s c) n a = a
 
   -- of the transfers alone
@@ -310,7 +310,7 @@ module _ (message : ℕ → Message) (mixed : Bool) where
   same_once x (transfers (late_comes t)) s = cc
   same_once x (transfers (deliver p)) s = cc
   same_once x (transfers (send_sack c)) s = cc
-  same_once x (transfers (forward_comes f spared)) s = cc
+  same_once x (transfers (forward_comes f)) s = cc
   same_once x (transfers (forget s c)) h = cc
   same_once x (reset_stream t) s = record { receiver = refl; sacks = refl; performed = refl; base = refl }
   same_once x (send_request t) s = record { receiver = refl; sacks = refl; performed = refl; base = refl }

@@ -50,7 +50,7 @@ module _ (message : ℕ → Message) (mixed : Bool) where
   accepted_once x (transfers (late_comes t)) s = cc
   accepted_once x (transfers (deliver p)) s = cc
   accepted_once x (transfers (send_sack c)) s = cc
-  accepted_once x (transfers (forward_comes f spared)) s = cc
+  accepted_once x (transfers (forward_comes f)) s = cc
   accepted_once x (transfers (forget s c)) h = cc
   accepted_once x (reset_stream t) s = record { accepted = refl; epoch = refl }
   accepted_once x (send_request t) s = record { accepted = refl; epoch = refl }
@@ -139,7 +139,7 @@ outgoing_one (transfers (data_comes t)) h = h
 outgoing_one (transfers (late_comes t)) h = h
 outgoing_one (transfers (deliver p)) h = h
 outgoing_one (transfers (send_sack c)) h = h
-outgoing_one (transfers (forward_comes f spared)) h = h
+outgoing_one (transfers (forward_comes f)) h = h
 outgoing_one (transfers (forget s c)) h = h
 outgoing_one (reset_stream s) h = refl
 outgoing_one (send_request s) h = refl
@@ -163,7 +163,7 @@ outgoing_has (transfers (deliver p)) h = refl
 outgoing_has (transfers (send_sack c)) h = refl
 outgoing_has (transfers (leave c)) h = refl
 outgoing_has (transfers (send_forward f)) h = refl
-outgoing_has (transfers (forward_comes f spared)) h = refl
+outgoing_has (transfers (forward_comes f)) h = refl
 outgoing_has (transfers (forget s c)) h = refl
 outgoing_has (reset_stream s) h = refl
 outgoing_has (send_request s) h = refl

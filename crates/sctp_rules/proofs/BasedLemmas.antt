@@ -26,7 +26,7 @@ module _ (message : ℕ → Message) (mixed : Bool) (x : Epochs) (k : InOrder me
   seen_stays (send_sack c) t h = h
   seen_stays (leave c) t h = h
   seen_stays (send_forward f) t h = h
-  seen_stays (forward_comes f spared) t h = or_right (ltb t f.upto) (x.transfer.receiver.seen t) h
+  seen_stays (forward_comes f) t h = or_right (ltb t f.upto) (x.transfer.receiver.seen t) h
   seen_stays (forget s c) t h = h
 
   next_delivered : (p : ℕ) → IsAllowed message mixed x.transfer (deliver p) → (s : ℕ) → x.transfer.receiver.next s ≤ (after message mixed x.transfer (deliver p)).receiver.next s
@@ -52,7 +52,7 @@ module _ (message : ℕ → Message) (mixed : Bool) (x : Epochs) (k : InOrder me
   next_stays (send_sack c) a s = omega arith
   next_stays (leave c) a s = omega arith
   next_stays (send_forward f) a s = omega arith
-  next_stays (forward_comes f spared) a s = raised_up f.entries true s (x.transfer.receiver.next s)
+  next_stays (forward_comes f) a s = raised_up f.entries true s (x.transfer.receiver.next s)
   next_stays (forget s c) a b = omega arith
 
   pub passed_stays : (e : Event) → InEpoch message mixed x e → (s : ℕ) → x.transfer.receiver.passed_below s ≤ (after message mixed x.transfer e).receiver.passed_below s
@@ -67,7 +67,7 @@ module _ (message : ℕ → Message) (mixed : Bool) (x : Epochs) (k : InOrder me
   passed_stays (send_sack c) i s = omega arith
   passed_stays (leave c) i s = omega arith
   passed_stays (send_forward f) i s = omega arith
-  passed_stays (forward_comes f spared) i s = raised_up f.entries false s (x.transfer.receiver.passed_below s)
+  passed_stays (forward_comes f) i s = raised_up f.entries false s (x.transfer.receiver.passed_below s)
   passed_stays (forget s c) i b = absurd i
 
   -- what is held was held, or was not seen
@@ -88,7 +88,7 @@ module _ (message : ℕ → Message) (mixed : Bool) (x : Epochs) (k : InOrder me
   held_before (send_sack c) a t h = inl h
   held_before (leave c) a t h = inl h
   held_before (send_forward f) a t h = inl h
-  held_before (forward_comes f spared) a t h = inl (and_parts (x.transfer.receiver.held t) (not (drops message mixed x.transfer.sender f spared t)) h).0
+  held_before (forward_comes f) a t h = inl (and_parts (x.transfer.receiver.held t) (not (drops message mixed x.transfer.sender f t)) h).0
   held_before (forget s c) a t h = inl (and_parts (x.transfer.receiver.held t) (not (eqb (stream_of message (place_of x.transfer.sender t)) s)) h).0
 
 -- ---- of which epoch what comes is
@@ -387,7 +387,7 @@ module _ (message : ℕ → Message) (mixed : Bool) (x : Epochs) (k : InOrder me
   transfer_rule (send_sack c) a i = plain (send_sack c) a i (λ q. refl) (λ q. refl) (λ s kind. refl) (λ q. refl) (λ s kind. refl) (λ f m. m)
   transfer_rule (leave c) a i = plain (leave c) a i (λ q. refl) (λ q. refl) (λ s kind. refl) (λ q. refl) (λ s kind. refl) (λ f m. m)
   transfer_rule (send_forward f) a i = sends_next f a i
-  transfer_rule (forward_comes f spared) a i = plain (forward_comes f spared) a i (λ q. refl) (λ q. refl) (λ s kind. refl) (λ q. refl) (λ s kind. refl) (λ f m. m)
+  transfer_rule (forward_comes f) a i = plain (forward_comes f) a i (λ q. refl) (λ q. refl) (λ s kind. refl) (λ q. refl) (λ s kind. refl) (λ f m. m)
   transfer_rule (forget s c) a i = absurd i
 
   -- ---- resets

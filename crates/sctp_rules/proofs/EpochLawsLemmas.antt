@@ -290,7 +290,7 @@ module _ (message : ℕ → Message) (mixed : Bool) where
   once x k (transfers (send_sack c)) a = none_added x (goes message mixed x (transfers (send_sack c))) refl
   once x k (transfers (leave c)) a = none_added x (goes message mixed x (transfers (leave c))) refl
   once x k (transfers (send_forward f)) a = none_added x (goes message mixed x (transfers (send_forward f))) refl
-  once x k (transfers (forward_comes f spared)) a = none_added x (goes message mixed x (transfers (forward_comes f spared))) refl
+  once x k (transfers (forward_comes f)) a = none_added x (goes message mixed x (transfers (forward_comes f))) refl
   once x k (transfers (forget s c)) a = absurd a.1
   once x k (reset_stream s) a = none_added x (goes message mixed x (reset_stream s)) refl
   once x k (send_request s) a = none_added x (goes message mixed x (send_request s)) refl
@@ -326,7 +326,7 @@ module _ (message : ℕ → Message) (mixed : Bool) where
   epoch_once x (transfers (send_sack c)) p h = refl
   epoch_once x (transfers (leave c)) p h = refl
   epoch_once x (transfers (send_forward f)) p h = refl
-  epoch_once x (transfers (forward_comes f spared)) p h = refl
+  epoch_once x (transfers (forward_comes f)) p h = refl
   epoch_once x (transfers (forget s c)) p h = refl
   epoch_once x (reset_stream b) p h = refl
   epoch_once x (send_request b) p h = refl
@@ -345,7 +345,7 @@ module _ (message : ℕ → Message) (mixed : Bool) where
   accepted_once x (transfers (send_sack c)) = omega arith
   accepted_once x (transfers (leave c)) = omega arith
   accepted_once x (transfers (send_forward f)) = omega arith
-  accepted_once x (transfers (forward_comes f spared)) = omega arith
+  accepted_once x (transfers (forward_comes f)) = omega arith
   accepted_once x (transfers (forget s c)) = omega arith
   accepted_once x (reset_stream b) = omega arith
   accepted_once x (send_request b) = omega arith

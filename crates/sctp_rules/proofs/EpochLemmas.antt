@@ -121,7 +121,7 @@ module _ (message : ℕ → Message) (mixed : Bool) (x : Epochs) (k : InOrder me
   transfer_rule (send_sack c) a i = plain (send_sack c) a refl (λ q. refl)
   transfer_rule (leave c) a i = plain (leave c) a refl (λ q. refl)
   transfer_rule (send_forward f) a i = plain (send_forward f) a refl (λ q. refl)
-  transfer_rule (forward_comes f spared) a i = plain (forward_comes f spared) a refl (λ q. refl)
+  transfer_rule (forward_comes f) a i = plain (forward_comes f) a refl (λ q. refl)
   transfer_rule (forget s c) a i = absurd i
 
   -- all that the receiver's side of a reset asks

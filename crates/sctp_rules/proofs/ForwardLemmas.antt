@@ -7,9 +7,9 @@ use Rattle.sctp_rules.specs.Kept.{Outgoing, Incoming, IsDone, ForwardTrue}
 use Rattle.sctp_rules.proofs.ToolsLemmas.{not_both, raised_up, raised_covers, raised_cases}
 use Rattle.sctp_rules.proofs.LaterLemmas.{Onward}
 
-module _ (message : ℕ → Message) (mixed : Bool) (o : Sender) (out : Outgoing message o) (i : Receiver) (inc : Incoming message o i) (f : ForwardPoint) (spared : ℕ → Bool) (ft : ForwardTrue message mixed o i f) where
+module _ (message : ℕ → Message) (mixed : Bool) (o : Sender) (out : Outgoing message o) (i : Receiver) (inc : Incoming message o i) (f : ForwardPoint) (ft : ForwardTrue message mixed o i f) where
   abbrev new : Receiver
-  new = skips message mixed o i f spared
+  new = skips message mixed o i f
 
   abbrev Gone : ℕ → Type 0
   Gone p = (has p i.places ≡ true) ⊎ ((o.given_up p ≡ true) × (ordered_of message p ≡ true → o.number p < new.next (stream_of message p)))
@@ -18,22 +18,21 @@ module _ (message : ℕ → Message) (mixed : Bool) (o : Sender) (out : Outgoing
   next_up s = raised_up f.entries true s (i.next s)
 
   -- it was dropped
-  dropped : (t : ℕ) → t < count o → drops message mixed o f spared t ≡ true → Gone (place_of o t)
+  dropped : (t : ℕ) → t < count o → drops message mixed o f t ≡ true → Gone (place_of o t)
   dropped t h d =
       let p = place_of o t in
       let b = out.place_begun t h in
-      elim (or_cases (covers f.entries (ordered_of message p) (stream_of message p) (o.number p)) (not mixed && (not (ordered_of message p) && (ltb t f.upto && not (spared (stream_of message p))))) d) [
+      elim (or_cases (covers f.entries (ordered_of message p) (stream_of message p) (o.number p)) (not mixed && (not (ordered_of message p) && ltb t f.upto)) d) [
         | inl c ↦
             elim (ft.named_done p b c) [
               | inl r ↦ inl r
               | inr g ↦ inr (g, λ k. raised_covers f.entries true (stream_of message p) (i.next (stream_of message p)) (o.number p) (subst (λ z. covers f.entries z (stream_of message p) (o.number p) ≡ true) k c))
             ]
         | inr a ↦
-            let ab = and_parts (not mixed) (not (ordered_of message p) && (ltb t f.upto && not (spared (stream_of message p)))) a in
-            let bc = and_parts (not (ordered_of message p)) (ltb t f.upto && not (spared (stream_of message p))) ab.1 in
-            let cd = and_parts (ltb t f.upto) (not (spared (stream_of message p))) bc.1 in
+            let ab = and_parts (not mixed) (not (ordered_of message p) && ltb t f.upto) a in
+            let bc = and_parts (not (ordered_of message p)) (ltb t f.upto) ab.1 in
             let un = not-true (ordered_of message p) bc.0 in
-            elim (ft.unordered_done (not-true mixed ab.0) t (ltb-true t f.upto cd.0) un) [
+            elim (ft.unordered_done (not-true mixed ab.0) t (ltb-true t f.upto bc.1) un) [
               | inl r ↦ inl r
               | inr g ↦ inr (g, λ k. absurd (not_both k un))
             ]
@@ -49,10 +48,10 @@ module _ (message : ℕ → Message) (mixed : Bool) (o : Sender) (out : Outgoing
 
   passed : (t : ℕ) → new.seen t ≡ true → new.held t ≡ false → Gone (place_of o t)
   passed t s h =
-      elim (and_cases (i.held t) (not (drops message mixed o f spared t)) h) [
+      elim (and_cases (i.held t) (not (drops message mixed o f t)) h) [
         | inr d ↦
             elim (cases_Bool (i.held t)) [
-              | inl a ↦ dropped t (inc.seen_below t (inc.held_seen t a)) (not-false (drops message mixed o f spared t) d)
+              | inl a ↦ dropped t (inc.seen_below t (inc.held_seen t a)) (not-false (drops message mixed o f t) d)
               | inr a ↦ unheld t s a
             ]
         | inl a ↦ unheld t s a
@@ -115,8 +114,8 @@ module _ (message : ℕ → Message) (mixed : Bool) (o : Sender) (out : Outgoing
           | inl a ↦ let b = ltb-true t f.upto a in let c = ft.within in omega (arith, b, c)
           | inr a ↦ inc.seen_below t a
         ];
-    held_seen = λ t h. or_right (ltb t f.upto) (i.seen t) (inc.held_seen t (and_parts (i.held t) (not (drops message mixed o f spared t)) h).0);
-    held_real = λ t h. inc.held_real t (and_parts (i.held t) (not (drops message mixed o f spared t)) h).0;
+    held_seen = λ t h. or_right (ltb t f.upto) (i.seen t) (inc.held_seen t (and_parts (i.held t) (not (drops message mixed o f t)) h).0);
+    held_real = λ t h. inc.held_real t (and_parts (i.held t) (not (drops message mixed o f t)) h).0;
     passed = passed;
     below_next = below_next;
     below_passed = below_passed;
@@ -125,7 +124,7 @@ module _ (message : ℕ → Message) (mixed : Bool) (o : Sender) (out : Outgoing
     ready_below = λ q r k. let b = inc.ready_below q r k in let u = next_up (stream_of message q) in omega (arith, b, u);
     ready_parts = λ t h r.
         let x = inc.ready_parts t h r in
-        (or_right (ltb t f.upto) (i.seen t) x.0, and_left (i.held t) (not (drops message mixed o f spared t)) x.1);
+        (or_right (ltb t f.upto) (i.seen t) x.0, and_left (i.held t) (not (drops message mixed o f t)) x.1);
     ready_begun = inc.ready_begun;
     ready_ended = inc.ready_ended;
     alike = inc.alike;

@@ -17,7 +17,7 @@ module _ (message : ℕ → Message) (mixed : Bool) where
   one x (send_sack c) = ([], sym (append-nil x.receiver.places))
   one x (leave c) = ([], sym (append-nil x.receiver.places))
   one x (send_forward f) = ([], sym (append-nil x.receiver.places))
-  one x (forward_comes f spared) = ([], sym (append-nil x.receiver.places))
+  one x (forward_comes f) = ([], sym (append-nil x.receiver.places))
   one x (forget s c) = ([], sym (append-nil x.receiver.places))
 
   all : (es : List Event) (x : Transfer) → Grows x (run message mixed x es)

@@ -138,9 +138,9 @@ module _ (message : ℕ → Message) (mixed : Bool) (x : Transfer) (k : Kept mes
         ];
     reports_true = k.reports_true;
   }
-  keeps (forward_comes f spared) a =
+  keeps (forward_comes f) a =
       let ft = k.forwards_true f a in
-      receiver_moves _ (skips_incoming message mixed x.sender k.outgoing x.receiver k.incoming f spared ft) (skips_onward message mixed x.sender k.outgoing x.receiver k.incoming f spared ft)
+      receiver_moves _ (skips_incoming message mixed x.sender k.outgoing x.receiver k.incoming f ft) (skips_onward message mixed x.sender k.outgoing x.receiver k.incoming f ft)
   keeps (forget s c) a =
       receiver_moves _ (forgets_incoming message mixed x.sender k.outgoing x.receiver k.incoming s c a) (forgets_onward message mixed x.sender k.outgoing x.receiver k.incoming s c a)
 

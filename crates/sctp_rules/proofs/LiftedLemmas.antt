@@ -250,23 +250,20 @@ module _ (base : Bool → ℕ → ℕ) (kind : Bool) (s : ℕ) where
       step true h false i = rw (h, i) refl
       step false h c i = rw h refl
 
-pub forwarded_up : (base : Bool → ℕ → ℕ) (mixed : Bool) (q r : Queue (KeyOf mixed) (next_of mixed)) (f : ForwardPoint) (spared : ℕ → Bool) → AreEntriesNow base f
+pub forwarded_up : (base : Bool → ℕ → ℕ) (mixed : Bool) (q r : Queue (KeyOf mixed) (next_of mixed)) (f : ForwardPoint) → AreEntriesNow base f
     → (mixed ≡ false → (a n : ℕ) → covers f.entries false a n ≡ false)
-    → Forwarded (KeyOf mixed) (next_of mixed) mixed (below_of mixed) q r (wire_point f) spared
-    → Forwarded (KeyOf mixed) (next_of mixed) mixed (below_of mixed) (lifted base mixed q) (lifted base mixed r) f spared
-forwarded_up base mixed q r f spared now only z = record {
+    → Forwarded (KeyOf mixed) (next_of mixed) mixed (below_of mixed) q r (wire_point f)
+    → Forwarded (KeyOf mixed) (next_of mixed) mixed (below_of mixed) (lifted base mixed q) (lifted base mixed r) f
+forwarded_up base mixed q r f now only z = record {
   chunks = λ κ. by κ (is_from base mixed κ) refl;
   next = λ s. ap (λ n. base true s + n) (z.next s) ∙ raised_wire base true s f.entries now (q.next s);
   passed = λ s. ap (λ n. base false s + n) (z.passed s) ∙ raised_wire base false s f.entries now (q.passed_below s);
   ready = z.ready;
 }
   where
-    test : KeyOf mixed → Chunk → Bool
-    test κ w = not mixed && (not w.ordered && (below_of mixed κ f.upto && not (spared w.stream)))
-
-    same_below : (m : Bool) (κ : KeyOf m) (b c : Bool) → (not m && (b && (below_of m (down_key base m κ) f.upto && c))) ≡ (not m && (b && (below_of m κ f.upto && c)))
-    same_below true κ b c = refl
-    same_below false κ b c = refl
+    same_below : (m : Bool) (κ : KeyOf m) (b : Bool) → (not m && (b && below_of m (down_key base m κ) f.upto)) ≡ (not m && (b && below_of m κ f.upto))
+    same_below true κ b = refl
+    same_below false κ b = refl
 
     named : (m o : Bool) (s n : ℕ) → (m ≡ false → (a k : ℕ) → covers f.entries false a k ≡ false)
         → covers (map as_written f.entries) o s n ≡ covers f.entries o s (cond (o || m) (base o s + n) n)
@@ -275,28 +272,28 @@ forwarded_up base mixed q r f spared now only z = record {
     named false false s n h = covers_up base false s f.entries now n ∙ (h refl s (base false s + n) ∙ sym (h refl s n))
 
     left : (κ : KeyOf mixed) (o : Option Chunk)
-        → up_some base mixed (undropped (KeyOf mixed) (next_of mixed) mixed (below_of mixed) (wire_point f) spared (down_key base mixed κ) o)
-        ≡ undropped (KeyOf mixed) (next_of mixed) mixed (below_of mixed) f spared κ (up_some base mixed o)
+        → up_some base mixed (undropped (KeyOf mixed) (next_of mixed) mixed (below_of mixed) (wire_point f) (down_key base mixed κ) o)
+        ≡ undropped (KeyOf mixed) (next_of mixed) mixed (below_of mixed) f κ (up_some base mixed o)
     left κ None = refl
     left κ (Some w) =
-        push (covers (map as_written f.entries) w.ordered w.stream w.number || (not mixed && (not w.ordered && (below_of mixed (down_key base mixed κ) f.upto && not (spared w.stream)))))
-        ∙ (ap (λ c. cond (c || (not mixed && (not w.ordered && (below_of mixed (down_key base mixed κ) f.upto && not (spared w.stream))))) None (Some (up_chunk base mixed w))) (named mixed w.ordered w.stream w.number only)
-        ∙ ap (λ c. cond (covers f.entries w.ordered w.stream (cond (w.ordered || mixed) (base w.ordered w.stream + w.number) w.number) || c) None (Some (up_chunk base mixed w))) (same_below mixed κ (not w.ordered) (not (spared w.stream))))
+        push (covers (map as_written f.entries) w.ordered w.stream w.number || (not mixed && (not w.ordered && below_of mixed (down_key base mixed κ) f.upto)))
+        ∙ (ap (λ c. cond (c || (not mixed && (not w.ordered && below_of mixed (down_key base mixed κ) f.upto))) None (Some (up_chunk base mixed w))) (named mixed w.ordered w.stream w.number only)
+        ∙ ap (λ c. cond (covers f.entries w.ordered w.stream (cond (w.ordered || mixed) (base w.ordered w.stream + w.number) w.number) || c) None (Some (up_chunk base mixed w))) (same_below mixed κ (not w.ordered)))
       where
         push : (b : Bool) → up_some base mixed (cond b None (Some w)) ≡ cond b None (Some (up_chunk base mixed w))
         push true = refl
         push false = refl
 
     by : (κ : KeyOf mixed) (b : Bool) → is_from base mixed κ ≡ b
-        → (lifted base mixed r).chunks κ ≡ undropped (KeyOf mixed) (next_of mixed) mixed (below_of mixed) f spared κ ((lifted base mixed q).chunks κ)
+        → (lifted base mixed r).chunks κ ≡ undropped (KeyOf mixed) (next_of mixed) mixed (below_of mixed) f κ ((lifted base mixed q).chunks κ)
     by κ true e =
         rw e (ap (up_some base mixed) (z.chunks (down_key base mixed κ)) ∙ left κ (q.chunks (down_key base mixed κ)))
     by κ false e = rw e refl
 
-pub wire_point_row : (message : ℕ → Message) (mixed : Bool) (base : Bool → ℕ → ℕ) (x : Transfer) (q m r : Queue (KeyOf mixed) (next_of mixed)) (f : ForwardPoint) (spared : ℕ → Bool)
+pub wire_point_row : (message : ℕ → Message) (mixed : Bool) (base : Bool → ℕ → ℕ) (x : Transfer) (q m r : Queue (KeyOf mixed) (next_of mixed)) (f : ForwardPoint)
     → Kept message mixed x → Shows message mixed x (lifted base mixed q) → IsAmong f x.forward_points → AreEntriesNow base f
-    → Forwarded (KeyOf mixed) (next_of mixed) mixed (below_of mixed) q m (wire_point f) spared → Readied (KeyOf mixed) (next_of mixed) m r
-    → (ps : List ℕ) × LeadsTo message mixed x (forward_comes f spared) (map deliver ps) (lifted base mixed r)
-wire_point_row message mixed base x q m r f spared k s sent now z more =
-    point_comes (KeyOf mixed) (next_of mixed) message mixed x k (key_of mixed message x.sender) (below_of mixed) (key_laws message mixed x k) (lifted base mixed q) s (lifted base mixed m) (lifted base mixed r) f spared sent
-    (forwarded_up base mixed q m f spared now (k.forwards_true f sent).only_ordered z) (readied_up base mixed m r more)
+    → Forwarded (KeyOf mixed) (next_of mixed) mixed (below_of mixed) q m (wire_point f) → Readied (KeyOf mixed) (next_of mixed) m r
+    → (ps : List ℕ) × LeadsTo message mixed x (forward_comes f) (map deliver ps) (lifted base mixed r)
+wire_point_row message mixed base x q m r f k s sent now z more =
+    point_comes (KeyOf mixed) (next_of mixed) message mixed x k (key_of mixed message x.sender) (below_of mixed) (key_laws message mixed x k) (lifted base mixed q) s (lifted base mixed m) (lifted base mixed r) f sent
+    (forwarded_up base mixed q m f now (k.forwards_true f sent).only_ordered z) (readied_up base mixed m r more)

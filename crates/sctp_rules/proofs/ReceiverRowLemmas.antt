@@ -67,13 +67,13 @@ module _ (Key : Type 0) (succ : Key → Key) (message : ℕ → Message) (mixed 
       leads (late_comes t) [] q q a ky refl tt sy (none_ripe Key succ message mixed (after message mixed x (late_comes t)) ky key below laws q sy none)
 
   -- a forward point that was sent
-  pub point_comes : (m r : Queue Key succ) (f : ForwardPoint) (spared : ℕ → Bool) → IsAmong f x.forward_points → Forwarded Key succ mixed below q m f spared → Readied Key succ m r
-      → (ps : List ℕ) × Leads Key succ message mixed key x (forward_comes f spared) (map deliver ps) r
-  point_comes m r f spared a z more =
-      let ky = keeps message mixed x k (forward_comes f spared) a in
-      let sy = sees_forwarded Key succ message mixed x.sender x.receiver k.incoming key below laws q m s f spared (k.forwards_true f a).only_ordered z in
-      let d = readied Key succ message mixed key below m r more (after message mixed x (forward_comes f spared)) ky laws sy in
-      (d.0, leads (forward_comes f spared) d.0 m r a ky refl d.1 d.2 d.3)
+  pub point_comes : (m r : Queue Key succ) (f : ForwardPoint) → IsAmong f x.forward_points → Forwarded Key succ mixed below q m f → Readied Key succ m r
+      → (ps : List ℕ) × Leads Key succ message mixed key x (forward_comes f) (map deliver ps) r
+  point_comes m r f a z more =
+      let ky = keeps message mixed x k (forward_comes f) a in
+      let sy = sees_forwarded Key succ message mixed x.sender x.receiver k.incoming key below laws q m s f (k.forwards_true f a).only_ordered z in
+      let d = readied Key succ message mixed key below m r more (after message mixed x (forward_comes f)) ky laws sy in
+      (d.0, leads (forward_comes f) d.0 m r a ky refl d.1 d.2 d.3)
 
   -- a reset request is performed. What is left in the queue was there before
   pub stream_reset : (r : Queue Key succ) (a c : ℕ) → IsResettable message x.sender x.receiver a c

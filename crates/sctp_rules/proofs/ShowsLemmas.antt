@@ -43,12 +43,12 @@ module _ (Key : Type 0) (succ : Key → Key) (message : ℕ → Message) (mixed 
     ready_is = z.ready ∙ s.ready_is;
   }
 
-  abbrev test : ForwardPoint → (ℕ → Bool) → Key → Chunk → Bool
-  test f spared κ w = covers f.entries w.ordered w.stream w.number || (not mixed && (not w.ordered && (below κ f.upto && not (spared w.stream))))
+  abbrev test : ForwardPoint → Key → Chunk → Bool
+  test f κ w = covers f.entries w.ordered w.stream w.number || (not mixed && (not w.ordered && below κ f.upto))
 
-  undropped_some : (f : ForwardPoint) (spared : ℕ → Bool) (κ : Key) (c : Option Chunk) (w : Chunk) → undropped Key succ mixed below f spared κ c ≡ Some w → (c ≡ Some w) × (test f spared κ w ≡ false)
-  undropped_some f spared κ None w e = cc
-  undropped_some f spared κ (Some v) w e = let x = cond_none (test f spared κ v) v w e in (ap Some x.1, subst (λ z. test f spared κ z ≡ false) x.1 x.0)
+  undropped_some : (f : ForwardPoint) (κ : Key) (c : Option Chunk) (w : Chunk) → undropped Key succ mixed below f κ c ≡ Some w → (c ≡ Some w) × (test f κ w ≡ false)
+  undropped_some f κ None w e = cc
+  undropped_some f κ (Some v) w e = let x = cond_none (test f κ v) v w e in (ap Some x.1, subst (λ z. test f κ z ≡ false) x.1 x.0)
 
   -- unordered DATA has no number, and no entry names it
   named_same : (f : ForwardPoint) (kind m : Bool) (a n : ℕ) → (m ≡ false → (b k : ℕ) → covers f.entries false b k ≡ false) → covers f.entries kind a (cond (kind || m) n 0) ≡ covers f.entries kind a n
@@ -56,30 +56,30 @@ module _ (Key : Type 0) (succ : Key → Key) (message : ℕ → Message) (mixed 
   named_same f false true a n h = refl
   named_same f false false a n h = h refl a 0 ∙ sym (h refl a n)
 
-  test_is : (f : ForwardPoint) (spared : ℕ → Bool) → (mixed ≡ false → (a n : ℕ) → covers f.entries false a n ≡ false) → (u : ℕ) → test f spared (key u) (chunk_of message mixed o u) ≡ drops message mixed o f spared u
-  test_is f spared only u =
-      ap (λ z. z || (not mixed && (not (ordered_of message (place_of o u)) && (below (key u) f.upto && not (spared (stream_of message (place_of o u))))))) (named_same f (ordered_of message (place_of o u)) mixed (stream_of message (place_of o u)) (o.number (place_of o u)) only)
+  test_is : (f : ForwardPoint) → (mixed ≡ false → (a n : ℕ) → covers f.entries false a n ≡ false) → (u : ℕ) → test f (key u) (chunk_of message mixed o u) ≡ drops message mixed o f u
+  test_is f only u =
+      ap (λ z. z || (not mixed && (not (ordered_of message (place_of o u)) && below (key u) f.upto))) (named_same f (ordered_of message (place_of o u)) mixed (stream_of message (place_of o u)) (o.number (place_of o u)) only)
       ∙ ap (λ z. covers f.entries (ordered_of message (place_of o u)) (stream_of message (place_of o u)) (o.number (place_of o u)) || z) part
     where
-      at : (m : Bool) (b c y v : Bool) → (m ≡ false → b ≡ c) → (not m && (y && (b && v))) ≡ (not m && (y && (c && v)))
-      at true b c y v h = refl
-      at false b c y v h = ap (λ z. y && (z && v)) (h refl)
+      at : (m : Bool) (b c y : Bool) → (m ≡ false → b ≡ c) → (not m && (y && b)) ≡ (not m && (y && c))
+      at true b c y h = refl
+      at false b c y h = ap (λ z. y && z) (h refl)
 
-      part : (not mixed && (not (ordered_of message (place_of o u)) && (below (key u) f.upto && not (spared (stream_of message (place_of o u))))))
-          ≡ (not mixed && (not (ordered_of message (place_of o u)) && (ltb u f.upto && not (spared (stream_of message (place_of o u))))))
-      part = at mixed (below (key u) f.upto) (ltb u f.upto) (not (ordered_of message (place_of o u))) (not (spared (stream_of message (place_of o u)))) (λ m. laws.below_is m u f.upto)
+      part : (not mixed && (not (ordered_of message (place_of o u)) && below (key u) f.upto))
+          ≡ (not mixed && (not (ordered_of message (place_of o u)) && ltb u f.upto))
+      part = at mixed (below (key u) f.upto) (ltb u f.upto) (not (ordered_of message (place_of o u))) (λ m. laws.below_is m u f.upto)
 
-  pub sees_forwarded : (f : ForwardPoint) (spared : ℕ → Bool) → (mixed ≡ false → (a n : ℕ) → covers f.entries false a n ≡ false) → Forwarded Key succ mixed below q r f spared → Sees Key succ message mixed o (skips message mixed o i f spared) key r
-  sees_forwarded f spared only z = record {
+  pub sees_forwarded : (f : ForwardPoint) → (mixed ≡ false → (a n : ℕ) → covers f.entries false a n ≡ false) → Forwarded Key succ mixed below q r f → Sees Key succ message mixed o (skips message mixed o i f) key r
+  sees_forwarded f only z = record {
     holds = λ u h.
-        let p = and_parts (i.held u) (not (drops message mixed o f spared u)) h in
-        let n = test_is f spared only u ∙ not-true (drops message mixed o f spared u) p.1 in
-        z.chunks (key u) ∙ (ap (undropped Key succ mixed below f spared (key u)) (s.holds u p.0) ∙ cond-false (test f spared (key u) (chunk_of message mixed o u)) None (Some (chunk_of message mixed o u)) n);
+        let p = and_parts (i.held u) (not (drops message mixed o f u)) h in
+        let n = test_is f only u ∙ not-true (drops message mixed o f u) p.1 in
+        z.chunks (key u) ∙ (ap (undropped Key succ mixed below f (key u)) (s.holds u p.0) ∙ cond-false (test f (key u) (chunk_of message mixed o u)) None (Some (chunk_of message mixed o u)) n);
     held = λ κ w e.
-        let x = undropped_some f spared κ (q.chunks κ) w (sym (z.chunks κ) ∙ e) in
+        let x = undropped_some f κ (q.chunks κ) w (sym (z.chunks κ) ∙ e) in
         let y = s.held κ w x.0 in
-        let n = sym (test_is f spared only y.0) ∙ (ap (λ c. test f spared c (chunk_of message mixed o y.0)) y.2 ∙ (ap (test f spared κ) (sym y.3) ∙ x.1)) in
-        (y.0, and_from (i.held y.0) (not (drops message mixed o f spared y.0)) y.1 (not_from_false (drops message mixed o f spared y.0) n), y.2, y.3);
+        let n = sym (test_is f only y.0) ∙ (ap (λ c. test f c (chunk_of message mixed o y.0)) y.2 ∙ (ap (test f κ) (sym y.3) ∙ x.1)) in
+        (y.0, and_from (i.held y.0) (not (drops message mixed o f y.0)) y.1 (not_from_false (drops message mixed o f y.0) n), y.2, y.3);
     next_is = λ a. z.next a ∙ ap (λ n. raised f.entries true a n) (s.next_is a);
     passed_is = λ m a. z.passed a ∙ ap (λ n. raised f.entries false a n) (s.passed_is m a);
     ready_is = z.ready ∙ s.ready_is;

@@ -29,7 +29,7 @@ module _ (message : ℕ → Message) (mixed : Bool) (x : Transfer) (k : Kept mes
   later (send_sack c) a = later_same message x.sender
   later (leave c) a = later_same message x.sender
   later (send_forward f) a = later_same message x.sender
-  later (forward_comes f spared) a = later_same message x.sender
+  later (forward_comes f) a = later_same message x.sender
   later (forget s c) a = later_same message x.sender
 
   numbered_settled : (f : Fragment) → x.sender.partly f.place ≡ true → (q : ℕ) → IsSettled x.sender q → IsSettled (numbers x.sender f) q
@@ -52,7 +52,7 @@ module _ (message : ℕ → Message) (mixed : Bool) (x : Transfer) (k : Kept mes
   settled_stays (send_sack c) a q y = y
   settled_stays (leave c) a q y = y
   settled_stays (send_forward f) a q y = y
-  settled_stays (forward_comes f spared) a q y = y
+  settled_stays (forward_comes f) a q y = y
   settled_stays (forget s c) a q y = y
 
   -- a fragment that was seen and isn't held isn't held again
@@ -71,5 +71,5 @@ module _ (message : ℕ → Message) (mixed : Bool) (x : Transfer) (k : Kept mes
   dropped_stays (send_sack c) a t y h = (y, h)
   dropped_stays (leave c) a t y h = (y, h)
   dropped_stays (send_forward f) a t y h = (y, h)
-  dropped_stays (forward_comes f spared) a t y h = (or_right (ltb t f.upto) (x.receiver.seen t) y, and_left (x.receiver.held t) (not (drops message mixed x.sender f spared t)) h)
+  dropped_stays (forward_comes f) a t y h = (or_right (ltb t f.upto) (x.receiver.seen t) y, and_left (x.receiver.held t) (not (drops message mixed x.sender f t)) h)
   dropped_stays (forget s c) a t y h = (y, and_left (x.receiver.held t) (not (eqb (stream_of message (place_of x.sender t)) s)) h)

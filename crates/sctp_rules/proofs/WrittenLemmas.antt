@@ -45,7 +45,7 @@ module _ (message : ℕ → Message) (mixed : Bool) (x : Transfer) (h : AreTheir
       entries g (inl is) e b =
           own_entries x.acknowledged f.upto f.entries a.as_written e (subst (λ (z : ForwardPoint). IsAmong e z.entries) is b)
       entries g (inr old) e b = h.entries g old e b
-  own_after (forward_comes f spared) a = h
+  own_after (forward_comes f) a = h
   own_after (forget s c) a = h
 
 pub own_along : (message : ℕ → Message) (mixed : Bool) (es : List Event) (x : Transfer) → Happens message mixed x es → AreTheirOwn x.sender x.forward_points

@@ -112,13 +112,13 @@ module _ (Key : Type 0) (succ : Key → Key) where
     pub ready : r.ready ≡ q.ready
 
   -- what a forward point leaves of a chunk
-  abbrev pub undropped : Bool → (Key → ℕ → Bool) → ForwardPoint → (ℕ → Bool) → Key → Option Chunk → Option Chunk
-  undropped mixed below f spared κ None = None
-  undropped mixed below f spared κ (Some w) = cond (covers f.entries w.ordered w.stream w.number || (not mixed && (not w.ordered && (below κ f.upto && not (spared w.stream))))) None (Some w)
+  abbrev pub undropped : Bool → (Key → ℕ → Bool) → ForwardPoint → Key → Option Chunk → Option Chunk
+  undropped mixed below f κ None = None
+  undropped mixed below f κ (Some w) = cond (covers f.entries w.ordered w.stream w.number || (not mixed && (not w.ordered && below κ f.upto))) None (Some w)
 
   -- a forward point came
-  pub record Forwarded (mixed : Bool) (below : Key → ℕ → Bool) (q r : Queue) (f : ForwardPoint) (spared : ℕ → Bool) : Type 0 where
-    pub chunks : (κ : Key) → r.chunks κ ≡ undropped mixed below f spared κ (q.chunks κ)
+  pub record Forwarded (mixed : Bool) (below : Key → ℕ → Bool) (q r : Queue) (f : ForwardPoint) : Type 0 where
+    pub chunks : (κ : Key) → r.chunks κ ≡ undropped mixed below f κ (q.chunks κ)
     pub next : (s : ℕ) → r.next s ≡ raised f.entries true s (q.next s)
     pub passed : (s : ℕ) → r.passed_below s ≡ raised f.entries false s (q.passed_below s)
     pub ready : r.ready ≡ q.ready

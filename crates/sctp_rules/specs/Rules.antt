@@ -15,7 +15,7 @@ pub data Event : Type 0 where
   send_sack : (c : ℕ) → Event  -- it acknowledges the fragments below c
   leave : (c : ℕ) → Event  -- such a SACK has come, and one fragment leaves the sender
   send_forward : (f : ForwardPoint) → Event
-  forward_comes : (f : ForwardPoint) (spared : ℕ → Bool) → Event  -- of some streams, those that wait for a reset, what it doesn't name is left as it is
+  forward_comes : (f : ForwardPoint) → Event
   forget : (s c : ℕ) → Event  -- an outgoing reset request of stream s is performed (RFC 6525 section 5.2.2)
 
 -- not numbered, and not given up
@@ -42,10 +42,6 @@ covers (e ∷ es) kind s n = (same e.ordered kind && ((e.stream == s) && nat_le 
 abbrev pub raised : List Entry → Bool → ℕ → ℕ → ℕ
 raised [] kind s n = n
 raised (e ∷ es) kind s n = raised es kind s (cond (same e.ordered kind && (e.stream == s)) (max n (suc e.number)) n)
-
--- no stream is spared
-abbrev pub no_stream : ℕ → Bool
-no_stream s = false
 
 -- messages of this kind and stream with a lower number don't become ready any more
 abbrev pub floor : Receiver → Bool → ℕ → ℕ
@@ -121,16 +117,16 @@ module _ (message : ℕ → Message) where
     pub none_partly : (p : ℕ) → stream_of message p ≡ s → o.partly p ≡ false
 
 module _ (message : ℕ → Message) (mixed : Bool) where
-  -- what a forward point drops: what its entries name, and without interleaving unordered fragments by TSN, but for streams that are spared
-  abbrev pub drops : Sender → ForwardPoint → (ℕ → Bool) → ℕ → Bool
-  drops o f spared t =
+  -- what a forward point drops: what its entries name, and without interleaving unordered fragments by TSN
+  abbrev pub drops : Sender → ForwardPoint → ℕ → Bool
+  drops o f t =
       covers f.entries (ordered_of message (place_of o t)) (stream_of message (place_of o t)) (o.number (place_of o t))
-      || (not mixed && (not (ordered_of message (place_of o t)) && (nat_lt t f.upto && not (spared (stream_of message (place_of o t))))))
+      || (not mixed && (not (ordered_of message (place_of o t)) && nat_lt t f.upto))
 
-  abbrev pub skips : Sender → Receiver → ForwardPoint → (ℕ → Bool) → Receiver
-  skips o i f spared = record i {
+  abbrev pub skips : Sender → Receiver → ForwardPoint → Receiver
+  skips o i f = record i {
     seen = λ t. nat_lt t f.upto || i.seen t;
-    held = λ t. i.held t && not (drops o f spared t);
+    held = λ t. i.held t && not (drops o f t);
     next = λ s. raised f.entries true s (i.next s);
     passed_below = λ s. raised f.entries false s (i.passed_below s);
   }
@@ -173,7 +169,7 @@ module _ (message : ℕ → Message) (mixed : Bool) where
   IsAllowed x (send_sack c) = ((t : ℕ) → t < c → x.receiver.seen t ≡ true) × ((p : ℕ) → IsRipe message x.sender x.receiver p → ⊥)
   IsAllowed x (leave c) = IsAmong c x.sacks × (x.acknowledged < c)
   IsAllowed x (send_forward f) = IsDue x.sender x.acknowledged f
-  IsAllowed x (forward_comes f spared) = IsAmong f x.forward_points
+  IsAllowed x (forward_comes f) = IsAmong f x.forward_points
   IsAllowed x (forget s c) = IsResettable message x.sender x.receiver s c
 
   abbrev pub after : Transfer → Event → Transfer
@@ -188,7 +184,7 @@ module _ (message : ℕ → Message) (mixed : Bool) where
   after x (send_sack c) = record x { sacks = c ∷ x.sacks }
   after x (leave c) = record x { acknowledged = suc x.acknowledged; reports = x.reports ++ report x.sender x.acknowledged }
   after x (send_forward f) = record x { forward_points = f ∷ x.forward_points }
-  after x (forward_comes f spared) = record x { receiver = skips x.sender x.receiver f spared }
+  after x (forward_comes f) = record x { receiver = skips x.sender x.receiver f }
   after x (forget s c) = record x { receiver = forgets message x.sender x.receiver s }
 
   -- a whole schedule may happen from this state

@@ -1,7 +1,7 @@
 -- One run of each machine, in which something is lost, overtaken and given up.
 use Rattle.std.specs.Prelude.{ℕ, zero, suc, true, false, List, [], ◌∷◌}
 use Rattle.sctp_rules.specs.State.{Message, ForwardPoint}
-use Rattle.sctp_rules.specs.Rules.{Event, accept, begin, number, close, give_up, data_comes, late_comes, deliver, send_sack, leave, send_forward, forward_comes, no_stream}
+use Rattle.sctp_rules.specs.Rules.{Event, accept, begin, number, close, give_up, data_comes, late_comes, deliver, send_sack, leave, send_forward, forward_comes}
 use Rattle.sctp_rules.specs.Resets.{Request, ResetEvent, transfers, reset_stream, send_request, perform, commit}
 
 -- ---- DATA: two ordered messages of stream 0 and an unordered one of stream 1
@@ -17,7 +17,7 @@ over_two = record { upto = 2; entries = record { ordered = true; stream = 0; num
 abbrev pub plain_run : List Event
 plain_run =
     accept ∷ accept ∷ accept ∷ begin 0 ∷ number 0 (1 ∷ []) (2 ∷ []) ∷ number 0 (2 ∷ []) [] ∷ begin 1 ∷ number 1 (3 ∷ []) [] ∷ begin 2 ∷ number 2 (4 ∷ []) []
-    ∷ data_comes 2 ∷ data_comes 3 ∷ deliver 2 ∷ data_comes 0 ∷ send_sack 1 ∷ leave 1 ∷ give_up 0 ∷ send_forward over_two ∷ forward_comes over_two no_stream ∷ deliver 1
+    ∷ data_comes 2 ∷ data_comes 3 ∷ deliver 2 ∷ data_comes 0 ∷ send_sack 1 ∷ leave 1 ∷ give_up 0 ∷ send_forward over_two ∷ forward_comes over_two ∷ deliver 1
     ∷ send_sack 4 ∷ leave 4 ∷ leave 4 ∷ leave 4 ∷ []
 
 -- ---- I-DATA: two ordered messages of stream 1, and between their fragments one of stream 2
@@ -34,8 +34,8 @@ over upto = record { upto = upto; entries = record { ordered = true; stream = 1;
 abbrev pub woven_run : List Event
 woven_run =
     accept ∷ accept ∷ accept ∷ begin 0 ∷ number 0 (1 ∷ []) (2 ∷ 2 ∷ []) ∷ begin 1 ∷ number 1 (3 ∷ []) [] ∷ number 0 (2 ∷ []) (2 ∷ []) ∷ close 0 ∷ give_up 0
-    ∷ begin 2 ∷ number 2 (5 ∷ []) [] ∷ send_forward (over 1) ∷ forward_comes (over 1) no_stream ∷ late_comes 2 ∷ data_comes 4 ∷ deliver 2 ∷ data_comes 1 ∷ deliver 1
-    ∷ send_sack 3 ∷ leave 3 ∷ leave 3 ∷ leave 3 ∷ send_forward (over 4) ∷ forward_comes (over 4) no_stream ∷ send_sack 5 ∷ leave 5 ∷ leave 5 ∷ []
+    ∷ begin 2 ∷ number 2 (5 ∷ []) [] ∷ send_forward (over 1) ∷ forward_comes (over 1) ∷ late_comes 2 ∷ data_comes 4 ∷ deliver 2 ∷ data_comes 1 ∷ deliver 1
+    ∷ send_sack 3 ∷ leave 3 ∷ leave 3 ∷ leave 3 ∷ send_forward (over 4) ∷ forward_comes (over 4) ∷ send_sack 5 ∷ leave 5 ∷ leave 5 ∷ []
 
 -- ---- resets: of three messages of stream 0 the first is sent, the second dropped by a reset, and the third accepted after it
 abbrev pub alike : ℕ → Message
@@ -65,6 +65,6 @@ upto_three = record { upto = 3; entries = record { ordered = true; stream = 3; n
 abbrev pub loose_run : List ResetEvent
 loose_run =
     transfers accept ∷ transfers (begin 0) ∷ transfers (number 0 (1 ∷ []) (2 ∷ [])) ∷ reset_stream 2 ∷ send_request 2 ∷ transfers (number 0 (2 ∷ []) [])
-    ∷ transfers (give_up 0) ∷ transfers (send_forward upto_one) ∷ transfers (forward_comes upto_one no_stream) ∷ reset_stream 1 ∷ send_request 1 ∷ transfers (data_comes 1)
+    ∷ transfers (give_up 0) ∷ transfers (send_forward upto_one) ∷ transfers (forward_comes upto_one) ∷ reset_stream 1 ∷ send_request 1 ∷ transfers (data_comes 1)
     ∷ transfers (send_sack 2) ∷ transfers (leave 2) ∷ transfers (leave 2) ∷ transfers accept ∷ transfers (begin 1) ∷ transfers (number 1 (4 ∷ []) [])
     ∷ transfers (give_up 1) ∷ transfers (send_forward upto_three) ∷ []

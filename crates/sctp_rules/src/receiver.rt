@@ -52,21 +52,21 @@ pub fn wire_chunk_is_late()
         LeadsTo message mixed x (late_comes t) [] (lifted base mixed q) }
 {}
 
-/// A forward point that was ever sent drops what it names (and, without interleaving, unordered chunks below it but those of spared
-/// streams), raises the next numbers, and then run after run becomes ready.
+/// A forward point that was ever sent drops what it names (and, without interleaving, unordered chunks below it), raises the
+/// next numbers, and then run after run becomes ready.
 pub fn forward_point_comes()
-    ensures leads { (message : ℕ → Message) (mixed : Bool) (x : Transfer) (q m r : Queue (KeyOf mixed) (next_of mixed)) (f : ForwardPoint) (spared : ℕ → Bool) →
+    ensures leads { (message : ℕ → Message) (mixed : Bool) (x : Transfer) (q m r : Queue (KeyOf mixed) (next_of mixed)) (f : ForwardPoint) →
         Kept message mixed x → Shows message mixed x q → IsAmong f x.forward_points →
-        Forwarded (KeyOf mixed) (next_of mixed) mixed (below_of mixed) q m f spared → Readied (KeyOf mixed) (next_of mixed) m r →
-        (ps : List ℕ) × LeadsTo message mixed x (forward_comes f spared) (map deliver ps) r }
+        Forwarded (KeyOf mixed) (next_of mixed) mixed (below_of mixed) q m f → Readied (KeyOf mixed) (next_of mixed) m r →
+        (ps : List ℕ) × LeadsTo message mixed x (forward_comes f) (map deliver ps) r }
 {}
 
 /// And so does a forward point whose entries are of that epoch, each with its number as it is written.
 pub fn wire_point_comes()
-    ensures leads { (message : ℕ → Message) (mixed : Bool) (base : Bool → ℕ → ℕ) (x : Transfer) (q m r : Queue (KeyOf mixed) (next_of mixed)) (f : ForwardPoint) (spared : ℕ → Bool) →
+    ensures leads { (message : ℕ → Message) (mixed : Bool) (base : Bool → ℕ → ℕ) (x : Transfer) (q m r : Queue (KeyOf mixed) (next_of mixed)) (f : ForwardPoint) →
         Kept message mixed x → Shows message mixed x (lifted base mixed q) → IsAmong f x.forward_points → AreEntriesNow base f →
-        Forwarded (KeyOf mixed) (next_of mixed) mixed (below_of mixed) q m (wire_point f) spared → Readied (KeyOf mixed) (next_of mixed) m r →
-        (ps : List ℕ) × LeadsTo message mixed x (forward_comes f spared) (map deliver ps) (lifted base mixed r) }
+        Forwarded (KeyOf mixed) (next_of mixed) mixed (below_of mixed) q m (wire_point f) → Readied (KeyOf mixed) (next_of mixed) m r →
+        (ps : List ℕ) × LeadsTo message mixed x (forward_comes f) (map deliver ps) (lifted base mixed r) }
 {}
 
 /// A reset of stream `s` forgets the stream: no chunk of it is held, and its numbers go on from the sender's counts.

@@ -1,8 +1,8 @@
 //! One run of each machine, so that no law is empty. The expected values were worked out by hand.
 
-ghost use Rattle.std.specs.Prelude.{◌≡◌, ◌==◌, List, [], ◌∷◌, false, true, ℕ};
+ghost use Rattle.std.specs.Prelude.{◌≡◌, List, [], ◌∷◌, false, true, ℕ};
 ghost use Rattle.sctp_rules.specs.Resets.{MayAll, first_epoch, go_all};
-ghost use Rattle.sctp_rules.specs.Rules.{Happens, after, forward_comes, no_stream, run};
+ghost use Rattle.sctp_rules.specs.Rules.{Happens, after, forward_comes, run};
 ghost use Rattle.sctp_rules.specs.Runs.{alike, loose, loose_run, plain_run, reset_run, three, upto_three, woven, woven_run};
 ghost use Rattle.sctp_rules.specs.State.{count, start};
 
@@ -40,6 +40,5 @@ pub fn point_drops_while_a_reset_waits()
     ensures may { MayAll loose false first_epoch loose_run }
     ensures waits { (go_all loose false first_epoch loose_run).performed 1 ≡ 0 }
     ensures held { (go_all loose false first_epoch loose_run).transfer.receiver.held 1 ≡ true }
-    ensures dropped { (after loose false (go_all loose false first_epoch loose_run).transfer (forward_comes upto_three no_stream)).receiver.held 1 ≡ false }
-    ensures spared { (after loose false (go_all loose false first_epoch loose_run).transfer (forward_comes upto_three (λ s. s == 1))).receiver.held 1 ≡ true }
+    ensures dropped { (after loose false (go_all loose false first_epoch loose_run).transfer (forward_comes upto_three)).receiver.held 1 ≡ false }
 {}

@@ -1,20 +1,18 @@
 -- While a reset is deferred nothing waits for it: no fragment of its streams comes from above its last TSN, and no entry of a forward
 -- point that goes on above that is of its streams.
-use Rattle.std.proofs.Common.{◌≡◌, ◌≢◌, ℕ, suc, ◌+◌, ◌^◌, ◌<◌, Bool, true, false, not, cond, inl, inr, Option, Some, None, List, [], ◌∷◌, length, map, filter, refl, ap, sym, ◌∙◌, subst, arith}
+use Rattle.std.proofs.Common.{◌≡◌, ℕ, suc, ◌+◌, ◌^◌, ◌<◌, Bool, true, false, not, cond, inl, inr, Option, Some, List, [], ◌∷◌, length, map, refl, ap, sym, ◌∙◌, subst, arith}
 use Rattle.std.specs.Prelude.{◌&&◌, ◌||◌, ◌==◌, nat_lt}
 use Rattle.std.specs.List.{list_any}
 use Rattle.std.proofs.lemmas.Bool.{cond-true, cond-false, eqb-true, ne_eqb}
 use Rattle.std.proofs.lemmas.Bool.Decides.{nat_tests}
 use Rattle.sctp_serial.specs.Unwrapped.{origin}
 use Rattle.sctp_serial.specs.declared.api.StreamId.{StreamId}
-use Rattle.sctp_packet.specs.Chunk.{FragmentTree}
 use Rattle.sctp_chunk.specs.declared.forward_tsn.SkippedStream.{SkippedStream}
-use Rattle.sctp_rx.specs.Streams.{Streams, is_named, is_part, is_far, entries_in, skipped_id}
-use Rattle.sctp_rx.specs.Streams as streams
-use Rattle.sctp_rx.specs.ReassemblyQueue.{Reassembly, Deferred, number_of, came, made, fragment_waits, point_waits, resetting, waiting_in, waits, Forwarded, wait_with, forward_now, forward_or_wait, forward}
+use Rattle.sctp_rx.specs.Streams.{Streams, is_named, is_far, entries_in, skipped_id}
+use Rattle.sctp_rx.specs.ReassemblyQueue.{Reassembly, Deferred, number_of, came, fragment_waits, point_waits, resetting, waiting_in, waits, Forwarded, wait_with, forward_now, forward_or_wait, forward}
 use Rattle.sctp_rules.specs.State.{Message, Entry, ForwardPoint, IsAmong, place_of, count, stream_of}
 use Rattle.sctp_rules.specs.Lifted.{as_written, wire_point}
-use Rattle.sctp_rules.specs.Rules.{covers, no_stream}
+use Rattle.sctp_rules.specs.Rules.{covers}
 use Rattle.sctp_rules.specs.Resets.{Request, Epochs}
 use Rattle.sctp_rules.specs.Based.{InEpochs, NothingWaits}
 use Rattle.sctp_rules.proofs.ToolsLemmas.{not_both}
@@ -22,7 +20,6 @@ use Rattle.sctp_rules.proofs.EpochLawsLemmas.{nothing_waits}
 use Rattle.sctp_rx_rules.specs.Read.{StandForAll}
 use Rattle.sctp_rx_rules.specs.Resets.{IsNextTo, AreNextTo, IsDeferral, named_by}
 use Rattle.sctp_rx_rules.proofs.EntryLemmas.{id_is}
-use Rattle.sctp_rx_rules.proofs.ForwardLemmas.{passed_but, and_false}
 use Rattle.sctp_rx_rules.proofs.ForwardRowLemmas.{not_far, called_at_once}
 use Rattle.sctp_rx_rules.proofs.NearNumberLemmas.{among_covers}
 
@@ -68,6 +65,10 @@ module _ (message : ℕ → Message) (mixed : Bool) (x : Epochs) (k : InEpochs m
     where
       low : (a b s u : ℕ) → a + s + 1 ≡ origin + u → b + s ≡ origin + t → t < u → nat_lt a b ≡ false
       low a b s u e g l = grind (arith, nat_tests)
+
+      and_false : (b : Bool) → (b && false) ≡ false
+      and_false true = refl
+      and_false false = refl
 
       go : (b : Bool) → is_named d.streams id ≡ b → (nat_lt d.last n && b) ≡ false
       go false e = and_false (nat_lt d.last n)
@@ -115,7 +116,7 @@ module _ (message : ℕ → Message) (mixed : Bool) (x : Epochs) (k : InEpochs m
 
   -- no entry of a point waits
   pub point_called : (r : Reassembly) → r.deferred ≡ Some d → (tsn t : ℕ) (xs : List SkippedStream) (f : ForwardPoint) → number_of r tsn + shift ≡ origin + t → t < 2 ^ 62 → f.upto ≡ suc t
-      → IsAmong f x.transfer.forward_points → StandForAll mixed r.streams xs (wire_point f).entries → forward tsn xs r ≡ made (passed_but no_stream (number_of r tsn) xs r.streams) (came tsn r)
+      → IsAmong f x.transfer.forward_points → StandForAll mixed r.streams xs (wire_point f).entries → forward tsn xs r ≡ forward_now (number_of r tsn) xs (came tsn r)
   point_called r deferred tsn t xs f at small last sent stand = go (nat_lt d.last (number_of r tsn)) refl
     where
       n : ℕ
@@ -127,7 +128,7 @@ module _ (message : ℕ → Message) (mixed : Bool) (x : Epochs) (k : InEpochs m
       part : Reassembly
       part = forward_now n (entries_in false d.streams xs) (came tsn r)
 
-      go : (b : Bool) → nat_lt d.last (number_of r tsn) ≡ b → forward tsn xs r ≡ made (passed_but no_stream (number_of r tsn) xs r.streams) (came tsn r)
+      go : (b : Bool) → nat_lt d.last (number_of r tsn) ≡ b → forward tsn xs r ≡ forward_now (number_of r tsn) xs (came tsn r)
       go false e = called_at_once r tsn t shift xs at small (ap (point_waits (number_of r tsn)) deferred ∙ e)
       go true e =
           let over = high d.last (number_of r tsn) shift is.upto is.last at e in

@@ -1,5 +1,5 @@
 -- What comes while a reset is deferred, and how one is deferred, over the rules with epochs.
-use Rattle.std.proofs.Common.{◌≡◌, ◌≢◌, ℕ, suc, ◌+◌, ◌^◌, ◌<◌, ◌≤◌, Bool, true, false, cond, Option, Some, None, List, [], ◌∷◌, map, refl, ap, sym, ◌∙◌, subst, arith}
+use Rattle.std.proofs.Common.{◌≡◌, ℕ, suc, ◌+◌, ◌<◌, ◌≤◌, Bool, true, false, cond, Option, Some, None, List, [], ◌∷◌, map, refl, ap, sym, ◌∙◌, subst, arith}
 use Rattle.std.specs.Prelude.{unwrap_or, is_some}
 use Rattle.std.specs.List.{list_all}
 use Rattle.std.proofs.lemmas.Bool.{and_parts}
@@ -10,9 +10,9 @@ use Rattle.sctp_packet.specs.Chunk.{FragmentTree}
 use Rattle.sctp_chunk.specs.declared.forward_tsn.SkippedStream.{SkippedStream}
 use Rattle.sctp_rx.specs.Tracker as tracker
 use Rattle.sctp_rx.specs.Tracker.{Tracker, IsTracker, moves_on, observe}
-use Rattle.sctp_rx.specs.ReassemblyQueue.{Reassembly, Deferred, number_of, fragment_waits, waiting_in, came, made, add, forward, defer}
+use Rattle.sctp_rx.specs.ReassemblyQueue.{Reassembly, Deferred, number_of, fragment_waits, waiting_in, came, add, forward, defer, forward_now}
 use Rattle.sctp_rules.specs.State.{Message, ForwardPoint, Transfer, IsAmong, count}
-use Rattle.sctp_rules.specs.Rules.{Event, accept, begin, number, close, give_up, data_comes, late_comes, deliver, send_sack, leave, send_forward, forward_comes, forget, no_stream, IsAllowed, Happens, after, run}
+use Rattle.sctp_rules.specs.Rules.{Event, accept, begin, number, close, give_up, data_comes, late_comes, deliver, send_sack, leave, send_forward, forward_comes, forget, IsAllowed, Happens, after, run}
 use Rattle.sctp_rules.specs.Lifted.{wire_point, IsNow, AreEntriesNow}
 use Rattle.sctp_rules.specs.Points.{AreApart}
 use Rattle.sctp_rules.specs.Kept.{Kept}
@@ -22,10 +22,9 @@ use Rattle.sctp_rules.proofs.EpochLawsLemmas.{unseen_on_wire, entries_are_now}
 use Rattle.sctp_rx_rules.specs.View.{was_seen}
 use Rattle.sctp_rx_rules.specs.Read.{Carries, IsRead, StandForAll, is_behind, shift_after}
 use Rattle.sctp_rx_rules.specs.Receives.{Receives}
-use Rattle.sctp_rx_rules.specs.Near.{IsWritten, AreEntries, AreFew, AreNearStreams, IsNearLast, ReadsNear, GoesNear, IsInWindow, IsNearNext, AreNearNext}
-use Rattle.sctp_rx_rules.specs.Resets.{base_now, IsNext, AreNext, IsNextTo, AreNextTo, IsDeferral, IsWaitingFor, Comes, named_by}
+use Rattle.sctp_rx_rules.specs.Near.{IsWritten, AreEntries, AreFew, IsNearLast, ReadsNear, GoesNear, IsInWindow, IsNearNext, AreNearNext}
+use Rattle.sctp_rx_rules.specs.Resets.{base_now, AreNext, AreNextTo, IsWaitingFor, Comes, named_by}
 use Rattle.sctp_rx_rules.proofs.FragmentRowLemmas.{first_is}
-use Rattle.sctp_rx_rules.proofs.ForwardLemmas.{passed_but}
 use Rattle.sctp_rx_rules.proofs.ReceivesLemmas.{seen_after}
 use Rattle.sctp_rx_rules.proofs.NearTsnLemmas.{not_acknowledged, counted_from, tsn_is_read, front, front_unseen, front_below}
 use Rattle.sctp_rx_rules.proofs.NearNumberLemmas.{greatest}
@@ -39,7 +38,7 @@ abbrev is_arrival : Event → Bool
 is_arrival (data_comes t) = true
 is_arrival (late_comes t) = true
 is_arrival (deliver p) = true
-is_arrival (forward_comes f spared) = true
+is_arrival (forward_comes f) = true
 is_arrival e = false
 
 all_ready : (ps : List ℕ) → list_all is_arrival (map deliver ps) ≡ true
@@ -52,7 +51,7 @@ module _ (message : ℕ → Message) (mixed : Bool) where
   one_gone x (data_comes t) is may = ((may, tt), refl)
   one_gone x (late_comes t) is may = ((may, tt), refl)
   one_gone x (deliver p) is may = ((may, tt), refl)
-  one_gone x (forward_comes f spared) is may = ((may, tt), refl)
+  one_gone x (forward_comes f) is may = ((may, tt), refl)
   one_gone x accept is may = cc
   one_gone x (begin p) is may = cc
   one_gone x (number p bytes more) is may = cc
@@ -196,23 +195,23 @@ module _ (message : ℕ → Message) (mixed : Bool) (first shift : ℕ) (x : Epo
     there : number_of r tsn + shift_after r.first shift at ≡ origin + at
     there = read message mixed (base_now x) first shift x.transfer kept windows handed t r shown near is_tracker at tsn f sent last moves are_now tsn_is apart
 
-    is_called : forward tsn xs r ≡ made (passed_but no_stream (number_of r tsn) xs r.streams) (came tsn r)
+    is_called : forward tsn xs r ≡ forward_now (number_of r tsn) xs (came tsn r)
     is_called = go r.deferred refl waiting
       where
-        go : (o : Option Deferred) → r.deferred ≡ o → IsWaitingFor shift x r.first o → forward tsn xs r ≡ made (passed_but no_stream (number_of r tsn) xs r.streams) (came tsn r)
+        go : (o : Option Deferred) → r.deferred ≡ o → IsWaitingFor shift x r.first o → forward tsn xs r ≡ forward_now (number_of r tsn) xs (came tsn r)
         go None e w = called message mixed (base_now x) first shift x.transfer kept windows handed t r shown near is_tracker at tsn f sent last moves are_now tsn_is apart e few xs
         go (Some d) e w =
             let here = there in
             let same = same_shift at w.told w.begun in
             point_called message mixed x k shift r.first d w r e tsn at xs f (omega (arith, here, same)) (point_below message mixed x.transfer kept few at f sent last) last sent stand
 
-    pub point_while : (ps : List ℕ) × Comes message mixed first (shift_after r.first shift at) x (forward_comes f no_stream ∷ map deliver ps) handed (tracker.forward (origin + at) t) (forward tsn xs r)
+    pub point_while : (ps : List ℕ) × Comes message mixed first (shift_after r.first shift at) x (forward_comes f ∷ map deliver ps) handed (tracker.forward (origin + at) t) (forward tsn xs r)
     point_while =
         let c = is_called in
-        let l = point_comes message mixed (base_now x) first shift x.transfer kept windows handed t r shown near is_tracker at tsn f sent last moves are_now tsn_is apart no_stream xs c few ordered are in
+        let l = point_comes message mixed (base_now x) first shift x.transfer kept windows handed t r shown near is_tracker at tsn f sent last moves are_now tsn_is apart xs c few ordered are in
         let begun : (w : ℕ) → r.first ≡ Some w → (shift_after r.first shift at ≡ shift) × ((forward tsn xs r).first ≡ Some w) =
         λ w e. (same_shift at w e, ap (λ (z : Reassembly). z.first) c ∙ ap (λ (o : Option ℕ). Some (unwrap_or o tsn)) e) in
-        (l.0, comes (shift_after r.first shift at) (forward_comes f no_stream ∷ map deliver l.0) (tracker.forward (origin + at) t) (forward tsn xs r) (all_ready l.0) begun l.1)
+        (l.0, comes (shift_after r.first shift at) (forward_comes f ∷ map deliver l.0) (tracker.forward (origin + at) t) (forward tsn xs r) (all_ready l.0) begun l.1)
 
   -- ---- a reset is deferred
 

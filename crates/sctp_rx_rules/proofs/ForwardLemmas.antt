@@ -5,15 +5,14 @@ use Rattle.std.proofs.lemmas.Bool.{cond-false, or_from, or_parts}
 use Rattle.std.proofs.lemmas.Bool.Decides.{nat_tests}
 use Rattle.sctp_serial.specs.Messages as messages
 use Rattle.sctp_serial.specs.Unwrapped.{origin}
-use Rattle.sctp_chunk.specs.declared.forward_tsn.SkippedStream.{SkippedStream}
 use Rattle.sctp_rx.specs.Key.{pair_rank}
 use Rattle.sctp_rx.specs.Held.{Held, rank_of}
-use Rattle.sctp_rx.specs.Delivery.{UnorderedStream, fresh_unordered, unordered_forward_tsn}
-use Rattle.sctp_rx.specs.Streams.{Streams, Outcome, stream_at, skip_each, by_stream}
+use Rattle.sctp_rx.specs.Delivery.{fresh_unordered, unordered_forward_tsn}
+use Rattle.sctp_rx.specs.Streams.{Streams, stream_at, dropped_to}
 use Rattle.sctp_rules.specs.State.{Entry, ForwardPoint, IsAmong}
 use Rattle.sctp_rules.specs.Rules.{same, covers, raised}
 use Rattle.sctp_rules.specs.Reassembly as queues
-use Rattle.sctp_rules.specs.Reassembly.{Chunk, Queue, KeyOf, next_of, key_of, below_of, chunk_of, undropped, KeyLaws}
+use Rattle.sctp_rules.specs.Reassembly.{Chunk, Queue, KeyOf, next_of, below_of, undropped}
 use Rattle.sctp_rx_rules.specs.View.{View, IsFiled, IsSeenAs, chunk_of_held, key_of_held, ordered_at, unordered_at, held_on, view_with}
 use Rattle.sctp_rx_rules.proofs.AmongLemmas.{from_cases, from_kept}
 use Rattle.sctp_rx_rules.proofs.KeyLemmas.{none_some, some_same, twice_not}
@@ -22,53 +21,23 @@ use Rattle.sctp_rx_rules.proofs.PendingLemmas.{is_named, pending, lift_next, lif
 
 -- ---- what the point's TSN leaves
 
--- unordered fragments by TSN, but for streams that are spared
-abbrev pub dropped_but : (spared : ℕ → Bool) → ℕ → Streams → Streams
-dropped_but spared n ss = record ss { unordered = cond ss.is_interleaved ss.unordered (map (λ e. (e.0, cond (not (spared e.0)) (unordered_forward_tsn n e.1) e.1)) ss.unordered) }
-
--- and then what its entries name
-abbrev pub passed_but : (spared : ℕ → Bool) → ℕ → List SkippedStream → Streams → Outcome
-passed_but spared n xs ss = skip_each (by_stream xs) (dropped_but spared n ss)
-
 -- whether it drops the fragment
-abbrev behind : (ℕ → Bool) → Bool → Bool → ℕ → ℕ → Held → Bool
-behind spared mixed kind n s h = not mixed && (not kind && (nat_le h.index n && not (spared s)))
+abbrev behind : Bool → Bool → ℕ → Held → Bool
+behind mixed kind n h = not mixed && (not kind && nat_le h.index n)
 
-and_true : (b : Bool) → (b && true) ≡ b
-and_true true = refl
-and_true false = refl
-
-pub and_false : (b : Bool) → (b && false) ≡ false
-and_false true = refl
-and_false false = refl
-
-module _ (ss : Streams) (n : ℕ) (spared : ℕ → Bool) where
-  abbrev by_tsn : ℕ → UnorderedStream → UnorderedStream
-  by_tsn s u = cond (not (spared s)) (unordered_forward_tsn n u) u
-
-  at_first : (s : ℕ) → by_tsn s fresh_unordered ≡ fresh_unordered
-  at_first s = go (spared s)
-    where
-      go : (b : Bool) → cond (not b) (unordered_forward_tsn n fresh_unordered) fresh_unordered ≡ fresh_unordered
-      go true = refl
-      go false = refl
-
-  pub unordered_kept : (b : Bool) → ss.is_interleaved ≡ b → (s : ℕ) → unordered_at (dropped_but spared n ss) s ≡ cond b (unordered_at ss s) (by_tsn s (unordered_at ss s))
-  unordered_kept true e s = ap (λ b. stream_at fresh_unordered s (cond b ss.unordered (map (λ x. (x.0, by_tsn x.0 x.1)) ss.unordered))) e
+module _ (ss : Streams) (n : ℕ) where
+  pub unordered_kept : (b : Bool) → ss.is_interleaved ≡ b → (s : ℕ) → unordered_at (dropped_to n ss) s ≡ cond b (unordered_at ss s) (unordered_forward_tsn n (unordered_at ss s))
+  unordered_kept true e s = ap (λ b. stream_at fresh_unordered s (cond b ss.unordered (map (λ x. (x.0, unordered_forward_tsn n x.1)) ss.unordered))) e
   unordered_kept false e s =
-      ap (λ b. stream_at fresh_unordered s (cond b ss.unordered (map (λ x. (x.0, by_tsn x.0 x.1)) ss.unordered))) e
-      ∙ mapped_at fresh_unordered s by_tsn (at_first s) ss.unordered
+      ap (λ b. stream_at fresh_unordered s (cond b ss.unordered (map (λ x. (x.0, unordered_forward_tsn n x.1)) ss.unordered))) e
+      ∙ mapped_at fresh_unordered s (unordered_forward_tsn n) refl ss.unordered
 
-  passed_kept : (s : ℕ) → (unordered_at (dropped_but spared n ss) s).passed ≡ (unordered_at ss s).passed
+  passed_kept : (s : ℕ) → (unordered_at (dropped_to n ss) s).passed ≡ (unordered_at ss s).passed
   passed_kept s = go ss.is_interleaved refl
     where
-      same : (b : Bool) → (cond (not b) (unordered_forward_tsn n (unordered_at ss s)) (unordered_at ss s)).passed ≡ (unordered_at ss s).passed
-      same true = refl
-      same false = refl
-
-      go : (b : Bool) → ss.is_interleaved ≡ b → (unordered_at (dropped_but spared n ss) s).passed ≡ (unordered_at ss s).passed
+      go : (b : Bool) → ss.is_interleaved ≡ b → (unordered_at (dropped_to n ss) s).passed ≡ (unordered_at ss s).passed
       go true e = ap (λ z. z.passed) (unordered_kept true e s)
-      go false e = ap (λ z. z.passed) (unordered_kept false e s) ∙ same (spared s)
+      go false e = ap (λ z. z.passed) (unordered_kept false e s)
 
   -- by TSN, unordered DATA
   tsn_test : (h : Held) → h.number ≡ origin → h.index < 2 ^ 63 → nat_lt (rank_of h) (pair_rank origin (n + 1)) ≡ nat_le h.index n
@@ -77,67 +46,53 @@ module _ (ss : Streams) (n : ℕ) (spared : ℕ → Bool) where
       by : (a b : ℕ) → a ≡ origin → nat_lt (pair_rank a b) (pair_rank origin (n + 1)) ≡ nat_le b n
       by a b e = grind (arith, nat_tests)
 
-  -- what is held of the stream, where it is spared and where it isn't
-  abbrev left_of : Bool → ℕ → List Held
-  left_of b s = (cond (not b) (unordered_forward_tsn n (unordered_at ss s)) (unordered_at ss s)).held
-
-  sub_dropped : (kind : Bool) (s : ℕ) (h : Held) → IsAmong h (held_on (dropped_but spared n ss) kind s) → IsAmong h (held_on ss kind s)
+  sub_dropped : (kind : Bool) (s : ℕ) (h : Held) → IsAmong h (held_on (dropped_to n ss) kind s) → IsAmong h (held_on ss kind s)
   sub_dropped true s h a = a
   sub_dropped false s h a = go ss.is_interleaved refl
     where
-      was : (b : Bool) → IsAmong h (left_of b s) → IsAmong h (held_on ss false s)
-      was true m = m
-      was false m = (from_cases rank_of (pair_rank origin (n + 1)) h (held_on ss false s) m).0
-
       go : (b : Bool) → ss.is_interleaved ≡ b → IsAmong h (held_on ss false s)
       go true e = subst (λ z. IsAmong h z.held) (unordered_kept true e s) a
-      go false e = was (spared s) (subst (λ z. IsAmong h z.held) (unordered_kept false e s) a)
+      go false e = (from_cases rank_of (pair_rank origin (n + 1)) h (held_on ss false s) (subst (λ z. IsAmong h z.held) (unordered_kept false e s) a)).0
 
   -- unordered DATA has no number
   abbrev Unnumbered : Bool → Bool → Held → Type 0
   Unnumbered mixed kind h = mixed ≡ false → kind ≡ false → h.number ≡ origin
 
-  dropped_above : (mixed kind : Bool) (s : ℕ) (h : Held) → ss.is_interleaved ≡ mixed → h.index < 2 ^ 63 → Unnumbered mixed kind h → IsAmong h (held_on (dropped_but spared n ss) kind s)
-      → behind spared mixed kind n s h ≡ false
+  dropped_above : (mixed kind : Bool) (s : ℕ) (h : Held) → ss.is_interleaved ≡ mixed → h.index < 2 ^ 63 → Unnumbered mixed kind h → IsAmong h (held_on (dropped_to n ss) kind s)
+      → behind mixed kind n h ≡ false
   dropped_above true kind s h m l u a = refl
   dropped_above false true s h m l u a = refl
-  dropped_above false false s h m l u a = go (spared s) (subst (λ z. IsAmong h z.held) (unordered_kept false m s) a)
-    where
-      go : (b : Bool) → IsAmong h (left_of b s) → (nat_le h.index n && not b) ≡ false
-      go true c = and_false (nat_le h.index n)
-      go false c = and_true (nat_le h.index n) ∙ (sym (tsn_test h (u refl refl) l) ∙ (from_cases rank_of (pair_rank origin (n + 1)) h (held_on ss false s) c).1)
+  dropped_above false false s h m l u a =
+      sym (tsn_test h (u refl refl) l) ∙ (from_cases rank_of (pair_rank origin (n + 1)) h (held_on ss false s) (subst (λ z. IsAmong h z.held) (unordered_kept false m s) a)).1
 
-  kept_above : (mixed kind : Bool) (s : ℕ) (h : Held) → ss.is_interleaved ≡ mixed → h.index < 2 ^ 63 → Unnumbered mixed kind h → IsAmong h (held_on ss kind s) → behind spared mixed kind n s h ≡ false
-      → IsAmong h (held_on (dropped_but spared n ss) kind s)
+  kept_above : (mixed kind : Bool) (s : ℕ) (h : Held) → ss.is_interleaved ≡ mixed → h.index < 2 ^ 63 → Unnumbered mixed kind h → IsAmong h (held_on ss kind s) → behind mixed kind n h ≡ false
+      → IsAmong h (held_on (dropped_to n ss) kind s)
   kept_above mixed true s h m l u a b = a
   kept_above true false s h m l u a b = subst (λ z. IsAmong h z.held) (sym (unordered_kept true m s)) a
-  kept_above false false s h m l u a b = subst (λ z. IsAmong h z.held) (sym (unordered_kept false m s)) (go (spared s) b)
-    where
-      go : (c : Bool) → (nat_le h.index n && not c) ≡ false → IsAmong h (left_of c s)
-      go true d = a
-      go false d = from_kept rank_of (pair_rank origin (n + 1)) h (held_on ss false s) a (tsn_test h (u refl refl) l ∙ (sym (and_true (nat_le h.index n)) ∙ d))
+  kept_above false false s h m l u a b =
+      subst (λ z. IsAmong h z.held) (sym (unordered_kept false m s)) (from_kept rank_of (pair_rank origin (n + 1)) h (held_on ss false s) a (tsn_test h (u refl refl) l ∙ b))
 
 -- ---- the queue that the point leaves
 
 module _ (mixed : Bool) (shift : ℕ) (ss : Streams) (ready : List messages.Message) (q : Queue (KeyOf mixed) (next_of mixed)) (p : IsSeenAs mixed shift (view_with ss ready) q) (mode : ss.is_interleaved ≡ mixed)
-    (n : ℕ) (f : ForwardPoint) (spared : ℕ → Bool) (es : List Entry) (covers_is : (kind : Bool) (s m : ℕ) → covers es kind s m ≡ covers f.entries kind s m) (raised_is : (kind : Bool) (s m : ℕ) → raised es kind s m ≡ raised f.entries kind s m)
+    (n : ℕ) (f : ForwardPoint) (es : List Entry) (covers_is : (kind : Bool) (s m : ℕ) → covers es kind s m ≡ covers f.entries kind s m) (raised_is : (kind : Bool) (s m : ℕ) → raised es kind s m ≡ raised f.entries kind s m)
     (upto : n + shift + 1 ≡ origin + f.upto) (all_ordered : mixed ≡ false → (e : Entry) → IsAmong e es → e.ordered ≡ true)
     (unnumbered : mixed ≡ false → (s : ℕ) (h : Held) → IsAmong h (held_on ss false s) → h.number ≡ origin) where
   abbrev pub left : Queue (KeyOf mixed) (next_of mixed)
   left = record {
-    chunks = λ κ. undropped (KeyOf mixed) (next_of mixed) mixed (below_of mixed) f spared κ (q.chunks κ);
+    chunks = λ κ. undropped (KeyOf mixed) (next_of mixed) mixed (below_of mixed) f κ (q.chunks κ);
     next = λ s. raised f.entries true s (q.next s);
     passed_below = λ s. raised f.entries false s (q.passed_below s);
     ready = q.ready;
   }
 
-  pub point_left : queues.Forwarded (KeyOf mixed) (next_of mixed) mixed (below_of mixed) q left f spared
+  pub point_left : queues.Forwarded (KeyOf mixed) (next_of mixed) mixed (below_of mixed) q left f
   point_left = record { chunks = λ κ. refl; next = λ s. refl; passed = λ s. refl; ready = refl }
 
   abbrev drops : KeyOf mixed → Chunk → Bool
-  drops κ w = covers f.entries w.ordered w.stream w.number || (not mixed && (not w.ordered && (below_of mixed κ f.upto && not (spared w.stream))))
+  drops κ w = covers f.entries w.ordered w.stream w.number || (not mixed && (not w.ordered && below_of mixed κ f.upto))
 
-  drop_some : (κ : KeyOf mixed) (o : Option Chunk) (w : Chunk) → undropped (KeyOf mixed) (next_of mixed) mixed (below_of mixed) f spared κ o ≡ Some w → (o ≡ Some w) × (drops κ w ≡ false)
+  drop_some : (κ : KeyOf mixed) (o : Option Chunk) (w : Chunk) → undropped (KeyOf mixed) (next_of mixed) mixed (below_of mixed) f κ o ≡ Some w → (o ≡ Some w) × (drops κ w ≡ false)
   drop_some κ None w e = absurd (none_some w e)
   drop_some κ (Some v) w e = go (drops κ v) refl e
     where
@@ -149,48 +104,48 @@ module _ (mixed : Bool) (shift : ℕ) (ss : Streams) (ready : List messages.Mess
   left_fewer κ w e = (drop_some κ (q.chunks κ) w e).0
 
   -- the test on a held fragment
-  below_is : (m : Bool) (kind : Bool) (s : ℕ) (h : Held) → (m ≡ false → origin ≤ h.index + shift)
-      → (not m && (not kind && (below_of m (key_of_held m shift h) f.upto && not (spared s)))) ≡ behind spared m kind n s h
-  below_is true kind s h from = refl
-  below_is false true s h from = refl
-  below_is false false s h from = let b = from refl in ap (λ z. z && not (spared s)) (by h.index b)
+  below_is : (m : Bool) (kind : Bool) (h : Held) → (m ≡ false → origin ≤ h.index + shift)
+      → (not m && (not kind && below_of m (key_of_held m shift h) f.upto)) ≡ behind m kind n h
+  below_is true kind h from = refl
+  below_is false true h from = refl
+  below_is false false h from = by h.index (from refl)
     where
       by : (a : ℕ) → origin ≤ a + shift → nat_lt (a + shift - origin) f.upto ≡ nat_le a n
       by a b = grind (arith, nat_tests, upto)
 
-  drops_is : (kind : Bool) (s id : ℕ) (h : Held) → IsFiled mixed shift kind s h → drops (key_of_held mixed shift h) (chunk_of_held id h) ≡ (covers es kind s (h.number - origin) || behind spared mixed kind n s h)
+  drops_is : (kind : Bool) (s id : ℕ) (h : Held) → IsFiled mixed shift kind s h → drops (key_of_held mixed shift h) (chunk_of_held id h) ≡ (covers es kind s (h.number - origin) || behind mixed kind n h)
   drops_is kind s id h file =
       let k : not h.fragment.is_unordered ≡ kind = twice_not h.fragment.is_unordered kind file.kind_is in
-      ap (λ z. covers f.entries z h.fragment.stream_id (h.number - origin) || (not mixed && (not z && (below_of mixed (key_of_held mixed shift h) f.upto && not (spared h.fragment.stream_id))))) k
-      ∙ (ap (λ z. covers f.entries kind z (h.number - origin) || (not mixed && (not kind && (below_of mixed (key_of_held mixed shift h) f.upto && not (spared z))))) file.stream_is
-      ∙ (ap (λ z. z || (not mixed && (not kind && (below_of mixed (key_of_held mixed shift h) f.upto && not (spared s))))) (sym (covers_is kind s (h.number - origin)))
-      ∙ ap (λ z. covers es kind s (h.number - origin) || z) (below_is mixed kind s h file.index_from)))
+      ap (λ z. covers f.entries z h.fragment.stream_id (h.number - origin) || (not mixed && (not z && below_of mixed (key_of_held mixed shift h) f.upto))) k
+      ∙ (ap (λ z. covers f.entries kind z (h.number - origin) || (not mixed && (not kind && below_of mixed (key_of_held mixed shift h) f.upto))) file.stream_is
+      ∙ (ap (λ z. z || (not mixed && (not kind && below_of mixed (key_of_held mixed shift h) f.upto))) (sym (covers_is kind s (h.number - origin)))
+      ∙ ap (λ z. covers es kind s (h.number - origin) || z) (below_is mixed kind h file.index_from)))
 
   abbrev v : View
   v = view_with ss ready
 
   abbrev w : View
-  w = pending es (view_with (dropped_but spared n ss) ready)
+  w = pending es (view_with (dropped_to n ss) ready)
 
   unnumbered_at : (kind : Bool) (s : ℕ) (h : Held) → IsAmong h (held_on ss kind s) → mixed ≡ false → kind ≡ false → h.number ≡ origin
   unnumbered_at true s h a m k = cc
   unnumbered_at false s h a m k = unnumbered m s h a
 
   was_there : (kind : Bool) (s : ℕ) (h : Held) → IsAmong h (w.held kind s) → IsAmong h (held_on ss kind s)
-  was_there kind s h a = sub_dropped ss n spared kind s h (cut_sub kind s es h (held_on (dropped_but spared n ss) kind s) a)
+  was_there kind s h a = sub_dropped ss n kind s h (cut_sub kind s es h (held_on (dropped_to n ss) kind s) a)
 
   not_dropped : (kind : Bool) (s id : ℕ) (h : Held) → IsAmong h (w.held kind s) → drops (key_of_held mixed shift h) (chunk_of_held id h) ≡ false
   not_dropped kind s id h a =
       let there = was_there kind s h a in
       let file = p.filed kind s h there in
-      drops_is kind s id h file ∙ or_from (covers es kind s (h.number - origin)) (behind spared mixed kind n s h) (cut_uncovered kind s es h (held_on (dropped_but spared n ss) kind s) file.index_below a)
-      (dropped_above ss n spared mixed kind s h mode file.index_below (unnumbered_at kind s h there) (cut_sub kind s es h (held_on (dropped_but spared n ss) kind s) a))
+      drops_is kind s id h file ∙ or_from (covers es kind s (h.number - origin)) (behind mixed kind n h) (cut_uncovered kind s es h (held_on (dropped_to n ss) kind s) file.index_below a)
+      (dropped_above ss n mixed kind s h mode file.index_below (unnumbered_at kind s h there) (cut_sub kind s es h (held_on (dropped_to n ss) kind s) a))
 
   stays_there : (kind : Bool) (s id : ℕ) (h : Held) → IsAmong h (held_on ss kind s) → drops (key_of_held mixed shift h) (chunk_of_held id h) ≡ false → IsAmong h (w.held kind s)
   stays_there kind s id h there d =
       let file = p.filed kind s h there in
-      let t = or_parts (covers es kind s (h.number - origin)) (behind spared mixed kind n s h) (sym (drops_is kind s id h file) ∙ d) in
-      cut_kept kind s es h (held_on (dropped_but spared n ss) kind s) file.index_below (kept_above ss n spared mixed kind s h mode file.index_below (unnumbered_at kind s h there) there t.1) t.0
+      let t = or_parts (covers es kind s (h.number - origin)) (behind mixed kind n h) (sym (drops_is kind s id h file) ∙ d) in
+      cut_kept kind s es h (held_on (dropped_to n ss) kind s) file.index_below (kept_above ss n mixed kind s h mode file.index_below (unnumbered_at kind s h there) there t.1) t.0
 
   unnamed : mixed ≡ false → (s : ℕ) (e : Entry) → IsAmong e es → is_named e false s ≡ false
   unnamed m s e a = ap (λ z. same z false && (e.stream == s)) (all_ordered m e a)
@@ -201,7 +156,7 @@ module _ (mixed : Bool) (shift : ℕ) (ss : Streams) (ready : List messages.Mess
     holds = λ kind s h a.
         let c = p.holds kind s h (was_there kind s h a) in (
           c.0,
-          ap (undropped (KeyOf mixed) (next_of mixed) mixed (below_of mixed) f spared (key_of_held mixed shift h)) c.1
+          ap (undropped (KeyOf mixed) (next_of mixed) mixed (below_of mixed) f (key_of_held mixed shift h)) c.1
               ∙ cond-false (drops (key_of_held mixed shift h) (chunk_of_held c.0 h)) None (Some (chunk_of_held c.0 h)) (not_dropped kind s c.0 h a),
           c.2,
         );
@@ -212,7 +167,7 @@ module _ (mixed : Bool) (shift : ℕ) (ss : Streams) (ready : List messages.Mess
     next = λ s. lift_next es s (ordered_at ss s).next (q.next s) (p.next s) ∙ ap (λ z. origin + z) (raised_is true s (q.next s));
     passed = λ m s.
         sym (raised_is false s (q.passed_below s))
-        ∙ lift_passed es s (unordered_at (dropped_but spared n ss) s).passed (q.passed_below s) (p.passed m s ∙ ap (λ z. z - origin) (sym (passed_kept ss n spared s)));
-    none_passed = λ m s. subst (λ z. z ≤ origin) (sym (lift_none false s es (unnamed m s) (unordered_at (dropped_but spared n ss) s).passed ∙ passed_kept ss n spared s)) (p.none_passed m s);
+        ∙ lift_passed es s (unordered_at (dropped_to n ss) s).passed (q.passed_below s) (p.passed m s ∙ ap (λ z. z - origin) (sym (passed_kept ss n s)));
+    none_passed = λ m s. subst (λ z. z ≤ origin) (sym (lift_none false s es (unnamed m s) (unordered_at (dropped_to n ss) s).passed ∙ passed_kept ss n s)) (p.none_passed m s);
     ready = p.ready;
   }

@@ -1,5 +1,5 @@
 -- A forward point that comes is a few of the rules.
-use Rattle.std.proofs.Common.{◌≡◌, ℕ, suc, ◌+◌, ◌-◌, ◌^◌, ◌<◌, Bool, true, false, not, inl, inr, Some, None, List, [], ◌∷◌, ◌++◌, map, refl, ap, sym, ◌∙◌, subst, arith, append_assoc, leb}
+use Rattle.std.proofs.Common.{◌≡◌, ℕ, suc, ◌+◌, ◌-◌, ◌^◌, ◌<◌, Bool, true, false, not, inl, inr, Some, List, [], ◌∷◌, ◌++◌, map, refl, ap, sym, ◌∙◌, subst, arith, append_assoc, leb}
 use Rattle.std.specs.Prelude.{◌||◌, nat_lt, unwrap_or}
 use Rattle.std.proofs.lemmas.Bool.{cond-false, true≢false}
 use Rattle.std.proofs.lemmas.Bool.Decides.{nat_tests}
@@ -9,14 +9,15 @@ use Rattle.sctp_chunk.specs.declared.forward_tsn.SkippedStream.{SkippedStream}
 use Rattle.sctp_chunk.specs.declared.forward_tsn.SkippedStream.TheVariants.{ForwardTsn, IForwardTsn}
 use Rattle.sctp_rx.specs.Held.{Held}
 use Rattle.sctp_rx.specs.Settled.{AreSettled}
-use Rattle.sctp_rx.specs.Streams.{Streams, Outcome, is_far, by_stream, entries_in}
+use Rattle.sctp_rx.specs.Streams as streams
+use Rattle.sctp_rx.specs.Streams.{Streams, Outcome, is_far, by_stream, dropped_to, entries_in}
 use Rattle.sctp_rx.specs.ReassemblyQueue.{Reassembly, number_of, came, made, forward, forward_now, forward_or_wait, point_waits, wait_with, resetting}
 use Rattle.sctp_rx.specs.Tracker as tracker
 use Rattle.sctp_rx.specs.Tracker.{Tracker}
 use Rattle.sctp_tracker.proofs.SeenOneFormLemmas.{contains-up_to}
 use Rattle.sctp_reassembly.proofs.SettledQueueLemmas.{settled_passes}
 use Rattle.sctp_rules.specs.State.{Message, Entry, ForwardPoint, Transfer, IsAmong, place_of, ordered_of}
-use Rattle.sctp_rules.specs.Rules.{forward_comes, deliver, no_stream}
+use Rattle.sctp_rules.specs.Rules.{forward_comes, deliver}
 use Rattle.sctp_rules.specs.Kept.{Kept}
 use Rattle.sctp_rules.specs.Reassembly.{Queue, KeyOf, next_of, key_of, below_of, KeyLaws}
 use Rattle.sctp_rules.proofs.ReceiverRowLemmas.{key_laws}
@@ -31,7 +32,7 @@ use Rattle.sctp_rx_rules.proofs.TakesLemmas.{takes_fewer, takes_readied}
 use Rattle.sctp_rx_rules.proofs.ArrivalLemmas.{rest_of}
 use Rattle.sctp_rx_rules.proofs.EntryLemmas.{put_entries, sorted_stands, sorted_covers, sorted_raised, sorted_apart}
 use Rattle.sctp_rx_rules.proofs.SkipLemmas.{Done, skips, all_still}
-use Rattle.sctp_rx_rules.proofs.ForwardLemmas.{dropped_but, passed_but, left, point_left, left_fewer, left_seen, unordered_kept}
+use Rattle.sctp_rx_rules.proofs.ForwardLemmas.{left, point_left, left_fewer, left_seen, unordered_kept}
 use Rattle.sctp_rx_rules.proofs.ReceivesLemmas.{sent_of, none_left, goes_to, seen_after}
 
 -- without interleaving, each entry is of an ordered stream
@@ -67,7 +68,7 @@ module _ (r : Reassembly) (tsn k shift : ℕ) (xs : List SkippedStream) (tsn_is 
       by a b e l = grind (arith, nat_tests)
 
   -- no entry of it waits
-  pub called_at_once : point_waits at r.deferred ≡ false → forward tsn xs r ≡ made (passed_but no_stream at xs r.streams) (came tsn r)
+  pub called_at_once : point_waits at r.deferred ≡ false → forward tsn xs r ≡ forward_now at xs (came tsn r)
   called_at_once at_once =
       cond-false (is_far at) r (forward_or_wait at xs (came tsn r)) not_far
       ∙ cond-false (point_waits at r.deferred) (wait_with at (entries_in true (resetting r.deferred) xs) (forward_now at (entries_in false (resetting r.deferred) xs) (came tsn r)))
@@ -85,7 +86,7 @@ written_apart (e ∷ es) h = (each es h.0, written_apart es h.1)
 
 module _ (message : ℕ → Message) (mixed : Bool) (base : Bool → ℕ → ℕ) (before : ℕ) (x : Transfer) (kept : Kept message mixed x) (handed : List messages.Message) (t : Tracker) (r : Reassembly)
     (shown : Receives message mixed base before x handed t r)
-    (spared : ℕ → Bool) (k tsn : ℕ) (xs : List SkippedStream) (call_is : forward tsn xs r ≡ made (passed_but spared (number_of r tsn) xs r.streams) (came tsn r)) (f : ForwardPoint) (sent : IsAmong f x.forward_points) (last : f.upto ≡ suc k) (tsn_is : number_of r tsn + shift_after r.first before k ≡ origin + k)
+    (k tsn : ℕ) (xs : List SkippedStream) (call_is : forward tsn xs r ≡ forward_now (number_of r tsn) xs (came tsn r)) (f : ForwardPoint) (sent : IsAmong f x.forward_points) (last : f.upto ≡ suc k) (tsn_is : number_of r tsn + shift_after r.first before k ≡ origin + k)
     (stand : StandForAll mixed r.streams xs (wire_point f).entries) (apart : AreApart f.entries) (are_now : AreEntriesNow base f) where
   abbrev shift : ℕ
   shift = shift_after r.first before k
@@ -109,7 +110,7 @@ module _ (message : ℕ → Message) (mixed : Bool) (base : Bool → ℕ → ℕ
   seen_as = seen_after mixed before k handed r q shown.fresh shown.seen_as
 
   abbrev outcome : Outcome
-  outcome = passed_but spared n xs r.streams
+  outcome = streams.forward n xs r.streams
 
   -- the point as it is written
   abbrev w : ForwardPoint
@@ -143,17 +144,17 @@ module _ (message : ℕ → Message) (mixed : Bool) (base : Bool → ℕ → ℕ
   upto_is = omega (arith, tsn_is, last)
 
   abbrev m : Queue (KeyOf mixed) (next_of mixed)
-  m = left mixed shift r.streams ready q seen_as shown.mode n w spared es (λ kind s j. sorted_covers kind s j w.entries) (λ kind s j. sorted_raised kind s w.entries j) upto_is (λ b. all_ordered mixed r.streams (by_stream xs) es b sorted) unnumbered
+  m = left mixed shift r.streams ready q seen_as shown.mode n w es (λ kind s j. sorted_covers kind s j w.entries) (λ kind s j. sorted_raised kind s w.entries j) upto_is (λ b. all_ordered mixed r.streams (by_stream xs) es b sorted) unnumbered
 
   done : Done mixed shift decide m ready outcome
   done =
-      let p = left_seen mixed shift r.streams ready q seen_as shown.mode n w spared es (λ kind s j. sorted_covers kind s j w.entries) (λ kind s j. sorted_raised kind s w.entries j) upto_is (λ b. all_ordered mixed r.streams (by_stream xs) es b sorted) unnumbered in
-      skips mixed shift decide (by_stream xs) es (dropped_but spared n r.streams) ready m
-      (all_still mixed r.streams (dropped_but spared n r.streams) (by_stream xs) es (record { ordered = λ e a o. refl; unordered = λ e a o. untouched mixed refl e a o }) sorted) es_apart shown.mode
+      let p = left_seen mixed shift r.streams ready q seen_as shown.mode n w es (λ kind s j. sorted_covers kind s j w.entries) (λ kind s j. sorted_raised kind s w.entries j) upto_is (λ b. all_ordered mixed r.streams (by_stream xs) es b sorted) unnumbered in
+      skips mixed shift decide (by_stream xs) es (dropped_to n r.streams) ready m
+      (all_still mixed r.streams (dropped_to n r.streams) (by_stream xs) es (record { ordered = λ e a o. refl; unordered = λ e a o. untouched mixed refl e a o }) sorted) es_apart shown.mode
       (λ e a o. (rest_of r.streams [] shown.settled).order true e.stream) p
     where
-      untouched : (b : Bool) → mixed ≡ b → (e : Entry) → IsAmong e es → e.ordered ≡ false → unordered_at (dropped_but spared n r.streams) e.stream ≡ unordered_at r.streams e.stream
-      untouched true c e a o = unordered_kept r.streams n spared true (shown.mode ∙ c) e.stream
+      untouched : (b : Bool) → mixed ≡ b → (e : Entry) → IsAmong e es → e.ordered ≡ false → unordered_at (dropped_to n r.streams) e.stream ≡ unordered_at r.streams e.stream
+      untouched true c e a o = unordered_kept r.streams n true (shown.mode ∙ c) e.stream
       untouched false c e a o = absurd (true≢false (sym (all_ordered mixed r.streams (by_stream xs) es c sorted e a) ∙ o))
 
   view_is : view_of handed (made outcome (came tsn r)) ≡ view_with outcome.streams (ready ++ outcome.messages)
@@ -162,18 +163,18 @@ module _ (message : ℕ → Message) (mixed : Bool) (base : Bool → ℕ → ℕ
   pub first_is : (forward tsn xs r).first ≡ Some (unwrap_or r.first tsn)
   first_is = ap (λ z. z.first) call_is
 
-  pub row_point : (ps : List ℕ) × Goes message mixed base shift x (forward_comes f spared ∷ map deliver ps) handed r.deferred (tracker.forward (origin + k) t) (forward tsn xs r)
+  pub row_point : (ps : List ℕ) × Goes message mixed base shift x (forward_comes f ∷ map deliver ps) handed r.deferred (tracker.forward (origin + k) t) (forward tsn xs r)
   row_point =
       let d = done in
       let settled = subst (λ z. AreSettled z.streams) call_is (settled_passes r shown.settled tsn xs) in
-      let point = point_left mixed shift r.streams ready q seen_as shown.mode n w spared es (λ kind s j. sorted_covers kind s j w.entries) (λ kind s j. sorted_raised kind s w.entries j) upto_is (λ b. all_ordered mixed r.streams (by_stream xs) es b sorted) unnumbered in
-      let fewer = left_fewer mixed shift r.streams ready q seen_as shown.mode n w spared es (λ kind s j. sorted_covers kind s j w.entries) (λ kind s j. sorted_raised kind s w.entries j) upto_is (λ b. all_ordered mixed r.streams (by_stream xs) es b sorted) unnumbered in
+      let point = point_left mixed shift r.streams ready q seen_as shown.mode n w es (λ kind s j. sorted_covers kind s j w.entries) (λ kind s j. sorted_raised kind s w.entries j) upto_is (λ b. all_ordered mixed r.streams (by_stream xs) es b sorted) unnumbered in
+      let fewer = left_fewer mixed shift r.streams ready q seen_as shown.mode n w es (λ kind s j. sorted_covers kind s j w.entries) (λ kind s j. sorted_raised kind s w.entries j) upto_is (λ b. all_ordered mixed r.streams (by_stream xs) es b sorted) unnumbered in
       let none_more = none_left message mixed base shift x kept outcome.streams (ready ++ outcome.messages) d.leads.queue d.leads.seen_as settled
       (λ κ c e. sent_of message mixed base shift x kept q shown.shows κ c (fewer κ c (takes_fewer mixed d.leads.takes κ c e))) in
-      let l = wire_point_row message mixed base x q m d.leads.queue f spared kept shown.shows sent are_now point (takes_readied mixed d.leads.takes none_more) in
+      let l = wire_point_row message mixed base x q m d.leads.queue f kept shown.shows sent are_now point (takes_readied mixed d.leads.takes none_more) in
       let p' : IsSeenAs mixed shift (view_of handed (made outcome (came tsn r))) d.leads.queue = subst (λ z. IsSeenAs mixed shift z d.leads.queue) (sym view_is) d.leads.seen_as in (
         l.0,
-        subst (λ z. Goes message mixed base shift x (forward_comes f spared ∷ map deliver l.0) handed r.deferred (tracker.forward (origin + k) t) z) (sym call_is)
-            (goes_to message mixed base shift x kept (forward_comes f spared) (map deliver l.0) d.leads.queue l.1 handed r.deferred (tracker.forward (origin + k) t) (made outcome (came tsn r)) p'
+        subst (λ z. Goes message mixed base shift x (forward_comes f ∷ map deliver l.0) handed r.deferred (tracker.forward (origin + k) t) z) (sym call_is)
+            (goes_to message mixed base shift x kept (forward_comes f) (map deliver l.0) d.leads.queue l.1 handed r.deferred (tracker.forward (origin + k) t) (made outcome (came tsn r)) p'
             (λ i. point_seen t x.receiver.seen shown.seen k f.upto i last) d.mode settled (λ e. cc) refl),
       )

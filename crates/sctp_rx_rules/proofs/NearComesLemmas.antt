@@ -6,9 +6,9 @@ use Rattle.sctp_packet.specs.Chunk.{FragmentTree}
 use Rattle.sctp_chunk.specs.declared.forward_tsn.SkippedStream.{SkippedStream}
 use Rattle.sctp_rx.specs.Tracker as tracker
 use Rattle.sctp_rx.specs.Tracker.{Tracker, IsTracker, moves_on, observe}
-use Rattle.sctp_rx.specs.ReassemblyQueue.{Reassembly, Deferred, number_of, fragment_waits, point_waits, came, made, add, forward}
+use Rattle.sctp_rx.specs.ReassemblyQueue.{Reassembly, Deferred, number_of, fragment_waits, point_waits, came, add, forward, forward_now}
 use Rattle.sctp_rules.specs.State.{Message, ForwardPoint, Transfer, IsAmong}
-use Rattle.sctp_rules.specs.Rules.{Event, data_comes, late_comes, deliver, forward_comes, run, no_stream}
+use Rattle.sctp_rules.specs.Rules.{Event, data_comes, late_comes, deliver, forward_comes, run}
 use Rattle.sctp_rules.specs.Lifted.{wire_point, IsNow, AreEntriesNow}
 use Rattle.sctp_rules.specs.Kept.{Kept}
 use Rattle.sctp_rx_rules.specs.View.{was_seen}
@@ -17,7 +17,6 @@ use Rattle.sctp_rules.specs.Points.{AreApart}
 use Rattle.sctp_rx_rules.specs.Receives.{Receives, Goes}
 use Rattle.sctp_rx_rules.specs.Near.{IsWritten, AreEntries, AreFew, ReadsNear, GoesNear, IsInWindow, IsNearNext, AreNearNext}
 use Rattle.sctp_rx_rules.proofs.FragmentRowLemmas.{first_is, row_held, row_late}
-use Rattle.sctp_rx_rules.proofs.ForwardLemmas.{passed_but}
 use Rattle.sctp_rx_rules.proofs.ForwardRowLemmas.{called_at_once, row_point}
 use Rattle.sctp_rx_rules.proofs.NearRowLemmas.{kept_yet, fragment_is_read, fragment_keeps, point_is_read, point_below, point_keeps, is_ahead}
 use Rattle.sctp_rx_rules.proofs.NearNumberLemmas.{entries_are_read}
@@ -97,34 +96,34 @@ module _ (message : ℕ → Message) (mixed : Bool) (base : Bool → ℕ → ℕ
       pub read : number_of r tsn + shift_after r.first shift k ≡ origin + k
       read = point_is_read message mixed base first shift x kept windows handed t r shown near.tsns is_tracker k tsn f sent last moves tsn_is
 
-      module _ (spared : ℕ → Bool) (entries : List SkippedStream) (call_is : forward tsn entries r ≡ made (passed_but spared (number_of r tsn) entries r.streams) (came tsn r)) where
+      module _ (entries : List SkippedStream) (call_is : forward tsn entries r ≡ forward_now (number_of r tsn) entries (came tsn r)) where
         pub point_near_then : StandForAll mixed r.streams entries (wire_point f).entries → (es : List Event) (waiting : Option Deferred)
             → Goes message mixed base (shift_after r.first shift k) x es handed waiting (tracker.forward (origin + k) t) (forward tsn entries r)
             → ReadsNear message mixed base first (shift_after r.first shift k) (run message mixed x es) (forward tsn entries r)
         point_near_then stand es waiting goes = record {
-          tsns = point_keeps message mixed base first shift x kept windows handed t r shown near.tsns is_tracker k tsn f sent last moves tsn_is spared entries call_is es waiting (tracker.forward (origin + k) t) goes;
-          mids = λ m. point_keeps_mids message mixed base shift x kept windows handed t r shown m (near.mids m) spared k tsn entries call_is f sent last stand apart are_now es waiting goes;
+          tsns = point_keeps message mixed base first shift x kept windows handed t r shown near.tsns is_tracker k tsn f sent last moves tsn_is entries call_is es waiting (tracker.forward (origin + k) t) goes;
+          mids = λ m. point_keeps_mids message mixed base shift x kept windows handed t r shown m (near.mids m) k tsn entries call_is f sent last stand apart are_now es waiting goes;
           start = λ e. absurd (some_none (sym (ap (λ (z : Reassembly). z.first) call_is) ∙ e));
         }
 
         pub point_comes : AreFew x.sender → AreNearNext x f → AreEntries mixed entries f.entries
-            → (ps : List ℕ) × GoesNear message mixed base first (shift_after r.first shift k) x (forward_comes f spared ∷ map deliver ps) handed r.deferred (tracker.forward (origin + k) t) (forward tsn entries r)
+            → (ps : List ℕ) × GoesNear message mixed base first (shift_after r.first shift k) x (forward_comes f ∷ map deliver ps) handed r.deferred (tracker.forward (origin + k) t) (forward tsn entries r)
         point_comes few ordered are =
             let stand = entries_read few apart ordered entries are in
-            let l = row_point message mixed base shift x kept handed t r shown spared k tsn entries call_is f sent last read stand apart are_now in
-            (l.0, record { goes = l.1; near = point_near_then stand (forward_comes f spared ∷ map deliver l.0) r.deferred l.1 })
+            let l = row_point message mixed base shift x kept handed t r shown k tsn entries call_is f sent last read stand apart are_now in
+            (l.0, record { goes = l.1; near = point_near_then stand (forward_comes f ∷ map deliver l.0) r.deferred l.1 })
 
       -- where no reset is deferred
       module _ (none : r.deferred ≡ None) (few : AreFew x.sender) where
-        pub called : (entries : List SkippedStream) → forward tsn entries r ≡ made (passed_but no_stream (number_of r tsn) entries r.streams) (came tsn r)
+        pub called : (entries : List SkippedStream) → forward tsn entries r ≡ forward_now (number_of r tsn) entries (came tsn r)
         called entries =
             called_at_once r tsn k (shift_after r.first shift k) entries read (point_below message mixed x kept few k f sent last) (ap (point_waits (number_of r tsn)) none)
 
         pub point_near : AreNearNext x f → (entries : List SkippedStream) → AreEntries mixed entries f.entries
-            → (ps : List ℕ) × GoesNear message mixed base first (shift_after r.first shift k) x (forward_comes f no_stream ∷ map deliver ps) handed None (tracker.forward (origin + k) t) (forward tsn entries r)
+            → (ps : List ℕ) × GoesNear message mixed base first (shift_after r.first shift k) x (forward_comes f ∷ map deliver ps) handed None (tracker.forward (origin + k) t) (forward tsn entries r)
         point_near ordered entries are =
-            let l = point_comes no_stream entries (called entries) few ordered are in (
+            let l = point_comes entries (called entries) few ordered are in (
               l.0,
-              subst (λ (d : Option Deferred). GoesNear message mixed base first (shift_after r.first shift k) x (forward_comes f no_stream ∷ map deliver l.0) handed d (tracker.forward (origin + k) t) (forward tsn entries r)) none
+              subst (λ (d : Option Deferred). GoesNear message mixed base first (shift_after r.first shift k) x (forward_comes f ∷ map deliver l.0) handed d (tracker.forward (origin + k) t) (forward tsn entries r)) none
                   l.1,
             )

@@ -1,5 +1,5 @@
 -- The MIDs of unordered streams stay near as the rules go on.
-use Rattle.std.proofs.Common.{◌≡◌, ◌≢◌, ℕ, zero, suc, ◌+◌, ◌-◌, ◌^◌, ◌<◌, ◌≤◌, Bool, true, false, ◌⊎◌, inl, inr, Option, List, refl, sym, ap, ◌∙◌, subst, arith}
+use Rattle.std.proofs.Common.{◌≡◌, ◌≢◌, ℕ, zero, suc, ◌+◌, ◌-◌, ◌<◌, ◌≤◌, Bool, true, false, ◌⊎◌, inl, inr, Option, List, refl, sym, ap, ◌∙◌, subst, arith}
 use Rattle.std.specs.Prelude.{◌||◌, not, nat_lt}
 use Rattle.std.proofs.lemmas.Bool.{cases_eq, cases_lt, cond-true, or_cases, or_right, ltb-true, false≢true}
 use Rattle.sctp_serial.specs.Messages as messages
@@ -9,7 +9,7 @@ use Rattle.sctp_chunk.specs.declared.forward_tsn.SkippedStream.{SkippedStream}
 use Rattle.sctp_rx.specs.Streams.{is_far}
 use Rattle.sctp_rx.specs.Tracker as tracker
 use Rattle.sctp_rx.specs.Tracker.{Tracker, IsTracker, observe}
-use Rattle.sctp_rx.specs.ReassemblyQueue.{Reassembly, Deferred, number_of, fragment_waits, came, made, add, forward, reassembly}
+use Rattle.sctp_rx.specs.ReassemblyQueue.{Reassembly, Deferred, number_of, fragment_waits, came, add, forward, reassembly, forward_now}
 use Rattle.sctp_rules.specs.State.{Message, ForwardPoint, Sender, Receiver, Transfer, IsAmong, place_of, count, start, put, ordered_of, stream_of}
 use Rattle.sctp_rules.specs.Rules.{Event, accept, begin, number, close, give_up, data_comes, late_comes, deliver, send_sack, leave, send_forward, forward_comes, forget, IsAllowed, IsDue, after, run, covers, raised}
 use Rattle.sctp_rules.specs.Lifted.{no_base, wire_point, IsNow, AreEntriesNow}
@@ -26,7 +26,6 @@ use Rattle.sctp_rx_rules.specs.Near.{IsOn, IsOf, IsNearStream, IsNamed, AreNearS
 use Rattle.sctp_rx_rules.proofs.KeyLemmas.{twice_not}
 use Rattle.sctp_rx_rules.proofs.FragmentLemmas.{added_now, number_near}
 use Rattle.sctp_rx_rules.proofs.FragmentRowLemmas.{observed_seen}
-use Rattle.sctp_rx_rules.proofs.ForwardLemmas.{passed_but}
 use Rattle.sctp_rx_rules.proofs.ForwardRowLemmas.{written_apart, point_seen}
 use Rattle.sctp_rx_rules.proofs.NearTsnLemmas.{not_acknowledged}
 use Rattle.sctp_rx_rules.proofs.NearMidLemmas.{rising, few_ahead}
@@ -112,7 +111,7 @@ module _ (message : ℕ → Message) (mixed : Bool) (base : Bool → ℕ → ℕ
 
   -- ---- a forward point
 
-  module _ (spared : ℕ → Bool) (k tsn : ℕ) (xs : List SkippedStream) (call_is : forward tsn xs r ≡ made (passed_but spared (number_of r tsn) xs r.streams) (came tsn r)) (f : ForwardPoint) (sent : IsAmong f x.forward_points) (last : f.upto ≡ suc k)
+  module _ (k tsn : ℕ) (xs : List SkippedStream) (call_is : forward tsn xs r ≡ forward_now (number_of r tsn) xs (came tsn r)) (f : ForwardPoint) (sent : IsAmong f x.forward_points) (last : f.upto ≡ suc k)
       (stand : StandForAll mixed r.streams xs (wire_point f).entries) (apart : AreApart f.entries) (are_now : AreEntriesNow base f) where
     -- the number behind all that are named, as it is on the wire, and as it is in the rules
     abbrev top : ℕ → ℕ
@@ -126,7 +125,7 @@ module _ (message : ℕ → Message) (mixed : Bool) (base : Bool → ℕ → ℕ
     near_top : (s : ℕ) → suc (unordered_at (forward tsn xs r).streams s).near ≡ origin + top s
     near_top s =
         ap (λ z. suc (unordered_at z.streams s).near) call_is
-        ∙ point_nears s spared xs (wire_point f).entries r.streams (number_of r tsn) (near.streams s).number (subst (λ z. StandForAll z r.streams xs (wire_point f).entries) is_mixed stand)
+        ∙ point_nears s xs (wire_point f).entries r.streams (number_of r tsn) (near.streams s).number (subst (λ z. StandForAll z r.streams xs (wire_point f).entries) is_mixed stand)
         (written_apart f.entries apart) (shown.mode ∙ is_mixed) (near.streams s).near_is
 
     module _ (i : Receiver) (seen_is : (n : ℕ) → i.seen n ≡ (nat_lt n f.upto || x.receiver.seen n)) where
@@ -266,7 +265,7 @@ module _ (message : ℕ → Message) (mixed : Bool) (x : Transfer) (kept : Kept 
   point_within (leave c) may f a = inl a
   point_within (send_forward g) may f (inl s) = inr (subst (λ z. IsDue message mixed x.sender x.acknowledged z) (sym s) may)
   point_within (send_forward g) may f (inr a) = inl a
-  point_within (forward_comes g spared) may f a = inl a
+  point_within (forward_comes g) may f a = inl a
   point_within (forget s c) may f a = inl a
 
   module _ (e : Event) (may : IsAllowed message mixed x e) (same : (after message mixed x e).receiver ≡ x.receiver) where

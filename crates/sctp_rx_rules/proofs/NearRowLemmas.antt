@@ -1,11 +1,11 @@
 -- What comes is read as it was meant, and so is what comes after it.
-use Rattle.std.proofs.Common.{◌≡◌, ℕ, suc, ◌+◌, ◌^◌, ◌<◌, ◌≤◌, Bool, true, false, Option, None, List, sym, ap, ◌∙◌, subst, arith}
+use Rattle.std.proofs.Common.{◌≡◌, ℕ, suc, ◌+◌, ◌^◌, ◌<◌, ◌≤◌, Bool, true, false, Option, List, sym, ap, ◌∙◌, subst, arith}
 use Rattle.sctp_serial.specs.Messages as messages
 use Rattle.sctp_serial.specs.Unwrapped.{origin, words, wire}
 use Rattle.sctp_packet.specs.Chunk.{FragmentTree}
 use Rattle.sctp_chunk.specs.declared.forward_tsn.SkippedStream.{SkippedStream}
 use Rattle.sctp_rx.specs.Tracker.{Tracker, IsTracker, moves_on}
-use Rattle.sctp_rx.specs.ReassemblyQueue.{Reassembly, Deferred, number_of, fragment_waits, came, made, add, forward, reassembly}
+use Rattle.sctp_rx.specs.ReassemblyQueue.{Reassembly, Deferred, number_of, fragment_waits, came, add, forward, reassembly, forward_now}
 use Rattle.sctp_rules.specs.State.{Message, ForwardPoint, Transfer, IsAmong, place_of, count, start}
 use Rattle.sctp_rules.specs.Rules.{Event, IsAllowed, after, run}
 use Rattle.sctp_rules.specs.Lifted.{IsNow}
@@ -16,7 +16,6 @@ use Rattle.sctp_rx_rules.specs.Read.{Carries, IsRead, number_read, shift_after}
 use Rattle.sctp_rx_rules.specs.Receives.{Receives, Goes}
 use Rattle.sctp_rx_rules.specs.Near.{IsWritten, AreFew, IsNearQueue, IsInWindow, IsNearNext}
 use Rattle.sctp_rx_rules.proofs.FragmentLemmas.{added_now}
-use Rattle.sctp_rx_rules.proofs.ForwardLemmas.{passed_but}
 use Rattle.sctp_rx_rules.proofs.NearTsnLemmas.{not_acknowledged, tsn_is_read, near_after, above_front}
 use Rattle.sctp_rx_rules.proofs.NearNumberLemmas.{number_is_read, number_is_below, index_below}
 
@@ -67,10 +66,10 @@ module _ (message : ℕ → Message) (mixed : Bool) (base : Bool → ℕ → ℕ
     pub point_is_read : number_of r tsn + shift_after r.first shift k ≡ origin + k
     point_is_read = tsn_is_read message mixed x kept windows first shift r near k tsn tsn_is unpassed (point_numbered message mixed x kept k f sent last)
 
-    pub point_keeps : (spared : ℕ → Bool) (entries : List SkippedStream) → forward tsn entries r ≡ made (passed_but spared (number_of r tsn) entries r.streams) (came tsn r)
+    pub point_keeps : (entries : List SkippedStream) → forward tsn entries r ≡ forward_now (number_of r tsn) entries (came tsn r)
         → (es : List Event) (waiting : Option Deferred) (u : Tracker) → Goes message mixed base (shift_after r.first shift k) x es handed waiting u (forward tsn entries r)
         → IsNearQueue first (shift_after r.first shift k) (run message mixed x es) (forward tsn entries r)
-    point_keeps spared entries call_is es waiting u goes =
+    point_keeps entries call_is es waiting u goes =
         subst (λ z. IsNearQueue first (shift_after r.first shift k) (run message mixed x es) z)
         (sym call_is)
         (near_after message mixed x kept windows first shift r near k tsn tsn_is unpassed (point_numbered message mixed x kept k f sent last) (run message mixed x es) goes.kept (ap (λ z. z.sender) goes.rest_stays))

@@ -9,7 +9,7 @@ use Rattle.sctp_chunk.specs.declared.forward_tsn.SkippedStream.{SkippedStream}
 use Rattle.sctp_rx.specs.Held.{Held}
 use Rattle.sctp_rx.specs.Delivery.{UnorderedDelivery, fresh_ordered, fresh_unordered, ordered_forward, unordered_arrival, unordered_forward}
 use Rattle.sctp_rx.specs.Streams as streams
-use Rattle.sctp_rx.specs.Streams.{Streams, Outcome, unchanged, with_ordered, with_unordered, is_far, held_as, add_in_order, ordered_number, skip, skip_each, by_stream}
+use Rattle.sctp_rx.specs.Streams.{Streams, Outcome, unchanged, with_ordered, with_unordered, is_far, held_as, add_in_order, ordered_number, skip, skip_each, by_stream, dropped_to}
 use Rattle.sctp_rx.specs.Delivery.{ordered_arrival}
 use Rattle.sctp_rules.specs.State.{Entry}
 use Rattle.sctp_rules.specs.Rules.{same, raised}
@@ -18,7 +18,7 @@ use Rattle.sctp_rx_rules.specs.Read.{StandForAll, number_read}
 use Rattle.sctp_rules.specs.Points.{AreApart}
 use Rattle.sctp_rx_rules.proofs.StreamLemmas.{changed_here, changed_off}
 use Rattle.sctp_rx_rules.proofs.SkipLemmas.{Does, in_order, out_of_order, does, AreLike, all_still, passed_on}
-use Rattle.sctp_rx_rules.proofs.ForwardLemmas.{dropped_but, passed_but, unordered_kept}
+use Rattle.sctp_rx_rules.proofs.ForwardLemmas.{unordered_kept}
 use Rattle.sctp_rx_rules.proofs.EntryLemmas.{put_entries, sorted_stands, sorted_raised, sorted_apart}
 
 -- ---- a fragment
@@ -110,11 +110,11 @@ module _ (s : ℕ) where
           ])
 
   -- a whole forward point
-  pub point_nears : (spared : ℕ → Bool) (xs : List SkippedStream) (es : List Entry) (ss : Streams) (at n : ℕ) → StandForAll true ss xs es → AreApart es → ss.is_interleaved ≡ true → near_at ss ≡ origin + n
-      → suc (near_at (passed_but spared at xs ss).streams) ≡ origin + raised es false s (suc n)
-  point_nears spared xs es ss at n stand apart mode is =
+  pub point_nears : (xs : List SkippedStream) (es : List Entry) (ss : Streams) (at n : ℕ) → StandForAll true ss xs es → AreApart es → ss.is_interleaved ≡ true → near_at ss ≡ origin + n
+      → suc (near_at (streams.forward at xs ss).streams) ≡ origin + raised es false s (suc n)
+  point_nears xs es ss at n stand apart mode is =
       let sorted = sorted_stands true ss xs es [] [] stand tt in
       let sorted_far = sorted_apart es [] apart tt (λ e d a b. absurd b) in
-      let like : AreLike (put_entries es []) ss (dropped_but spared at ss) = record { ordered = λ e a o. refl; unordered = λ e a o. unordered_kept ss at spared true mode e.stream } in
-      skip_nears (by_stream xs) (put_entries es []) (dropped_but spared at ss) n (all_still true ss (dropped_but spared at ss) (by_stream xs) (put_entries es []) like sorted) sorted_far mode (ap (λ z. z.near) (unordered_kept ss at spared true mode s) ∙ is)
+      let like : AreLike (put_entries es []) ss (dropped_to at ss) = record { ordered = λ e a o. refl; unordered = λ e a o. unordered_kept ss at true mode e.stream } in
+      skip_nears (by_stream xs) (put_entries es []) (dropped_to at ss) n (all_still true ss (dropped_to at ss) (by_stream xs) (put_entries es []) like sorted) sorted_far mode (ap (λ z. z.near) (unordered_kept ss at true mode s) ∙ is)
       ∙ ap (λ z. origin + z) (sorted_raised false s es (suc n))

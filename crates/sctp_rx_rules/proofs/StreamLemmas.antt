@@ -83,17 +83,14 @@ module _ {S : Type 0} (fresh : S) (id : ℕ) where
   changed_off q d s es = ap (λ o. unwrap_or o fresh) (written_off q d s (opened fresh id es) ∙ opened_off q d es)
 
   -- each by its id
-  pub mapped_at : (f : ℕ → S → S) → f id fresh ≡ fresh → (es : Entries S) → stream_at fresh id (map (λ e. (e.0, f e.0 e.1)) es) ≡ f id (stream_at fresh id es)
+  pub mapped_at : (f : S → S) → f fresh ≡ fresh → (es : Entries S) → stream_at fresh id (map (λ e. (e.0, f e.1)) es) ≡ f (stream_at fresh id es)
   mapped_at f at_first [] = sym at_first
-  mapped_at f at_first (e ∷ es) = go (is_at (nat_cmp id) e.0) refl (mapped_at f at_first es)
+  mapped_at f at_first (e ∷ es) = go (is_at (nat_cmp id) e.0) (mapped_at f at_first es)
     where
-      same : is_at (nat_cmp id) e.0 ≡ true → e.0 ≡ id
-      same t = grind (arith, nat_tests)
-
-      go : (b : Bool) → is_at (nat_cmp id) e.0 ≡ b → unwrap_or (lookup (is_at (nat_cmp id)) (map (λ e. (e.0, f e.0 e.1)) es)) fresh ≡ f id (unwrap_or (lookup (is_at (nat_cmp id)) es) fresh)
-          → unwrap_or (cond b (Some (f e.0 e.1)) (lookup (is_at (nat_cmp id)) (map (λ e. (e.0, f e.0 e.1)) es))) fresh ≡ f id (unwrap_or (cond b (Some e.1) (lookup (is_at (nat_cmp id)) es)) fresh)
-      go true t ih = ap (λ a. f a e.1) (same t)
-      go false t ih = ih
+      go : (b : Bool) → unwrap_or (lookup (is_at (nat_cmp id)) (map (λ e. (e.0, f e.1)) es)) fresh ≡ f (unwrap_or (lookup (is_at (nat_cmp id)) es) fresh)
+          → unwrap_or (cond b (Some (f e.1)) (lookup (is_at (nat_cmp id)) (map (λ e. (e.0, f e.1)) es))) fresh ≡ f (unwrap_or (cond b (Some e.1) (lookup (is_at (nat_cmp id)) es)) fresh)
+      go true ih = refl
+      go false ih = ih
 
   pub all_at : (P : S → Type 0) → P fresh → (es : Entries S) → All P (values_of es) → P (stream_at fresh id es)
   all_at P at_first [] h = at_first

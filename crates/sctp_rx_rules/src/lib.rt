@@ -21,7 +21,7 @@ ghost use Rattle.sctp_rx.specs.ReassemblyQueue.{Reassembly, add, forward, number
 ghost use Rattle.sctp_rules.specs.Kept.{Kept};
 ghost use Rattle.sctp_rules.specs.Lifted.{AreEntriesNow, IsNow, no_base, wire_point};
 ghost use Rattle.sctp_rules.specs.Reassembly.{NoneReady};
-ghost use Rattle.sctp_rules.specs.Rules.{Event, IsAllowed, after, data_comes, deliver, forward_comes, late_comes, send_sack, no_stream};
+ghost use Rattle.sctp_rules.specs.Rules.{Event, IsAllowed, after, data_comes, deliver, forward_comes, late_comes, send_sack};
 ghost use Rattle.sctp_rules.specs.State.{ForwardPoint, IsAmong, Message, Transfer, start};
 ghost use Rattle.sctp_rx_rules.specs.Read.{Carries, IsRead, StandForAll, is_behind, shift_after};
 ghost use Rattle.sctp_rules.specs.Points.{AreApart};
@@ -65,7 +65,7 @@ pub fn forward_point_comes()
         Kept message mixed x → Receives message mixed base shift x handed t r → r.deferred ≡ None →
         IsAmong f x.forward_points → f.upto ≡ suc k → number_of r tsn + shift_after r.first shift k ≡ origin + k → k < 2 ^ 62 →
         StandForAll mixed r.streams entries (wire_point f).entries → AreApart f.entries → AreEntriesNow base f →
-        (ps : List ℕ) × Goes message mixed base (shift_after r.first shift k) x (forward_comes f no_stream ∷ map deliver ps) handed None (tracker.forward (origin + k) t) (forward tsn entries r) }
+        (ps : List ℕ) × Goes message mixed base (shift_after r.first shift k) x (forward_comes f ∷ map deliver ps) handed None (tracker.forward (origin + k) t) (forward tsn entries r) }
     ensures first { (message : ℕ → Message) (mixed : Bool) (base : Bool → ℕ → ℕ) (shift : ℕ) (x : Transfer) (handed : List messages.Message) (t : Tracker) (r : Reassembly) (k tsn : ℕ) (entries : List SkippedStream) (f : ForwardPoint) →
         Kept message mixed x → Receives message mixed base shift x handed t r → r.deferred ≡ None →
         IsAmong f x.forward_points → f.upto ≡ suc k → number_of r tsn + shift_after r.first shift k ≡ origin + k → k < 2 ^ 62 →

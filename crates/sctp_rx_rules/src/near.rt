@@ -12,7 +12,7 @@ ghost use Rattle.sctp_rx.specs.Tracker as tracker;
 ghost use Rattle.sctp_rx.specs.Tracker.{DataTracker, IsTracker, Tracker, moves_on, observe};
 ghost use Rattle.sctp_rules.specs.Kept.{Kept};
 ghost use Rattle.sctp_rules.specs.Lifted.{AreEntriesNow, IsNow, no_base, wire_point};
-ghost use Rattle.sctp_rules.specs.Rules.{Event, IsAllowed, after, data_comes, deliver, forward_comes, late_comes, run, no_stream};
+ghost use Rattle.sctp_rules.specs.Rules.{Event, IsAllowed, after, data_comes, deliver, forward_comes, late_comes, run};
 ghost use Rattle.sctp_rules.specs.State.{ForwardPoint, IsAmong, Message, Transfer, start};
 ghost use Rattle.sctp_rules.specs.Windows.{IsTimely};
 ghost use Rattle.sctp_rx_rules.specs.Near.{AreEntries, AreFew, AreNearNext, GoesNear, IsInWindow, IsNearNext, IsWritten, ReadsNear};
@@ -94,5 +94,5 @@ pub fn written_point_comes()
         Kept message mixed x → IsInWindow x → AreFew x.sender → Receives message mixed base shift x handed t r → ReadsNear message mixed base first shift x r → IsTracker t → r.deferred ≡ None →
         IsAmong f x.forward_points → f.upto ≡ suc k → moves_on (origin + k) t ≡ true → tsn ≡ wire words first (origin + k) →
         AreApart f.entries → AreEntries mixed entries f.entries → AreEntriesNow base f → AreNearNext x f →
-        (ps : List ℕ) × GoesNear message mixed base first (shift_after r.first shift k) x (forward_comes f no_stream ∷ map deliver ps) handed None (tracker.forward (origin + k) t) (forward tsn entries r) }
+        (ps : List ℕ) × GoesNear message mixed base first (shift_after r.first shift k) x (forward_comes f ∷ map deliver ps) handed None (tracker.forward (origin + k) t) (forward tsn entries r) }
 {}

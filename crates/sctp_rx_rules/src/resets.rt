@@ -12,7 +12,7 @@ ghost use Rattle.sctp_rx.specs.Tracker.{IsTracker, Tracker, moves_on, observe};
 ghost use Rattle.sctp_rules.specs.Based.{InEpochs};
 ghost use Rattle.sctp_rules.specs.Points.{AreApart};
 ghost use Rattle.sctp_rules.specs.Resets.{Epochs, Request};
-ghost use Rattle.sctp_rules.specs.Rules.{data_comes, deliver, forward_comes, late_comes, no_stream};
+ghost use Rattle.sctp_rules.specs.Rules.{data_comes, deliver, forward_comes, late_comes};
 ghost use Rattle.sctp_rules.specs.State.{ForwardPoint, IsAmong, Message, count};
 ghost use Rattle.sctp_rx_rules.specs.Near.{AreEntries, AreFew, AreNearNext, IsInWindow, IsNearNext, IsWritten, ReadsNear};
 ghost use Rattle.sctp_rx_rules.specs.Read.{Carries, is_behind, shift_after};
@@ -72,5 +72,5 @@ pub fn points_come_in_epochs()
         IsWaitingFor shift x r.first r.deferred → IsTracker t → AreFew x.transfer.sender →
         IsAmong f x.transfer.forward_points → f.upto ≡ suc k → moves_on (origin + k) t ≡ true → tsn ≡ wire words first (origin + k) →
         AreApart f.entries → AreNearNext x.transfer f → AreEntries mixed entries f.entries →
-        (ps : List ℕ) × Comes message mixed first (shift_after r.first shift k) x (forward_comes f no_stream ∷ map deliver ps) handed (tracker.forward (origin + k) t) (forward tsn entries r) }
+        (ps : List ℕ) × Comes message mixed first (shift_after r.first shift k) x (forward_comes f ∷ map deliver ps) handed (tracker.forward (origin + k) t) (forward tsn entries r) }
 {}

@@ -42,7 +42,7 @@ module _ (message : ℕ → Message) (mixed : Bool) where
   still_unbegun x (send_sack c) a p g n = n
   still_unbegun x (leave c) a p g n = n
   still_unbegun x (send_forward f) a p g n = n
-  still_unbegun x (forward_comes f spared) a p g n = n
+  still_unbegun x (forward_comes f) a p g n = n
   still_unbegun x (forget s c) a p g n = n
 
   unbegun : (es : List Event) (x : Transfer) → Kept message mixed x → Happens message mixed x es → (p : ℕ) → x.sender.given_up p ≡ true → x.sender.begun p ≡ false
@@ -72,7 +72,7 @@ module _ (message : ℕ → Message) (mixed : Bool) where
   accepted_stays x (send_sack c) h = refl
   accepted_stays x (leave c) h = refl
   accepted_stays x (send_forward f) h = refl
-  accepted_stays x (forward_comes f spared) h = refl
+  accepted_stays x (forward_comes f) h = refl
   accepted_stays x (forget s c) h = refl
 
   accepted_later : (es : List Event) (x : Transfer) → list_all is_sending es ≡ true → (run message mixed x es).sender.accepted ≡ x.sender.accepted
@@ -94,7 +94,7 @@ module _ (message : ℕ → Message) (mixed : Bool) where
   points_grow x (send_sack c) = omega arith
   points_grow x (leave c) = omega arith
   points_grow x (send_forward f) = omega arith
-  points_grow x (forward_comes f spared) = omega arith
+  points_grow x (forward_comes f) = omega arith
   points_grow x (forget s c) = omega arith
 
   points_later : (es : List Event) (x : Transfer) → length x.forward_points ≤ length (run message mixed x es).forward_points
@@ -124,7 +124,7 @@ module _ (message : ℕ → Message) (mixed : Bool) where
   in_epoch x (send_forward f) es k is a h l bound =
       let g : suc (length x.transfer.forward_points) ≤ length (run message mixed x.transfer (send_forward f ∷ es)).forward_points = points_later es (after message mixed x.transfer (send_forward f)) in
       absurd (omega (arith, g, l))
-  in_epoch x (forward_comes f spared) es k is a h l bound = tt
+  in_epoch x (forward_comes f) es k is a h l bound = tt
   in_epoch x (forget s c) es k is a h l bound = cc
 
   pub in_epochs : (es : List Event) (x : Epochs) → Kept message mixed x.transfer → list_all is_sending es ≡ true → Happens message mixed x.transfer es

@@ -295,7 +295,7 @@ module _ (message : ℕ → Message) (mixed : Bool) where
   same_epochs x (send_sack c) h = refl
   same_epochs x (leave c) h = refl
   same_epochs x (send_forward f) h = refl
-  same_epochs x (forward_comes f spared) h = refl
+  same_epochs x (forward_comes f) h = refl
   same_epochs x (forget s c) h = refl
 
   pub sending_pauses : (es : List Event) (x : Epochs) (q : Queue) → list_all is_sending es ≡ true → ArePausedAs x q → ArePausedAs (go_all message mixed x (map transfers es)) q

@@ -72,7 +72,7 @@ module _ (message : ℕ → Message) (mixed : Bool) where
   gives_once (send_sack c ∷ es) x h = let g = gives_once es _ h.1 in record { once = g.once; fresh = g.fresh }
   gives_once (leave c ∷ es) x h = let g = gives_once es _ h.1 in record { once = g.once; fresh = g.fresh }
   gives_once (send_forward f ∷ es) x h = let g = gives_once es _ h.1 in record { once = g.once; fresh = g.fresh }
-  gives_once (forward_comes f spared ∷ es) x h = let g = gives_once es _ h.1 in record { once = g.once; fresh = g.fresh }
+  gives_once (forward_comes f ∷ es) x h = let g = gives_once es _ h.1 in record { once = g.once; fresh = g.fresh }
   gives_once (forget s c ∷ es) x h = let g = gives_once es _ h.1 in record { once = g.once; fresh = g.fresh }
 
   -- what was given up before, and is now

@@ -82,7 +82,7 @@ module _ (message : ℕ → Message) (mixed : Bool) where
   one_record (send_sack c) x p = refl
   one_record (leave c) x p = refl
   one_record (send_forward f) x p = refl
-  one_record (forward_comes f spared) x p = refl
+  one_record (forward_comes f) x p = refl
   one_record (forget s c) x p = refl
 
   pub all_records : (es : List Event) (x : Transfer) (p : ℕ) → (run message mixed x es).sender.given_up p ≡ (has p (given_ups es) || x.sender.given_up p)

@@ -23,7 +23,7 @@ given_up_by (deliver p) = []
 given_up_by (send_sack c) = []
 given_up_by (leave c) = []
 given_up_by (send_forward f) = []
-given_up_by (forward_comes f spared) = []
+given_up_by (forward_comes f) = []
 given_up_by (forget s c) = []
 
 -- the rules of a sender, but for acceptance. A fragment has bytes
@@ -39,7 +39,7 @@ is_sending (deliver p) = false
 is_sending (send_sack c) = false
 is_sending (leave c) = true
 is_sending (send_forward f) = true
-is_sending (forward_comes f spared) = false
+is_sending (forward_comes f) = false
 is_sending (forget s c) = false
 
 abbrev pub given_ups : List Event → List ℕ

@@ -1,4 +1,4 @@
-use Rattle.std.proofs.Common.{◌+◌, Option, List, [], ◌∷◌, map, ap, subst}
+use Rattle.std.proofs.Common.{◌+◌, Option, [], ◌∷◌, map, ap, subst}
 use Rattle.sctp_serial.specs.Unwrapped.{origin}
 use Rattle.sctp_rx.specs.ReassemblyQueue.{Deferred, number_of, fragment_waits, add}
 use Rattle.sctp_rx.specs.Tracker.{observe}

@@ -1,6 +1,5 @@
 use Rattle.std.proofs.Common.{None, ap, refl}
 use Rattle.sctp_rx.specs.ReassemblyQueue.{number_of, fragment_waits}
-use Rattle.sctp_rules.specs.Rules.{no_stream}
 use Rattle.sctp_rx_rules.proofs.NearRowLemmas.{new_is_near, sender_keeps}
 use Rattle.sctp_rx_rules.proofs.NearKeptLemmas.{new_mids, sender_keeps_mids}
 use Rattle.sctp_rx_rules.proofs.NearComesLemmas.{near_then, called, point_near_then}
@@ -15,7 +14,7 @@ returns-clause-fragment c message mixed base first shift x handed t r k tsn f no
 
 pub returns-clause-forward_point : goal.returns-clause-forward_point
 returns-clause-forward_point c message mixed base first shift x handed t r k tsn f entries es kept windows few shown near is_tracker none sent last moves tsn_is stand apart are_now goes =
-    point_near_then message mixed base first shift x kept windows handed t r shown near is_tracker k tsn f sent last moves are_now tsn_is apart no_stream entries
+    point_near_then message mixed base first shift x kept windows handed t r shown near is_tracker k tsn f sent last moves are_now tsn_is apart entries
     (called message mixed base first shift x kept windows handed t r shown near is_tracker k tsn f sent last moves are_now tsn_is apart none few entries) stand es None goes
 
 pub returns-clause-message_is_taken : goal.returns-clause-message_is_taken
