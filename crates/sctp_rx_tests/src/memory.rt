@@ -97,10 +97,10 @@ fn step(alloc: Global, queue: &mut ReassemblyQueue, i: u32) -> Result<(), AllocE
         2 => queue.enter_deferred_reset(Tsn(13), &[StreamId(3)]),
         3 => give(alloc, queue, 14, 3, 0, 101),
         4 => give(alloc, queue, 17, 5, 1, 103),
-        5 => pass(queue, 16, 5, 0),
-        6 => pass(queue, 18, 3, 5),
-        7 => give(alloc, queue, 10, 1, 0, 97),
-        8 => give_part(alloc, queue, 13, 1, 100),
+        5 => give_part(alloc, queue, 13, 1, 100),
+        6 => pass(queue, 16, 5, 0),
+        7 => pass(queue, 18, 3, 5),
+        8 => give(alloc, queue, 10, 1, 0, 97),
         9 => queue.reset_streams_and_leave_deferred_reset(&[StreamId(3)]),
         10 => give(alloc, queue, 21, 4, 1, 102),
         11 => pass(queue, 20, 4, 0),
@@ -126,10 +126,10 @@ fn is_next(queue: &mut ReassemblyQueue, payload: &[u8]) -> Option<bool> {
 // Whether these are ready, in order, and no other; or, where steps are left out, a beginning of them.
 fn are_ready(queue: &mut ReassemblyQueue, is_whole: bool) -> bool {
     let payloads = [
+        b"cd".as_slice(),
         b"g".as_slice(),
         b"a".as_slice(),
         b"b".as_slice(),
-        b"cd".as_slice(),
         b"e".as_slice(),
         b"f".as_slice(),
     ];
