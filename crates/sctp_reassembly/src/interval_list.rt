@@ -13,7 +13,7 @@ use std::marker::Model;
 #[derive(Drop)]
 pub struct IntervalList<K: ReassemblyKey> {
     alloc: Global,
-    intervals: Vec<Interval<K>>,
+    intervals: VecDeque<Interval<K>>,
     bytes: usize,
 }
 
@@ -43,7 +43,7 @@ impl<K: ReassemblyKey> IntervalList<K> {
     {
         IntervalList {
             alloc,
-            intervals: Vec::new(alloc),
+            intervals: VecDeque::new(alloc),
             bytes: 0,
         }
     }
@@ -121,7 +121,9 @@ impl<K: ReassemblyKey> IntervalList<K> {
         if !self.intervals[place].is_complete() {
             return None;
         }
-        let interval = self.intervals.remove(place);
+        let Some(interval) = self.intervals.remove(place) else {
+            unreachable!();
+        };
         self.bytes -= interval.total_bytes();
         Some(interval)
     }
@@ -166,36 +168,30 @@ ghost use Rattle.sctp_fragments.specs.declared.interval.Entry.{Entry};
 ghost use Rattle.sctp_fragments.specs.declared.interval.Interval.{Interval};
 ghost use Rattle.sctp_reassembly.specs.Notes.{BeginsFrom};
 
-// How many bytes the intervals before the place hold.
-fn bytes_before<K: ReassemblyKey>(intervals: &[Interval<K>], place: usize) -> usize
-    requires place { place ≤ length intervals.now }
-    requires fits { bytes_of (entries_of (held_of K.number K.index) intervals.now) < 2 ^ 64 }
-    ensures { result ≡ bytes_of (entries_of (held_of K.number K.index) (take place intervals.now)) }
+// Drops the intervals before the place, and says how many bytes they had.
+fn drop_front<K: ReassemblyKey>(intervals: &mut VecDeque<Interval<K>>, place: usize) -> usize
+    requires place { place ≤ length intervals.old.items }
+    requires fits { bytes_of (entries_of (held_of K.number K.index) intervals.old.items) < 2 ^ 64 }
+    ensures bytes { result + bytes_of (entries_of (held_of K.number K.index) intervals.new.items) ≡ bytes_of (entries_of (held_of K.number K.index) intervals.old.items) }
+    ensures left { intervals.new.items ≡ drop place intervals.old.items }
 {
     let mut bytes = 0;
-    for index in 0..place {
-        bytes += intervals[index].total_bytes();
+    let mut dropped = 0;
+    while dropped < place {
+        let Some(interval) = intervals.pop_front() else {
+            unreachable!();
+        };
+        bytes += interval.total_bytes();
+        dropped += 1;
     }
     bytes
 }
 
-// Drops the intervals before the place, and says how many bytes they had.
-fn drop_front<K: ReassemblyKey>(intervals: &mut Vec<Interval<K>>, place: usize) -> usize
-    requires place { place ≤ length intervals.old.items }
-    requires fits { bytes_of (entries_of (held_of K.number K.index) intervals.old.items) < 2 ^ 64 }
-    ensures bytes { result ≡ bytes_of (entries_of (held_of K.number K.index) (take place intervals.old.items)) }
-    ensures left { intervals.new.items ≡ drop place intervals.old.items }
-{
-    let bytes = bytes_before(intervals, place);
-    drop(intervals.drain(..place));
-    bytes
-}
-
 // The key of the first fragment.
-fn first_key<K: ReassemblyKey>(intervals: &[Interval<K>]) -> Option<K>
-    requires { IsInRuns (lists_of (held_of K.number K.index) intervals.now) }
-    ensures some { IfSome result (λ k. BeginsFrom (rank_at K.number K.index k) (entries_of (held_of K.number K.index) intervals.now)) }
-    ensures none { IfNone result (entries_of (held_of K.number K.index) intervals.now ≡ []) }
+fn first_key<K: ReassemblyKey>(intervals: &VecDeque<Interval<K>>) -> Option<K>
+    requires { IsInRuns (lists_of (held_of K.number K.index) intervals.now.items) }
+    ensures some { IfSome result (λ k. BeginsFrom (rank_at K.number K.index k) (entries_of (held_of K.number K.index) intervals.now.items)) }
+    ensures none { IfNone result (entries_of (held_of K.number K.index) intervals.now.items ≡ []) }
 {
     if intervals.len() == 0 {
         return None;
@@ -204,9 +200,9 @@ fn first_key<K: ReassemblyKey>(intervals: &[Interval<K>]) -> Option<K>
 }
 
 // Whether the first fragment is before the key.
-fn begins_below<K: ReassemblyKey>(intervals: &[Interval<K>], key: K) -> bool
-    ensures value { result ≡ first_below (rank_at K.number K.index key) (lists_of (held_of K.number K.index) intervals.now) }
-    ensures some { IsTrue result → 0 < length intervals.now }
+fn begins_below<K: ReassemblyKey>(intervals: &VecDeque<Interval<K>>, key: K) -> bool
+    ensures value { result ≡ first_below (rank_at K.number K.index key) (lists_of (held_of K.number K.index) intervals.now.items) }
+    ensures some { IsTrue result → 0 < length intervals.now.items }
 {
     if intervals.len() == 0 {
         return false;
@@ -215,12 +211,14 @@ fn begins_below<K: ReassemblyKey>(intervals: &[Interval<K>], key: K) -> bool
 }
 
 // Drops the first fragment, and says how many bytes it had.
-fn drop_first<K: ReassemblyKey>(intervals: &mut Vec<Interval<K>>) -> usize
+fn drop_first<K: ReassemblyKey>(intervals: &mut VecDeque<Interval<K>>) -> usize
     requires { 0 < length intervals.old.items }
     ensures { (e : Held) (es : List Held) (rs : List (List Held)) → lists_of (held_of K.number K.index) intervals.old.items ≡ (e ∷ es) ∷ rs → (result ≡ length e.fragment.payload) × (lists_of (held_of K.number K.index) intervals.new.items ≡ without_first es rs) }
 {
     if intervals[0].entries.len() == 1 {
-        let interval = intervals.remove(0);
+        let Some(interval) = intervals.pop_front() else {
+            return 0;
+        };
         return interval.entries[0].fragment.payload.len();
     }
     let Some(entry) = intervals[0].entries.pop_front() else {
@@ -230,10 +228,10 @@ fn drop_first<K: ReassemblyKey>(intervals: &mut Vec<Interval<K>>) -> usize
 }
 
 // Where the first interval is that is a complete message with the number; their count, where none is.
-fn place_in_turn<K: ReassemblyKey>(intervals: &[Interval<K>], number: u128) -> usize
-    ensures bound { result ≤ length intervals.now }
-    ensures before { NoneInTurn number (lists_of (held_of K.number K.index) (take result intervals.now)) }
-    ensures here { StartsInTurn number (lists_of (held_of K.number K.index) (drop result intervals.now)) }
+fn place_in_turn<K: ReassemblyKey>(intervals: &VecDeque<Interval<K>>, number: u128) -> usize
+    ensures bound { result ≤ length intervals.now.items }
+    ensures before { NoneInTurn number (lists_of (held_of K.number K.index) (take result intervals.now.items)) }
+    ensures here { StartsInTurn number (lists_of (held_of K.number K.index) (drop result intervals.now.items)) }
 {
     let mut place = 0;
     while place < intervals.len() && !intervals[place].is_in_turn(number) {
@@ -243,10 +241,10 @@ fn place_in_turn<K: ReassemblyKey>(intervals: &[Interval<K>], number: u128) -> u
 }
 
 // How many intervals end before the key, found by halves.
-fn place_for<K: ReassemblyKey>(intervals: &[Interval<K>], key: K) -> usize
-    ensures bound { result ≤ length intervals.now }
-    ensures below { IsBelow rank_of (rank_at K.number K.index key) (end_of None (lists_of (held_of K.number K.index) (take result intervals.now))) }
-    ensures stop { EndsFrom (rank_at K.number K.index key) (lists_of (held_of K.number K.index) (drop result intervals.now)) }
+fn place_for<K: ReassemblyKey>(intervals: &VecDeque<Interval<K>>, key: K) -> usize
+    ensures bound { result ≤ length intervals.now.items }
+    ensures below { IsBelow rank_of (rank_at K.number K.index key) (end_of None (lists_of (held_of K.number K.index) (take result intervals.now.items))) }
+    ensures stop { EndsFrom (rank_at K.number K.index key) (lists_of (held_of K.number K.index) (drop result intervals.now.items)) }
 {
     let mut place = 0;
     let mut end = intervals.len();
@@ -262,9 +260,9 @@ fn place_for<K: ReassemblyKey>(intervals: &[Interval<K>], key: K) -> usize
 }
 
 // Whether the interval at the place begins at the key or before it.
-fn begins_upto<K: ReassemblyKey>(intervals: &[Interval<K>], place: usize, key: K) -> bool
-    requires { place ≤ length intervals.now }
-    ensures { result ≡ starts_upto (rank_at K.number K.index key) (lists_of (held_of K.number K.index) (drop place intervals.now)) }
+fn begins_upto<K: ReassemblyKey>(intervals: &VecDeque<Interval<K>>, place: usize, key: K) -> bool
+    requires { place ≤ length intervals.now.items }
+    ensures { result ≡ starts_upto (rank_at K.number K.index key) (lists_of (held_of K.number K.index) (drop place intervals.now.items)) }
 {
     if place == intervals.len() {
         return false;
@@ -273,9 +271,13 @@ fn begins_upto<K: ReassemblyKey>(intervals: &[Interval<K>], place: usize, key: K
 }
 
 // Whether the entry goes on where the intervals up to the place end.
-fn joins_before<K: ReassemblyKey>(intervals: &[Interval<K>], place: usize, entry: &Entry<K>) -> bool
-    requires { place ≤ length intervals.now }
-    ensures value { result ≡ joins_left rank_of goes_on (end_of None (lists_of (held_of K.number K.index) (take place intervals.now))) (held_of K.number K.index entry.now) }
+fn joins_before<K: ReassemblyKey>(
+    intervals: &VecDeque<Interval<K>>,
+    place: usize,
+    entry: &Entry<K>,
+) -> bool
+    requires { place ≤ length intervals.now.items }
+    ensures value { result ≡ joins_left rank_of goes_on (end_of None (lists_of (held_of K.number K.index) (take place intervals.now.items))) (held_of K.number K.index entry.now) }
     ensures some { IsTrue result → 0 < place }
 {
     if place == 0 {
@@ -285,10 +287,14 @@ fn joins_before<K: ReassemblyKey>(intervals: &[Interval<K>], place: usize, entry
 }
 
 // Whether the interval at the place goes on where the entry ends.
-fn joins_after<K: ReassemblyKey>(intervals: &[Interval<K>], place: usize, entry: &Entry<K>) -> bool
-    requires { place ≤ length intervals.now }
-    ensures value { result ≡ joins_right rank_of goes_on (held_of K.number K.index entry.now) (lists_of (held_of K.number K.index) (drop place intervals.now)) }
-    ensures some { IsTrue result → place < length intervals.now }
+fn joins_after<K: ReassemblyKey>(
+    intervals: &VecDeque<Interval<K>>,
+    place: usize,
+    entry: &Entry<K>,
+) -> bool
+    requires { place ≤ length intervals.now.items }
+    ensures value { result ≡ joins_right rank_of goes_on (held_of K.number K.index entry.now) (lists_of (held_of K.number K.index) (drop place intervals.now.items)) }
+    ensures some { IsTrue result → place < length intervals.now.items }
 {
     if place == intervals.len() {
         return false;
@@ -298,7 +304,7 @@ fn joins_after<K: ReassemblyKey>(intervals: &[Interval<K>], place: usize, entry:
 
 // Adds the entry behind an interval.
 fn push_at<K: ReassemblyKey>(
-    intervals: &mut Vec<Interval<K>>,
+    intervals: &mut VecDeque<Interval<K>>,
     place: usize,
     entry: Entry<K>,
 ) -> Result<(), AllocError>
@@ -312,7 +318,7 @@ fn push_at<K: ReassemblyKey>(
 
 // Adds the entry in front of an interval.
 fn put_before<K: ReassemblyKey>(
-    intervals: &mut Vec<Interval<K>>,
+    intervals: &mut VecDeque<Interval<K>>,
     place: usize,
     entry: Entry<K>,
 ) -> Result<(), AllocError>
@@ -356,7 +362,7 @@ fn prepend_to<K: ReassemblyKey>(
 
 // Makes one interval of two with the entry between them, where the second one's entries move to the first.
 fn join_to_first<K: ReassemblyKey>(
-    intervals: &mut Vec<Interval<K>>,
+    intervals: &mut VecDeque<Interval<K>>,
     place: usize,
     entry: Entry<K>,
 ) -> Result<(), AllocError>
@@ -366,14 +372,16 @@ fn join_to_first<K: ReassemblyKey>(
 {
     let more = intervals[place + 1].entries.len();
     intervals[place].entries.reserve(more + 1)?;
-    let next = intervals.remove(place + 1);
+    let Some(next) = intervals.remove(place + 1) else {
+        unreachable!();
+    };
     append_to(&mut intervals[place].entries, entry, next.entries);
     Ok(())
 }
 
 // The same, where the first one's entries move to the second.
 fn join_to_second<K: ReassemblyKey>(
-    intervals: &mut Vec<Interval<K>>,
+    intervals: &mut VecDeque<Interval<K>>,
     place: usize,
     entry: Entry<K>,
 ) -> Result<(), AllocError>
@@ -383,7 +391,9 @@ fn join_to_second<K: ReassemblyKey>(
 {
     let more = intervals[place].entries.len();
     intervals[place + 1].entries.reserve(more + 1)?;
-    let first = intervals.remove(place);
+    let Some(first) = intervals.remove(place) else {
+        unreachable!();
+    };
     prepend_to(&mut intervals[place].entries, entry, first.entries);
     Ok(())
 }
@@ -391,7 +401,7 @@ fn join_to_second<K: ReassemblyKey>(
 // Makes one interval of two with the entry between them. The shorter one's entries move, so that an entry moves no more
 // often than the logarithm of how many there are.
 fn join<K: ReassemblyKey>(
-    intervals: &mut Vec<Interval<K>>,
+    intervals: &mut VecDeque<Interval<K>>,
     place: usize,
     entry: Entry<K>,
 ) -> Result<(), AllocError>
@@ -408,7 +418,7 @@ fn join<K: ReassemblyKey>(
 // Puts the entry in front of the interval at the place, and says which interval took it.
 fn insert_at<K: ReassemblyKey>(
     alloc: Global,
-    intervals: &mut Vec<Interval<K>>,
+    intervals: &mut VecDeque<Interval<K>>,
     place: usize,
     entry: Entry<K>,
 ) -> Result<usize, AllocError>

@@ -4,4 +4,4 @@ use Rattle.sctp_fragments.specs.Intervals.{held_of}
 use Rattle.sctp_reassembly.proofs.interval_list.first_key.Goals as goal
 
 pub returns-clause-some : goal.returns-clause-some
-returns-clause-some g c = begins_from (held_of g.K.ReassemblyKey.number g.K.ReassemblyKey.index) c.args.intervals.now c.index-intervals-0.result (held_of g.K.ReassemblyKey.number g.K.ReassemblyKey.index c.first.result.now) (omega arith) c.index-intervals-0.is c.first.ensures c.requires
+returns-clause-some g c = begins_from (held_of g.K.ReassemblyKey.number g.K.ReassemblyKey.index) c.args.intervals.now.items c.index.result.now (held_of g.K.ReassemblyKey.number g.K.ReassemblyKey.index c.first.result.now) (omega arith) c.index.ensures c.first.ensures c.requires

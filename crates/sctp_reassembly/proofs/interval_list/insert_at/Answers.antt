@@ -5,24 +5,24 @@ use Rattle.sctp_reassembly.proofs.interval_list.insert_at.Goals as goal
 
 pub returns-then-right-clause-ok : goal.returns-then-right-clause-ok
 returns-then-right-clause-ok g c =
-    let left = rw c.deref.ensures.value at c.joins_before-left.ensures.value in
-    let right = rw c.deref-2.ensures.value at c.joins_after-right.ensures.value in
+    let left = c.joins_before-left.ensures.value in
+    let right = c.joins_after-right.ensures.value in
     puts_both (held_of g.K.ReassemblyKey.number g.K.ReassemblyKey.index) c.args.intervals.now.items c.join.new.intervals.items (held_of g.K.ReassemblyKey.number g.K.ReassemblyKey.index c.args.entry) c.args.place (c.args.place - 1) (omega arith) (omega arith) c.requires.runs (sym left ∙ c.if-left.true) (sym right ∙ c.if-right.true) c.in_ok-join.ensures.ok
 
 pub returns-then-left-clause-ok : goal.returns-then-left-clause-ok
 returns-then-left-clause-ok g c =
-    let left = rw c.deref.ensures.value at c.joins_before-left.ensures.value in
-    let right = rw c.deref-2.ensures.value at c.joins_after-right.ensures.value in
+    let left = c.joins_before-left.ensures.value in
+    let right = c.joins_after-right.ensures.value in
     puts_left (held_of g.K.ReassemblyKey.number g.K.ReassemblyKey.index) c.args.intervals.now.items c.push_at.new.intervals.items (held_of g.K.ReassemblyKey.number g.K.ReassemblyKey.index c.args.entry) c.args.place (c.args.place - 1) (omega arith) c.requires.place c.requires.runs c.requires.leads (sym left ∙ c.if-left.true) (sym right ∙ c.if-right.false) c.in_ok-push_at.ensures.ok
 
 pub returns-then-right-2-clause-ok : goal.returns-then-right-2-clause-ok
 returns-then-right-2-clause-ok g c =
-    let left = rw c.deref.ensures.value at c.joins_before-left.ensures.value in
-    let right = rw c.deref-2.ensures.value at c.joins_after-right.ensures.value in
+    let left = c.joins_before-left.ensures.value in
+    let right = c.joins_after-right.ensures.value in
     puts_right (held_of g.K.ReassemblyKey.number g.K.ReassemblyKey.index) c.args.intervals.now.items c.put_before.new.intervals.items (held_of g.K.ReassemblyKey.number g.K.ReassemblyKey.index c.args.entry) c.args.place (omega arith) c.requires.runs c.requires.below (sym left ∙ c.if-left.false) (sym right ∙ c.if-right-2.true) c.in_ok-put_before.ensures.ok
 
 pub returns-clause-ok : goal.returns-clause-ok
 returns-clause-ok g c =
-    let left = rw c.deref.ensures.value at c.joins_before-left.ensures.value in
-    let right = rw c.deref-2.ensures.value at c.joins_after-right.ensures.value in
+    let left = c.joins_before-left.ensures.value in
+    let right = c.joins_after-right.ensures.value in
     puts_alone (held_of g.K.ReassemblyKey.number g.K.ReassemblyKey.index) c.args.intervals.now.items c.insert.new.self.items _ (held_of g.K.ReassemblyKey.number g.K.ReassemblyKey.index c.args.entry) c.args.place c.requires.place c.requires.runs c.requires.below c.requires.leads (sym left ∙ c.if-left.false) (sym right ∙ c.if-right-2.false) c.in_ok-insert.ensures.items (ap (map (held_of g.K.ReassemblyKey.number g.K.ReassemblyKey.index)) (c.in_ok-push_back.ensures.items ∙ ap (λ t. t ++ c.args.entry ∷ []) c.new-entries.ensures.items))

@@ -13,5 +13,5 @@ returns-in_err-reserve-clause-err g c =
 
 pub returns-clause-ok : goal.returns-clause-ok
 returns-clause-ok g c ps qs i j is at =
-    lists_joined_second (held_of g.K.ReassemblyKey.number g.K.ReassemblyKey.index) c.args.intervals.now.items c.remove-first.new.self.items ps qs i j c.index_mut.result.now _ c.remove-first.result c.index_mut-2.result.now _ _ c.args.place (c.args.place + 1) is at refl
-    c.index_mut.ensures.value (ap (map (held_of g.K.ReassemblyKey.number g.K.ReassemblyKey.index)) c.reserve.ensures.items) c.remove-first.ensures.value c.remove-first.ensures.items c.index_mut-2.ensures.value (ap (map (held_of g.K.ReassemblyKey.number g.K.ReassemblyKey.index)) c.prepend_to.ensures ∙ map-append (held_of g.K.ReassemblyKey.number g.K.ReassemblyKey.index) _ _)
+    lists_joined_second (held_of g.K.ReassemblyKey.number g.K.ReassemblyKey.index) c.args.intervals.now.items c.remove.new.self.items ps qs i j c.index_mut.result.now _ c.in-Some.first c.index_mut-2.result.now _ _ c.args.place (c.args.place + 1) is at refl
+    c.index_mut.ensures.value (ap (map (held_of g.K.ReassemblyKey.number g.K.ReassemblyKey.index)) c.reserve.ensures.items) c.in-Some.ensures.value c.in-Some.ensures.items c.index_mut-2.ensures.value (ap (map (held_of g.K.ReassemblyKey.number g.K.ReassemblyKey.index)) c.prepend_to.ensures ∙ map-append (held_of g.K.ReassemblyKey.number g.K.ReassemblyKey.index) _ _)

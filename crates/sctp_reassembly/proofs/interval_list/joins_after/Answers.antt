@@ -4,4 +4,4 @@ use Rattle.sctp_fragments.specs.Intervals.{held_of}
 use Rattle.sctp_reassembly.proofs.interval_list.joins_after.Goals as goal
 
 pub returns-clause-value : goal.returns-clause-value
-returns-clause-value g c = joins_right-read (held_of g.K.ReassemblyKey.number g.K.ReassemblyKey.index) c.args.intervals.now c.args.place c.index-intervals-place.result (held_of g.K.ReassemblyKey.number g.K.ReassemblyKey.index c.first.result.now) (held_of g.K.ReassemblyKey.number g.K.ReassemblyKey.index c.args.entry.now) c.goes_on_to.result (omega arith) c.index-intervals-place.is (some_run (held_of g.K.ReassemblyKey.number g.K.ReassemblyKey.index) c.index-intervals-place.result) c.first.ensures c.goes_on_to.ensures
+returns-clause-value g c = joins_right-read (held_of g.K.ReassemblyKey.number g.K.ReassemblyKey.index) c.args.intervals.now.items c.args.place c.index.result.now (held_of g.K.ReassemblyKey.number g.K.ReassemblyKey.index c.first.result.now) (held_of g.K.ReassemblyKey.number g.K.ReassemblyKey.index c.args.entry.now) c.goes_on_to.result (omega arith) c.index.ensures (some_run (held_of g.K.ReassemblyKey.number g.K.ReassemblyKey.index) c.index.result.now) c.first.ensures c.goes_on_to.ensures

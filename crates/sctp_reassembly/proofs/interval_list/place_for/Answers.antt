@@ -8,8 +8,8 @@ pub loop-place-preserved-then-is_before : goal.loop-place-preserved-then-is_befo
 loop-place-preserved-then-is_before g c = record {
   in_order = omega arith;
   within = c.loop-place.invariant.within;
-  below = below_more (held_of g.K.ReassemblyKey.number g.K.ReassemblyKey.index) (rank_at g.K.ReassemblyKey.number g.K.ReassemblyKey.index c.args.key) (c.loop-place.place + (c.loop-place.end - c.loop-place.place) / 2) c.args.intervals.now c.index-intervals-middle.result (held_of g.K.ReassemblyKey.number g.K.ReassemblyKey.index c.last.result.now)
-      (omega arith) c.index-intervals-middle.is (some_run (held_of g.K.ReassemblyKey.number g.K.ReassemblyKey.index) c.index-intervals-middle.result) c.last.ensures (told_less c.is_before.result _ _ c.if-is_before.true c.is_before.ensures);
+  below = below_more (held_of g.K.ReassemblyKey.number g.K.ReassemblyKey.index) (rank_at g.K.ReassemblyKey.number g.K.ReassemblyKey.index c.args.key) (c.loop-place.place + (c.loop-place.end - c.loop-place.place) / 2) c.args.intervals.now.items c.index.result.now (held_of g.K.ReassemblyKey.number g.K.ReassemblyKey.index c.last.result.now)
+      (omega arith) c.index.ensures (some_run (held_of g.K.ReassemblyKey.number g.K.ReassemblyKey.index) c.index.result.now) c.last.ensures (told_less c.is_before.result _ _ c.if-is_before.true c.is_before.ensures);
   stop = c.loop-place.invariant.stop;
 }
 
@@ -18,6 +18,6 @@ loop-place-preserved g c = record {
   in_order = omega arith;
   within = omega arith;
   below = c.loop-place.invariant.below;
-  stop = ends_from-read (held_of g.K.ReassemblyKey.number g.K.ReassemblyKey.index) c.args.intervals.now (c.loop-place.place + (c.loop-place.end - c.loop-place.place) / 2) (rank_at g.K.ReassemblyKey.number g.K.ReassemblyKey.index c.args.key) c.index-intervals-middle.result (held_of g.K.ReassemblyKey.number g.K.ReassemblyKey.index c.last.result.now)
-      (omega arith) c.index-intervals-middle.is (some_run (held_of g.K.ReassemblyKey.number g.K.ReassemblyKey.index) c.index-intervals-middle.result) c.last.ensures (told_not_less c.is_before.result _ _ c.if-is_before.false c.is_before.ensures);
+  stop = ends_from-read (held_of g.K.ReassemblyKey.number g.K.ReassemblyKey.index) c.args.intervals.now.items (c.loop-place.place + (c.loop-place.end - c.loop-place.place) / 2) (rank_at g.K.ReassemblyKey.number g.K.ReassemblyKey.index c.args.key) c.index.result.now (held_of g.K.ReassemblyKey.number g.K.ReassemblyKey.index c.last.result.now)
+      (omega arith) c.index.ensures (some_run (held_of g.K.ReassemblyKey.number g.K.ReassemblyKey.index) c.index.result.now) c.last.ensures (told_not_less c.is_before.result _ _ c.if-is_before.false c.is_before.ensures);
 }

@@ -5,9 +5,9 @@ use Rattle.sctp_reassembly.proofs.interval_list.place_in_turn.Given as goal
 
 abbrev pub invariant-loop-place : goal.invariant-loop-place
 invariant-loop-place g l = record {
-  within : l.place ≤ length l.intervals;
-  before : NoneInTurn l.number (lists_of (held_of g.K.ReassemblyKey.number g.K.ReassemblyKey.index) (take l.place l.intervals));
+  within : l.place ≤ length l.intervals.items;
+  before : NoneInTurn l.number (lists_of (held_of g.K.ReassemblyKey.number g.K.ReassemblyKey.index) (take l.place l.intervals.items));
 }
 
 abbrev pub decreases-loop-place : goal.decreases-loop-place
-decreases-loop-place g l = length l.intervals - l.place
+decreases-loop-place g l = length l.intervals.items - l.place

@@ -13,15 +13,18 @@ returns-then-not-is_complete-clause-incomplete g c =
     let told : c.is_complete.result ≡ false = search rules in
     not_complete (held_of g.K.ReassemblyKey.number g.K.ReassemblyKey.index) c.self.inside.intervals.items c.index.result.now c.args.self.now c.args.place c.self.view_is c.self.invariant.runs (omega (arith, n, c.requires)) c.index.ensures (sym c.is_complete.ensures ∙ told)
 
-pub remove-interval-requires : goal.remove-interval-requires
-remove-interval-requires g c = let n = length-kept (held_of g.K.ReassemblyKey.number g.K.ReassemblyKey.index) c.self.inside.intervals.items c.args.self.now c.self.invariant.runs c.self.view_is in omega (arith, n, c.requires)
+pub unreachable-requires : goal.unreachable-requires
+unreachable-requires g c =
+    let n = length-kept (held_of g.K.ReassemblyKey.number g.K.ReassemblyKey.index) c.self.inside.intervals.items c.args.self.now c.self.invariant.runs c.self.view_is in
+    let never : false ≡ true = c.in_default.ensures.variant.1 (omega (arith, n, c.requires)) in
+    cc
 
 pub total_bytes-requires : goal.total_bytes-requires
 total_bytes-requires g c =
     let n = length-kept (held_of g.K.ReassemblyKey.number g.K.ReassemblyKey.index) c.self.inside.intervals.items c.args.self.now c.self.invariant.runs c.self.view_is in
     let told : c.is_complete.result ≡ true = search rules in
-    let read : c.index.result.now ≡ c.remove-interval.result = read_same c.self.inside.intervals.items c.args.place c.index.result.now c.remove-interval.result (omega (arith, n, c.requires)) c.index.ensures c.remove-interval.ensures.value in
-    let t = takes (held_of g.K.ReassemblyKey.number g.K.ReassemblyKey.index) c.self.inside.intervals.items c.remove-interval.new.self.items c.remove-interval.result c.args.self.now c.args.place c.self.view_is c.self.invariant.runs (omega (arith, n, c.requires)) c.remove-interval.ensures.value c.remove-interval.ensures.items
+    let read : c.index.result.now ≡ c.in-Some.interval = read_same c.self.inside.intervals.items c.args.place c.index.result.now c.in-Some.interval (omega (arith, n, c.requires)) c.index.ensures c.in-Some.ensures.value in
+    let t = takes (held_of g.K.ReassemblyKey.number g.K.ReassemblyKey.index) c.self.inside.intervals.items c.remove.new.self.items c.in-Some.interval c.args.self.now c.args.place c.self.view_is c.self.invariant.runs (omega (arith, n, c.requires)) c.in-Some.ensures.value c.in-Some.ensures.items
     (ap (λ i. is_complete (run_of (held_of g.K.ReassemblyKey.number g.K.ReassemblyKey.index) i)) (sym read) ∙ (sym c.is_complete.ensures ∙ told)) in
     omega (arith, t.bytes, c.self.invariant.counted, c.self.ranges)
 
@@ -29,8 +32,8 @@ pub overflow_sub-self : goal.overflow_sub-self
 overflow_sub-self g c =
     let n = length-kept (held_of g.K.ReassemblyKey.number g.K.ReassemblyKey.index) c.self.inside.intervals.items c.args.self.now c.self.invariant.runs c.self.view_is in
     let told : c.is_complete.result ≡ true = search rules in
-    let read : c.index.result.now ≡ c.remove-interval.result = read_same c.self.inside.intervals.items c.args.place c.index.result.now c.remove-interval.result (omega (arith, n, c.requires)) c.index.ensures c.remove-interval.ensures.value in
-    let t = takes (held_of g.K.ReassemblyKey.number g.K.ReassemblyKey.index) c.self.inside.intervals.items c.remove-interval.new.self.items c.remove-interval.result c.args.self.now c.args.place c.self.view_is c.self.invariant.runs (omega (arith, n, c.requires)) c.remove-interval.ensures.value c.remove-interval.ensures.items
+    let read : c.index.result.now ≡ c.in-Some.interval = read_same c.self.inside.intervals.items c.args.place c.index.result.now c.in-Some.interval (omega (arith, n, c.requires)) c.index.ensures c.in-Some.ensures.value in
+    let t = takes (held_of g.K.ReassemblyKey.number g.K.ReassemblyKey.index) c.self.inside.intervals.items c.remove.new.self.items c.in-Some.interval c.args.self.now c.args.place c.self.view_is c.self.invariant.runs (omega (arith, n, c.requires)) c.in-Some.ensures.value c.in-Some.ensures.items
     (ap (λ i. is_complete (run_of (held_of g.K.ReassemblyKey.number g.K.ReassemblyKey.index) i)) (sym read) ∙ (sym c.is_complete.ensures ∙ told)) in
     omega (arith, t.bytes, c.self.invariant.counted, c.total_bytes.ensures)
 
@@ -38,8 +41,8 @@ pub invariant_of-self : goal.invariant_of-self
 invariant_of-self g c =
     let n = length-kept (held_of g.K.ReassemblyKey.number g.K.ReassemblyKey.index) c.self.inside.intervals.items c.args.self.now c.self.invariant.runs c.self.view_is in
     let told : c.is_complete.result ≡ true = search rules in
-    let read : c.index.result.now ≡ c.remove-interval.result = read_same c.self.inside.intervals.items c.args.place c.index.result.now c.remove-interval.result (omega (arith, n, c.requires)) c.index.ensures c.remove-interval.ensures.value in
-    let t = takes (held_of g.K.ReassemblyKey.number g.K.ReassemblyKey.index) c.self.inside.intervals.items c.remove-interval.new.self.items c.remove-interval.result c.args.self.now c.args.place c.self.view_is c.self.invariant.runs (omega (arith, n, c.requires)) c.remove-interval.ensures.value c.remove-interval.ensures.items
+    let read : c.index.result.now ≡ c.in-Some.interval = read_same c.self.inside.intervals.items c.args.place c.index.result.now c.in-Some.interval (omega (arith, n, c.requires)) c.index.ensures c.in-Some.ensures.value in
+    let t = takes (held_of g.K.ReassemblyKey.number g.K.ReassemblyKey.index) c.self.inside.intervals.items c.remove.new.self.items c.in-Some.interval c.args.self.now c.args.place c.self.view_is c.self.invariant.runs (omega (arith, n, c.requires)) c.in-Some.ensures.value c.in-Some.ensures.items
     (ap (λ i. is_complete (run_of (held_of g.K.ReassemblyKey.number g.K.ReassemblyKey.index) i)) (sym read) ∙ (sym c.is_complete.ensures ∙ told)) in
     record { runs = t.runs; counted = omega (arith, t.bytes, c.self.invariant.counted, c.total_bytes.ensures) }
 
@@ -47,8 +50,8 @@ pub returns-clause-taken : goal.returns-clause-taken
 returns-clause-taken g c =
     let n = length-kept (held_of g.K.ReassemblyKey.number g.K.ReassemblyKey.index) c.self.inside.intervals.items c.args.self.now c.self.invariant.runs c.self.view_is in
     let told : c.is_complete.result ≡ true = search rules in
-    let read : c.index.result.now ≡ c.remove-interval.result = read_same c.self.inside.intervals.items c.args.place c.index.result.now c.remove-interval.result (omega (arith, n, c.requires)) c.index.ensures c.remove-interval.ensures.value in
-    let t = takes (held_of g.K.ReassemblyKey.number g.K.ReassemblyKey.index) c.self.inside.intervals.items c.remove-interval.new.self.items c.remove-interval.result c.args.self.now c.args.place c.self.view_is c.self.invariant.runs (omega (arith, n, c.requires)) c.remove-interval.ensures.value c.remove-interval.ensures.items
+    let read : c.index.result.now ≡ c.in-Some.interval = read_same c.self.inside.intervals.items c.args.place c.index.result.now c.in-Some.interval (omega (arith, n, c.requires)) c.index.ensures c.in-Some.ensures.value in
+    let t = takes (held_of g.K.ReassemblyKey.number g.K.ReassemblyKey.index) c.self.inside.intervals.items c.remove.new.self.items c.in-Some.interval c.args.self.now c.args.place c.self.view_is c.self.invariant.runs (omega (arith, n, c.requires)) c.in-Some.ensures.value c.in-Some.ensures.items
     (ap (λ i. is_complete (run_of (held_of g.K.ReassemblyKey.number g.K.ReassemblyKey.index) i)) (sym read) ∙ (sym c.is_complete.ensures ∙ told)) in
     t.taken
 
@@ -56,7 +59,7 @@ pub returns-clause-bytes : goal.returns-clause-bytes
 returns-clause-bytes g c =
     let n = length-kept (held_of g.K.ReassemblyKey.number g.K.ReassemblyKey.index) c.self.inside.intervals.items c.args.self.now c.self.invariant.runs c.self.view_is in
     let told : c.is_complete.result ≡ true = search rules in
-    let read : c.index.result.now ≡ c.remove-interval.result = read_same c.self.inside.intervals.items c.args.place c.index.result.now c.remove-interval.result (omega (arith, n, c.requires)) c.index.ensures c.remove-interval.ensures.value in
-    let t = takes (held_of g.K.ReassemblyKey.number g.K.ReassemblyKey.index) c.self.inside.intervals.items c.remove-interval.new.self.items c.remove-interval.result c.args.self.now c.args.place c.self.view_is c.self.invariant.runs (omega (arith, n, c.requires)) c.remove-interval.ensures.value c.remove-interval.ensures.items
+    let read : c.index.result.now ≡ c.in-Some.interval = read_same c.self.inside.intervals.items c.args.place c.index.result.now c.in-Some.interval (omega (arith, n, c.requires)) c.index.ensures c.in-Some.ensures.value in
+    let t = takes (held_of g.K.ReassemblyKey.number g.K.ReassemblyKey.index) c.self.inside.intervals.items c.remove.new.self.items c.in-Some.interval c.args.self.now c.args.place c.self.view_is c.self.invariant.runs (omega (arith, n, c.requires)) c.in-Some.ensures.value c.in-Some.ensures.items
     (ap (λ i. is_complete (run_of (held_of g.K.ReassemblyKey.number g.K.ReassemblyKey.index) i)) (sym read) ∙ (sym c.is_complete.ensures ∙ told)) in
     omega (arith, t.bytes, ap bytes_of c.self.view_is)
