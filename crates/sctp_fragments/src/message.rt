@@ -1,8 +1,8 @@
 //! The message that an interval is.
 
-ghost use Rattle.std.specs.Prelude.{◌≡◌, ◌+◌, length, IfOk};
+ghost use Rattle.std.specs.Prelude.{◌≡◌, ◌+◌, ◌++◌, length, IfOk};
 ghost use Rattle.sctp_serial.specs.Messages.{message_of};
-ghost use Rattle.sctp_fragments.specs.Held.{bytes_of, message_of_run};
+ghost use Rattle.sctp_fragments.specs.Held.{bytes_of, message_of_run, payload_of};
 ghost use Rattle.sctp_fragments.specs.Intervals.{held_of, run_of};
 
 use crate::interval::Interval;
@@ -10,16 +10,34 @@ use crate::reassembly_key::ReassemblyKey;
 use sctp_serial::Message;
 use std::alloc::{AllocError, Global};
 
+// The payloads of an interval, joined. That of a single fragment is handed on as it came.
+fn into_payload<K: ReassemblyKey>(
+    alloc: Global,
+    interval: Interval<K>,
+) -> Result<Vec<u8>, AllocError>
+    ensures { IfOk result (λ payload. payload.items ≡ payload_of (run_of (held_of K.number K.index) interval)) }
+{
+    if interval.entries.len() != 1 {
+        return interval.collect_payload(alloc);
+    }
+    let mut entries = interval.entries;
+    let Some(entry) = entries.pop_front() else {
+        unreachable!();
+    };
+    Ok(entry.fragment.payload)
+}
+
 /// The message of a complete interval: stream and protocol id are those of its beginning. Here, and nowhere else, its
 /// payload is put together.
 pub fn message_of<K: ReassemblyKey>(
     alloc: Global,
-    interval: &Interval<K>,
+    interval: Interval<K>,
 ) -> Result<Message, AllocError>
-    ensures value { IfOk result (λ m. message_of m ≡ message_of_run (run_of (held_of K.number K.index) interval.now)) }
-    ensures bytes { IfOk result (λ m. length m.payload.items ≡ bytes_of (run_of (held_of K.number K.index) interval.now)) }
+    ensures value { IfOk result (λ m. message_of m ≡ message_of_run (run_of (held_of K.number K.index) interval)) }
+    ensures bytes { IfOk result (λ m. length m.payload.items ≡ bytes_of (run_of (held_of K.number K.index) interval)) }
 {
-    let payload = interval.collect_payload(alloc)?;
-    let first = interval.first();
-    Ok(Message::new(first.fragment.stream_key.id(), first.fragment.ppid, payload))
+    let first = &interval.first().fragment;
+    let (id, ppid) = (first.stream_key.id(), first.ppid);
+    let payload = into_payload(alloc, interval)?;
+    Ok(Message::new(id, ppid, payload))
 }

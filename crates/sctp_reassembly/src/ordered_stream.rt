@@ -58,7 +58,7 @@ fn deliver<K: ReassemblyKey>(
 {
     while let Some(interval) = list.pop_front_if_complete_and(*next) {
         let number = interval.first().key.number();
-        let message = message_of(alloc, &interval)?;
+        let message = message_of(alloc, interval)?;
         ready.push(message)?;
         *next = number as u128 + 1;
     }

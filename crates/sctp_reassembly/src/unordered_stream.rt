@@ -59,7 +59,7 @@ fn take_in<K: ReassemblyKey>(
     let Some(interval) = list.pop_if_complete(place) else {
         return Ok(());
     };
-    let message = message_of(alloc, &interval)?;
+    let message = message_of(alloc, interval)?;
     ready.push(message)
 }
 
