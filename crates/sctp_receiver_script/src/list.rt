@@ -1,14 +1,12 @@
 //! Intervals of fragments.
 
 use crate::player::{Player, play_each};
-use crate::words::{ends, fragment, number, refusal, word, yes_or_no};
-use anyhow::Result;
+use crate::words::{Told, number, piece, tell_bytes, word, yes_or_no};
 use sctp_packet::Data;
 use sctp_rx::{
     InterleavedKey, Interval, IntervalList, ReassemblyKey, TraditionalKey, UnorderedInterleavedKey,
 };
-use sctp_serial::{StreamId, StreamKey};
-use std::alloc::Global;
+use std::alloc::{AllocError, Global};
 
 /// A key that is made of its parts.
 pub trait Key: ReassemblyKey {
@@ -48,135 +46,143 @@ impl Key for UnorderedInterleavedKey {
 }
 
 /// Takes the commands of a script on a list of intervals.
-pub fn run(rt: &HostRuntime, words: &[&str], script: &str) -> Result<()> {
-    match word(words, 0)? {
-        "tsn" => run_on(rt, IntervalList::<TraditionalKey>::new(rt.alloc()), script),
-        "fsn" => run_on(rt, IntervalList::<InterleavedKey>::new(rt.alloc()), script),
-        "mid" => run_on(
-            rt,
-            IntervalList::<UnorderedInterleavedKey>::new(rt.alloc()),
-            script,
-        ),
-        _ => Err(refusal()),
+pub fn run(alloc: Global, words: &[&str], script: &str, output: &mut String) -> Told {
+    match word(words, 1) {
+        "tsn" => run_on::<TraditionalKey>(alloc, script, output),
+        "fsn" => run_on::<InterleavedKey>(alloc, script, output),
+        "mid" => run_on::<UnorderedInterleavedKey>(alloc, script, output),
+        _ => output.push_str("?\n"),
     }
 }
 
-fn run_on<K: Key>(rt: &HostRuntime, mut list: IntervalList<K>, script: &str) -> Result<()> {
-    let outcome = play_each(rt, &mut list, script);
+fn run_on<K: Key>(alloc: Global, script: &str, output: &mut String) -> Told {
+    let mut list = IntervalList::<K>::new(alloc);
+    let outcome = play_each(alloc, &mut list, script, output);
     drop(list);
     outcome
 }
 
 impl<K: Key> Player for IntervalList<K> {
-    fn play(&mut self, rt: &HostRuntime, name: &str, words: &[&str]) -> Result<()> {
-        if name == "sums" {
-            return show_sums(rt, self);
-        }
-        let first = number(words, 0)?;
-        match name {
-            "add" => add(rt, self, words),
-            "turn" => is_in_turn(rt, self, first as usize, number(words, 1)?),
-            "take" => take(rt, self, first as usize),
-            "next" => next(rt, self, first),
+    /// `add NUMBER INDEX ENDS HEX`; `turn PLACE NUMBER`; `take PLACE`; `next NUMBER`; `retain NUMBER INDEX`; `sums`.
+    fn play(&mut self, alloc: Global, words: &[&str], output: &mut String) -> Told {
+        let (first, second) = (number(words, 1), number(words, 2));
+        match word(words, 0) {
+            "add" => add(alloc, self, words, output),
+            "turn" => output.push_str(is_in_turn(self, first as usize, second)),
+            "take" => take(alloc, self, first as usize, output),
+            "next" => next(alloc, self, first, output),
             "retain" => {
-                self.retain(K::made(first, number(words, 1)?));
-                show_sums(rt, self)
+                self.retain(K::made(first, second));
+                tell_sums(self, output)
             }
-            _ => Err(refusal()),
+            "sums" => tell_sums(self, output),
+            _ => output.push_str("?"),
         }
     }
 }
 
-/// The fragment `ENDS HEX`.
-pub fn piece(alloc: Global, words: &[&str]) -> Result<Data> {
-    let ends = ends(word(words, 0)?);
-    let payload = hex::decode(alloc, word(words, 1)?)?;
-    Ok(fragment(StreamKey::Unordered(StreamId(1)), 0, 0, ends, payload))
-}
-
-fn show_sums<K: Key>(rt: &HostRuntime, list: &IntervalList<K>) -> Result<()> {
+fn tell_sums<K: Key>(list: &IntervalList<K>, output: &mut String) -> Told {
     let (count, bytes) = (list.len(), list.total_bytes());
-    println!(rt;
-        "intervals {count}, bytes {bytes}, empty {}",
-        yes_or_no(list.is_empty())
-    )?;
-    Ok(())
+    let is_empty = yes_or_no(list.is_empty());
+    write!(output, "intervals {count}, bytes {bytes}, empty {is_empty}")
 }
 
-// `add NUMBER INDEX ENDS HEX`.
-fn add<K: Key>(rt: &HostRuntime, list: &mut IntervalList<K>, words: &[&str]) -> Result<()> {
-    let key = K::made(number(words, 0)?, number(words, 1)?);
-    let fragment = piece(rt.alloc(), words.get(2..).unwrap_or(&[]))?;
+fn put<K: Key>(
+    list: &mut IntervalList<K>,
+    key: K,
+    fragment: Data,
+) -> Result<Option<usize>, AllocError> {
     if list.total_bytes() >= 1 << 40 || fragment.payload.len() >= 1 << 40 {
-        return Err(refusal());
+        drop(fragment);
+        return Ok(None);
     }
-    match list.add(key, fragment)? {
-        Some(place) => print!(rt; "at {place}, ")?,
-        None => print!(rt; "held already, ")?,
-    }
-    show_sums(rt, list)
+    list.add(key, fragment)
 }
 
-fn is_in_turn<K: Key>(
-    rt: &HostRuntime,
-    list: &IntervalList<K>,
-    place: usize,
-    number: u64,
-) -> Result<()> {
+fn add<K: Key>(
+    alloc: Global,
+    list: &mut IntervalList<K>,
+    words: &[&str],
+    output: &mut String,
+) -> Told {
+    let key = K::made(number(words, 1), number(words, 2));
+    let place = put(list, key, piece(alloc, words)?)?;
+    tell_place(place, output)?;
+    tell_sums(list, output)
+}
+
+fn tell_place(place: Option<usize>, output: &mut String) -> Told {
+    match place {
+        Some(place) => write!(output, "at {place}, "),
+        None => output.push_str("held already, "),
+    }
+}
+
+fn is_in_turn<K: Key>(list: &IntervalList<K>, place: usize, number: u64) -> &'static str {
     if place >= list.len() {
-        return Err(refusal());
+        return "refused";
     }
-    println!(rt; "{}", yes_or_no(list.is_in_turn_at(place, number as u128)))?;
-    Ok(())
+    yes_or_no(list.is_in_turn_at(place, number as u128))
 }
 
-fn take<K: Key>(rt: &HostRuntime, list: &mut IntervalList<K>, place: usize) -> Result<()> {
+fn take<K: Key>(
+    alloc: Global,
+    list: &mut IntervalList<K>,
+    place: usize,
+    output: &mut String,
+) -> Told {
     if place >= list.len() || list.total_bytes() >= 1 << 40 {
-        return Err(refusal());
+        return output.push_str("refused");
     }
     match list.pop_if_complete(place) {
         Some(interval) => {
-            let bytes = interval.total_bytes();
-            show(rt, &interval, bytes)
+            let outcome = tell(alloc, &interval, interval.total_bytes(), output);
+            drop(interval);
+            outcome
         }
-        None => {
-            println!(rt; "none")?;
-            Ok(())
-        }
+        None => output.push_str("none"),
     }
 }
 
-fn next<K: Key>(rt: &HostRuntime, list: &mut IntervalList<K>, number: u64) -> Result<()> {
+fn next<K: Key>(
+    alloc: Global,
+    list: &mut IntervalList<K>,
+    number: u64,
+    output: &mut String,
+) -> Told {
     if list.total_bytes() >= 1 << 40 {
-        return Err(refusal());
+        return output.push_str("refused");
     }
     match list.pop_front_if_complete_and(number as u128) {
         Some(interval) => {
-            let bytes = interval.total_bytes();
-            show(rt, &interval, bytes)
+            let outcome = tell(alloc, &interval, interval.total_bytes(), output);
+            drop(interval);
+            outcome
         }
-        None => {
-            println!(rt; "none")?;
-            Ok(())
-        }
+        None => output.push_str("none"),
     }
 }
 
-fn show<K: Key>(rt: &HostRuntime, interval: &Interval<K>, bytes: usize) -> Result<()> {
-    let (first, last) = (interval.first().key, interval.last().key);
-    print!(rt;
-        "{}/{} to {}/{}",
-        first.number(),
-        first.place(),
-        last.number(),
-        last.place()
-    )?;
-    let number = first.number() as u128;
-    let is_turn = yes_or_no(interval.is_in_turn(number));
-    let is_early = yes_or_no(interval.is_in_turn(number + 1));
-    print!(rt; ", complete {}", yes_or_no(interval.is_complete()))?;
-    print!(rt; ", in turn {is_turn}, at the next number {is_early}")?;
-    let payload = interval.collect_payload(rt.alloc())?;
-    println!(rt; ", bytes {bytes}: {}", hex::encode(rt.alloc(), payload)?)?;
-    Ok(())
+fn tell<K: Key>(alloc: Global, interval: &Interval<K>, bytes: usize, output: &mut String) -> Told {
+    tell_ends(interval.first().key, interval.last().key, output)?;
+    tell_turn(interval, interval.first().key.number(), output)?;
+    write!(output, ", bytes {bytes}: ")?;
+    let payload = interval.collect_payload(alloc)?;
+    tell_bytes(alloc, &payload, output)
+}
+
+fn tell_ends<K: Key>(first: K, last: K, output: &mut String) -> Told {
+    let (number, place) = (first.number(), first.place());
+    let (last_number, last_place) = (last.number(), last.place());
+    write!(output, "{number}/{place} to {last_number}/{last_place}")
+}
+
+fn tell_turn<K: Key>(interval: &Interval<K>, number: u64, output: &mut String) -> Told {
+    let is_complete = yes_or_no(interval.is_complete());
+    let is_turn = yes_or_no(interval.is_in_turn(number as u128));
+    let is_early = yes_or_no(interval.is_in_turn(number as u128 + 1));
+    write!(
+        output,
+        ", complete {is_complete}, in turn {is_turn}, at the next number {is_early}"
+    )
 }

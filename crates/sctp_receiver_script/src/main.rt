@@ -10,7 +10,7 @@
 //! - `list KEY`: intervals of fragments, with keys `tsn`, `fsn` or `mid`;
 //! - `ordered KEY [NEXT]`, `unordered KEY`: one stream, with keys `tsn` or `fsn`.
 //!
-//! A line that is no command is told with a `?`.
+//! A command that isn't known changes nothing, and one that can't be done is answered by `refused`, or changes nothing.
 #![tactic(auto)]
 
 mod list;
@@ -22,46 +22,44 @@ mod streams;
 mod tracker;
 mod words;
 
-use anyhow::Result;
-use words::refusal;
+use std::alloc::Global;
+use std::io;
+use words::{Told, word};
 
 /// Runs a script on what its first line names.
-fn begin(rt: &HostRuntime, words: &[&str], script: &str) -> Result<()> {
-    let Some((name, rest)) = words.split_first() else {
-        return Ok(());
-    };
-    match *name {
-        "tracker" => tracker::run(rt, rest, script),
-        "queue" => queue::run(rt, rest, script),
-        "streams" => streams::run(rt, rest, script),
-        "list" => list::run(rt, rest, script),
-        "ordered" => stream::run_ordered(rt, rest, script),
-        "unordered" => stream::run_unordered(rt, rest, script),
-        _ => Err(refusal()),
+fn begin(alloc: Global, words: &[&str], script: &str, output: &mut String) -> Told {
+    match word(words, 0) {
+        "tracker" => tracker::run(alloc, words, script, output),
+        "queue" => queue::run(alloc, words, script, output),
+        "streams" => streams::run(alloc, words, script, output),
+        "list" => list::run(alloc, words, script, output),
+        "ordered" => stream::run_ordered(alloc, words, script, output),
+        "unordered" => stream::run_unordered(alloc, words, script, output),
+        _ => output.push_str("?\n"),
     }
 }
 
-fn answer(rt: &HostRuntime, script: &str) -> Result<()> {
-    let (line, rest) = script.split_once('\n').unwrap_or((script, ""));
-    let words: Vec<&str> = line.split_whitespace().collect(rt.alloc())?;
-    if let Err(fault) = begin(rt, &words, rest) {
-        println!(rt; "? {line}: {fault}")?;
+fn run_section(alloc: Global, section: &str, output: &mut String) -> Told {
+    let (title, rest) = section.split_once('\n').unwrap_or((section, ""));
+    let (head, script) = rest.split_once('\n').unwrap_or((rest, ""));
+    let words: Vec<&str> = head.split_whitespace().collect(alloc)?;
+    writeln!(output, "#{title}")?;
+    begin(alloc, &words, script, output)
+}
+
+fn run_sections(alloc: Global, sections: &str, output: &mut String) -> Told {
+    for section in sections.split('#') {
+        if !section.is_empty() {
+            run_section(alloc, section, output)?;
+        }
     }
     Ok(())
 }
 
-fn main(rt: HostRuntime) -> Result<()> {
-    let mut script = String::new(rt.alloc());
-    for line in rt.lines(rt.alloc()) {
-        let line = line?;
-        if line.starts_with('#') {
-            answer(&rt, &script)?;
-            script.clear();
-            println!(rt; "{line}")?;
-        } else {
-            script.push_str(&line)?;
-            script.push('\n')?;
-        }
-    }
-    answer(&rt, &script)
+fn main(rt: HostRuntime) -> anyhow::Result<()> {
+    let sections = io::read_to_string(rt.alloc(), rt.reader())?;
+    let mut output = String::new(rt.alloc());
+    run_sections(rt.alloc(), &sections, &mut output)?;
+    print!(rt; "{output}")?;
+    Ok(())
 }

@@ -1,27 +1,35 @@
 //! What takes commands.
 
-use anyhow::Result;
+use crate::words::Told;
+use std::alloc::Global;
 
 /// What a script runs on.
 pub trait Player {
-    /// Takes a command, and prints what it answers.
-    fn play(&mut self, rt: &HostRuntime, name: &str, words: &[&str]) -> Result<()>;
+    /// Takes a command, and writes what it answers, if anything.
+    fn play(&mut self, alloc: Global, words: &[&str], output: &mut String) -> Told;
 }
 
-fn play_words<P: Player>(rt: &HostRuntime, player: &mut P, words: &[&str]) -> Result<()> {
-    match words.split_first() {
-        Some((name, rest)) => player.play(rt, name, rest),
-        None => Ok(()),
+// An answer is a line.
+fn play_line<P: Player>(alloc: Global, player: &mut P, line: &str, output: &mut String) -> Told {
+    let words: Vec<&str> = line.split_whitespace().collect(alloc)?;
+    let length = output.len();
+    player.play(alloc, &words, output)?;
+    if output.len() == length {
+        Ok(())
+    } else {
+        output.push_str("\n")
     }
 }
 
 /// Takes each line of a script.
-pub fn play_each<P: Player>(rt: &HostRuntime, player: &mut P, script: &str) -> Result<()> {
+pub fn play_each<P: Player>(
+    alloc: Global,
+    player: &mut P,
+    script: &str,
+    output: &mut String,
+) -> Told {
     for line in script.lines() {
-        let words: Vec<&str> = line.split_whitespace().collect(rt.alloc())?;
-        if let Err(fault) = play_words(rt, player, &words) {
-            println!(rt; "? {line}: {fault}")?;
-        }
+        play_line(alloc, player, line, output)?;
     }
     Ok(())
 }

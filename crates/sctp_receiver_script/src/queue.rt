@@ -5,15 +5,14 @@ ghost use Rattle.sctp_state.specs.Handover.{receive_of};
 ghost use Rattle.sctp_state.specs.Validity.{is_valid_reception};
 
 use crate::player::{Player, play_each};
-use crate::receiver::{Receiver, show_sums, takes};
-use crate::words::{number_of_32_bits, refusal, stream_ids, word, yes_or_no};
-use anyhow::Result;
+use crate::receiver::{Receiver, take, tell_sums};
+use crate::words::{Told, stream_ids, whole, word, yes_or_no};
 use sctp_packet::{Data, SkippedStream};
 use sctp_rx::ReassemblyQueue;
 use sctp_serial::{Message, StreamId, Tsn};
 use sctp_state::SocketHandoverState;
-use sctp_state::api::handover::HandoverSocketState;
-use std::alloc::Global;
+use sctp_state::api::handover::{HandoverReceive, HandoverSocketState};
+use std::alloc::{AllocError, Global};
 
 /// A queue, and what it wrote for a handover.
 #[derive(Drop)]
@@ -24,15 +23,15 @@ struct Queue {
 }
 
 /// Takes the commands of a script on a queue.
-pub fn run(rt: &HostRuntime, words: &[&str], script: &str) -> Result<()> {
-    let is_interleaved = word(words, 0)? == "interleaved";
-    let max_size = number_of_32_bits(words, 1)?;
+pub fn run(alloc: Global, words: &[&str], script: &str, output: &mut String) -> Told {
+    let is_interleaved = word(words, 1) == "interleaved";
+    let max_size = whole(word(words, 2));
     let mut queue = Queue {
-        queue: ReassemblyQueue::new(rt.alloc(), max_size as usize, is_interleaved),
-        state: record(rt.alloc(), is_interleaved),
+        queue: ReassemblyQueue::new(alloc, max_size as usize, is_interleaved),
+        state: record(alloc, is_interleaved),
         max_size,
     };
-    let outcome = play_each(rt, &mut queue, script);
+    let outcome = play_each(alloc, &mut queue, script, output);
     drop(queue);
     outcome
 }
@@ -61,20 +60,27 @@ fn is_valid(state: &SocketHandoverState) -> bool
 }
 
 impl Receiver for ReassemblyQueue {
-    fn add(&mut self, tsn: u64, fragment: Data) -> Result<()> {
-        let tsn = u32::try_from(tsn)?;
+    fn add(&mut self, tsn: u64, fragment: Data) -> Result<(), AllocError> {
+        let tsn = Tsn(u32::try_from(tsn).unwrap_or(u32::MAX));
         if self.queued_bytes() >= 1 << 40 || fragment.payload.len() >= 1 << 40 {
-            return Err(refusal());
+            drop(fragment);
+            return Ok(());
         }
-        Ok(self.add(Tsn(tsn), fragment)?)
+        self.add(tsn, fragment)
     }
 
-    fn forward(&mut self, _alloc: Global, tsn: u64, entries: &[SkippedStream]) -> Result<()> {
-        Ok(self.handle_forward_tsn(Tsn(u32::try_from(tsn)?), entries)?)
+    fn forward(
+        &mut self,
+        _alloc: Global,
+        tsn: u64,
+        entries: &[SkippedStream],
+    ) -> Result<(), AllocError> {
+        let tsn = Tsn(u32::try_from(tsn).unwrap_or(u32::MAX));
+        self.handle_forward_tsn(tsn, entries)
     }
 
-    fn reset(&mut self, ids: &[StreamId]) -> Result<()> {
-        Ok(self.reset_streams_and_leave_deferred_reset(ids)?)
+    fn reset(&mut self, ids: &[StreamId]) -> Result<(), AllocError> {
+        self.reset_streams_and_leave_deferred_reset(ids)
     }
 
     fn next(&mut self) -> Option<Message> {
@@ -95,75 +101,65 @@ impl Receiver for ReassemblyQueue {
 }
 
 impl Player for Queue {
-    fn play(&mut self, rt: &HostRuntime, name: &str, words: &[&str]) -> Result<()> {
-        let is_done = takes(rt, &mut self.queue, name, words)? || self.takes(rt, name, words)?;
-        if is_done { Ok(()) } else { Err(refusal()) }
+    /// `defer TSN STREAM ..`; `sizes`; `readiness`; `write`; `restore`; and what streams take too.
+    fn play(&mut self, alloc: Global, words: &[&str], output: &mut String) -> Told {
+        match word(words, 0) {
+            "defer" => self.defer(alloc, words, output),
+            "sizes" => tell_sizes(&self.queue, output),
+            "readiness" => write!(output, "[{}]", self.queue.get_handover_readiness()),
+            "write" => self.write(output),
+            "restore" => self.restore(alloc, output),
+            _ => take(alloc, &mut self.queue, words, output),
+        }
     }
 }
 
 impl Queue {
-    fn takes(&mut self, rt: &HostRuntime, name: &str, words: &[&str]) -> Result<bool> {
-        match name {
-            "defer" => self.defer(rt, words)?,
-            "sizes" => show_sizes(rt, &self.queue)?,
-            "readiness" => println!(rt; "[{}]", self.queue.get_handover_readiness())?,
-            "write" => self.write(rt)?,
-            "restore" => self.restore(rt)?,
-            _ => return Ok(false),
-        }
-        Ok(true)
+    fn defer(&mut self, alloc: Global, words: &[&str], output: &mut String) -> Told {
+        let ids = stream_ids(alloc, words, 2)?;
+        self.queue
+            .enter_deferred_reset(Tsn(whole(word(words, 1))), &ids)?;
+        tell_sums(&self.queue, output)
     }
 
-    fn defer(&mut self, rt: &HostRuntime, words: &[&str]) -> Result<()> {
-        let last = Tsn(number_of_32_bits(words, 0)?);
-        let ids = stream_ids(rt.alloc(), words.get(1..).unwrap_or(&[]))?;
-        self.queue.enter_deferred_reset(last, &ids)?;
-        show_sums(rt, &self.queue)
-    }
-
-    fn write(&mut self, rt: &HostRuntime) -> Result<()> {
+    fn write(&mut self, output: &mut String) -> Told {
         self.queue.add_to_handover_state(&mut self.state)?;
-        show_record(rt, &self.state)
+        tell_record(&self.state.rx, output)
     }
 
     // A new queue takes up what was written.
-    fn restore(&mut self, rt: &HostRuntime) -> Result<()> {
+    fn restore(&mut self, alloc: Global, output: &mut String) -> Told {
         if !is_valid(&self.state) {
-            return Err(refusal());
+            return output.push_str("refused");
         }
         let is_interleaved = self.state.capabilities.message_interleaving;
-        let mut other = ReassemblyQueue::new(rt.alloc(), self.max_size as usize, is_interleaved);
+        let mut other = ReassemblyQueue::new(alloc, self.max_size as usize, is_interleaved);
         let outcome = other.restore_from_state(&self.state);
         drop(std::mem::replace(&mut self.queue, other));
         outcome?;
-        show_sums(rt, &self.queue)
+        tell_sums(&self.queue, output)
     }
 }
 
 // The streams with their next numbers, then those of unordered messages.
-fn show_record(rt: &HostRuntime, state: &SocketHandoverState) -> Result<()> {
-    print!(rt; "ordered")?;
-    for stream in &state.rx.ordered_streams {
-        print!(rt; " {}:{}", stream.id, stream.next_ssn)?;
+fn tell_record(rx: &HandoverReceive, output: &mut String) -> Told {
+    output.push_str("ordered")?;
+    for stream in &rx.ordered_streams {
+        write!(output, " {}:{}", stream.id, stream.next_ssn)?;
     }
-    print!(rt; " unordered")?;
-    for stream in &state.rx.unordered_streams {
-        print!(rt; " {}", stream.id)?;
+    output.push_str(" unordered")?;
+    for stream in &rx.unordered_streams {
+        write!(output, " {}", stream.id)?;
     }
-    println!(rt; "")?;
     Ok(())
 }
 
-fn show_sizes(rt: &HostRuntime, queue: &ReassemblyQueue) -> Result<()> {
-    print!(rt;
-        "became ready {}, left {}",
-        queue.rx_messages_count(),
-        queue.remaining_bytes()
-    )?;
+fn tell_sizes(queue: &ReassemblyQueue, output: &mut String) -> Told {
+    let (count, left) = (queue.rx_messages_count(), queue.remaining_bytes());
     let is_above = yes_or_no(queue.is_above_watermark());
-    println!(rt;
-        ", above watermark {is_above}, full {}",
-        yes_or_no(queue.is_full())
-    )?;
-    Ok(())
+    let is_full = yes_or_no(queue.is_full());
+    write!(
+        output,
+        "became ready {count}, left {left}, above watermark {is_above}, full {is_full}"
+    )
 }

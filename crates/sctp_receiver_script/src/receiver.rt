@@ -1,18 +1,22 @@
 //! What takes fragments and makes messages of them: a queue, or streams on their own.
 
-use crate::words::{entries, fragment_of, message_text, number, stream_ids};
-use anyhow::Result;
+use crate::words::{Told, entries, fragment_of, number, stream_ids, tell_message, word};
 use sctp_packet::{Data, SkippedStream};
 use sctp_serial::{Message, StreamId};
-use std::alloc::Global;
+use std::alloc::{AllocError, Global};
 
-/// Fragments of all streams, and the messages that are ready.
+/// Fragments of all streams, and the messages that are ready. What there is no room for is not taken.
 pub trait Receiver {
-    fn add(&mut self, tsn: u64, fragment: Data) -> Result<()>;
+    fn add(&mut self, tsn: u64, fragment: Data) -> Result<(), AllocError>;
 
-    fn forward(&mut self, alloc: Global, tsn: u64, entries: &[SkippedStream]) -> Result<()>;
+    fn forward(
+        &mut self,
+        alloc: Global,
+        tsn: u64,
+        entries: &[SkippedStream],
+    ) -> Result<(), AllocError>;
 
-    fn reset(&mut self, ids: &[StreamId]) -> Result<()>;
+    fn reset(&mut self, ids: &[StreamId]) -> Result<(), AllocError>;
 
     fn next(&mut self) -> Option<Message>;
 
@@ -25,80 +29,53 @@ pub trait Receiver {
     fn bytes(&self) -> usize;
 }
 
-// The message, and a space behind it.
-fn show_message(rt: &HostRuntime, message: Option<&Message>) -> Result<()> {
-    match message {
-        Some(message) => print!(rt; "{}", message_text(rt.alloc(), message)?)?,
-        None => print!(rt; "none")?,
-    }
-    Ok(())
+/// Takes the next message that is ready, and tells it.
+pub fn tell_next(alloc: Global, message: Option<Message>, output: &mut String) -> Told {
+    let outcome = tell_message(alloc, message.as_ref(), output);
+    drop(message);
+    outcome
 }
 
-/// Takes the next message that is ready, and prints it.
-pub fn show_next<R: Receiver>(rt: &HostRuntime, receiver: &mut R) -> Result<()> {
-    let message = receiver.next();
-    show_message(rt, message.as_ref())
+/// Tells how many messages are ready, and how many bytes are held.
+pub fn tell_sums<R: Receiver>(receiver: &R, output: &mut String) -> Told {
+    let (count, bytes) = (receiver.len(), receiver.bytes());
+    write!(output, "ready {count}, bytes {bytes}")
 }
 
-fn add<R: Receiver>(rt: &HostRuntime, receiver: &mut R, words: &[&str]) -> Result<()> {
-    let tsn = number(words, 0)?;
-    let fragment = fragment_of(rt.alloc(), words.get(1..).unwrap_or(&[]))?;
-    receiver.add(tsn, fragment)
+fn forward<R: Receiver>(alloc: Global, receiver: &mut R, words: &[&str]) -> Told {
+    let entries = entries(alloc, words)?;
+    receiver.forward(alloc, number(words, 1), &entries)
 }
 
-fn forward<R: Receiver>(rt: &HostRuntime, receiver: &mut R, words: &[&str]) -> Result<()> {
-    let tsn = number(words, 0)?;
-    let entries = entries(rt.alloc(), words.get(1..).unwrap_or(&[]))?;
-    receiver.forward(rt.alloc(), tsn, &entries)
-}
-
-fn reset<R: Receiver>(rt: &HostRuntime, receiver: &mut R, words: &[&str]) -> Result<()> {
-    let ids = stream_ids(rt.alloc(), words)?;
+fn reset<R: Receiver>(alloc: Global, receiver: &mut R, words: &[&str]) -> Told {
+    let ids = stream_ids(alloc, words, 1)?;
     receiver.reset(&ids)
 }
 
-/// Prints how many messages are ready, and how many bytes are held.
-pub fn show_sums<R: Receiver>(rt: &HostRuntime, receiver: &R) -> Result<()> {
-    println!(rt; "ready {}, bytes {}", receiver.len(), receiver.bytes())?;
-    Ok(())
+// `add TSN STREAM NUMBER FSN ENDS HEX`, `forward TSN ENTRY ..`, `reset STREAM ..`.
+fn change<R: Receiver>(alloc: Global, receiver: &mut R, words: &[&str]) -> Told {
+    match word(words, 0) {
+        "add" => receiver.add(number(words, 1), fragment_of(alloc, words)?),
+        "forward" => forward(alloc, receiver, words),
+        "reset" => reset(alloc, receiver, words),
+        _ => Ok(()),
+    }
 }
 
-// Takes a command that is answered by how much there is, if it is one.
-fn changes<R: Receiver>(
-    rt: &HostRuntime,
+/// Takes a command that a queue and streams have: `next`, `ready PLACE`, and changes, which are answered by how much there is then, as is
+/// `sums`.
+pub fn take<R: Receiver>(
+    alloc: Global,
     receiver: &mut R,
-    name: &str,
     words: &[&str],
-) -> Result<bool> {
-    match name {
-        "add" => add(rt, receiver, words)?,
-        "forward" => forward(rt, receiver, words)?,
-        "reset" => reset(rt, receiver, words)?,
-        "sums" => {}
-        _ => return Ok(false),
-    }
-    show_sums(rt, receiver)?;
-    Ok(true)
-}
-
-/// Takes a command, if it is one of those that a queue and streams have.
-pub fn takes<R: Receiver>(
-    rt: &HostRuntime,
-    receiver: &mut R,
-    name: &str,
-    words: &[&str],
-) -> Result<bool> {
-    if changes(rt, receiver, name, words)? {
-        return Ok(true);
-    }
-    match name {
-        "next" => show_next(rt, receiver)?,
-        "ready" => {
-            let place = usize::try_from(number(words, 0)?)?;
-            show_message(rt, receiver.ready(place))?;
+    output: &mut String,
+) -> Told {
+    match word(words, 0) {
+        "next" => tell_next(alloc, receiver.next(), output),
+        "ready" => tell_message(alloc, receiver.ready(number(words, 1) as usize), output),
+        _ => {
+            change(alloc, receiver, words)?;
+            tell_sums(receiver, output)
         }
-        _ => return Ok(false),
     }
-    println!(rt; "")?;
-    Ok(true)
 }

@@ -3,15 +3,18 @@
 ghost use Rattle.std.specs.Prelude.{◌≡◌, ◌+◌, ◌<◌, ◌^◌, IsTrue};
 ghost use Rattle.sctp_rx.specs.Delivery.{ready_bytes};
 
-use crate::list::piece;
 use crate::player::{Player, play_each};
-use crate::words::{message_text, number, refusal, word, yes_or_no};
-use anyhow::Result;
+use crate::receiver::tell_next;
+use crate::words::{Told, number, piece, word, yes_or_no};
 use sctp_packet::Data;
 use sctp_rx::{
     InterleavedKey, ReadyMessages, TraditionalKey, UnorderedInterleavedKey,
     interleaved_reassembly_streams as interleaved, traditional_reassembly_streams as traditional,
 };
+use std::alloc::{AllocError, Global};
+
+/// The first number.
+const FIRST: u64 = 1 << 32;
 
 /// Whether the sums of bytes are small.
 pub fn have_room(held: usize, ready: &ReadyMessages) -> bool
@@ -20,7 +23,7 @@ pub fn have_room(held: usize, ready: &ReadyMessages) -> bool
     held < 1 << 40 && ready.total_bytes() < 1 << 40
 }
 
-/// A stream of either kind and form. Numbers count from 2^32 on.
+/// A stream of either kind and form. Numbers count from 2^32 on. What there is no room for is not taken.
 trait Stream {
     /// Takes a fragment.
     fn add(
@@ -29,13 +32,18 @@ trait Stream {
         index: u64,
         fragment: Data,
         ready: &mut ReadyMessages,
-    ) -> Result<()>;
+    ) -> Result<(), AllocError>;
 
     /// Takes a forward point to what is below the key.
-    fn forward(&mut self, number: u64, index: u64, ready: &mut ReadyMessages) -> Result<()>;
+    fn forward(
+        &mut self,
+        number: u64,
+        index: u64,
+        ready: &mut ReadyMessages,
+    ) -> Result<(), AllocError>;
 
     /// Drops what is below the key. Of an unordered stream alone.
-    fn drop_below(&mut self, number: u64, index: u64) -> Result<()>;
+    fn drop_below(&mut self, number: u64, index: u64);
 
     /// The next number of an ordered stream, the last one that came of another; whether anything is held, and how many
     /// bytes.
@@ -49,23 +57,27 @@ impl Stream for traditional::OrderedStream {
         index: u64,
         fragment: Data,
         ready: &mut ReadyMessages,
-    ) -> Result<()> {
+    ) -> Result<(), AllocError> {
         if !have_room(self.queued_bytes(), ready) || fragment.payload.len() >= 1 << 40 {
-            return Err(refusal());
+            drop(fragment);
+            return Ok(());
         }
-        Ok(self.add(TraditionalKey { number, index }, fragment, ready)?)
+        self.add(TraditionalKey { number, index }, fragment, ready)
     }
 
-    fn forward(&mut self, number: u64, index: u64, ready: &mut ReadyMessages) -> Result<()> {
+    fn forward(
+        &mut self,
+        number: u64,
+        index: u64,
+        ready: &mut ReadyMessages,
+    ) -> Result<(), AllocError> {
         if !have_room(self.queued_bytes(), ready) {
-            return Err(refusal());
+            return Ok(());
         }
-        Ok(self.forward(TraditionalKey { number, index }, ready)?)
+        self.forward(TraditionalKey { number, index }, ready)
     }
 
-    fn drop_below(&mut self, _number: u64, _index: u64) -> Result<()> {
-        Err(refusal())
-    }
+    fn drop_below(&mut self, _number: u64, _index: u64) {}
 
     fn state(&self) -> (u128, bool, usize) {
         (self.next(), self.is_held(), self.queued_bytes())
@@ -79,23 +91,27 @@ impl Stream for interleaved::OrderedStream {
         index: u64,
         fragment: Data,
         ready: &mut ReadyMessages,
-    ) -> Result<()> {
+    ) -> Result<(), AllocError> {
         if !have_room(self.queued_bytes(), ready) || fragment.payload.len() >= 1 << 40 {
-            return Err(refusal());
+            drop(fragment);
+            return Ok(());
         }
-        Ok(self.add(InterleavedKey { number, index }, fragment, ready)?)
+        self.add(InterleavedKey { number, index }, fragment, ready)
     }
 
-    fn forward(&mut self, number: u64, index: u64, ready: &mut ReadyMessages) -> Result<()> {
+    fn forward(
+        &mut self,
+        number: u64,
+        index: u64,
+        ready: &mut ReadyMessages,
+    ) -> Result<(), AllocError> {
         if !have_room(self.queued_bytes(), ready) {
-            return Err(refusal());
+            return Ok(());
         }
-        Ok(self.forward(InterleavedKey { number, index }, ready)?)
+        self.forward(InterleavedKey { number, index }, ready)
     }
 
-    fn drop_below(&mut self, _number: u64, _index: u64) -> Result<()> {
-        Err(refusal())
-    }
+    fn drop_below(&mut self, _number: u64, _index: u64) {}
 
     fn state(&self) -> (u128, bool, usize) {
         (self.next(), self.is_held(), self.queued_bytes())
@@ -109,25 +125,29 @@ impl Stream for traditional::UnorderedStream {
         index: u64,
         fragment: Data,
         ready: &mut ReadyMessages,
-    ) -> Result<()> {
+    ) -> Result<(), AllocError> {
         let has_room = have_room(self.queued_bytes(), ready);
         if !has_room || fragment.payload.len() >= 1 << 40 || number >= 1 << 63 {
-            return Err(refusal());
+            drop(fragment);
+            return Ok(());
         }
-        Ok(self.add(TraditionalKey { number, index }, fragment, ready)?)
+        self.add(TraditionalKey { number, index }, fragment, ready)
     }
 
-    fn forward(&mut self, number: u64, index: u64, _ready: &mut ReadyMessages) -> Result<()> {
-        if number == 0 || number >= 1 << 63 {
-            return Err(refusal());
+    fn forward(
+        &mut self,
+        number: u64,
+        index: u64,
+        _ready: &mut ReadyMessages,
+    ) -> Result<(), AllocError> {
+        if number > 0 && number < 1 << 63 {
+            self.forward(TraditionalKey { number, index });
         }
-        self.forward(TraditionalKey { number, index });
         Ok(())
     }
 
-    fn drop_below(&mut self, number: u64, index: u64) -> Result<()> {
+    fn drop_below(&mut self, number: u64, index: u64) {
         self.forward_to(TraditionalKey { number, index });
-        Ok(())
     }
 
     fn state(&self) -> (u128, bool, usize) {
@@ -142,25 +162,29 @@ impl Stream for interleaved::UnorderedStream {
         index: u64,
         fragment: Data,
         ready: &mut ReadyMessages,
-    ) -> Result<()> {
+    ) -> Result<(), AllocError> {
         let has_room = have_room(self.queued_bytes(), ready);
         if !has_room || fragment.payload.len() >= 1 << 40 || number >= 1 << 63 {
-            return Err(refusal());
+            drop(fragment);
+            return Ok(());
         }
-        Ok(self.add(UnorderedInterleavedKey { number, index }, fragment, ready)?)
+        self.add(UnorderedInterleavedKey { number, index }, fragment, ready)
     }
 
-    fn forward(&mut self, number: u64, index: u64, _ready: &mut ReadyMessages) -> Result<()> {
-        if number == 0 || number >= 1 << 63 {
-            return Err(refusal());
+    fn forward(
+        &mut self,
+        number: u64,
+        index: u64,
+        _ready: &mut ReadyMessages,
+    ) -> Result<(), AllocError> {
+        if number > 0 && number < 1 << 63 {
+            self.forward(UnorderedInterleavedKey { number, index });
         }
-        self.forward(UnorderedInterleavedKey { number, index });
         Ok(())
     }
 
-    fn drop_below(&mut self, number: u64, index: u64) -> Result<()> {
+    fn drop_below(&mut self, number: u64, index: u64) {
         self.forward_to(UnorderedInterleavedKey { number, index });
-        Ok(())
     }
 
     fn state(&self) -> (u128, bool, usize) {
@@ -176,95 +200,106 @@ struct Alone<S> {
 }
 
 /// Takes the commands of a script on an ordered stream.
-pub fn run_ordered(rt: &HostRuntime, words: &[&str], script: &str) -> Result<()> {
-    let alloc = rt.alloc();
-    let next = if words.len() > 1 {
-        number(words, 1)?
+pub fn run_ordered(alloc: Global, words: &[&str], script: &str, output: &mut String) -> Told {
+    let next = if words.len() > 2 {
+        number(words, 2)
     } else {
-        1 << 32
+        FIRST
     };
-    if next < 1 << 32 {
-        return Err(refusal());
+    if next < FIRST {
+        return output.push_str("refused\n");
     }
-    match (word(words, 0)?, words.len()) {
-        ("tsn", 1) => run_on(rt, traditional::OrderedStream::new(alloc), script),
+    match (word(words, 1), words.len()) {
+        ("tsn", 2) => run_on(
+            alloc,
+            traditional::OrderedStream::new(alloc),
+            script,
+            output,
+        ),
+        ("fsn", 2) => run_on(
+            alloc,
+            interleaved::OrderedStream::new(alloc),
+            script,
+            output,
+        ),
         ("tsn", _) => run_on(
-            rt,
+            alloc,
             traditional::OrderedStream::restored(alloc, next as u128),
             script,
+            output,
         ),
-        ("fsn", 1) => run_on(rt, interleaved::OrderedStream::new(alloc), script),
-        ("fsn", _) => run_on(
-            rt,
+        _ => run_on(
+            alloc,
             interleaved::OrderedStream::restored(alloc, next as u128),
             script,
+            output,
         ),
-        _ => Err(refusal()),
     }
 }
 
 /// Takes the commands of a script on an unordered stream.
-pub fn run_unordered(rt: &HostRuntime, words: &[&str], script: &str) -> Result<()> {
-    match word(words, 0)? {
-        "tsn" => run_on(rt, traditional::UnorderedStream::new(rt.alloc()), script),
-        "fsn" => run_on(rt, interleaved::UnorderedStream::new(rt.alloc()), script),
-        _ => Err(refusal()),
+pub fn run_unordered(alloc: Global, words: &[&str], script: &str, output: &mut String) -> Told {
+    match word(words, 1) {
+        "tsn" => run_on(
+            alloc,
+            traditional::UnorderedStream::new(alloc),
+            script,
+            output,
+        ),
+        _ => run_on(
+            alloc,
+            interleaved::UnorderedStream::new(alloc),
+            script,
+            output,
+        ),
     }
 }
 
-fn run_on<S: Stream + Drop>(rt: &HostRuntime, stream: S, script: &str) -> Result<()> {
+fn run_on<S: Stream + Drop>(alloc: Global, stream: S, script: &str, output: &mut String) -> Told {
     let mut alone = Alone {
         stream,
-        ready: ReadyMessages::new(rt.alloc()),
+        ready: ReadyMessages::new(alloc),
     };
-    let outcome = play_each(rt, &mut alone, script);
+    let outcome = play_each(alloc, &mut alone, script, output);
     drop(alone);
     outcome
 }
 
 impl<S: Stream> Player for Alone<S> {
-    fn play(&mut self, rt: &HostRuntime, name: &str, words: &[&str]) -> Result<()> {
-        match name {
-            "add" => self.add(rt, words)?,
-            "forward" => self.forward(words)?,
-            "drop" => self
-                .stream
-                .drop_below(number(words, 0)?, number(words, 1)?)?,
-            "next" => return self.next(rt),
-            "state" => {}
-            _ => return Err(refusal()),
+    /// `next`; and changes, which are answered by the state, as is `state`.
+    fn play(&mut self, alloc: Global, words: &[&str], output: &mut String) -> Told {
+        if word(words, 0) == "next" {
+            return tell_next(alloc, self.ready.pop(), output);
         }
-        self.show(rt)
+        self.change(alloc, words)?;
+        self.tell(output)
     }
 }
 
 impl<S: Stream> Alone<S> {
-    // `add NUMBER INDEX ENDS HEX`.
-    fn add(&mut self, rt: &HostRuntime, words: &[&str]) -> Result<()> {
-        let (number, index) = (number(words, 0)?, number(words, 1)?);
-        let fragment = piece(rt.alloc(), words.get(2..).unwrap_or(&[]))?;
-        self.stream.add(number, index, fragment, &mut self.ready)
-    }
-
-    // `forward NUMBER INDEX`.
-    fn forward(&mut self, words: &[&str]) -> Result<()> {
-        let (number, index) = (number(words, 0)?, number(words, 1)?);
-        self.stream.forward(number, index, &mut self.ready)
-    }
-
-    fn next(&mut self, rt: &HostRuntime) -> Result<()> {
-        match self.ready.pop() {
-            Some(message) => println!(rt; "{}", message_text(rt.alloc(), &message)?)?,
-            None => println!(rt; "none")?,
+    // `add NUMBER INDEX ENDS HEX`, `forward NUMBER INDEX`, `drop NUMBER INDEX`.
+    fn change(&mut self, alloc: Global, words: &[&str]) -> Result<(), AllocError> {
+        let (number, index) = (number(words, 1), number(words, 2));
+        match word(words, 0) {
+            "add" => {
+                let fragment = piece(alloc, words)?;
+                self.stream.add(number, index, fragment, &mut self.ready)
+            }
+            "forward" => self.stream.forward(number, index, &mut self.ready),
+            "drop" => {
+                self.stream.drop_below(number, index);
+                Ok(())
+            }
+            _ => Ok(()),
         }
-        Ok(())
     }
 
-    fn show(&self, rt: &HostRuntime) -> Result<()> {
+    fn tell(&self, output: &mut String) -> Told {
         let (number, is_held, bytes) = self.stream.state();
-        let ready = self.ready.len();
-        let held = yes_or_no(is_held);
-        println!(rt; "number {number}, held {held}, bytes {bytes}, ready {ready}")?;
-        Ok(())
+        let (held, ready) = (yes_or_no(is_held), self.ready.len());
+        write!(
+            output,
+            "number {number}, held {held}, bytes {bytes}, ready {ready}"
+        )
     }
 }

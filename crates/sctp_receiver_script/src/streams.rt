@@ -1,16 +1,15 @@
 //! Streams in either form.
 
 use crate::player::{Player, play_each};
-use crate::receiver::{Receiver, show_next, show_sums, takes};
+use crate::receiver::{Receiver, take, tell_next, tell_sums};
 use crate::stream::have_room;
-use crate::words::{entry, fragment, number, number_of_16_bits, refusal, stream_key, word};
-use anyhow::Result;
+use crate::words::{Told, bytes_of, entry, fragment, half, number, stream_key, value, word};
 use sctp_packet::{Data, SkippedStream};
 use sctp_rx::{
     InterleavedReassemblyStreams, ReadyMessages, ReassemblyStreams, TraditionalReassemblyStreams,
 };
 use sctp_serial::{Message, PpId, StreamId, StreamKey};
-use std::alloc::Global;
+use std::alloc::{AllocError, Global};
 
 /// A message whose fragments have one byte each, that of their TSN: they have the TSNs from the first one on.
 #[derive(Clone, Copy)]
@@ -30,48 +29,63 @@ struct Streams<S> {
 }
 
 /// Takes the commands of a script on streams.
-pub fn run(rt: &HostRuntime, words: &[&str], script: &str) -> Result<()> {
-    match word(words, 0)? {
-        "traditional" => run_on(rt, TraditionalReassemblyStreams::new(rt.alloc()), script),
-        "interleaved" => run_on(rt, InterleavedReassemblyStreams::new(rt.alloc()), script),
-        _ => Err(refusal()),
+pub fn run(alloc: Global, words: &[&str], script: &str, output: &mut String) -> Told {
+    match word(words, 1) {
+        "traditional" => run_on(
+            alloc,
+            TraditionalReassemblyStreams::new(alloc),
+            script,
+            output,
+        ),
+        _ => run_on(
+            alloc,
+            InterleavedReassemblyStreams::new(alloc),
+            script,
+            output,
+        ),
     }
 }
 
-fn run_on<S: ReassemblyStreams + Drop>(rt: &HostRuntime, streams: S, script: &str) -> Result<()> {
+fn run_on<S: ReassemblyStreams + Drop>(
+    alloc: Global,
+    streams: S,
+    script: &str,
+    output: &mut String,
+) -> Told {
     let mut streams = Streams {
         streams,
-        ready: ReadyMessages::new(rt.alloc()),
-        rows: Vec::new(rt.alloc()),
+        ready: ReadyMessages::new(alloc),
+        rows: Vec::new(alloc),
     };
-    let outcome = play_each(rt, &mut streams, script);
+    let outcome = play_each(alloc, &mut streams, script, output);
     drop(streams);
     outcome
 }
 
 impl<S: ReassemblyStreams> Receiver for Streams<S> {
-    fn add(&mut self, tsn: u64, fragment: Data) -> Result<()> {
-        let length = fragment.payload.len();
-        if tsn >= 1 << 40
-            || length >= 1 << 40
-            || !have_room(self.streams.queued_bytes(), &self.ready)
-        {
-            return Err(refusal());
+    fn add(&mut self, tsn: u64, fragment: Data) -> Result<(), AllocError> {
+        let has_room = have_room(self.streams.queued_bytes(), &self.ready);
+        if tsn >= 1 << 40 || fragment.payload.len() >= 1 << 40 || !has_room {
+            drop(fragment);
+            return Ok(());
         }
-        Ok(self.streams.add(tsn, fragment, &mut self.ready)?)
+        self.streams.add(tsn, fragment, &mut self.ready)
     }
 
-    fn forward(&mut self, alloc: Global, tsn: u64, entries: &[SkippedStream]) -> Result<()> {
+    fn forward(
+        &mut self,
+        alloc: Global,
+        tsn: u64,
+        entries: &[SkippedStream],
+    ) -> Result<(), AllocError> {
         if tsn >= 1 << 40 || !have_room(self.streams.queued_bytes(), &self.ready) {
-            return Err(refusal());
+            return Ok(());
         }
-        Ok(
-            self.streams
-                .handle_forward_tsn(alloc, tsn, entries, &mut self.ready)?,
-        )
+        self.streams
+            .handle_forward_tsn(alloc, tsn, entries, &mut self.ready)
     }
 
-    fn reset(&mut self, ids: &[StreamId]) -> Result<()> {
+    fn reset(&mut self, ids: &[StreamId]) -> Result<(), AllocError> {
         self.streams.reset_streams(ids);
         Ok(())
     }
@@ -94,89 +108,92 @@ impl<S: ReassemblyStreams> Receiver for Streams<S> {
 }
 
 impl<S: ReassemblyStreams> Player for Streams<S> {
-    fn play(&mut self, rt: &HostRuntime, name: &str, words: &[&str]) -> Result<()> {
-        let is_done = takes(rt, self, name, words)? || self.takes(rt, name, words)?;
-        if is_done { Ok(()) } else { Err(refusal()) }
+    /// `skip ENTRY`; `push STREAM HEX`: a message that is ready; `sizes`; `message STREAM NUMBER FIRST COUNT`: a message whose fragments may
+    /// come; `come TSN ..`; and what a queue takes too.
+    fn play(&mut self, alloc: Global, words: &[&str], output: &mut String) -> Told {
+        match word(words, 0) {
+            "skip" => self.skip(entry(word(words, 1)), output),
+            "push" => self.push(alloc, words, output),
+            "sizes" => tell_ready(&self.ready, output),
+            "message" => self.name(row_of(words)),
+            "come" => self.come(alloc, words, output),
+            _ => take(alloc, self, words, output),
+        }
     }
 }
 
 impl<S: ReassemblyStreams> Streams<S> {
-    fn takes(&mut self, rt: &HostRuntime, name: &str, words: &[&str]) -> Result<bool> {
-        match name {
-            "skip" => self.skip(rt, entry(word(words, 0)?)?)?,
-            "push" => self.push(rt, words)?,
-            "sizes" => self.show_ready(rt)?,
-            "message" => self.name(words)?,
-            "come" => self.come(rt, words)?,
-            _ => return Ok(false),
-        }
-        Ok(true)
-    }
-
-    fn skip(&mut self, rt: &HostRuntime, entry: SkippedStream) -> Result<()> {
+    fn skip(&mut self, entry: SkippedStream, output: &mut String) -> Told {
         if !have_room(self.streams.queued_bytes(), &self.ready) {
-            return Err(refusal());
+            return output.push_str("refused");
         }
         self.streams.skip(entry, &mut self.ready)?;
-        show_sums(rt, self)
+        tell_sums(self, output)
     }
 
-    // A message that is ready: `STREAM HEX`.
-    fn push(&mut self, rt: &HostRuntime, words: &[&str]) -> Result<()> {
-        let id = StreamId(number_of_16_bits(words, 0)?);
-        let payload = hex::decode(rt.alloc(), word(words, 1)?)?;
+    fn push(&mut self, alloc: Global, words: &[&str], output: &mut String) -> Told {
+        let payload = bytes_of(alloc, word(words, 2))?;
         if !have_room(self.streams.queued_bytes(), &self.ready) || payload.len() >= 1 << 40 {
-            return Err(refusal());
+            return output.push_str("refused");
         }
+        let id = StreamId(half(word(words, 1)));
         self.ready.push(Message::new(id, PpId(53), payload))?;
-        self.show_ready(rt)
+        tell_ready(&self.ready, output)
     }
 
-    fn show_ready(&self, rt: &HostRuntime) -> Result<()> {
-        let (count, bytes) = (self.ready.len(), self.ready.total_bytes());
-        println!(rt; "ready {count}, their bytes {bytes}")?;
-        Ok(())
-    }
-
-    // A message whose fragments may come: `STREAM NUMBER FIRST COUNT`.
-    fn name(&mut self, words: &[&str]) -> Result<()> {
-        let row = Row {
-            key: stream_key(word(words, 0)?)?,
-            number: number_of_16_bits(words, 1)?,
-            first: number(words, 2)?,
-            count: number(words, 3)?,
-        };
+    fn name(&mut self, row: Row) -> Told {
         self.rows.push(row)?;
         Ok(())
     }
 
-    // The last message that was named and has the TSN.
-    fn row_of(&self, tsn: u64) -> Result<Row> {
-        let found = self.rows.iter().rev().find(|row| row.has(tsn)).copied();
-        found.ok_or(refusal())
-    }
-
     // Fragments come: tells, for each, which messages become ready, and how many bytes are held then.
-    fn come(&mut self, rt: &HostRuntime, words: &[&str]) -> Result<()> {
-        for word in words {
-            let tsn = word.parse::<u64>()?;
-            let row = self.row_of(tsn)?;
-            let fragment = row.fragment(rt.alloc(), tsn)?;
-            self.add(tsn, fragment)?;
-            self.take_all(rt)?;
+    fn come(&mut self, alloc: Global, words: &[&str], output: &mut String) -> Told {
+        for word in words.iter().skip(1) {
+            self.take_one(alloc, value(word))?;
+            self.tell_all(alloc, output)?;
         }
-        println!(rt; "")?;
         Ok(())
     }
 
-    fn take_all(&mut self, rt: &HostRuntime) -> Result<()> {
-        for _ in 0..self.ready.len() {
-            print!(rt; " ")?;
-            show_next(rt, self)?;
+    fn take_one(&mut self, alloc: Global, tsn: u64) -> Result<(), AllocError> {
+        match row_with(&self.rows, tsn) {
+            Some(row) => self.add(tsn, row.fragment(alloc, tsn)?),
+            None => Ok(()),
         }
-        print!(rt; " {}", self.bytes())?;
-        Ok(())
     }
+
+    fn tell_all(&mut self, alloc: Global, output: &mut String) -> Told {
+        for _ in 0..self.ready.len() {
+            output.push_str(" ")?;
+            tell_next(alloc, self.ready.pop(), output)?;
+        }
+        write!(output, " {}", self.streams.queued_bytes())
+    }
+}
+
+fn tell_ready(ready: &ReadyMessages, output: &mut String) -> Told {
+    let (count, bytes) = (ready.len(), ready.total_bytes());
+    write!(output, "ready {count}, their bytes {bytes}")
+}
+
+fn row_of(words: &[&str]) -> Row {
+    Row {
+        key: stream_key(word(words, 1)),
+        number: half(word(words, 2)),
+        first: number(words, 3),
+        count: number(words, 4),
+    }
+}
+
+// The last message that was named and has the TSN.
+fn row_with(rows: &[Row], tsn: u64) -> Option<Row> {
+    let mut found = None;
+    for row in rows {
+        if row.has(tsn) {
+            found = Some(*row);
+        }
+    }
+    found
 }
 
 impl Row {
@@ -184,10 +201,20 @@ impl Row {
         self.first <= tsn && tsn.saturating_sub(self.first) < self.count
     }
 
-    fn fragment(&self, alloc: Global, tsn: u64) -> Result<Data> {
-        let place = u32::try_from(tsn.saturating_sub(self.first))?;
-        let ends = (place == 0, place as u64 == self.count.saturating_sub(1));
+    fn ends(&self, place: u64) -> &'static str {
+        let is_end = place == self.count.saturating_sub(1);
+        match (place == 0, is_end) {
+            (true, true) => "be",
+            (true, false) => "b",
+            (false, true) => "e",
+            (false, false) => "-",
+        }
+    }
+
+    fn fragment(&self, alloc: Global, tsn: u64) -> Result<Data, AllocError> {
         let payload = Vec::from_slice(alloc, &[(tsn % 256) as u8])?;
-        Ok(fragment(self.key, self.number, place, ends, payload))
+        let place = tsn.saturating_sub(self.first);
+        let fsn = u32::try_from(place).unwrap_or(u32::MAX);
+        Ok(fragment(self.key, self.number, fsn, self.ends(place), payload))
     }
 }

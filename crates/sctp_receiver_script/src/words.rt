@@ -1,110 +1,136 @@
-//! The words of commands and of answers.
+//! The words of commands, of which the first one is a command's name, and of answers. A word that is missing or no number is 0.
 
-use anyhow::{Context, Error, Result, anyhow};
+use hex::FromHexError;
 use sctp_packet::{Data, SkippedStream};
 use sctp_serial::{Fsn, Message, Mid, PpId, Ssn, StreamId, StreamKey};
-use std::alloc::Global;
+use std::alloc::{AllocError, Global};
 
-/// Of a line that is no command, or of a call that must not be made.
-pub fn refusal() -> Error {
-    anyhow!("refused")
-}
+/// What becomes of an answer that is being written.
+pub type Told = Result<(), AllocError>;
 
 /// The word at the place.
-pub fn word<'a>(words: &[&'a str], place: usize) -> Result<&'a str> {
+pub fn word<'a>(words: &[&'a str], place: usize) -> &'a str {
     match words.get(place) {
-        Some(word) => Ok(*word),
-        None => Err(refusal()),
+        Some(word) => *word,
+        None => "",
     }
 }
 
-pub fn number(words: &[&str], place: usize) -> Result<u64> {
-    Ok(word(words, place)?.parse::<u64>()?)
+/// The number of 64 bits that a word says.
+pub fn value(word: &str) -> u64 {
+    word.parse::<u64>().unwrap_or(0)
 }
 
-pub fn number_of_32_bits(words: &[&str], place: usize) -> Result<u32> {
-    Ok(word(words, place)?.parse::<u32>()?)
+/// The number of 32 bits that a word says.
+pub fn whole(word: &str) -> u32 {
+    word.parse::<u32>().unwrap_or(0)
 }
 
-pub fn number_of_16_bits(words: &[&str], place: usize) -> Result<u16> {
-    Ok(word(words, place)?.parse::<u16>()?)
+/// The number of 16 bits that a word says.
+pub fn half(word: &str) -> u16 {
+    word.parse::<u16>().unwrap_or(0)
+}
+
+/// The number at the place.
+pub fn number(words: &[&str], place: usize) -> u64 {
+    value(word(words, place))
 }
 
 /// `o3` is the ordered stream 3, and `u3` the unordered one.
-pub fn stream_key(word: &str) -> Result<StreamKey> {
-    let (is_unordered, id) = match word.strip_prefix('u') {
-        Some(id) => (true, id),
-        None => (false, word.strip_prefix('o').ok_or(refusal())?),
+pub fn stream_key(word: &str) -> StreamKey {
+    let id = match word.strip_prefix('u') {
+        Some(id) => id,
+        None => word.strip_prefix('o').unwrap_or(word),
     };
-    Ok(StreamKey::new(is_unordered, StreamId(id.parse::<u16>()?)))
+    StreamKey::new(word.starts_with('u'), StreamId(half(id)))
 }
 
 /// `o3:7` or `u3:7` is an entry of I-FORWARD-TSN, `3:7` one of FORWARD-TSN.
-pub fn entry(word: &str) -> Result<SkippedStream> {
-    let (stream, number) = word.split_once(':').ok_or(refusal())?;
+pub fn entry(word: &str) -> SkippedStream {
+    let (stream, number) = word.split_once(':').unwrap_or((word, ""));
     match stream.parse::<u16>() {
-        Ok(id) => Ok(SkippedStream::ForwardTsn(StreamId(id), Ssn(number.parse::<u16>()?))),
-        Err(_) => Ok(SkippedStream::IForwardTsn(stream_key(stream)?, Mid(number.parse::<u32>()?))),
+        Ok(id) => SkippedStream::ForwardTsn(StreamId(id), Ssn(half(number))),
+        Err(_) => SkippedStream::IForwardTsn(stream_key(stream), Mid(whole(number))),
     }
 }
 
-pub fn entries(alloc: Global, words: &[&str]) -> Result<Vec<SkippedStream>> {
+/// The entries behind the first two words.
+pub fn entries(alloc: Global, words: &[&str]) -> Result<Vec<SkippedStream>, AllocError> {
     let mut entries = Vec::new(alloc);
-    for word in words {
-        entries.push(entry(word)?)?;
+    for word in words.iter().skip(2) {
+        entries.push(entry(word))?;
     }
     Ok(entries)
 }
 
-pub fn stream_ids(alloc: Global, words: &[&str]) -> Result<Vec<StreamId>> {
+/// The streams from the place on.
+pub fn stream_ids(
+    alloc: Global,
+    words: &[&str],
+    place: usize,
+) -> Result<Vec<StreamId>, AllocError> {
     let mut ids = Vec::new(alloc);
-    for word in words {
-        ids.push(StreamId(word.parse::<u16>()?))?;
+    for word in words.iter().skip(place) {
+        ids.push(StreamId(half(word)))?;
     }
     Ok(ids)
 }
 
-/// A fragment of message `number`, with a protocol id where the message begins.
-pub fn fragment(
-    stream_key: StreamKey,
-    number: u16,
-    fsn: u32,
-    ends: (bool, bool),
-    payload: Vec<u8>,
-) -> Data {
-    Data {
-        stream_key,
-        ssn: Ssn(number),
-        mid: Mid(number as u32),
-        fsn: Fsn(fsn),
-        ppid: PpId(if ends.0 { 53 } else { 0 }),
-        payload,
-        is_beginning: ends.0,
-        is_end: ends.1,
+/// The bytes that hex digits say, none where the word has others.
+pub fn bytes_of(alloc: Global, digits: &str) -> Result<Vec<u8>, AllocError> {
+    match hex::decode(alloc, digits) {
+        Ok(bytes) => Ok(bytes),
+        Err(FromHexError::OutOfMemory) => Err(AllocError),
+        Err(_) => Ok(Vec::new(alloc)),
     }
 }
 
-/// Whether a message begins and ends: `be`, `b`, `e`, or `-` for a fragment in the middle.
-pub fn ends(word: &str) -> (bool, bool) {
-    (word.contains('b'), word.contains('e'))
+/// A fragment of message `number`, with a protocol id where the message begins. It begins and ends with `be`; `b` is the first
+/// fragment, `e` the last one, `-` one in the middle.
+pub fn fragment(key: StreamKey, number: u16, fsn: u32, ends: &str, payload: Vec<u8>) -> Data {
+    let is_beginning = ends.starts_with('b');
+    Data {
+        stream_key: key,
+        ssn: Ssn(number),
+        mid: Mid(number as u32),
+        fsn: Fsn(fsn),
+        ppid: PpId(if is_beginning { 53 } else { 0 }),
+        payload,
+        is_beginning,
+        is_end: ends.ends_with('e'),
+    }
 }
 
-/// The fragment `STREAM NUMBER FSN ENDS HEX`.
-pub fn fragment_of(alloc: Global, words: &[&str]) -> Result<Data> {
-    let key = stream_key(word(words, 0)?)?;
-    let message = number_of_16_bits(words, 1)?;
-    let fsn = number_of_32_bits(words, 2)?;
-    let ends = ends(word(words, 3)?);
-    let payload = hex::decode(alloc, word(words, 4)?)?;
-    Ok(fragment(key, message, fsn, ends, payload))
+/// The fragment of a command `NAME TSN STREAM NUMBER FSN ENDS HEX`.
+pub fn fragment_of(alloc: Global, words: &[&str]) -> Result<Data, AllocError> {
+    let payload = bytes_of(alloc, word(words, 6))?;
+    let key = stream_key(word(words, 2));
+    let (number, fsn) = (half(word(words, 3)), whole(word(words, 4)));
+    Ok(fragment(key, number, fsn, word(words, 5), payload))
+}
+
+/// The fragment of a command `NAME NUMBER INDEX ENDS HEX`.
+pub fn piece(alloc: Global, words: &[&str]) -> Result<Data, AllocError> {
+    let payload = bytes_of(alloc, word(words, 4))?;
+    let key = StreamKey::Unordered(StreamId(1));
+    Ok(fragment(key, 0, 0, word(words, 3), payload))
+}
+
+/// Bytes in hex.
+pub fn tell_bytes(alloc: Global, bytes: &[u8], output: &mut String) -> Told {
+    let digits = hex::encode(alloc, bytes)?;
+    output.push_str(&digits)
 }
 
 /// A message as `STREAM/PROTOCOL:HEX`.
-pub fn message_text(alloc: Global, message: &Message) -> Result<String> {
-    let payload = hex::encode(alloc, message.payload.as_slice())?;
-    let id = message.stream_id.0;
-    let protocol = message.ppid.0;
-    Ok(format!(in alloc; "{id}/{protocol}:{payload}")?)
+pub fn tell_message(alloc: Global, message: Option<&Message>, output: &mut String) -> Told {
+    match message {
+        Some(message) => {
+            write!(output, "{}/{}:", message.stream_id.0, message.ppid.0)?;
+            tell_bytes(alloc, &message.payload, output)
+        }
+        None => output.push_str("none"),
+    }
 }
 
 pub fn yes_or_no(answer: bool) -> &'static str {
