@@ -31,9 +31,6 @@ module _ (message : ℕ → Message) (mixed : Bool) (o : Sender) (out : Outgoing
   abbrev new : Receiver
   new = delivers message o i p
 
-  abbrev the_end : ℕ
-  the_end = ripe.complete.ended.0
-
   begun : o.begun p ≡ true
   begun = let e = ripe.complete.ended in sym (ap o.begun e.2) ∙ out.place_begun e.0 e.1
 

@@ -1,30 +1,17 @@
 -- What follows of the bases of the epochs.
-use Rattle.std.proofs.Common.{◌≡◌, ℕ, suc, ◌+◌, ◌<◌, ◌≤◌, Bool, true, false, ◌&&◌, ◌⊎◌, inl, inr, List, [], ◌∷◌, ◌++◌, refl, sym, ap, ◌∙◌, subst, arith, append-nil, append_assoc, eqb, leb}
-use Rattle.std.proofs.lemmas.Bool.{cases_lt, cases_eq, cases_Bool, or_cases, or_left, or_right, eqb-true, eq-eqb, and_from, le-leb, cases_order}
-use Rattle.sctp_rules.specs.State.{Message, Entry, ForwardPoint, IsAmong, has, count, place_of, stream_of, ordered_of}
+use Rattle.std.proofs.Common.{◌≡◌, ℕ, suc, ◌+◌, ◌<◌, ◌≤◌, Bool, true, false, ◌⊎◌, inl, inr, List, [], ◌∷◌, ◌++◌, refl, sym, ap, ◌∙◌, subst, arith, append-nil, append_assoc, eqb}
+use Rattle.std.proofs.lemmas.Bool.{cases_lt, cases_eq, cases_Bool, or_cases, or_left, or_right, eqb-true, cases_order}
+use Rattle.sctp_rules.specs.State.{Message, ForwardPoint, IsAmong, has, count, place_of, stream_of, ordered_of}
 use Rattle.sctp_rules.specs.Rules.{accept, begin, number, close, give_up, data_comes, late_comes, deliver, send_sack, leave, send_forward, forward_comes, forget, same, covers, IsAllowed}
 use Rattle.sctp_rules.specs.Windows.{IsNear}
 use Rattle.sctp_rules.specs.Resets.{Request, Epochs, ResetEvent, transfers, reset_stream, send_request, perform, commit, MayReset, goes, MayAll, go_all}
 use Rattle.sctp_rules.specs.Lifted.{IsNow}
 use Rattle.sctp_rules.specs.Based.{base_at, NamedIsNow, EntriesAreNow, NothingWaits, EpochWindows, Bracketed, InEpochs}
-use Rattle.sctp_rules.proofs.ToolsLemmas.{put_at, put_off, not_both, same_self}
+use Rattle.sctp_rules.proofs.ToolsLemmas.{put_at, put_off, not_both, among_covers}
 use Rattle.sctp_rules.proofs.DeliverLemmas.{lower_place}
 use Rattle.sctp_rules.proofs.SackLemmas.{end_before}
 use Rattle.sctp_rules.proofs.EpochLemmas.{in_its_epoch}
 use Rattle.sctp_rules.proofs.BasedLemmas.{not_later, unseen_is_now, keeps_epochs}
-
--- an entry names its own number
-among_covers : (d : Entry) (ds : List Entry) → IsAmong d ds → covers ds d.ordered d.stream d.number ≡ true
-among_covers d [] a = absurd a
-among_covers d (c ∷ ds) a =
-    elim a [
-      | inl e ↦
-          or_left (same c.ordered d.ordered && (eqb c.stream d.stream && leb d.number c.number)) (covers ds d.ordered d.stream d.number)
-          (and_from (same c.ordered d.ordered) (eqb c.stream d.stream && leb d.number c.number) (same_self c.ordered d.ordered (ap (λ (z : Entry). z.ordered) (sym e)))
-          (and_from (eqb c.stream d.stream) (leb d.number c.number) (eq-eqb c.stream d.stream (ap (λ (z : Entry). z.stream) (sym e)))
-          (le-leb d.number c.number (let n = ap (λ (z : Entry). z.number) e in omega (arith, n)))))
-      | inr b ↦ or_right (same c.ordered d.ordered && (eqb c.stream d.stream && leb d.number c.number)) (covers ds d.ordered d.stream d.number) (among_covers d ds b)
-    ]
 
 module _ (message : ℕ → Message) (mixed : Bool) (x : Epochs) (k : InEpochs message mixed x) where
   abbrev st : ℕ → ℕ

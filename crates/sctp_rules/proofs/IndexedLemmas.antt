@@ -1,8 +1,8 @@
 -- The fragments of each message are counted from 0.
 use Rattle.std.proofs.Common.{◌≡◌, ◌≢◌, ℕ, zero, suc, ◌<◌, ◌≤◌, true, false, cond, inl, inr, List, [], ◌∷◌, ◌++◌, length, refl, sym, ap, ◌∙◌, subst, arith, eqb, length-append}
-use Rattle.std.proofs.lemmas.Bool.{cases_eq, cases_lt, eq-eqb, ne_eqb, cond-true, cond-false}
+use Rattle.std.proofs.lemmas.Bool.{cases_eq, cases_lt, eq-eqb, ne_eqb, cond-true, cond-false, cases_order}
 use Rattle.std.proofs.lemmas.List.{get_or_append_left, get_or_push}
-use Rattle.sctp_rules.specs.State.{Fragment, blank, gathered, parts}
+use Rattle.sctp_rules.specs.State.{Fragment, blank, gathered, parts, Sender, count, place_of, fragment}
 use Rattle.sctp_rules.specs.Reassembly.{joined}
 use Rattle.sctp_rules.specs.Kept.{at, IsIndexed}
 use Rattle.sctp_rules.proofs.ToolsLemmas.{at_push, each_push, pairs_push, gathered_push, gathered_off}
@@ -119,3 +119,12 @@ module _ (fs : List Fragment) (x : IsIndexed fs) (f : Fragment) (counted : f.ind
         (λ t h e. let a = subst (λ z. (at fs t).index < parts z fs) e (x.index_below t h) in omega (arith, a, counted));
     joins = joins;
   }
+
+-- an index belongs to one fragment of a message
+pub one_index : (o : Sender) → IsIndexed o.numbered → (t u : ℕ) → t < count o → u < count o → place_of o t ≡ place_of o u → (fragment o t).index ≡ (fragment o u).index → t ≡ u
+one_index o x t u ht hu e n =
+    elim (cases_order t u) [
+      | inl s ↦ s
+      | inr (inl l) ↦ let a = x.index_rises t u l hu e in absurd (omega (arith, a, n))
+      | inr (inr g) ↦ let a = x.index_rises u t g ht (sym e) in absurd (omega (arith, a, n))
+    ]

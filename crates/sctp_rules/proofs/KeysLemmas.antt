@@ -7,6 +7,7 @@ use Rattle.sctp_rules.specs.Kept.{Outgoing, InRuns}
 use Rattle.sctp_rules.specs.Kept.{IsIndexed}
 use Rattle.sctp_rules.proofs.DeliverLemmas.{one_place}
 use Rattle.sctp_rules.proofs.DueLemmas.{goes_on}
+use Rattle.sctp_rules.proofs.IndexedLemmas.{one_index}
 
 decide_Bool : (a b : Bool) → (a ≡ b) ⊎ (a ≡ b → ⊥)
 decide_Bool true true = inl refl
@@ -38,14 +39,6 @@ decide_key κ μ =
     ]
 
 module _ (message : ℕ → Message) (o : Sender) (out : Outgoing message o) (x : IsIndexed o.numbered) where
-  same_index : (t u : ℕ) → t < count o → u < count o → place_of o t ≡ place_of o u → (fragment o t).index ≡ (fragment o u).index → t ≡ u
-  same_index t u ht hu e n =
-      elim (cases_order t u) [
-        | inl s ↦ s
-        | inr (inl l) ↦ let a = x.index_rises t u l hu e in absurd (omega (arith, a, n))
-        | inr (inr g) ↦ let a = x.index_rises u t g ht (sym e) in absurd (omega (arith, a, n))
-      ]
-
   -- with interleaving
   key_place : (t u : ℕ) → t < count o → u < count o → ordered_of message (place_of o t) ≡ ordered_of message (place_of o u) → stream_of message (place_of o t) ≡ stream_of message (place_of o u) → o.number (place_of o t) ≡ o.number (place_of o u) → place_of o t ≡ place_of o u
   key_place t u ht hu k s n = one_place message o out (place_of o t) (place_of o u) (out.place_begun t ht) (out.place_begun u hu) k s n
@@ -53,7 +46,7 @@ module _ (message : ℕ → Message) (o : Sender) (out : Outgoing message o) (x 
   pub message_keys : KeyLaws MessageKey next_index true o (message_key message o) (λ κ n. false)
   message_keys = record {
     decide = decide_key;
-    one = λ t u ht hu e. same_index t u ht hu (key_place t u ht hu (ap (λ z. z.ordered) e) (ap (λ z. z.stream) e) (ap (λ z. z.number) e)) (ap (λ z. z.index) e);
+    one = λ t u ht hu e. one_index o x t u ht hu (key_place t u ht hu (ap (λ z. z.ordered) e) (ap (λ z. z.stream) e) (ap (λ z. z.number) e)) (ap (λ z. z.index) e);
     follows = λ t u ht hu l e. (key_place u t hu ht (ap (λ z. z.ordered) e) (ap (λ z. z.stream) e) (ap (λ z. z.number) e), ap (λ z. z.index) e);
     leads = λ t u ht hu e n. key_same (message_key message o u) (next_index (message_key message o t)) (ap (ordered_of message) e) (ap (stream_of message) e) (ap o.number e) n;
     below_is = λ m t n. cc;

@@ -1,3 +1,4 @@
+pub mod CommonLemmas
 pub mod LaterLemmas
 pub mod ToolsLemmas
 pub mod IndexedLemmas

@@ -1,11 +1,12 @@
 -- The fragments of a message, from its first to its end.
 use Rattle.std.proofs.Common.{◌≡◌, ℕ, suc, ◌<◌, ◌≤◌, Bool, true, inl, inr, sym, ap, ◌∙◌, subst, arith}
-use Rattle.std.proofs.lemmas.Bool.{cases_lt, cases_eq, cases_order}
+use Rattle.std.proofs.lemmas.Bool.{cases_lt, cases_eq}
 use Rattle.sctp_rules.specs.State.{Message, Sender, Receiver, fragment, place_of, count, gathered, parts}
 use Rattle.sctp_rules.specs.Rules.{Complete}
 use Rattle.sctp_rules.specs.Reassembly.{joined}
 use Rattle.sctp_rules.specs.Kept.{Outgoing, Incoming}
 use Rattle.sctp_rules.specs.Kept.{IsIndexed}
+use Rattle.sctp_rules.proofs.IndexedLemmas.{one_index}
 
 pub record Pieces (o : Sender) (i : Receiver) (p n : ℕ) (ts : ℕ → ℕ) : Type 0 where
   pub held : (j : ℕ) → j ≤ n → i.held (ts j) ≡ true
@@ -16,15 +17,6 @@ pub record Pieces (o : Sender) (i : Receiver) (p n : ℕ) (ts : ℕ → ℕ) : T
 module _ (message : ℕ → Message) (mixed : Bool) (o : Sender) (out : Outgoing message o) (x : IsIndexed o.numbered) (i : Receiver) (inc : Incoming message o i) where
   pub within : (t : ℕ) → i.held t ≡ true → t < count o
   within t h = inc.seen_below t (inc.held_seen t h)
-
-  -- an index belongs to one fragment of the message
-  pub one_index : (t u : ℕ) → t < count o → u < count o → place_of o t ≡ place_of o u → (fragment o t).index ≡ (fragment o u).index → t ≡ u
-  one_index t u ht hu e n =
-      elim (cases_order t u) [
-        | inl s ↦ s
-        | inr (inl l) ↦ let a = x.index_rises t u l hu e in absurd (omega (arith, a, n))
-        | inr (inr g) ↦ let a = x.index_rises u t g ht (sym e) in absurd (omega (arith, a, n))
-      ]
 
   module _ (p n : ℕ) (ts : ℕ → ℕ) (y : Pieces o i p n ts) where
     at_end : ts n < count o
@@ -45,7 +37,7 @@ module _ (message : ℕ → Message) (mixed : Bool) (o : Sender) (out : Outgoing
     which u h e =
         let le = up_to_end u h e in
         let j = (fragment o u).index in
-        (j, le, one_index u (ts j) h (within (ts j) (y.held j le)) (e ∙ sym (y.place_is j le)) (sym (y.index_is j le)))
+        (j, le, one_index o x u (ts j) h (within (ts j) (y.held j le)) (e ∙ sym (y.place_is j le)) (sym (y.index_is j le)))
 
     pub pieces_complete : Complete message o i p
     pieces_complete = record {
@@ -88,7 +80,7 @@ module _ (message : ℕ → Message) (mixed : Bool) (o : Sender) (out : Outgoing
         let ts : ℕ → ℕ = λ j. (choose j).0 in
         let facts : ((j : ℕ) → j ≤ n → (ts j < count o) × (place_of o (ts j) ≡ p) × ((fragment o (ts j)).index ≡ j)) = (λ j h. (choose j).1 (omega (arith, h, below))) in
         let last = facts n (omega arith) in
-        let s = one_index (ts n) e.0 last.0 e.1 (last.1 ∙ sym e.2) last.2 in (
+        let s = one_index o x (ts n) e.0 last.0 e.1 (last.1 ∙ sym e.2) last.2 in (
           n,
           ts,
           record {

@@ -1,5 +1,5 @@
 -- The rows of a receiver are sequences of the rules.
-use Rattle.std.proofs.Common.{◌≡◌, ℕ, zero, suc, ◌<◌, ◌≤◌, Bool, true, false, not, cond, ◌&&◌, ◌||◌, inl, inr, Option, Some, None, List, [], ◌∷◌, ◌++◌, map, refl, sym, ap, ◌∙◌, arith, eqb}
+use Rattle.std.proofs.Common.{◌≡◌, ℕ, zero, suc, ◌<◌, ◌≤◌, Bool, true, false, not, cond, ◌&&◌, ◌||◌, inl, inr, List, [], ◌∷◌, ◌++◌, map, refl, sym, ap, ◌∙◌, arith, eqb}
 use Rattle.std.proofs.lemmas.Bool.{cases_lt, cases_eq, and_parts, and_from, or_left, cond-true, eq-eqb, eqb-true, not_from_false, not-true, false_from_ne_true}
 use Rattle.sctp_rules.specs.State.{Message, Transfer, fragment, place_of, count, gathered, ordered_of, stream_of}
 use Rattle.sctp_rules.specs.Rules.{deliver, IsRipe, Happens, after, run}
@@ -9,6 +9,7 @@ use Rattle.sctp_rules.proofs.ToolsLemmas.{not_both}
 use Rattle.sctp_rules.proofs.IndexedLemmas.{joined_same}
 use Rattle.sctp_rules.proofs.PiecesLemmas.{Pieces, which, pieces_complete, pieces_payload, complete_pieces}
 use Rattle.sctp_rules.proofs.KeepsLemmas.{keeps}
+use Rattle.sctp_rules.proofs.CommonLemmas.{none_some}
 
 module _ (Key : Type 0) (succ : Key → Key) (message : ℕ → Message) (mixed : Bool) (x : Transfer) (k : Kept message mixed x)
     (key : ℕ → Key) (below : Key → ℕ → Bool) (laws : KeyLaws Key succ mixed x.sender key below) (q : Queue Key succ) (s : Sees Key succ message mixed x.sender x.receiver key q) where
@@ -102,9 +103,6 @@ module _ (Key : Type 0) (succ : Key → Key) (message : ℕ → Message) (mixed 
         next_same : (b c : Bool) (n m v : ℕ) → (b ≡ true → n ≡ m) → cond (b && c) (suc n) v ≡ cond (b && c) (suc m) v
         next_same true c n m v h = ap (λ z. cond c (suc z) v) (h refl)
         next_same false c n m v h = refl
-
-        none_some : (c : Option Chunk) (v : Chunk) → c ≡ Some v → c ≡ None → ⊥
-        none_some c v a b = cc
 
         payload_is : joined (λ j. (w j).payload) (suc n) ≡ gathered (place_of x.sender (ts 0)) x.sender.numbered
         payload_is =

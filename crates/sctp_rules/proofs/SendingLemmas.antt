@@ -6,9 +6,7 @@ use Rattle.sctp_rules.specs.Rules.{Waits, IsSettled, accepts, begins, numbers, g
 use Rattle.sctp_rules.specs.Sending.{Waiting, Queued}
 use Rattle.sctp_rules.specs.Kept.{Outgoing}
 use Rattle.sctp_rules.proofs.ToolsLemmas.{put_at, put_off, put_keeps, not_both, gathered_push, gathered_off}
-
-none_some : {A : Type 0} (o : Option A) (v : A) → o ≡ Some v → o ≡ None → ⊥
-none_some o v a b = cc
+use Rattle.sctp_rules.proofs.CommonLemmas.{none_some}
 
 -- no fragment of the message, nothing gathered
 gathered_none : (p : ℕ) (fs : List Fragment) → ((t : ℕ) → t < length fs → (get_or fs t blank).place ≢ p) → gathered p fs ≡ []

@@ -3,7 +3,7 @@ use Rattle.std.proofs.Common.{◌≡◌, ◌≢◌, ℕ, zero, suc, max, ◌<◌
 use Rattle.std.proofs.lemmas.Bool.{cases_eq, cases_lt, eq-eqb, ne_eqb, cond-true, cond-false, or_cases, or_left, or_right, and_parts, and_from, leb-true, le-leb, cases_Bool}
 use Rattle.std.proofs.lemmas.Bool.Decides.{nat_tests}
 use Rattle.std.proofs.lemmas.List.{get_or_append_left, get_or_push}
-use Rattle.sctp_rules.specs.State.{put, has, Entry, Fragment, gathered}
+use Rattle.sctp_rules.specs.State.{put, has, Entry, Fragment, gathered, IsAmong}
 use Rattle.sctp_rules.specs.Rules.{same, covers, raised}
 
 pub put_at : {A : Type 0} (f : ℕ → A) (k : ℕ) (v : A) (n : ℕ) → n ≡ k → put f k v n ≡ v
@@ -156,4 +156,29 @@ raised_cases (e ∷ es) kind s n k h =
                 ]
             | inr f ↦ inl (subst (λ z. k < z) (cond-false (same e.ordered kind && eqb e.stream s) (max n (suc e.number)) n f) l)
           ]
+    ]
+
+-- ---- what is among the items of a list
+
+pub among_left : {A : Type 0} (x : A) (xs ys : List A) → IsAmong x xs → IsAmong x (xs ++ ys)
+among_left x [] ys h = absurd h
+among_left x (y ∷ xs) ys (inl e) = inl e
+among_left x (y ∷ xs) ys (inr h) = inr (among_left x xs ys h)
+
+pub has_from : (k : ℕ) (ids : List ℕ) → IsAmong k ids → has k ids ≡ true
+has_from k [] a = absurd a
+has_from k (i ∷ ids) (inl e) = or_left (eqb k i) (has k ids) (eq-eqb k i e)
+has_from k (i ∷ ids) (inr a) = or_right (eqb k i) (has k ids) (has_from k ids a)
+
+-- an entry names its own number
+pub among_covers : (d : Entry) (ds : List Entry) → IsAmong d ds → covers ds d.ordered d.stream d.number ≡ true
+among_covers d [] a = absurd a
+among_covers d (c ∷ ds) a =
+    elim a [
+      | inl e ↦
+          or_left (same c.ordered d.ordered && (eqb c.stream d.stream && leb d.number c.number)) (covers ds d.ordered d.stream d.number)
+          (and_from (same c.ordered d.ordered) (eqb c.stream d.stream && leb d.number c.number) (same_self c.ordered d.ordered (ap (λ (z : Entry). z.ordered) (sym e)))
+          (and_from (eqb c.stream d.stream) (leb d.number c.number) (eq-eqb c.stream d.stream (ap (λ (z : Entry). z.stream) (sym e)))
+          (le-leb d.number c.number (let n = ap (λ (z : Entry). z.number) e in omega (arith, n)))))
+      | inr b ↦ or_right (same c.ordered d.ordered && (eqb c.stream d.stream && leb d.number c.number)) (covers ds d.ordered d.stream d.number) (among_covers d ds b)
     ]

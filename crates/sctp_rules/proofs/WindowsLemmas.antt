@@ -18,14 +18,6 @@ module _ (message : ℕ → Message) (mixed : Bool) (x : Transfer) (k : Kept mes
     elim (cases_lt (count x.sender) f) [ inl l ↦ let a = k.incoming.seen_below (count x.sender) (below (count x.sender) l) in absurd (omega (arith, a)) | inr g ↦ g ],
   )
 
-  -- a stream's next number lies behind those of all ordered messages with no kept fragment, up to the count
-  pub next_window : (p : ℕ) → x.sender.begun p ≡ true → x.sender.partly p ≡ false → ordered_of message p ≡ true → ((t : ℕ) → t < count x.sender → place_of x.sender t ≡ p → t < x.acknowledged)
-      → (x.sender.number p < x.receiver.next (stream_of message p)) × (x.receiver.next (stream_of message p) ≤ x.sender.counts true (stream_of message p))
-  next_window p b e o all =
-      let z = k.outgoing.ended p b e in
-      let a = k.acknowledged_true.behind z.0 (all z.0 z.1 z.2) z.3 (ap (ordered_of message) z.2 ∙ o) in
-      (subst (λ n. x.sender.number n < x.receiver.next (stream_of message n)) z.2 a, k.incoming.next_counts (stream_of message p))
-
   module _ (windows : Windows message x) where
     -- a fragment that was kept when n were numbered comes in time
     pub data_window : (f t n : ℕ) → IsFront x.receiver f → t < n → n ≤ t + 2 ^ 30 → IsTimely x n → IsNear (2 ^ 31) f t
