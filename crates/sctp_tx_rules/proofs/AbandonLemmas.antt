@@ -15,18 +15,15 @@ use Rattle.sctp_rules.specs.Rules.{Event, close, give_up, run, numbers, gives_up
 use Rattle.sctp_rules.specs.Kept.{Kept}
 use Rattle.sctp_rules.specs.Sending as sending
 use Rattle.sctp_rules.specs.Sending.{Waiting}
-use Rattle.sctp_rules.proofs.ToolsLemmas.{put_at, put_off, put_keeps, not_both}
+use Rattle.sctp_rules.proofs.ToolsLemmas.{put_at, put_off, put_keeps, not_both, among_left}
 use Rattle.sctp_rules.proofs.IndexedLemmas.{parts_off}
 use Rattle.sctp_rules.proofs.SenderRowLemmas.{rest_dropped, sent_given_up}
+use Rattle.sctp_rules.proofs.CommonLemmas.{none_some}
 use Rattle.sctp_tx_rules.specs.Shown.{found, waiting_of, queue_of, tree_of, StandsFor, AreKept, IsEntry, AreQueued, AreDiscards}
 use Rattle.sctp_tx_rules.specs.Led.{is_sending, given_ups}
-use Rattle.sctp_tx_rules.proofs.FoundLemmas.{none_some, one_value}
+use Rattle.sctp_tx_rules.proofs.FoundLemmas.{one_value}
 use Rattle.sctp_tx_rules.proofs.QueuedLemmas.{Frame, queue_some, queue_given, queue_as, change, change_discards}
 use Rattle.sctp_tx_rules.proofs.ItemsLemmas.{Stays, kept_push}
-
-pub among_left : {A : Type 0} (x : A) (xs ys : List A) → IsAmong x xs → IsAmong x (xs ++ ys)
-among_left x [] ys a = absurd a
-among_left x (y ∷ xs) ys a = elim a [ inl e ↦ inl e | inr b ↦ inr (among_left x xs ys b) ]
 
 pub among_last : {A : Type 0} (x : A) (xs : List A) → IsAmong x (xs ++ x ∷ [])
 among_last x [] = inl refl
@@ -187,9 +184,6 @@ module _ (message : ℕ → Message) (lifecycle : ℕ → Option ℕ) (mixed : B
 
         shown : List Item → List Discard → Items
         shown is ds = record s { kept = map (lay_down p) is; discards = ds }
-
-    abbrev ended_rules : List Event
-    ended_rules = give_up p ∷ []
 
     ended_row : GivesUp message lifecycle mixed x ms s p (give_up p ∷ [])
     ended_row =

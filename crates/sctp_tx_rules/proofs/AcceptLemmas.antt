@@ -1,12 +1,10 @@
 -- Acceptance, settings of streams, and what a queue shows before anything is sent.
-use Rattle.std.proofs.Common.{◌≡◌, ◌≢◌, ℕ, zero, suc, ◌+◌, ◌%◌, ◌^◌, ◌<◌, Bool, true, false, cond, Less, Equal, Greater, inl, inr, Option, Some, None, List, [], ◌∷◌, length, refl, sym, ap, ◌∙◌, subst, arith}
+use Rattle.std.proofs.Common.{◌≡◌, ◌≢◌, ℕ, zero, suc, ◌+◌, ◌%◌, ◌^◌, ◌<◌, Bool, true, false, cond, inl, inr, Option, Some, None, List, length, refl, sym, ap, ◌∙◌, subst, arith}
 use Rattle.std.specs.Prelude.{not, option_map, unwrap_or, is_some, ◌==◌}
 use Rattle.std.specs.Map.{lookup}
-use Rattle.std.specs.Ordering.{nat_cmp, match_ordering}
-use Rattle.std.specs.declared.cmp.Ordering.{Ordering}
+use Rattle.std.specs.Ordering.{nat_cmp}
 use Rattle.std.specs.BTreeMap.{is_at, insert_entry}
 use Rattle.std.proofs.lemmas.Bool.{cases_eq, lt-ltb, false_from_ne_true}
-use Rattle.std.proofs.lemmas.Bool.Decides.{nat_tests}
 use Rattle.std.proofs.Math.Nat.{mod-eq_of_lt}
 use Rattle.std.specs.Duration.{as_nanos}
 use Rattle.std.proofs.Math.Bool.{not-not}
@@ -16,7 +14,7 @@ use Rattle.sctp_send_queue.specs.Views.{queued_of}
 use Rattle.sctp_state.specs.Events.{Told, silent}
 use Rattle.sctp_send_queue.specs.declared.send_queue.message.MessageNumbers.{MessageNumbers}
 use Rattle.sctp_send_queue.specs.Queue as queue
-use Rattle.sctp_send_queue.specs.Queue.{expiry_of, Queued, Queue, Stream, Streams, Entries, blank, opened, pushed, stream, added}
+use Rattle.sctp_send_queue.specs.Queue.{expiry_of, Queued, Queue, Stream, Streams, blank, opened, pushed, stream, added}
 use Rattle.sctp_send_queue.specs.Settings.{with_threshold, with_priority, set_priority, set_low_threshold}
 use Rattle.sctp_send_queue.specs.InOrder.{IsInOrder, IsNumbered, HasRests}
 use Rattle.sctp_send_queue.proofs.InOrderLemmas.{hears_mode, opened_same, added_in_order, priority_in_order, threshold_in_order, put_elsewhere}
@@ -29,36 +27,15 @@ use Rattle.sctp_rules.specs.Rules.{accept, accepts, after}
 use Rattle.sctp_rules.specs.Kept.{Kept}
 use Rattle.sctp_rules.proofs.SenderRowLemmas as rows
 use Rattle.sctp_rules.proofs.ToolsLemmas.{not_both}
+use Rattle.sctp_rules.proofs.CommonLemmas.{none_some, inserted_here}
 use Rattle.sctp_tx_rules.specs.Shown.{found, messages_of, queue_of, IsEntry, IsNext, AreQueued, AreDiscards, Shows}
 use Rattle.sctp_tx_rules.specs.Rows.{message_of, offered}
-use Rattle.sctp_tx_rules.proofs.FoundLemmas.{funext, none_some, one_value, found_push, found_push_off}
+use Rattle.sctp_tx_rules.proofs.FoundLemmas.{funext, one_value, found_push, found_push_off}
 use Rattle.sctp_tx_rules.proofs.QueuedLemmas.{queue_some, change, change_discards}
 use Rattle.sctp_tx_rules.proofs.ItemsLemmas.{kept_moves}
 use Rattle.sctp_tx_rules.proofs.ProduceLemmas.{is_other}
 
 -- ---- a stream is there once it is named
-
-at_itself : (k : ℕ) → is_at (nat_cmp k) k ≡ true
-at_itself k = grind (arith, nat_tests)
-
-at_equal : (id k : ℕ) → nat_cmp id k ≡ Equal → is_at (nat_cmp id) k ≡ true
-at_equal id k e = grind (arith, nat_tests)
-
-not_at_greater : (id k : ℕ) → nat_cmp id k ≡ Greater → is_at (nat_cmp id) k ≡ false
-not_at_greater id k e = grind (arith, nat_tests)
-
-inserted_here : (id : ℕ) (s : Stream) (es : Entries) → lookup (is_at (nat_cmp id)) (insert_entry nat_cmp es id s) ≡ Some s
-inserted_here id s [] = ap (λ t. cond t (Some s) None) (at_itself id)
-inserted_here id s (e ∷ es) = go (nat_cmp id e.0) refl (inserted_here id s es)
-  where
-    rest : Option Stream
-    rest = lookup (is_at (nat_cmp id)) es
-
-    go : (o : Ordering) → nat_cmp id e.0 ≡ o → lookup (is_at (nat_cmp id)) (insert_entry nat_cmp es id s) ≡ Some s
-        → lookup (is_at (nat_cmp id)) (match_ordering o ((id, s) ∷ e ∷ es) ((e.0, s) ∷ es) (e ∷ insert_entry nat_cmp es id s)) ≡ Some s
-    go Less h ih = ap (λ t. cond t (Some s) (cond (is_at (nat_cmp id) e.0) (Some e.1) rest)) (at_itself id)
-    go Equal h ih = ap (λ t. cond t (Some s) rest) (at_equal id e.0 h)
-    go Greater h ih = ap (λ t. cond t (Some e.1) (lookup (is_at (nat_cmp id)) (insert_entry nat_cmp es id s))) (not_at_greater id e.0 h) ∙ ih
 
 opened_there : (id : ℕ) (ss : Streams) → is_some (lookup (is_at (nat_cmp id)) (opened id ss).entries) ≡ true
 opened_there id ss = go (is_some (lookup (is_at (nat_cmp id)) ss.entries)) refl

@@ -15,7 +15,7 @@ use Rattle.sctp_send_queue.proofs.InOrderLemmas.{put_elsewhere, discard_streams}
 use Rattle.sctp_send_queue.proofs.ProduceLemmas.{idles, gives, turned}
 use Rattle.sctp_outstanding.specs.Items.{Discard}
 use Rattle.sctp_rules.specs.State.{IsAmong, has}
-use Rattle.sctp_rules.proofs.ToolsLemmas.{not_both}
+use Rattle.sctp_rules.proofs.ToolsLemmas.{not_both, has_from}
 use Rattle.sctp_tx.specs.Retransmission.{Sender}
 use Rattle.sctp_tx.specs.Resent.{may_send_new, resent}
 use Rattle.sctp_tx.specs.Sending as packets
@@ -258,11 +258,6 @@ among_from k (id ∷ ids) t = elim (cases_eq k id) [
   | inl e ↦ inl e
   | inr d ↦ inr (among_from k ids (ap (λ b. b || has k ids) (sym (ne_eqb k id d)) ∙ t))
 ]
-
-has_from : (k : ℕ) (ids : List ℕ) → IsAmong k ids → has k ids ≡ true
-has_from k [] a = absurd a
-has_from k (id ∷ ids) (inl e) = has_this k id ids e
-has_from k (id ∷ ids) (inr a) = or_right (k == id) (has k ids) (has_from k ids a)
 
 each_once : (p : PauseState) (q : Queue) (ids : List ℕ) → AreEach p q ids → are_distinct ids ≡ true
 each_once p q [] e = refl

@@ -15,7 +15,7 @@ use Rattle.sctp_rules.specs.Kept.{Kept}
 use Rattle.sctp_rules.specs.Sending.{Waiting}
 use Rattle.sctp_rules.specs.Resets.{Epochs, transfers, InEpoch, goes, MayAll, go_all}
 use Rattle.sctp_rules.proofs.ToolsLemmas.{put_at, put_off, not_both}
-use Rattle.sctp_rules.proofs.KeepsLemmas.{keeps}
+use Rattle.sctp_rules.proofs.KeepsLemmas.{keeps, all_kept}
 use Rattle.sctp_rules.proofs.StepLemmas.{later}
 use Rattle.sctp_tx_rules.specs.Shown.{found, messages_of, waiting_of, queue_of, QueueShows, Shows}
 use Rattle.sctp_tx_rules.specs.Led.{is_sending, LeadsTo}
@@ -54,10 +54,6 @@ module _ (message : ℕ → Message) (mixed : Bool) where
   begun_later : (es : List Event) (x : Transfer) → Kept message mixed x → Happens message mixed x es → (p : ℕ) → x.sender.begun p ≡ true → (run message mixed x es).sender.begun p ≡ true
   begun_later [] x k h p b = b
   begun_later (e ∷ es) x k h p b = begun_later es (after message mixed x e) (keeps message mixed x k e h.0) h.1 p ((later message mixed x k e h.0).begun_stays p b)
-
-  pub kept_later : (es : List Event) (x : Transfer) → Kept message mixed x → Happens message mixed x es → Kept message mixed (run message mixed x es)
-  kept_later [] x k h = k
-  kept_later (e ∷ es) x k h = kept_later es (after message mixed x e) (keeps message mixed x k e h.0) h.1
 
   -- nothing is accepted
   accepted_stays : (x : Transfer) (e : Event) → is_sending e ≡ true → (after message mixed x e).sender.accepted ≡ x.sender.accepted
@@ -190,7 +186,7 @@ module _ (message : ℕ → Message) (lifecycle : ℕ → Option ℕ) (mixed : B
   newly p n b = go (queue_of message o (messages_of q) p) refl
     where
       below : p < o.accepted
-      below = subst (λ c. p < c) (accepted_later message mixed es x.transfer all) ((kept_later message mixed es x.transfer k may).outgoing.begun_below p b)
+      below = subst (λ c. p < c) (accepted_later message mixed es x.transfer all) ((all_kept message mixed es x.transfer k may).outgoing.begun_below p b)
 
       go : (w : Option Waiting) → queue_of message o (messages_of q) p ≡ w → x.epoch p ≤ x.opened (stream_of message p)
       go None e =

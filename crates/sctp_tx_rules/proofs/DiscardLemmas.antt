@@ -5,7 +5,7 @@ use Rattle.std.specs.List.{list_all}
 use Rattle.std.proofs.lemmas.Bool.{cases_eq, ne_eqb, and_parts, eq-eqb, eqb-true}
 use Rattle.sctp_state.specs.Events.{Told, silent}
 use Rattle.sctp_send_queue.specs.Queue as queue
-use Rattle.sctp_send_queue.specs.Queue.{Queued, Queue, Stream, Streams, blank, stream}
+use Rattle.sctp_send_queue.specs.Queue.{Queued, Queue, Stream, Streams, stream}
 use Rattle.sctp_send_queue.specs.Produced.{settled}
 use Rattle.sctp_send_queue.specs.Settings.{front_discarded, without_front, streams_discarded, discard_from, discard}
 use Rattle.sctp_send_queue.specs.InOrder.{IsNumbered, HasRests, is_waiting, is_begun_or_waiting, are_in_order, are_rising}
@@ -15,9 +15,10 @@ use Rattle.sctp_send_queue.proofs.RestLemmas.{calls_leave_rests}
 use Rattle.sctp_outstanding.specs.Items.{Discard}
 use Rattle.sctp_rules.specs.State.{Message, Sender, IsAmong, put}
 use Rattle.sctp_rules.proofs.ToolsLemmas.{not_both}
+use Rattle.sctp_rules.proofs.CommonLemmas.{none_some}
 use Rattle.sctp_tx.specs.Sending.{discard_all}
 use Rattle.sctp_tx_rules.specs.Shown.{found, messages_of, queue_of, IsNext, AreDiscards, QueueShows}
-use Rattle.sctp_tx_rules.proofs.FoundLemmas.{none_some, found_off, once}
+use Rattle.sctp_tx_rules.proofs.FoundLemmas.{found_off, once}
 use Rattle.sctp_tx_rules.proofs.QueuedLemmas.{queue_given, queue_as, change}
 use Rattle.sctp_tx_rules.proofs.FreshLemmas.{put_here}
 use Rattle.sctp_tx_rules.proofs.ProduceLemmas.{stream_changed, is_other, behind_waits}

@@ -24,6 +24,7 @@ use Rattle.sctp_rules.specs.State.{Message, Transfer}
 use Rattle.sctp_rules.specs.Rules.{Event, leave, Happens}
 use Rattle.sctp_rules.specs.Kept.{Kept}
 use Rattle.sctp_rules.specs.Resets.{Epochs, ResetEvent, transfers, goes, MayAll, go_all}
+use Rattle.sctp_rules.proofs.KeepsLemmas.{all_kept}
 use Rattle.sctp_tx_rules.specs.Shown.{Shows}
 use Rattle.sctp_tx_rules.specs.Led.{is_sending, LeadsTo}
 use Rattle.sctp_tx_rules.specs.Rows.{left, Hears, Sends}
@@ -32,7 +33,7 @@ use Rattle.sctp_tx_rules.proofs.SendLemmas.{by_turn}
 use Rattle.sctp_tx_rules.proofs.PausedLemmas.{go_more, may_more}
 use Rattle.sctp_tx_rules.proofs.BreakLemmas.{breaks_stay, nacks_keep, expiries_keep, staying_keeps}
 use Rattle.sctp_tx_rules.proofs.WaitsLemmas.{Stands, waits_same, send_stands}
-use Rattle.sctp_tx_rules.proofs.BegunLemmas.{kept_later, goes_sending, queue_begins}
+use Rattle.sctp_tx_rules.proofs.BegunLemmas.{goes_sending, queue_begins}
 use Rattle.sctp_tx_rules.proofs.FollowLemmas.{paused_as}
 
 -- ---- breakpoints stay
@@ -155,7 +156,7 @@ module _ (message : ℕ → Message) (lifecycle : ℕ → Option ℕ) (mixed : B
 
 -- ---- a SACK
 
-leaves_send : (n c : ℕ) → list_all is_sending (replicate n (leave c)) ≡ true
+pub leaves_send : (n c : ℕ) → list_all is_sending (replicate n (leave c)) ≡ true
 leaves_send zero c = refl
 leaves_send (suc n) c = and_from true (list_all is_sending (replicate n (leave c))) refl (leaves_send n c)
 
@@ -192,7 +193,7 @@ module _ {P : Type 0} (message : ℕ → Message) (lifecycle : ℕ → Option �
       with_transfer z = record x { transfer = z }
 
   kept_on : Kept message mixed (left n x.transfer)
-  kept_on = subst (λ (z : Transfer). Kept message mixed z) hr.leaves (kept_later message mixed es x.transfer k hr.may)
+  kept_on = subst (λ (z : Transfer). Kept message mixed z) hr.leaves (all_kept message mixed es x.transfer k hr.may)
 
   lost : MayAll message mixed x1 (map transfers fs) × (go_all message mixed x1 (map transfers fs) ≡ y)
   lost = queue_begins message lifecycle mixed x1 q q to told (step_of cumulative blocks s told).told kept_on sh.queue (paused_as x x1 q refl refl refl h.paused) (waits_same q) hr.losses

@@ -5,12 +5,10 @@ use Rattle.std.proofs.lemmas.Bool.{cases_eq, eq-eqb, ne_eqb, cond-true, cond-fal
 use Rattle.sctp_send_queue.specs.Queue.{Queued}
 use Rattle.sctp_send_queue.specs.InOrder.{are_rising}
 use Rattle.sctp_tx_rules.specs.Shown.{found}
+use Rattle.sctp_rules.proofs.CommonLemmas.{none_some}
 
 pub funext : {A B : Type 0} (f g : A → B) → ((a : A) → f a ≡ g a) → f ≡ g
 funext f g h = λ i a. h a i
-
-pub none_some : {A : Type 0} (o : Option A) (v : A) → o ≡ Some v → o ≡ None → ⊥
-none_some o v a b = cc
 
 pub one_value : {A : Type 0} (o : Option A) (v w : A) → o ≡ Some v → o ≡ Some w → v ≡ w
 one_value o v w a b = cc
@@ -20,14 +18,6 @@ found_at p m rest e = cond-true (eqb m.number p) (Some m) (found p rest) (eq-eqb
 
 pub found_off : (p : ℕ) (m : Queued) (rest : List Queued) → m.number ≢ p → found p (m ∷ rest) ≡ found p rest
 found_off p m rest d = cond-false (eqb m.number p) (Some m) (found p rest) (ne_eqb m.number p d)
-
-pub found_is : (p : ℕ) (ms : List Queued) (m : Queued) → found p ms ≡ Some m → m.number ≡ p
-found_is p [] m e = absurd (cc)
-found_is p (a ∷ rest) m e =
-    elim (cases_eq a.number p) [
-      | inl s ↦ ap (λ (z : Queued). z.number) (sym (one_value (found p (a ∷ rest)) a m (found_at p a rest s) e)) ∙ s
-      | inr d ↦ found_is p rest m (sym (found_off p a rest d) ∙ e)
-    ]
 
 -- ---- places rise along a stream
 

@@ -15,9 +15,10 @@ use Rattle.sctp_rules.specs.Rules.{Waits, give_up, IsAllowed, after, gives_up}
 use Rattle.sctp_rules.specs.Kept.{Kept}
 use Rattle.sctp_rules.proofs.ToolsLemmas.{put_at, put_off, put_keeps, not_both}
 use Rattle.sctp_rules.proofs.SenderRowLemmas.{unsent_dropped}
+use Rattle.sctp_rules.proofs.CommonLemmas.{none_some}
 use Rattle.sctp_tx_rules.specs.Shown.{found, waiting_of, queue_of, IsEntry, AreKept, AreQueued, AreDiscards}
 use Rattle.sctp_tx_rules.specs.Led.{recorded, Leads}
-use Rattle.sctp_tx_rules.proofs.FoundLemmas.{funext, none_some, found_at, found_off, found_behind, found_alike, rises, once}
+use Rattle.sctp_tx_rules.proofs.FoundLemmas.{funext, found_at, found_off, found_behind, found_alike, rises, once}
 use Rattle.sctp_tx_rules.proofs.QueuedLemmas.{Frame, queue_some, queue_given, change, change_discards}
 use Rattle.sctp_tx_rules.proofs.ItemsLemmas.{kept_moves}
 use Rattle.sctp_tx_rules.proofs.LedLemmas.{leads_none, leads_on}

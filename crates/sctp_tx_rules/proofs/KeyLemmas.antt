@@ -1,11 +1,10 @@
 -- Each stream stands once in the queue, ascending by id; so the streams that go into a request are ready, and are each of them once.
-use Rattle.std.proofs.Common.{◌≡◌, ◌≢◌, ℕ, zero, suc, ◌+◌, ◌≤◌, Bool, true, false, cond, inl, inr, Option, Some, List, [], ◌∷◌, take, refl, sym, ap, ◌∙◌, subst, arith}
+use Rattle.std.proofs.Common.{◌≡◌, ◌≢◌, ℕ, zero, suc, ◌+◌, ◌≤◌, Bool, true, false, cond, inl, inr, Option, Some, List, [], ◌∷◌, take, refl, ap, ◌∙◌, subst, arith}
 use Rattle.std.specs.Prelude.{nat_le, ◌&&◌, is_some, unwrap_or}
 use Rattle.std.specs.Map.{lookup, set_value, keys_of}
 use Rattle.std.specs.Ordering.{nat_cmp}
 use Rattle.std.specs.BTreeMap.{is_at, insert_entry}
 use Rattle.std.proofs.lemmas.Bool.{and_parts, cond-true, cond-false, leb-true}
-use Rattle.std.proofs.lemmas.Bool.Decides.{nat_tests}
 use Rattle.sctp_state.specs.Events.{Told}
 use Rattle.sctp_send_queue.specs.declared.send_queue.stream.PauseState.{PauseState}
 use Rattle.sctp_send_queue.specs.declared.send_queue.stream.PauseState.TheVariants.{NotPaused, Pending, Paused, Resetting}
@@ -18,9 +17,10 @@ use Rattle.sctp_send_queue.specs.Resets.{is_paused, is_ready, ready, requested, 
 use Rattle.sctp_send_queue.specs.Restarted.{restarted, restarted_one, each_restarted, reset}
 use Rattle.sctp_send_queue.proofs.InOrderLemmas.{discard_streams}
 use Rattle.sctp_rules.specs.State.{IsAmong}
+use Rattle.sctp_rules.proofs.CommonLemmas.{at_other, at_same}
 use Rattle.sctp_tx_rules.specs.Line.{are_ascending}
 use Rattle.sctp_tx_rules.specs.Pauses.{AreEach}
-use Rattle.sctp_tx_rules.proofs.LineLemmas.{other_id, inserted_ascending}
+use Rattle.sctp_tx_rules.proofs.LineLemmas.{inserted_ascending}
 
 -- ---- entries
 
@@ -85,12 +85,6 @@ record IsReady (id least : ℕ) (es : Entries) : Type 0 where
   there : lookup (is_at (nat_cmp id)) es ≡ Some stream_is
   paused : stream_is.pause ≡ Paused
 
-itself : (id k : ℕ) → id ≡ k → is_at (nat_cmp id) k ≡ true
-itself id k e = subst (λ z. is_at (nat_cmp z) k ≡ true) (sym e) (same k)
-  where
-    same : (k : ℕ) → is_at (nat_cmp k) k ≡ true
-    same k = grind (arith, nat_tests)
-
 paused_is : (p : PauseState) → is_paused p ≡ true → p ≡ Paused
 paused_is NotPaused e = absurd (cc)
 paused_is Pending e = absurd (cc)
@@ -111,7 +105,7 @@ is_ready_in least (e ∷ es) h id a =
         record {
           above = omega (arith, above, low);
           stream_is = r.stream_is;
-          there = cond-false (is_at (nat_cmp id) e.0) (Some e.1) (lookup (is_at (nat_cmp id)) es) (other_id id e.0 (λ c. omega (arith, c, above))) ∙ r.there;
+          there = cond-false (is_at (nat_cmp id) e.0) (Some e.1) (lookup (is_at (nat_cmp id)) es) (at_other id e.0 (λ c. omega (arith, c, above))) ∙ r.there;
           paused = r.paused;
         }
 
@@ -119,7 +113,7 @@ is_ready_in least (e ∷ es) h id a =
     first c f = record {
       above = omega (arith, c, low);
       stream_is = e.1;
-      there = cond-true (is_at (nat_cmp id) e.0) (Some e.1) (lookup (is_at (nat_cmp id)) es) (itself id e.0 c);
+      there = cond-true (is_at (nat_cmp id) e.0) (Some e.1) (lookup (is_at (nat_cmp id)) es) (at_same id e.0 c);
       paused = paused_is e.1.pause f;
     }
 

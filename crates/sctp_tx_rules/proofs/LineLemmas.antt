@@ -9,6 +9,7 @@ use Rattle.std.proofs.lemmas.Bool.{cases_eq, and_parts, and_from, cond-true, con
 use Rattle.std.proofs.lemmas.Bool.Decides.{nat_tests}
 use Rattle.sctp_stream_scheduler.specs.Scheduler.{Times, Scheduler, finish_time, finish_now, is_active, left, entered, set_bytes_remaining, accept, accepted_at, better, best, peek, stream_in}
 use Rattle.sctp_rules.proofs.ToolsLemmas.{not_both}
+use Rattle.sctp_rules.proofs.CommonLemmas.{is_less, is_greater, at_other}
 use Rattle.sctp_tx_rules.specs.Line.{are_ascending}
 use Rattle.sctp_tx_rules.proofs.FoundLemmas.{one_value}
 
@@ -16,9 +17,6 @@ use Rattle.sctp_tx_rules.proofs.FoundLemmas.{one_value}
 
 pub same_id : (a b : ℕ) → is_at (nat_cmp a) b ≡ true → b ≡ a
 same_id a b e = grind (arith, nat_tests)
-
-pub other_id : (a b : ℕ) → a ≢ b → is_at (nat_cmp a) b ≡ false
-other_id a b d = grind (arith, nat_tests)
 
 from_less : (least later : ℕ) (es : Times) → least ≤ later → are_ascending later es ≡ true → are_ascending least es ≡ true
 from_less least later [] l h = refl
@@ -32,7 +30,7 @@ absent id least [] l h = refl
 absent id least (e ∷ es) l h =
     let a = and_parts (nat_le least e.0) (are_ascending (e.0 + 1) es) h in
     let low = leb-true least e.0 a.0 in
-    cond-false (is_at (nat_cmp id) e.0) (Some e.1) (finish_time id es) (other_id id e.0 (λ c. omega (arith, c, low, l)))
+    cond-false (is_at (nat_cmp id) e.0) (Some e.1) (finish_time id es) (at_other id e.0 (λ c. omega (arith, c, low, l)))
     ∙ absent id (e.0 + 1) es (omega (arith, low, l)) a.1
 
 -- one that leaves
@@ -55,7 +53,7 @@ leaves id least (e ∷ es) h =
         record {
           ascending = ap (are_ascending least) l ∙ from_less least (e.0 + 1) es (omega (arith, low)) a.1;
           gone = ap (finish_time id) l ∙ absent id (e.0 + 1) es (omega (arith, same)) a.1;
-          others = λ k d. ap (finish_time k) l ∙ sym (cond-false (is_at (nat_cmp k) e.0) (Some e.1) (finish_time k es) (other_id k e.0 (λ c. d (c ∙ same))));
+          others = λ k d. ap (finish_time k) l ∙ sym (cond-false (is_at (nat_cmp k) e.0) (Some e.1) (finish_time k es) (at_other k e.0 (λ c. d (c ∙ same))));
         }
     go false t a z =
         let l : remove_entry (is_at (nat_cmp id)) (e ∷ es) ≡ e ∷ remove_entry (is_at (nat_cmp id)) es = cond-false (is_at (nat_cmp id) e.0) es (e ∷ remove_entry (is_at (nat_cmp id)) es) t in
@@ -64,12 +62,6 @@ leaves id least (e ∷ es) h =
           gone = ap (finish_time id) l ∙ (cond-false (is_at (nat_cmp id) e.0) (Some e.1) (finish_time id (remove_entry (is_at (nat_cmp id)) es)) t ∙ z.gone);
           others = λ k d. ap (finish_time k) l ∙ ap (λ o. cond (is_at (nat_cmp k) e.0) (Some e.1) o) (z.others k d);
         }
-
-pub less : (a b : ℕ) → nat_cmp a b ≡ Less → a < b
-less a b q = grind (arith, nat_tests)
-
-pub greater : (a b : ℕ) → nat_cmp a b ≡ Greater → b < a
-greater a b q = grind (arith, nat_tests)
 
 pub equal : (a b : ℕ) → nat_cmp a b ≡ Equal → b ≡ a
 equal a b q = grind (arith, nat_tests)
@@ -93,17 +85,17 @@ inserted_ascending {V} id v least (e ∷ es) l h =
     go : (o : Ordering) → nat_cmp id e.0 ≡ o → (e.0 + 1 ≤ id → are_ascending (e.0 + 1) (insert_entry nat_cmp es id v) ≡ true)
         → are_ascending least (insert_entry nat_cmp (e ∷ es) id v) ≡ true
     go Less c ih =
-        let b = less id e.0 c in
+        let b = is_less id e.0 c in
         to Less c
         (and_from (nat_le least id) (are_ascending (id + 1) (e ∷ es)) (le-leb least id l)
         (and_from (nat_le (id + 1) e.0) (are_ascending (e.0 + 1) es) (le-leb (id + 1) e.0 (omega (arith, b))) a.1))
     go Equal c ih = to Equal c (and_from (nat_le least e.0) (are_ascending (e.0 + 1) es) a.0 a.1)
     go Greater c ih =
-        let b = greater id e.0 c in
+        let b = is_greater id e.0 c in
         to Greater c (and_from (nat_le least e.0) (are_ascending (e.0 + 1) (insert_entry nat_cmp es id v)) a.0 (ih (omega (arith, b))))
 
 entered_others : (id finish : ℕ) (es : Times) (k : ℕ) → k ≢ id → finish_time k (insert_entry nat_cmp es id finish) ≡ finish_time k es
-entered_others id finish [] k d = cond-false (is_at (nat_cmp k) id) (Some finish) None (other_id k id d)
+entered_others id finish [] k d = cond-false (is_at (nat_cmp k) id) (Some finish) None (at_other k id d)
 entered_others id finish (e ∷ es) k d = go (nat_cmp id e.0) refl (entered_others id finish es k d)
   where
     put : Ordering → Times
@@ -115,10 +107,10 @@ entered_others id finish (e ∷ es) k d = go (nat_cmp id e.0) refl (entered_othe
 
     go : (o : Ordering) → nat_cmp id e.0 ≡ o → finish_time k (insert_entry nat_cmp es id finish) ≡ finish_time k es
         → finish_time k (insert_entry nat_cmp (e ∷ es) id finish) ≡ finish_time k (e ∷ es)
-    go Less c ih = to Less c (cond-false (is_at (nat_cmp k) id) (Some finish) (finish_time k (e ∷ es)) (other_id k id d))
+    go Less c ih = to Less c (cond-false (is_at (nat_cmp k) id) (Some finish) (finish_time k (e ∷ es)) (at_other k id d))
     go Equal c ih =
         let b = equal id e.0 c in
-        let n = other_id k e.0 (λ z. d (z ∙ b)) in
+        let n = at_other k e.0 (λ z. d (z ∙ b)) in
         to Equal c (cond-false (is_at (nat_cmp k) e.0) (Some finish) (finish_time k es) n ∙ sym (cond-false (is_at (nat_cmp k) e.0) (Some e.1) (finish_time k es) n))
     go Greater c ih = to Greater c (ap (λ o. cond (is_at (nat_cmp k) e.0) (Some e.1) o) ih)
 

@@ -16,9 +16,10 @@ use Rattle.sctp_send_queue.proofs.NumberLemmas.{turn_numbered}
 use Rattle.sctp_send_queue.proofs.ProduceLemmas.{idles, gives, turned}
 use Rattle.sctp_rules.specs.Resets.{Epochs}
 use Rattle.sctp_rules.proofs.ToolsLemmas.{not_both}
+use Rattle.sctp_rules.proofs.CommonLemmas.{none_some}
 use Rattle.sctp_tx_rules.specs.Pauses.{ArePausedAs}
 use Rattle.sctp_tx_rules.specs.Line.{are_ascending, IsInLine, CallsKeepLine}
-use Rattle.sctp_tx_rules.proofs.FoundLemmas.{none_some, one_value}
+use Rattle.sctp_tx_rules.proofs.FoundLemmas.{one_value}
 use Rattle.sctp_tx_rules.proofs.ProduceLemmas.{stream_changed, is_other, line_mode}
 use Rattle.sctp_tx_rules.proofs.AcceptLemmas.{written, unwritten}
 use Rattle.sctp_tx_rules.proofs.ResetLemmas.{off}

@@ -25,7 +25,7 @@ use Rattle.sctp_tx_rules.proofs.ItemsLemmas.{Alike, by_nack, kept_changed}
 use Rattle.sctp_tx_rules.proofs.LedLemmas.{leads_on}
 use Rattle.sctp_tx_rules.proofs.AbandonLemmas.{GivesUp, gives, some_last}
 
-flies_lives : (s : ItemState) → flies s ≡ true → is_gone s ≡ false
+pub flies_lives : (s : ItemState) → flies s ≡ true → is_gone s ≡ false
 flies_lives InFlight e = refl
 flies_lives Missing e = refl
 flies_lives Queued e = refl
@@ -33,7 +33,7 @@ flies_lives QueuedFast e = refl
 flies_lives Acked e = refl
 flies_lives GivenUp e = absurd (cc)
 
-lacks_lives : (s : ItemState) → lacks s ≡ true → is_gone s ≡ false
+pub lacks_lives : (s : ItemState) → lacks s ≡ true → is_gone s ≡ false
 lacks_lives InFlight e = refl
 lacks_lives Missing e = refl
 lacks_lives Queued e = refl

@@ -16,8 +16,9 @@ use Rattle.sctp_rules.specs.Sending as sending
 use Rattle.sctp_rules.specs.Sending.{Waiting}
 use Rattle.sctp_rules.proofs.ToolsLemmas.{put_at, not_both}
 use Rattle.sctp_rules.proofs.IndexedLemmas.{parts_push, parts_off}
+use Rattle.sctp_rules.proofs.CommonLemmas.{none_some, not_zero}
 use Rattle.sctp_tx_rules.specs.Shown.{found, queue_of, numbers_at, tree_of, StandsFor, IsEntry, AreKept, AreQueued, AreDiscards}
-use Rattle.sctp_tx_rules.proofs.FoundLemmas.{none_some, one_value, found_at, found_off}
+use Rattle.sctp_tx_rules.proofs.FoundLemmas.{one_value, found_at, found_off}
 use Rattle.sctp_tx_rules.proofs.QueuedLemmas.{Frame, queue_some, queue_lacks, change, change_discards}
 use Rattle.sctp_tx_rules.proofs.ItemsLemmas.{Stays, kept_push}
 use Rattle.sctp_tx_rules.proofs.FreshLemmas.{put_elsewhere, first_entry, first_there}
@@ -37,9 +38,6 @@ ends_is offset size payload =
 
 mod_next : (a : ℕ) → (a % 2 ^ 32 + 1) % 2 ^ 32 ≡ suc a % 2 ^ 32
 mod_next a = omega arith
-
-not_zero : (a : ℕ) → 0 < a → (a == 0) ≡ false
-not_zero a h = grind (arith, nat_tests)
 
 -- where something is left, the fragment has bytes
 pub some_bytes : (offset size : ℕ) (payload : List ℕ) → 0 < size → nat_lt offset (length payload) ≡ true → is_empty (take size (drop offset payload)) ≡ false

@@ -19,11 +19,12 @@ use Rattle.sctp_rules.specs.State.{Message, Sender, IsAmong}
 use Rattle.sctp_rules.specs.Rules.{Event, accept, begin, number, close, give_up, data_comes, late_comes, deliver, send_sack, leave, send_forward, forward_comes, forget}
 use Rattle.sctp_rules.specs.Resets.{Epochs, transfers, send_request, commit, epochs_after, goes, MayAll, go_all}
 use Rattle.sctp_rules.proofs.ToolsLemmas.{not_both}
+use Rattle.sctp_rules.proofs.CommonLemmas.{none_some}
 use Rattle.sctp_tx.specs.Sending.{discard_all}
 use Rattle.sctp_tx_rules.specs.Shown.{found, messages_of, AreDiscards, QueueShows, Shows}
 use Rattle.sctp_tx_rules.specs.Led.{is_sending}
 use Rattle.sctp_tx_rules.specs.Pauses.{IsPausedAs, ArePausedAs, AreEach}
-use Rattle.sctp_tx_rules.proofs.FoundLemmas.{none_some, one_value, found_at, found_off, rises, once}
+use Rattle.sctp_tx_rules.proofs.FoundLemmas.{one_value, found_at, found_off, rises, once}
 use Rattle.sctp_tx_rules.proofs.ProduceLemmas.{stream_changed, is_other}
 use Rattle.sctp_tx_rules.proofs.PrepareLemmas.{from_less}
 use Rattle.sctp_tx_rules.proofs.AcceptLemmas.{written, unwritten}

@@ -17,10 +17,11 @@ use Rattle.sctp_rules.specs.Rules.{accept, give_up, IsSettled, Happens, run}
 use Rattle.sctp_rules.specs.Sending.{Waiting}
 use Rattle.sctp_rules.specs.Resets.{Epochs, ResetEvent, transfers, send_request, commit, MayReset, goes, MayAll, go_all}
 use Rattle.sctp_rules.proofs.ToolsLemmas.{put_at, put_off, not_both}
+use Rattle.sctp_rules.proofs.CommonLemmas.{none_some}
 use Rattle.sctp_tx_rules.specs.Shown.{found, messages_of, queue_of, Shows}
 use Rattle.sctp_tx_rules.specs.Rows.{offered}
 use Rattle.sctp_tx_rules.specs.Pauses.{unsent_of, give_ups, opens_next, IsPausedAs, ArePausedAs, PreparesPause}
-use Rattle.sctp_tx_rules.proofs.FoundLemmas.{none_some, one_value, found_off, found_at, found_push_off}
+use Rattle.sctp_tx_rules.proofs.FoundLemmas.{one_value, found_off, found_at, found_push_off}
 use Rattle.sctp_tx_rules.proofs.QueuedLemmas.{queued_is}
 use Rattle.sctp_tx_rules.proofs.AcceptLemmas.{written, unwritten}
 use Rattle.sctp_tx_rules.proofs.PrepareLemmas.{Waits, waits}

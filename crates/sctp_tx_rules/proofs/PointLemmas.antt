@@ -23,7 +23,7 @@ use Rattle.sctp_tx.specs.ForwardPoints.{most_of, chunk_if, forward_chunk}
 use Rattle.sctp_rules.specs.State.{Message, Entry, ForwardPoint, Sender, Transfer, IsAmong, fragment, place_of, count, stream_of, ordered_of}
 use Rattle.sctp_rules.specs.Rules.{same, covers, AreWritten}
 use Rattle.sctp_rules.specs.Kept.{Outgoing, Kept}
-use Rattle.sctp_rules.proofs.ToolsLemmas.{same_is, same_self, not_both}
+use Rattle.sctp_rules.proofs.ToolsLemmas.{same_is, same_self, not_both, among_covers}
 use Rattle.sctp_tx_rules.specs.Shown.{StandsFor, AreKept, Shows}
 use Rattle.sctp_tx_rules.specs.Points.{skip_of, chunk_of, IsSendable}
 use Rattle.sctp_rules.specs.Points.{AreApart}
@@ -97,14 +97,6 @@ one_self : (e : Entry) → one e e.ordered e.stream e.number ≡ true
 one_self e =
     and_from (same e.ordered e.ordered) ((e.stream == e.stream) && nat_le e.number e.number) (same_self e.ordered e.ordered refl)
     (and_from (eqb e.stream e.stream) (leb e.number e.number) (eq-eqb e.stream e.stream refl) (le-leb e.number e.number (omega arith)))
-
-among_covers : (d : Entry) (ds : List Entry) → IsAmong d ds → covers ds d.ordered d.stream d.number ≡ true
-among_covers d [] a = absurd a
-among_covers d (c ∷ ds) a =
-    elim a [
-      | inl e ↦ or_left (one c d.ordered d.stream d.number) (covers ds d.ordered d.stream d.number) (subst (λ (z : Entry). one z d.ordered d.stream d.number ≡ true) e (one_self d))
-      | inr b ↦ or_right (one c d.ordered d.stream d.number) (covers ds d.ordered d.stream d.number) (among_covers d ds b)
-    ]
 
 alike_is : (a b : ℕ) (u v : Bool) → ((a == b) && is_same (not u) (not v)) ≡ true → (a ≡ b) × (u ≡ v)
 alike_is a b u v h = (eqb-true a b (and_parts (eqb a b) (is_same (not u) (not v)) h).0, by u v (and_parts (eqb a b) (is_same (not u) (not v)) h).1)

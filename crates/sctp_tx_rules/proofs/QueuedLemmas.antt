@@ -9,8 +9,9 @@ use Rattle.sctp_rules.specs.State.{Message, Sender, IsAmong, parts, put, stream_
 use Rattle.sctp_rules.specs.Sending as sending
 use Rattle.sctp_rules.specs.Sending.{Waiting}
 use Rattle.sctp_rules.proofs.ToolsLemmas.{put_at, put_off}
+use Rattle.sctp_rules.proofs.CommonLemmas.{none_some}
 use Rattle.sctp_tx_rules.specs.Shown.{found, waiting_of, queue_of, numbers_at, IsEntry, AreQueued, AreDiscards}
-use Rattle.sctp_tx_rules.proofs.FoundLemmas.{funext, none_some, one_value}
+use Rattle.sctp_tx_rules.proofs.FoundLemmas.{funext, one_value}
 
 -- what the rules say of another place
 pub record Frame (o o' : Sender) (r : ℕ) : Type 0 where

@@ -2,7 +2,7 @@
 use Rattle.std.proofs.Common.{◌≡◌, ℕ, Bool, true, false, not, inl, inr, Option, List, [], ◌∷◌, ◌++◌, map, refl, sym, ap, ◌∙◌, subst, append_assoc}
 use Rattle.std.specs.Prelude.{◌==◌, ◌||◌}
 use Rattle.std.specs.List.{AllByRecursion}
-use Rattle.std.proofs.lemmas.Bool.{and_parts, and_from, cases_eq, eq-eqb, ne_eqb, false_from_ne_true, or_parts}
+use Rattle.std.proofs.lemmas.Bool.{and_parts, and_from, cases_eq, eq-eqb, ne_eqb, false_from_ne_true, or_parts, not_from_false, not-true}
 use Rattle.sctp_state.specs.Events.{GivenUp, Told}
 use Rattle.sctp_send_queue.specs.Queue.{Queue}
 use Rattle.sctp_outstanding.specs.Item.{Item, is_abandoned}
@@ -17,13 +17,6 @@ use Rattle.sctp_tx_rules.proofs.RestLemmas.{has_more, records_row}
 
 -- ---- distinct places
 
-not_from : (b : Bool) → b ≡ false → not b ≡ true
-not_from b e = ap not e
-
-not_true : (b : Bool) → not b ≡ true → b ≡ false
-not_true true e = cc
-not_true false e = refl
-
 or_swapped : (a b : Bool) → (a || b) ≡ (b || a)
 or_swapped true true = refl
 or_swapped true false = refl
@@ -35,7 +28,7 @@ distinct_more [] qs a b apart = b
 distinct_more (p ∷ ps) qs a b apart =
     let parts = and_parts (not (has p ps)) (are_distinct ps) a in
     and_from (not (has p (ps ++ qs))) (are_distinct (ps ++ qs))
-    (not_from (has p (ps ++ qs)) (has_more p ps qs ∙ (ap (λ c. c || has p qs) (not_true (has p ps) parts.0) ∙ behind)))
+    (not_from_false (has p (ps ++ qs)) (has_more p ps qs ∙ (ap (λ c. c || has p qs) (not-true (has p ps) parts.0) ∙ behind)))
     (distinct_more ps qs parts.1 b (λ r h. (or_parts (r == p) (has r ps) (apart r h)).1))
   where
     behind : has p qs ≡ false
@@ -52,7 +45,7 @@ module _ (message : ℕ → Message) (mixed : Bool) where
   gives x q es live g = record {
     once =
         and_from (not (has q (given_ups es))) (are_distinct (given_ups es))
-        (not_from (has q (given_ups es)) (false_from_ne_true (has q (given_ups es)) (λ h. not_both (put_at x.sender.given_up q true q refl) (g.fresh q h)))) g.once;
+        (not_from_false (has q (given_ups es)) (false_from_ne_true (has q (given_ups es)) (λ h. not_both (put_at x.sender.given_up q true q refl) (g.fresh q h)))) g.once;
     fresh = λ p h. elim (cases_eq p q) [ inl e ↦ subst (λ (r : ℕ). x.sender.given_up r ≡ false) (sym e) live | inr d ↦ earlier p d h ];
   }
     where

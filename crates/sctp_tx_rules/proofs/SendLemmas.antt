@@ -1,7 +1,7 @@
 -- What a packet takes, and what its chunks carry.
 use Rattle.std.proofs.Common.{◌≡◌, ℕ, zero, suc, ◌+◌, ◌-◌, ◌<◌, ◌≤◌, Bool, true, false, cond, Option, Some, None, List, [], ◌∷◌, ◌++◌, length, length-append, append-nil, refl, sym, ap, ◌∙◌, subst, arith}
 use Rattle.std.specs.Prelude.{slice_get, nat_lt, nat_le, ◌&&◌, min}
-use Rattle.std.proofs.lemmas.Bool.{and_parts, false_from_ne_true, false≢true, ltb-true}
+use Rattle.std.proofs.lemmas.Bool.{false_from_ne_true, false≢true}
 use Rattle.sctp_serial.specs.Unwrapped.{origin, words, wire}
 use Rattle.sctp_packet.specs.Chunk.{FragmentTree}
 use Rattle.sctp_state.specs.Events.{Told}
@@ -24,6 +24,7 @@ use Rattle.sctp_rules.specs.Kept.{Kept}
 use Rattle.sctp_rules.proofs.KeepsLemmas.{keeps}
 use Rattle.sctp_rules.proofs.StepLemmas.{later}
 use Rattle.sctp_rules.proofs.ToolsLemmas.{not_both}
+use Rattle.sctp_rules.proofs.CommonLemmas.{second_some}
 use Rattle.sctp_tx_rules.specs.Shown.{tree_of, StandsFor, Shows, ItemsShow, AreDiscards, messages_of}
 use Rattle.sctp_tx_rules.specs.Led.{recorded, Leads, LeadsTo}
 use Rattle.sctp_tx_rules.specs.Rows.{with_made, Carries, AllCarry, Sends}
@@ -244,14 +245,11 @@ module _ {P : Type 0} (message : ℕ → Message) (lifecycle : ℕ → Option �
                 (subst (λ n. n ≤ c.0.at) stays c.1);
           })
 
-  is_some_size : (b : Bool) (n : ℕ) → (b && nat_lt 0 n) ≡ true → 0 < n
-  is_some_size b n e = ltb-true 0 n (and_parts b (nat_lt 0 n) e).1
-
   turn_fills : (f : Filling P) → Filled f → Filled (turned now f).filling
   turn_fills f a = go (may_send_new f.sender && nat_lt 0 (offered f.left f.sender)) refl
     where
       go : (b : Bool) → (may_send_new f.sender && nat_lt 0 (offered f.left f.sender)) ≡ b → Filled (turned_if b now f).filling
-      go true e = made_carries f (offered f.left f.sender) (is_some_size (may_send_new f.sender) (offered f.left f.sender) e) a
+      go true e = made_carries f (offered f.left f.sender) (second_some (may_send_new f.sender) (offered f.left f.sender) e) a
       go false e = a
 
   pub fills : (n : ℕ) (f : Filling P) → Filled f → Filled (fill n now f)

@@ -7,7 +7,7 @@ use Rattle.std.proofs.lemmas.Bool.{cases_eq, eq-eqb, and_parts, eqb-true}
 use Rattle.sctp_state.specs.Options.{Options}
 use Rattle.sctp_send_queue.specs.declared.send_queue.message.MessageNumbers.{MessageNumbers}
 use Rattle.sctp_send_queue.specs.Queue as queue
-use Rattle.sctp_send_queue.specs.Queue.{Queued, Queue, Stream, Streams, stream}
+use Rattle.sctp_send_queue.specs.Queue.{Queued, Queue, Stream, stream}
 use Rattle.sctp_send_queue.specs.Settings.{set_mode}
 use Rattle.sctp_send_queue.specs.Restarted.{whole, whole_front, restarted, restarted_one, each_restarted, reset}
 use Rattle.sctp_send_queue.specs.InOrder.{is_waiting, is_begun_or_waiting, are_in_order, is_first_begun, is_this, IsUnsent}
@@ -17,9 +17,10 @@ use Rattle.sctp_send_queue.proofs.RestLemmas.{calls_leave_rests}
 use Rattle.sctp_outstanding.specs.Items.{Items, no_items}
 use Rattle.sctp_rules.specs.State.{Message, Sender, new_sender, start}
 use Rattle.sctp_rules.proofs.ToolsLemmas.{not_both}
+use Rattle.sctp_rules.proofs.CommonLemmas.{none_some}
 use Rattle.sctp_tx_rules.specs.Shown.{found, messages_of, waiting_of, queue_of, IsNext, AreQueued, AreDiscards, Shows}
 use Rattle.sctp_tx_rules.specs.Rows.{waiting}
-use Rattle.sctp_tx_rules.proofs.FoundLemmas.{funext, none_some, found_at}
+use Rattle.sctp_tx_rules.proofs.FoundLemmas.{funext, found_at}
 use Rattle.sctp_tx_rules.proofs.QueuedLemmas.{queue_some}
 use Rattle.sctp_tx_rules.proofs.ProduceLemmas.{stream_changed, is_other}
 
