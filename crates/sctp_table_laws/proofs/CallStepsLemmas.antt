@@ -1,10 +1,8 @@
 -- What the calls that send and the settings tell.
-use Rattle.std.proofs.Common.{◌≡◌, ℕ, true, Option, Some, None, List, [], ◌∷◌, ◌++◌, refl}
-use Rattle.std.specs.List.{list_all}
+use Rattle.std.proofs.Common.{ℕ, Option, Some, None, List, [], ◌∷◌, ◌++◌, refl}
 use Rattle.sctp_serial.specs.Messages.{Message}
 use Rattle.sctp_state.specs.declared.api.SocketState.{SocketState}
 use Rattle.sctp_state.specs.declared.api.errors.SendError.{SendError}
-use Rattle.sctp_state.specs.declared.api.errors.SendError.TheVariants.{EmptyPayload, MessageTooLarge, ShuttingDown, ResourceExhaustion as QueueFull, Memory, Failed}
 use Rattle.sctp_state.specs.Options.{SendOptions}
 use Rattle.sctp_state.specs.Events.{Event}
 use Rattle.sctp_table.specs.Association.{State, Closed, CookieWait, Open, Context, Standing, with_context}
@@ -12,28 +10,16 @@ use Rattle.sctp_table.specs.Sending.{is_alone, send_in}
 use Rattle.sctp_table.specs.Calls.{shown_state, refusal, refusal_of, refusal_events, ended, refused, accepted, offered, offer, sent_if, send, offer_all, send_many, set_low_threshold, set_priority, set_max_message_size, taken_in, take_message}
 use Rattle.sctp_table.specs.Laws.{ends}
 use Rattle.sctp_table_laws.proofs.StepsLemmas.{most_bytes, Goes, Steps}
-use Rattle.sctp_table_laws.proofs.TellsLemmas.{is_quiet, quiet_both, tells_all, tells_threshold}
+use Rattle.sctp_table_laws.proofs.TellsLemmas.{quiet_both, tells_all, tells_threshold, quiet_end, quiet_refusal}
 use Rattle.sctp_table_laws.proofs.GoesLemmas.{goes_by, goes_silent, goes_same, goes_then}
 use Rattle.sctp_table_laws.proofs.SendingStepsLemmas.{goes_send_buffered}
 use Rattle.sctp_table_laws.proofs.RowStepsLemmas.{OpenSteps, steps_context, steps_same, steps_where_open}
-
-quiet_ended : (P : Type 0) (l : Option ℕ) → list_all is_quiet (ended {P = P} l) ≡ true
-quiet_ended P None = refl
-quiet_ended P (Some id) = refl
-
-quiet_refusal : (P : Type 0) (e : SendError) → list_all is_quiet (refusal_events {P = P} e) ≡ true
-quiet_refusal P EmptyPayload = refl
-quiet_refusal P (MessageTooLarge len limit) = refl
-quiet_refusal P ShuttingDown = refl
-quiet_refusal P QueueFull = refl
-quiet_refusal P Memory = refl
-quiet_refusal P Failed = refl
 
 module _ {P : Type 0} where
   goes_refused : (e : SendError) (l : Option ℕ) (c : Context P) → Goes 0 c (refused e l c)
   goes_refused e l c =
       let es : List (Event P) = ended l ++ refusal_events e in
-      goes_by 0 c (refused e l c) refl refl (tells_all c.pack (most_bytes c) es c.told (quiet_both (ended l) (refusal_events e) (quiet_ended P l) (quiet_refusal P e)))
+      goes_by 0 c (refused e l c) refl refl (tells_all c.pack (most_bytes c) es c.told (quiet_both (ended l) (refusal_events e) (quiet_end P l) (quiet_refusal P e)))
 
   goes_offered : (o : Option SendError) (m : Message) (how : SendOptions) (c : Context P) → Goes 0 c (offered o m how c)
   goes_offered None m how c = goes_silent c (accepted m how c) refl refl refl

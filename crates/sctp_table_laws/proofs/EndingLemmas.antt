@@ -1,5 +1,6 @@
 -- A call that leaves an end closed has ended its association.
 use Rattle.std.proofs.Common.{◌≡◌, ℕ, ◌+◌, ◌≤◌, Bool, true, false, Option, Some, None, List, [], ◌∷◌, refl, sym, ◌∙◌, arith}
+use Rattle.std.proofs.lemmas.Bool.{both_ways}
 use Rattle.sctp_packet.specs.Chunk.{ChunkTree}
 use Rattle.sctp_packet.specs.Packet.{PacketTree}
 use Rattle.sctp_rx.specs.Tracker.{is_ack_due}
@@ -8,17 +9,14 @@ use Rattle.sctp_table.specs.Sending.{asked}
 use Rattle.sctp_table.specs.Input.{refusal, Heard, hear, hear_rest, hear_all, has_data, repeats, repeats_if, ended_if, at_end, ended, on_standing, handled, counts, taken_if, on_packet}
 use Rattle.sctp_table.specs.Laws.{Call, Connect, Close, Shutdown, Send, SendMany, TakeMessage, SetLowThreshold, SetPriority, SetMaxMessageSize, Advance, HandOver, Restore, Packet, NoPacket, called, is_closed, ends, ended_after, ended_by, ended_unless, ended_in, ended_in_call, ResetStreams}
 
-not_both : (b : Bool) → b ≡ false → b ≡ true → ⊥
-not_both b e f = cc
-
 one_ends : (s t : State) → is_closed s ≡ false → is_closed t ≡ true → 1 ≤ ends s t
-one_ends Closed t e f = absurd (not_both true e refl)
+one_ends Closed t e f = absurd (both_ways true e refl)
 one_ends (CookieWait tag first t1) Closed e f = omega arith
-one_ends (CookieWait tag first t1) (CookieWait new_tag new_first new_t1) e f = absurd (not_both false refl f)
-one_ends (CookieWait tag first t1) (Open phase t) e f = absurd (not_both false refl f)
+one_ends (CookieWait tag first t1) (CookieWait new_tag new_first new_t1) e f = absurd (both_ways false refl f)
+one_ends (CookieWait tag first t1) (Open phase t) e f = absurd (both_ways false refl f)
 one_ends (Open phase t) Closed e f = omega arith
-one_ends (Open phase t) (CookieWait tag first t1) e f = absurd (not_both false refl f)
-one_ends (Open phase t) (Open new_phase u) e f = absurd (not_both false refl f)
+one_ends (Open phase t) (CookieWait tag first t1) e f = absurd (both_ways false refl f)
+one_ends (Open phase t) (Open new_phase u) e f = absurd (both_ways false refl f)
 
 module _ {P : Type 0} where
   stays_open_from : (row : Phase → Tcb → Context P → Standing P) (st : State) (c : Context P)
@@ -63,11 +61,11 @@ module _ {P : Type 0} where
   some_rest true false n rest count s e one more f =
       let k : 1 ≤ count s = more s e f in
       omega (arith, k)
-  some_rest false false n rest count s e one more f = absurd (not_both (is_closed s.standing.state) e f)
+  some_rest false false n rest count s e one more f = absurd (both_ways (is_closed s.standing.state) e f)
 
   some_by : (tag : ℕ) (chunks : List ChunkTree) (s : Endpoint P) → is_closed s.standing.state ≡ false → is_closed (hear_all tag chunks s).standing.state ≡ true
       → 1 ≤ ended_by tag chunks s
-  some_by tag [] s e f = absurd (not_both (is_closed s.standing.state) e f)
+  some_by tag [] s e f = absurd (both_ways (is_closed s.standing.state) e f)
   some_by tag (chunk ∷ chunks) s e f =
       let h : Heard P = hear tag chunk s in
       some_rest h.goes_on (is_closed h.end.standing.state) (ends s.standing.state h.end.standing.state) (hear_all tag chunks) (ended_by tag chunks) h.end refl
@@ -83,7 +81,7 @@ module _ {P : Type 0} where
   some_unless : (o : Option (List ℕ)) (tag : ℕ) (chunks : List ChunkTree) (s : Endpoint P) → is_closed s.standing.state ≡ false
       → is_closed (taken_if o tag chunks s).standing.state ≡ true → 1 ≤ ended_unless o tag chunks s
   some_unless None tag chunks s e f = some_handled tag chunks s e f
-  some_unless (Some text) tag chunks s e f = absurd (not_both (is_closed s.standing.state) e f)
+  some_unless (Some text) tag chunks s e f = absurd (both_ways (is_closed s.standing.state) e f)
 
   some_packet : (p : PacketTree) (s : Endpoint P) → is_closed s.standing.state ≡ false → is_closed (on_packet p s).standing.state ≡ true → 1 ≤ ended_in p s
   some_packet p s e f =

@@ -1,6 +1,7 @@
 -- Contexts: what is said, packets that are put together within the mtu, and how they go out.
 use Rattle.std.proofs.Common.{◌≡◌, ℕ, ◌+◌, ◌-◌, ◌≤◌, max, nat_le, Bool, true, false, List, [], ◌∷◌, ◌++◌, length, refl, sym, ap, subst, ◌∙◌, arith}
 use Rattle.std.proofs.lemmas.List.{length-append}
+use Rattle.std.proofs.lemmas.Bool.{leb-true, and_parts}
 use Rattle.sctp_wire.specs.Serialize.{is_encodable}
 use Rattle.sctp_packet.specs.Chunk.{ChunkTree}
 use Rattle.sctp_packet.specs.Written.{chunk_item, chunk_is_whole, chunk_bytes, chunks_bytes}
@@ -11,16 +12,13 @@ use Rattle.sctp_table.specs.Association.{Tcb, Context, Packing}
 use Rattle.sctp_table.specs.Packets.{Packet, room, fits, added_if, add, add_all, has_chunks, rounded, new_packet, complain, header_to, emit_if, emit, emit_chunk}
 use Rattle.sctp_table.specs.Laws.{IsWithin, IsShort, ending}
 use Rattle.sctp_table_laws.proofs.StepsLemmas.{Tells, most_bytes, Goes}
-use Rattle.sctp_table_laws.proofs.TellsLemmas.{split_and, tells_nothing, tells_one, tells_through}
+use Rattle.sctp_table_laws.proofs.TellsLemmas.{tells_nothing, tells_one, tells_through}
 
 -- ---- packets that are put together
 
 pub record IsSmall (most : ℕ) (p : Packet) : Type 0 where
   pub limit : p.limit ≤ most
   pub short : 12 + length (chunks_bytes p.chunks) ≤ most
-
-le_of : (a b : ℕ) → nat_le a b ≡ true → a ≤ b
-le_of a b h = grind (arith)
 
 no_bytes : length (chunks_bytes []) ≡ 0
 unfolding chunks_bytes
@@ -44,7 +42,7 @@ longer most limit front c within h fit =
 
 small_added : (most : ℕ) (p : Packet) (c : ChunkTree) (b : Bool) → fits p c ≡ b → IsSmall most p → IsSmall most (added_if b c p)
 small_added most p c true e h =
-    let room_for = le_of _ _ (split_and (is_encodable (chunk_item c) (chunk_is_whole c)) (nat_le (length (chunk_bytes c)) (room p)) e).1 in
+    let room_for = leb-true _ _ (and_parts (is_encodable (chunk_item c) (chunk_is_whole c)) (nat_le (length (chunk_bytes c)) (room p)) e).1 in
     record { limit = h.limit; short = longer most p.limit p.chunks c h.limit h.short room_for }
 small_added most p c false e h = h
 

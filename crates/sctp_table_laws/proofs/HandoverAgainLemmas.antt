@@ -19,7 +19,7 @@ use Rattle.sctp_rx.specs.Seen.{has_gap}
 use Rattle.sctp_rx.specs.Tracker.{placed}
 use Rattle.sctp_rx.specs.Streams as received
 use Rattle.sctp_rx.specs.ReassemblyQueue.{Deferred}
-use Rattle.sctp_rx.specs.ReassemblyHandover.{space_of, ordered_records, unordered_records, ordered_is_held, unordered_is_held, deferred_readiness}
+use Rattle.sctp_rx.specs.ReassemblyHandover.{ordered_records, unordered_records, deferred_readiness}
 use Rattle.sctp_rx.specs.ReassemblyHandover as reassembly
 use Rattle.sctp_rx.specs.TrackerHandover as tracker
 use Rattle.sctp_outstanding.specs.Item.{Item}

@@ -12,7 +12,7 @@ use Rattle.std.proofs.lemmas.Bool.{and_from, and_parts, eq-eqb, or_from, or_righ
 use Rattle.sctp_serial.specs.Unwrapped.{words, wire}
 use Rattle.sctp_state.specs.declared.api.handover.HandoverOutgoingStream.{HandoverOutgoingStream}
 use Rattle.sctp_state.specs.Handover.{StreamMessage, OutstandingData}
-use Rattle.sctp_state.specs.Validity.{rises_from, outgoing_ids, has_stream, is_valid_message, are_valid_messages, has_message_id, message_ids_differ, is_partly_sent, has_partly_sent, first_alone_is_partly_sent, partly_sent_count, is_in_one_state, is_valid_item, are_valid_items, queued_bytes, outstanding_bytes}
+use Rattle.sctp_state.specs.Validity.{rises_from, outgoing_ids, has_stream, is_valid_message, are_valid_messages, has_message_id, message_ids_differ, is_partly_sent, has_partly_sent, first_alone_is_partly_sent, partly_sent_count, is_valid_item, are_valid_items, queued_bytes, outstanding_bytes}
 use Rattle.sctp_outstanding.specs.declared.item.ItemState.{ItemState}
 use Rattle.sctp_outstanding.specs.declared.item.ItemState.TheVariants.{InFlight, Missing, Queued as Lost, QueuedFast, Acked, GivenUp}
 use Rattle.sctp_outstanding.specs.Item.{Item, has_ack, is_gone, waits}
@@ -22,6 +22,7 @@ use Rattle.sctp_send_queue.specs.Handover.{queued_message, messages_of, outgoing
 use Rattle.sctp_send_queue.specs.InOrder.{is_waiting, is_begun_or_waiting, are_in_order, is_first_begun, is_this, has_rest}
 use Rattle.sctp_send_queue.proofs.AgainLemmas.{AreAbove, are_above}
 use Rattle.sctp_table_laws.specs.HandoverRoundTrip.{one_if, numbered, numbered_in, message_bytes, queue_bytes, item_bytes}
+use Rattle.sctp_rules.proofs.CommonLemmas.{at_itself}
 
 -- ---- ids that ascend
 
@@ -58,9 +59,6 @@ Each Q (e ∷ es) = Q e.0 e.1.messages × Each Q es
 abbrev Found : Entries → Entries → Type 0
 Found all [] = Unit
 Found all (e ∷ es) = (lookup (is_at (nat_cmp e.0)) all ≡ Some e.1) × Found all es
-
-at_itself : (k : ℕ) → is_at (nat_cmp k) k ≡ true
-at_itself k = grind (arith, nat_tests)
 
 below_it : (k m : ℕ) → k < m → is_at (nat_cmp m) k ≡ false
 below_it k m l = grind (arith, nat_tests)
@@ -316,15 +314,12 @@ count_these now begun (e ∷ es) h =
       count_these now begun es h.1,
     )
 
-not_above : (j k : ℕ) → j < k → (k == j) ≡ false
-not_above j k l = grind (arith, nat_tests)
-
 these_above : (j k : ℕ) (es : Entries) → (k == j) ≡ true → AreAbove k es → these (Some j) es ≡ 0
 unfolding these
 these_above j k [] e h = refl
 these_above j k (x ∷ xs) e h =
     let higher : j < x.0 = grind (arith, nat_tests, h.0, e) in
-    omega (arith, ap one_if (not_above j x.0 higher), these_above j k xs e h.1)
+    omega (arith, ap one_if (apart j x.0 higher), these_above j k xs e h.1)
 
 these_few : (begun : Option ℕ) (es : Entries) → IsStrictlySortedBy nat_cmp (keys_of es) → these begun es ≤ 1
 unfolding these IsStrictlySortedBy

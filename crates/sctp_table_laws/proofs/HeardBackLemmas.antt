@@ -37,7 +37,7 @@ let_through false true method word field with_sum without h =
 let_through false false method word field with_sum without h =
     ap (λ (n : ℕ). (n == word) || ((n == 0) && not (method == 0))) (without refl) ∙ ap (λ (b : Bool). (0 == word) || b) h ∙ or_true (0 == word)
 
-small_word : (n : ℕ) → n % 2 ^ 32 < 2 ^ 32
+pub small_word : (n : ℕ) → n % 2 ^ 32 < 2 ^ 32
 small_word n = omega arith
 
 module _ (word_of : List ℕ → ℕ) (header : HeaderTree) (chunks : List ChunkTree) where
@@ -63,7 +63,7 @@ is_packet : (h : HeaderTree) (field : ℕ) (cs : List ChunkTree) → FitsHeader 
 unfolding packet_bytes
 is_packet h field cs fits small reads = record { body = chunks_bytes cs; joined = refl; header_fits = fits; checksum_fits = small; chunks = chunks_tile cs reads }
 
-length_written : (h : HeaderTree) (field : ℕ) (cs : List ChunkTree) → length (packet_bytes h field cs) ≡ 12 + length (chunks_bytes cs)
+pub length_written : (h : HeaderTree) (field : ℕ) (cs : List ChunkTree) → length (packet_bytes h field cs) ≡ 12 + length (chunks_bytes cs)
 unfolding packet_bytes
 length_written h field cs = length_joined h field (chunks_bytes cs)
 

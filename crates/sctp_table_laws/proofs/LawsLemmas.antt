@@ -1,10 +1,6 @@
 -- The two laws.
-use Rattle.std.proofs.Common.{◌≡◌, ℕ, ◌+◌, ◌≤◌, max, List, [], ◌∷◌, length, All, ap, subst, arith}
+use Rattle.std.proofs.Common.{◌≡◌, ℕ, ◌≤◌, max, List, [], ◌∷◌, length, All, ap, subst, arith}
 use Rattle.std.proofs.lemmas.List.Elements.{All-cons, All-nil, All-head, All-tail}
-use Rattle.sctp_packet.specs.Chunk.{ChunkTree}
-use Rattle.sctp_packet.specs.Written.{chunks_bytes}
-use Rattle.sctp_packet.specs.Packet.{HeaderTree, packet_bytes}
-use Rattle.sctp_packet.proofs.PacketLemmas.{length_joined}
 use Rattle.sctp_state.specs.Events.{Event, SendPacket}
 use Rattle.sctp_table.specs.Association.{Context, Endpoint, Packing}
 use Rattle.sctp_table.specs.Wire.{field_of, writing}
@@ -17,6 +13,7 @@ use Rattle.sctp_table_laws.proofs.CallStepsLemmas.{steps_send, steps_send_many, 
 use Rattle.sctp_table_laws.proofs.HandoverStepsLemmas.{steps_hand_over, steps_restore}
 use Rattle.sctp_table_laws.proofs.ResetStepsLemmas.{steps_reset_streams}
 use Rattle.sctp_table_laws.proofs.InputStepsLemmas.{goes_packet, steps_no_packet}
+use Rattle.sctp_table_laws.proofs.HeardBackLemmas.{length_written}
 
 module _ {P : Type 0} where
   goes_call : (call : Call) (s : Endpoint P) → Goes (ended_in_call call s) s.standing.context (called call s).standing.context
@@ -58,14 +55,10 @@ module _ {P : Type 0} where
 
 -- ---- packets as bytes
 
-length_packet : (h : HeaderTree) (word : ℕ) (chunks : List ChunkTree) → length (packet_bytes h word chunks) ≡ 12 + length (chunks_bytes chunks)
-unfolding packet_bytes
-length_packet h word chunks = length_joined h word (chunks_bytes chunks)
-
 length_within : (word_of : List ℕ → ℕ) (most : ℕ) (bytes : List ℕ) → IsWithin (writing word_of) most bytes → length bytes ≤ most
 length_within word_of most bytes w =
     let field : ℕ = field_of word_of w.header w.is_summed w.chunks in
-    omega (arith, ap length w.made, length_packet w.header field w.chunks, w.short)
+    omega (arith, ap length w.made, length_written w.header field w.chunks, w.short)
 
 event_at_most : (word_of : List ℕ → ℕ) (most : ℕ) (e : Event (List ℕ)) → IsShort (writing word_of) most e → HasAtMost most e
 event_at_most word_of most (SendPacket bytes) w = length_within word_of most bytes w

@@ -1,15 +1,13 @@
 -- The law: each call commutes with a map of packets.
-use Rattle.std.proofs.Common.{◌≡◌, ℕ, List, refl}
-use Rattle.sctp_state.specs.Options.{Options}
-use Rattle.sctp_table.specs.Wire.{writing}
-use Rattle.sctp_table.specs.Association.{Packing, Endpoint, in_context, context}
+use Rattle.std.proofs.Common.{◌≡◌, refl}
+use Rattle.sctp_table.specs.Association.{Endpoint, in_context, context}
 use Rattle.sctp_table.specs.Closing.{close, shutdown}
 use Rattle.sctp_table.specs.Calls.{send, send_many, set_low_threshold}
 use Rattle.sctp_table.specs.Resets.{reset_streams}
 use Rattle.sctp_table.specs.Time.{advance}
 use Rattle.sctp_table.specs.Handover.{hand_over, restore}
 use Rattle.sctp_table.specs.Laws.{Call, Connect, Close, Shutdown, Send, SendMany, TakeMessage, SetLowThreshold, SetPriority, SetMaxMessageSize, Advance, HandOver, Restore, Packet, NoPacket, called, ResetStreams}
-use Rattle.sctp_table_laws.specs.Mapped.{Mapping, map_context, map_end, Carried, as_bytes, BytesAreWrittenChunks}
+use Rattle.sctp_table_laws.specs.Mapped.{Mapping, map_end, as_bytes, BytesAreWrittenChunks}
 use Rattle.sctp_table_laws.proofs.RowMapsLemmas.{maps_in_state, maps_close, maps_shutdown}
 use Rattle.sctp_table_laws.proofs.OpeningMapsLemmas.{maps_connect}
 use Rattle.sctp_table_laws.proofs.TimeMapsLemmas.{maps_advance}
@@ -17,10 +15,6 @@ use Rattle.sctp_table_laws.proofs.CallMapsLemmas.{maps_send, maps_send_many, map
 use Rattle.sctp_table_laws.proofs.HandoverMapsLemmas.{maps_hand_over, maps_restore}
 use Rattle.sctp_table_laws.proofs.ResetMapsLemmas.{maps_reset_streams}
 use Rattle.sctp_table_laws.proofs.InputMapsLemmas.{maps_on_standing, maps_packet, maps_no_packet}
-
--- packets as they are
-abbrev pub carried : Packing Carried
-carried = record { write = λ header is_summed chunks. record { header = header; is_summed = is_summed; chunks = chunks }; word_of = λ bytes. 0 }
 
 pub maps_called : {P Q : Type 0} (f : Mapping P Q) (call : Call) (s : Endpoint P) → called call (map_end f s) ≡ map_end f (called call s)
 maps_called f Connect s = maps_connect f s
@@ -43,7 +37,3 @@ maps_called f NoPacket s = maps_no_packet f s
 
 pub bytes_written : BytesAreWrittenChunks
 bytes_written word_of call s = maps_called (as_bytes word_of) call s
-
--- a new end has the context of a new one
-pub context_written : (word_of : List ℕ → ℕ) (o : Options) → map_context (as_bytes word_of) (context o carried) ≡ context o (writing word_of)
-context_written word_of o = refl

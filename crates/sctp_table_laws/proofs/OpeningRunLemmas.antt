@@ -1,5 +1,5 @@
 -- The opening of an association, packet by packet.
-use Rattle.std.proofs.Common.{◌≡◌, ℕ, Option, Some, None, ◌^◌, ◌<◌, ◌==◌, Bool, true, false, List, [], ◌∷◌, refl, ap, ◌∙◌, arith}
+use Rattle.std.proofs.Common.{◌≡◌, ℕ, Option, Some, None, ◌^◌, ◌<◌, ◌==◌, Bool, false, List, [], ◌∷◌, refl, ap, ◌∙◌, arith}
 use Rattle.std.specs.Prelude.{Ok, Result}
 use Rattle.std.proofs.lemmas.Bool.Decides.{nat_tests}
 use Rattle.rand_core.specs.Stream.{Stream, next_u32, next_u64}
@@ -24,6 +24,7 @@ use Rattle.sctp_table.specs.Shown.{Association, association_in}
 use Rattle.sctp_table.specs.Association.{heartbeats}
 use Rattle.sctp_table.specs.Heartbeats.{beating}
 use Rattle.sctp_table_laws.specs.FirstRun.{first_of, tag_of, init_tree, init_packet, init_ack_packet, cookie_echo_packet, cookie_ack_packet, given, quiet, packed, asking, answering, echoing, accepting, opening, association, Shows, Opens}
+use Rattle.sctp_rules.proofs.CommonLemmas.{is_itself}
 
 -- ---- the ends, by their parts
 
@@ -40,9 +41,6 @@ drawn words = (next_u32 (next_u32 words).1).1
 
 -- ---- numbers
 
-pub same : (n : ℕ) → (n == n) ≡ true
-same n = grind (arith, nat_tests)
-
 pub tag_some : (words : Stream) → (tag_of words == 0) ≡ false
 tag_some words = grind (arith, nat_tests)
 
@@ -55,7 +53,7 @@ first_small words = omega arith
 -- a packet under the own tag is taken
 pub own_taken : (chunk : ChunkTree) (tag : ℕ) (s : State) → abort_flag (chunk ∷ []) ≡ None → complete_flag (chunk ∷ []) ≡ None → has_shutdown_ack (chunk ∷ []) ≡ false
     → begins_with_cookie (chunk ∷ []) ≡ false → (tag == 0) ≡ false → my_tag s ≡ tag → refusal tag (chunk ∷ []) s ≡ None
-own_taken chunk tag s no_abort no_end no_ack no_cookie some own = rw (no_abort, no_end, no_ack, no_cookie, some, own, same tag) refl
+own_taken chunk tag s no_abort no_end no_ack no_cookie some own = rw (no_abort, no_end, no_ack, no_cookie, some, own, is_itself tag) refl
 
 module _ {P : Type 0} (pack : Packing P) where
   abbrev pub waiting : Stream → Endpoint P
@@ -140,7 +138,7 @@ module _ {P : Type 0} (pack : Packing P) where
   unfolding padded_item chunk_bytes chunks_bytes chunk_value
   hears_cookie a b =
       ap (λ (r : Result Cookie StateCookieError). on_standing (where_open ended) (on_read_cookie (tag_of b) r (counts (answered b)))) (reads a b)
-      ∙ ap (λ (v : Bool). on_standing (where_open ended) (on_verdict (new_if v) (cookie_of a b) (counts (answered b)))) (same (tag_of b))
+      ∙ ap (λ (v : Bool). on_standing (where_open ended) (on_verdict (new_if v) (cookie_of a b) (counts (answered b)))) (is_itself (tag_of b))
 
   pub accepts : (a b : Stream) → accepting pack a b ≡ telling (OnConnected ∷ packed pack (cookie_ack_packet a) ∷ []) (opened_b a b)
   accepts a b = ap (λ (s : Endpoint P). given (cookie_echo_packet a b) (quiet s)) (answers a b) ∙ hears_cookie a b

@@ -1,6 +1,6 @@
 -- Chunks that an end makes of what it has are fair.
-use Rattle.std.proofs.Common.{◌≡◌, ℕ, zero, suc, ◌==◌, ◌^◌, ◌<◌, Bool, true, false, cond, not, List, [], ◌∷◌, ◌++◌, refl, arith}
-use Rattle.std.specs.Prelude.{codes, nat_lt}
+use Rattle.std.proofs.Common.{◌≡◌, ℕ, zero, suc, ◌==◌, ◌^◌, ◌<◌, Bool, true, false, cond, not, List, [], ◌∷◌, ◌++◌, arith}
+use Rattle.std.specs.Prelude.{nat_lt}
 use Rattle.std.specs.List.{list_all}
 use Rattle.std.specs.Str.{IsUtf8, IsAscii}
 use Rattle.std.proofs.lemmas.Str.{IsUtf8-from_ascii}
@@ -31,9 +31,6 @@ letter_at (b ∷ bs) h (suc i) = letter_at bs (and_parts (is_letter b) (list_all
 -- a text of letters
 pub is_text : (bs : List ℕ) → list_all (λ (b : ℕ). nat_lt b 128) bs ≡ true → IsUtf8 bs
 is_text bs h = IsUtf8-from_ascii bs (letter_at bs h)
-
-close_text : IsUtf8 (codes "Close called")
-close_text = is_text (codes "Close called") refl
 
 -- ---- parameters
 

@@ -13,12 +13,10 @@ use Rattle.sctp_state.specs.Numbers.{ms}
 use Rattle.sctp_state.specs.Events.{Told, tell_all, OnBufferedAmountLow}
 use Rattle.sctp_table_laws.specs.FirstRun.{fragment, fully_sent}
 use Rattle.sctp_table.specs.Calls.{queued}
+use Rattle.sctp_rules.proofs.CommonLemmas.{is_itself}
 
 pub not_below_itself : (n : ℕ) → nat_lt n n ≡ false
 not_below_itself n = grind (arith)
-
-pub is_itself : (n : ℕ) → (n == n) ≡ true
-is_itself n = grind (arith, nat_tests)
 
 pub some_left : (n : ℕ) → 0 < n → (n - 0 == 0) ≡ false
 some_left n h = grind (arith, nat_tests)

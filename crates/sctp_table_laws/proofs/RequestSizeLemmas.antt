@@ -1,6 +1,6 @@
 -- The sizes of requests to reset streams.
-use Rattle.std.proofs.Common.{◌≡◌, ℕ, ◌+◌, ◌*◌, ◌/◌, ◌^◌, ◌<◌, ◌≤◌, ◌&&◌, Bool, true, List, [], ◌∷◌, length, refl, sym, arith}
-use Rattle.std.proofs.lemmas.Bool.{lt-ltb, le-leb}
+use Rattle.std.proofs.Common.{◌≡◌, ℕ, ◌+◌, ◌*◌, ◌/◌, ◌^◌, ◌<◌, ◌≤◌, true, List, [], ◌∷◌, length, refl, sym, arith}
+use Rattle.std.proofs.lemmas.Bool.{lt-ltb, le-leb, and_from}
 use Rattle.sctp_wire.specs.Serialize.{inner_items}
 use Rattle.sctp_wire.specs.Parameter.{outgoing_reset_request, parameter_item}
 use Rattle.sctp_wire.proofs.SerializeLemmas.{length_item_bytes, length_padded_item}
@@ -25,11 +25,8 @@ length_request_chunk : (r : Request) → length (chunk_bytes (request_chunk r)) 
 length_request_chunk r =
     omega (arith, sym (size_of_chunk (request_chunk r)), length_padded_item (chunk_item (request_chunk r)), length_request r, length_ids r.streams)
 
-both_true : (a b : Bool) → a ≡ true → b ≡ true → (a && b) ≡ true
-both_true a b h k = rw h k
-
 pub request_fits : (p : Packet) (r : Request) → room p < 2 ^ 16 → 0 < length r.streams → length r.streams ≤ most_streams p → fits p (request_chunk r) ≡ true
 request_fits p r small some most =
-    both_true _ _
-    (both_true _ _ (lt-ltb (4 + length (chunk_item (request_chunk r)).value) (2 ^ 16) (omega (arith, length_request r, length_ids r.streams, small, some, most))) refl)
+    and_from _ _
+    (and_from _ _ (lt-ltb (4 + length (chunk_item (request_chunk r)).value) (2 ^ 16) (omega (arith, length_request r, length_ids r.streams, small, some, most))) refl)
     (le-leb (length (chunk_bytes (request_chunk r))) (room p) (omega (arith, length_request_chunk r, some, most)))

@@ -1,20 +1,17 @@
 -- The laws of resets.
-use Rattle.std.proofs.Common.{◌≡◌, ℕ, ◌==◌, Bool, true, false, List, refl, arith}
+use Rattle.std.proofs.Common.{◌≡◌, ℕ, Bool, true, false, List, refl}
 use Rattle.std.proofs.lemmas.Bool.{lt-ltb}
-use Rattle.std.proofs.lemmas.Bool.Decides.{nat_tests}
 use Rattle.sctp_serial.specs.declared.api.StreamId.{StreamId}
 use Rattle.sctp_rx.specs.Tracker.{number_of}
 use Rattle.sctp_table.specs.Requests.{is_final, is_last, is_next}
 use Rattle.sctp_table.specs.Resets.{Handling, is_ahead, resets_if, outgoing_by}
 use Rattle.sctp_table.specs.ResetLaws.{DoneRequestsAreAnswered, IsNotPerformed, ResetsWait, RequestsFit}
 use Rattle.sctp_table_laws.proofs.RequestSizeLemmas.{request_fits}
-
-same_number : (n : ℕ) → (n == n) ≡ true
-same_number n = grind (arith, nat_tests)
+use Rattle.sctp_rules.proofs.CommonLemmas.{is_itself}
 
 pub done_are_answered : DoneRequestsAreAnswered
 done_are_answered number last_tsn streams x e f =
-    rw (e, same_number x.tcb.requests.last, f) refl
+    rw (e, is_itself x.tcb.requests.last, f) refl
 
 waits_if : (b : Bool) (number last_tsn : ℕ) (streams : List StreamId) (x : Handling (List ℕ)) → b ≡ true → IsNotPerformed x (resets_if b number last_tsn streams x)
 waits_if true number last_tsn streams x e = record { context = refl; streams = refl }

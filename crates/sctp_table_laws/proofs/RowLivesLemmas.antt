@@ -10,12 +10,12 @@ use Rattle.sctp_outstanding.specs.Items.{number_of}
 use Rattle.sctp_outstanding.specs.Sack.{is_valid}
 use Rattle.sctp_rx.specs.Tracker as tracker
 use Rattle.sctp_tx.specs.Retransmission.{is_quiet, SackAnswer, Invalid, Valid, sender_if, told_if, answer_if}
-use Rattle.sctp_table.specs.Association.{Tcb, Phase, CookieEchoed, Established, ShutdownPending, ShutdownSent, ShutdownReceived, ShutdownAckSent, State, Closed, CookieWait, Open, Context, Standing, with_context, where_open}
+use Rattle.sctp_table.specs.Association.{Tcb, Phase, CookieEchoed, Established, ShutdownPending, ShutdownSent, ShutdownReceived, ShutdownAckSent, State, Closed, CookieWait, Open, Context, Standing, where_open}
 use Rattle.sctp_table.specs.Packets.{add, packet_to, emit_chunk}
 use Rattle.sctp_table.specs.Sending.{Sent, is_alone, send_lost}
 use Rattle.sctp_table.specs.Closing.{over, send_shutdown, send_shutdown_ack, Onward, pending, received, go_on, shut, shutdown_in, shutdown, shut_by_peer, on_shutdown, completed, out_of_the_blue, on_shutdown_ack_open, on_shutdown_ack_in, on_shutdown_ack, on_shutdown_complete, abort, close_in, close, too_many, violated, causes_text, on_abort, on_error}
 use Rattle.sctp_table.specs.Data.{no_data, on_no_data, not_connected, taken_if, takes, on_data_in, on_data_if, on_data, forwarded_if, forwarded_in, on_forward}
-use Rattle.sctp_table.specs.Acknowledging.{cleaned, sampled, answered, send_after, heard, on_clean_sack, on_sack_open, no_block, on_sack_in, on_sack}
+use Rattle.sctp_table.specs.Acknowledging.{cleaned, sampled, answered, send_after, heard, on_clean_sack, no_block, on_sack_in, on_sack}
 use Rattle.sctp_table.specs.Acknowledging as acks
 use Rattle.sctp_table_laws.specs.Lifecycles.{told_end, kept_in, waits}
 use Rattle.sctp_table_laws.proofs.SpendsLemmas.{spends_within}
@@ -39,10 +39,6 @@ kept_sampled l None t = refl
 kept_sampled l (Some sample) t = refl
 
 module _ {P : Type 0} (l : ℕ) where
-  -- the state stays
-  pub lives_context : (s : Standing P) (d : Context P) → Onwards l s.context d → Lives l s (with_context s d)
-  lives_context s d g = g (kept_in l s.state)
-
   pub lives_still : (s : Standing P) → Lives l s s
   lives_still s = lives_same l (kept_in l s.state) s.context
 

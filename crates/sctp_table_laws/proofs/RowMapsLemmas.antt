@@ -16,7 +16,7 @@ use Rattle.sctp_table.specs.Packets.{add, packet_to, complain, emit_chunk}
 use Rattle.sctp_table.specs.Sending.{Sent, is_alone, open_with, send_buffered, send_lost}
 use Rattle.sctp_table.specs.Closing.{over, closed, t2_shutdown, send_shutdown, send_shutdown_ack, Onward, onward, pending, received, go_on, shut, open_onward, shutdown_in, shutdown, shut_by_peer, on_shutdown, completed, out_of_the_blue, on_shutdown_ack_open, on_shutdown_ack_in, on_shutdown_ack, on_shutdown_complete, abort, close_in, close, too_many, violated, causes_text, on_abort, on_error}
 use Rattle.sctp_table.specs.Data.{no_data, on_no_data, not_connected, on_data_in, on_data_if, on_data, on_forward}
-use Rattle.sctp_table.specs.Acknowledging.{cleaned, sampled, answered, send_after, heard, on_clean_sack, on_sack_open, no_block, on_sack_in, on_sack}
+use Rattle.sctp_table.specs.Acknowledging.{cleaned, sampled, answered, send_after, heard, on_clean_sack, no_block, on_sack_in, on_sack}
 use Rattle.sctp_table.specs.Acknowledging as acks
 use Rattle.sctp_table_laws.specs.Mapped.{Mapping, map_event, map_told, map_context, map_standing}
 use Rattle.sctp_table_laws.proofs.ToldMapsLemmas.{same_sender, maps_sack}

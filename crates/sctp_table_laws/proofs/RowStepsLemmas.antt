@@ -15,7 +15,7 @@ use Rattle.sctp_table.specs.Packets.{Packet, add, packet_to, emit_chunk}
 use Rattle.sctp_table.specs.Sending.{is_alone, send_lost}
 use Rattle.sctp_table.specs.Closing.{closed, send_shutdown, send_shutdown_ack, Onward, pending, received, go_on, shut, shutdown_in, shutdown, on_shutdown, completed, out_of_the_blue, on_shutdown_ack_open, on_shutdown_ack_in, on_shutdown_ack, on_shutdown_complete, abort, close_in, close, too_many, violated, causes_text, on_abort, on_error}
 use Rattle.sctp_table.specs.Data.{no_data, on_no_data, not_connected, on_data_in, on_data_if, on_data, forwarded_in, on_forward}
-use Rattle.sctp_table.specs.Acknowledging.{cleaned, sampled, answered, send_after, heard, on_clean_sack, on_sack_open, no_block, on_sack_in, on_sack}
+use Rattle.sctp_table.specs.Acknowledging.{cleaned, sampled, answered, send_after, heard, on_clean_sack, no_block, on_sack_in, on_sack}
 use Rattle.sctp_table.specs.Acknowledging as acks
 use Rattle.sctp_table.specs.Laws.{IsShort, ending, ends}
 use Rattle.sctp_table_laws.proofs.StepsLemmas.{most_bytes, Goes, Steps}

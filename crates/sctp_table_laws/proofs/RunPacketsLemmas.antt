@@ -28,16 +28,13 @@ use Rattle.sctp_table_laws.specs.Mapped.{Carried, as_written}
 use Rattle.sctp_table_laws.specs.FirstRun.{first_of, tag_of, packet, init_tree, fragment, init_packet, init_ack_packet, cookie_echo_packet, cookie_ack_packet, data_packet, sack_packet, given, quiet, asking, answering, echoing, accepting, sending, IsSmall, LeadsOn}
 use Rattle.sctp_table_laws.specs.HeardBack.{IsHearable}
 use Rattle.sctp_table_laws.proofs.OpeningRunLemmas.{tag_small, first_small, asks, answers, echoes, accepts}
-use Rattle.sctp_table_laws.proofs.SendRunLemmas.{sends}
+use Rattle.sctp_table_laws.proofs.SendRunLemmas.{sends, padding_small}
 use Rattle.sctp_table_laws.proofs.HeardBackLemmas.{written_alone}
 
 -- a chunk that is read back, of no more than 1,100 bytes
 pub record IsShort (c : ChunkTree) : Type 0 where
   pub reads_back : ChunkReadsBack c
   pub short : length (chunk_value c) ≤ 1100
-
-padding_small : (n : ℕ) → padding n ≤ 3
-padding_small n = omega arith
 
 length_chunk : (c : ChunkTree) → length (chunk_bytes c) ≤ 7 + length (chunk_value c)
 unfolding chunk_bytes

@@ -1,7 +1,6 @@
 -- The sender of the first message: it goes out at once.
-use Rattle.std.proofs.Common.{◌≡◌, ℕ, ◌+◌, ◌-◌, ◌%◌, ◌^◌, ◌<◌, ◌≤◌, ◌==◌, ◌&&◌, nat_lt, nat_le, if◌then◌else◌, Bool, true, false, Option, None, List, [], ◌∷◌, ◌++◌, length, refl, ap, ◌∙◌, arith}
+use Rattle.std.proofs.Common.{◌≡◌, ℕ, ◌+◌, ◌-◌, ◌%◌, ◌^◌, ◌<◌, ◌≤◌, ◌&&◌, nat_lt, nat_le, if◌then◌else◌, Bool, true, false, Option, None, List, [], ◌∷◌, ◌++◌, length, refl, ap, ◌∙◌, arith}
 use Rattle.std.specs.Prelude.{unwrap_or}
-use Rattle.std.proofs.lemmas.Bool.Decides.{nat_tests}
 use Rattle.std.proofs.lemmas.Bool.{le-leb}
 use Rattle.rand_core.specs.Stream.{next_u64}
 use Rattle.rand_core.specs.Stream as rng
@@ -35,11 +34,9 @@ use Rattle.sctp_table_laws.specs.FirstRun.{first_of, tag_of, fragment, fully_sen
 use Rattle.sctp_table_laws.proofs.OpeningRunLemmas.{telling, first_small, drawn, block, open_a, opened_a, opens}
 use Rattle.sctp_table_laws.proofs.QueueRunLemmas.{holding, emptied, queues, produces}
 use Rattle.sctp_table_laws.proofs.IdleRunLemmas.{fill_idle, burst_ends}
+use Rattle.sctp_rules.proofs.CommonLemmas.{not_zero}
 
 -- ---- tests
-
-pub not_empty : (n : ℕ) → 0 < n → (n == 0) ≡ false
-not_empty n h = grind (arith, nat_tests)
 
 not_large : (n : ℕ) → n ≤ 1000 → nat_lt 262144 n ≡ false
 not_large n h = grind (arith)
@@ -51,7 +48,7 @@ short_length n h = grind (arith)
 pub first_written : (first : ℕ) → first < 2 ^ 32 → (first + 4294967296) % 4294967296 ≡ first
 first_written first h = omega (arith, h)
 
-padding_small : (n : ℕ) → padding n ≤ 3
+pub padding_small : (n : ℕ) → padding n ≤ 3
 padding_small n = omega arith
 
 length_chunk : (chunk : ChunkTree) (n : ℕ) → length (chunk_item chunk).value ≡ n → length (chunk_bytes chunk) ≤ 7 + n
@@ -75,7 +72,7 @@ data_fits tsn is_summed tag f few =
 
 -- the queue takes it
 pub accepts_message : {P : Type 0} (pack : Packing P) (m : Message) → IsSmall m → refusal m Connected (open_a pack 2 2) ≡ None
-accepts_message pack m small = simp (not_empty (length m.payload) small.some, not_large (length m.payload) small.few) refl
+accepts_message pack m small = simp (not_zero (length m.payload) small.some, not_large (length m.payload) small.few) refl
 
 module _ {P : Type 0} (pack : Packing P) (a b : rng.Stream) (m : Message) (o : SendOptions) where
   -- ---- queued

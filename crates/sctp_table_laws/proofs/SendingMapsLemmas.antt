@@ -11,7 +11,6 @@ use Rattle.sctp_rx.specs.Tracker.{is_ack_due}
 use Rattle.sctp_send_queue.specs.Resets.{requested, request_resets}
 use Rattle.sctp_tx.specs.ForwardPoints.{forward_chunk}
 use Rattle.sctp_tx.specs.Sending as fragments
-use Rattle.sctp_tx.specs.Sending.{send}
 use Rattle.sctp_table.specs.Association.{Tcb, Phase, Context, Counts}
 use Rattle.sctp_table.specs.Packets.{Packet, emptied, room, fits, add, has_chunks, packet_to, new_packet, say, complain, header_to, emit_if, emit, emit_chunk}
 use Rattle.sctp_table.specs.Sending.{Filling, asked, ack_if, goes_along, with_ack, forward_added_if, forward_if, tested, forward_tested, tested_if, with_forward, most_streams, request_of, request_if, with_request, filled, with_data, filled_as, emitted, Turned, turned_if, turned, go_on, burst, Sent, sent, sent_by, is_alone, open_with, send_with, send_buffered, send_in, cookie_if, send_cookie, fast_packet, fast_if, send_lost}

@@ -1,17 +1,15 @@
 -- The calls that send and the settings keep an end sound.
-use Rattle.std.proofs.Common.{◌≡◌, ℕ, ◌^◌, ◌<◌, true, Option, Some, None, List, [], ◌∷◌, ◌++◌, refl, arith}
-use Rattle.std.specs.List.{list_all}
+use Rattle.std.proofs.Common.{ℕ, ◌^◌, ◌<◌, Option, Some, None, List, [], ◌∷◌, ◌++◌, refl, arith}
 use Rattle.sctp_serial.specs.Messages.{Message}
 use Rattle.sctp_packet.specs.Grammar.{Each}
 use Rattle.sctp_state.specs.declared.api.SocketState.{SocketState}
 use Rattle.sctp_state.specs.declared.api.errors.SendError.{SendError}
-use Rattle.sctp_state.specs.declared.api.errors.SendError.TheVariants.{EmptyPayload, MessageTooLarge, ShuttingDown, ResourceExhaustion as QueueFull, Memory, Failed}
 use Rattle.sctp_state.specs.Options.{SendOptions}
 use Rattle.sctp_state.specs.Events.{Event}
 use Rattle.sctp_table.specs.Association.{State, Closed, CookieWait, Open, Context, Standing, with_context}
 use Rattle.sctp_table.specs.Sending.{is_alone, send_in}
 use Rattle.sctp_table.specs.Calls.{shown_state, refusal, refusal_of, refusal_events, ended, refused, queued, accepted, offered, offer, sent_if, send, offer_all, send_many, set_low_threshold, set_priority, set_max_message_size, taken_in, take_message}
-use Rattle.sctp_table_laws.proofs.TellsLemmas.{is_quiet, quiet_both, tells_all, tells_threshold}
+use Rattle.sctp_table_laws.proofs.TellsLemmas.{quiet_both, tells_all, tells_threshold, quiet_end, quiet_refusal}
 use Rattle.sctp_table_laws.specs.Sound.{OptionsFit, FitsState, FitsMessage}
 use Rattle.sctp_table_laws.proofs.SoundQueueLemmas.{added_fits, threshold_fits, priority_fits}
 use Rattle.sctp_table_laws.proofs.SoundGoesLemmas.{HoldsSound, Stays, stays_by, stays_silent, stays_same, stays_then}
@@ -19,18 +17,6 @@ use Rattle.sctp_table_laws.proofs.SoundSendingLemmas.{with_reassembly, Sends, se
 use Rattle.sctp_table_laws.proofs.SoundRowsLemmas.{IsStanding, Stands, OpenStands, stands_same, stands_then, stands_where_open}
 
 -- ---- refusals and drops tell no packets
-
-quiet_ended : (P : Type 0) (l : Option ℕ) → list_all is_quiet (ended {P = P} l) ≡ true
-quiet_ended P None = refl
-quiet_ended P (Some id) = refl
-
-quiet_refusal : (P : Type 0) (e : SendError) → list_all is_quiet (refusal_events {P = P} e) ≡ true
-quiet_refusal P EmptyPayload = refl
-quiet_refusal P (MessageTooLarge len limit) = refl
-quiet_refusal P ShuttingDown = refl
-quiet_refusal P QueueFull = refl
-quiet_refusal P Memory = refl
-quiet_refusal P Failed = refl
 
 taken_state : (st : State) → FitsState st → FitsState (taken_in st)
 taken_state Closed f = tt
@@ -43,7 +29,7 @@ module _ {P : Type 0} where
   stays_refused : (e : SendError) (l : Option ℕ) (c : Context P) → HoldsSound c → Stays c (refused e l c)
   stays_refused e l c k =
       let es : List (Event P) = ended l ++ refusal_events e in
-      stays_by 0 c (refused e l c) refl refl (tells_all c.pack 0 es c.told (quiet_both (ended l) (refusal_events e) (quiet_ended P l) (quiet_refusal P e)))
+      stays_by 0 c (refused e l c) refl refl (tells_all c.pack 0 es c.told (quiet_both (ended l) (refusal_events e) (quiet_end P l) (quiet_refusal P e)))
       (record { options = k.options; queue = k.queue })
 
   stays_offered : (o : Option SendError) (m : Message) (how : SendOptions) (c : Context P) → FitsMessage m → HoldsSound c → Stays c (offered o m how c)

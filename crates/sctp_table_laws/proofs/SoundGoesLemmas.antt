@@ -1,6 +1,7 @@
 -- Contexts that stay sound: what is said, and packets that are put together of chunks that can be read back.
 use Rattle.std.proofs.Common.{◌≡◌, ℕ, ◌^◌, ◌<◌, max, nat_le, Bool, true, false, List, [], ◌∷◌, ◌++◌, length, All, refl, sym, ap, subst, ◌∙◌, append_assoc, append-nil, arith}
 use Rattle.std.proofs.lemmas.List.Elements.{All-cons, All-nil, All-append, All-weaker}
+use Rattle.std.proofs.lemmas.Bool.{and_parts}
 use Rattle.sctp_wire.specs.Serialize.{is_encodable}
 use Rattle.sctp_packet.specs.Chunk.{ChunkTree}
 use Rattle.sctp_packet.specs.Grammar.{Each}
@@ -13,7 +14,6 @@ use Rattle.sctp_table.specs.Packets.{Packet, room, fits, added_if, add, add_all,
 use Rattle.sctp_table.specs.Laws.{IsShort}
 use Rattle.sctp_table_laws.proofs.StepsLemmas.{most_bytes}
 use Rattle.sctp_table_laws.proofs.StepsLemmas as steps
-use Rattle.sctp_table_laws.proofs.TellsLemmas.{split_and}
 use Rattle.sctp_table_laws.proofs.GoesLemmas.{IsSmall, small_add, small_new, small_whole}
 use Rattle.sctp_table_laws.specs.Sound.{OptionsFit, FitsQueue, FitsTcb, HasSomeCookie}
 use Rattle.sctp_table_laws.specs.ReadBack.{ReadsBack, IsOfSuch, CanBeRead}
@@ -42,7 +42,7 @@ good_empty most p small tag e = record { small = small; tag = tag; chunks = subs
 chunks_added : (b : Bool) (p : Packet) (c : ChunkTree) → fits p c ≡ b → IsOwnChunk c → Each IsSoundChunk p.chunks → Each IsSoundChunk (added_if b c p).chunks
 chunks_added true p c e own h =
     let can : is_encodable (chunk_item c) (chunk_is_whole c) ≡ true =
-    (split_and (is_encodable (chunk_item c) (chunk_is_whole c)) (nat_le (length (chunk_bytes c)) (room p)) e).0 in
+    (and_parts (is_encodable (chunk_item c) (chunk_is_whole c)) (nat_le (length (chunk_bytes c)) (room p)) e).0 in
     each_push IsSoundChunk p.chunks c h (record { reads_back = fair_reads c own.fair can; cookie = own.cookie })
 chunks_added false p c e own h = h
 

@@ -1,12 +1,10 @@
 -- What a sound end tells is heard as what it put together, and fits as an argument.
-use Rattle.std.proofs.Common.{◌≡◌, ℕ, ◌+◌, ◌≤◌, true, List, [], ◌∷◌, ◌++◌, length, map, All, refl, sym, subst, arith}
+use Rattle.std.proofs.Common.{◌≡◌, ℕ, ◌≤◌, true, List, [], ◌∷◌, ◌++◌, length, map, All, refl, sym, subst, arith}
 use Rattle.std.proofs.lemmas.List.Elements.{All-weaker, All-cons, All-nil, All-head, All-tail}
 use Rattle.sctp_wire.specs.Fields.{be32}
 use Rattle.sctp_packet.specs.Chunk.{ChunkTree, init_ack_chunk}
 use Rattle.sctp_packet.specs.Grammar.{Each, carried}
-use Rattle.sctp_packet.specs.Written.{chunks_bytes}
-use Rattle.sctp_packet.specs.Packet.{HeaderTree, PacketTree, IsPacket, header_bytes, packet_bytes}
-use Rattle.sctp_packet.proofs.PacketLemmas.{length_joined}
+use Rattle.sctp_packet.specs.Packet.{PacketTree, IsPacket, header_bytes}
 use Rattle.sctp_packet.proofs.LawLemmas.{one_packet_lem}
 use Rattle.sctp_state.specs.Options.{Options, defaults}
 use Rattle.sctp_state.specs.Events.{Event, SendPacket}
@@ -19,7 +17,7 @@ use Rattle.sctp_table_laws.specs.Mapped.{Carried, as_written}
 use Rattle.sctp_table_laws.specs.HeardBack.{IsHearable, as_heard}
 use Rattle.sctp_table_laws.specs.Sound.{IsSound, ArgumentFits, HasSomeCookie}
 use Rattle.sctp_table_laws.specs.ReadBack.{ReadsBack, CanBeRead, TellsWhatCanBeRead, LetsThrough, IsHeardAs, CanBeHeard, TellsWhatCanBeHeard, as_carried, ReadsBackIn, TellsWhatReadsBack, IsHeard, TellsWhatIsHeard, AreBytes, AcceptedPacketsFit, EmittedPacketsFit}
-use Rattle.sctp_table_laws.proofs.HeardBackLemmas.{is_accepted, written_heard, written_alone}
+use Rattle.sctp_table_laws.proofs.HeardBackLemmas.{is_accepted, written_heard, written_alone, length_written}
 use Rattle.sctp_table_laws.proofs.HeardLemmas.{IsByte, each_back, each_of_all}
 use Rattle.sctp_table_laws.proofs.SoundLawsLemmas.{can_be_read, chunks_read_back}
 
@@ -93,10 +91,6 @@ carried_cookies : (cs : List ChunkTree) → All HasSomeCookie cs → Each HasSom
 carried_cookies [] h = tt
 carried_cookies (c ∷ cs) h = (carried_cookie c (All-head HasSomeCookie c cs h), carried_cookies cs (All-tail HasSomeCookie c cs h))
 
-length_packet : (h : HeaderTree) (field : ℕ) (cs : List ChunkTree) → length (packet_bytes h field cs) ≡ 12 + length (chunks_bytes cs)
-unfolding packet_bytes
-length_packet h field cs = length_joined h field (chunks_bytes cs)
-
 -- options that let every checksum through
 abbrev open_options : Options
 open_options = record defaults { disable_checksum_verification = true }
@@ -107,7 +101,7 @@ heard_packet word_of most p r short =
     let h : IsHearable open_options p = record {
       header = r.header;
       chunks = r.chunks;
-      short = omega (arith, short, length_packet p.header field p.chunks);
+      short = omega (arith, short, length_written p.header field p.chunks);
       sum = refl;
     } in
     (is_accepted word_of p open_options h).packet

@@ -5,7 +5,6 @@ use Rattle.std.specs.Map.{lookup, set_value, keys_of}
 use Rattle.std.specs.Ordering.{nat_cmp, match_ordering}
 use Rattle.std.specs.declared.cmp.Ordering.{Ordering}
 use Rattle.std.specs.BTreeMap.{is_at, insert_entry}
-use Rattle.std.proofs.lemmas.Bool.Decides.{nat_tests}
 use Rattle.sctp_serial.specs.Unwrapped.{words, halves, wire}
 use Rattle.sctp_packet.specs.Grammar.{Each, FitsFragment}
 use Rattle.sctp_state.specs.declared.api.handover.HandoverOutgoingStream.{HandoverOutgoingStream}
@@ -22,6 +21,7 @@ use Rattle.sctp_send_queue.specs.Restored.{is_on, message_from, entries_from, re
 use Rattle.sctp_send_queue.proofs.InOrderLemmas.{step_messages}
 use Rattle.sctp_table_laws.specs.Sound.{FitsQueued, FitsStream, FitsQueue, FitsStreamMessage}
 use Rattle.sctp_table_laws.proofs.HeardLemmas.{each_push, each_take}
+use Rattle.sctp_rules.proofs.CommonLemmas.{same_at}
 
 -- ---- the map of streams
 
@@ -34,9 +34,6 @@ FitEntries es = Each FitsStream es
 -- a message of this stream
 abbrev FitsOn : ℕ → Queued → Type 0
 FitsOn id m = (id < 2 ^ 16) × FitsQueued m
-
-same_at : (id k : ℕ) → is_at (nat_cmp id) k ≡ true → id ≡ k
-same_at id k h = grind (arith, nat_tests)
 
 abbrev IsFound : ℕ → Option Stream → Type 0
 IsFound id None = Unit {0}

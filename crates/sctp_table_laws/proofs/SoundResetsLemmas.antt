@@ -21,7 +21,7 @@ use Rattle.sctp_send_queue.specs.Queue.{Queued, stream}
 use Rattle.sctp_send_queue.specs.Resets.{is_partly, told_waiting}
 use Rattle.sctp_table.specs.Association.{Tcb, tcb, Phase, State, Closed, CookieWait, Open, Context, Standing, with_context, Packing}
 use Rattle.sctp_table.specs.Packets.{say}
-use Rattle.sctp_table.specs.Requests.{Request, Requests, is_final, Outcome, Unsettled, Done, Denied, outcome, is_last, is_next, is_known, put_off, answered_by, answered_if, answered_in}
+use Rattle.sctp_table.specs.Requests.{Request, Requests, is_final, Outcome, Unsettled, Done, Denied, outcome, is_last, is_next, is_known, answered_by, answered_if, answered_in}
 use Rattle.sctp_table.specs.Requests as requests
 use Rattle.sctp_table.specs.Sending.{is_alone, send_buffered, send_in}
 use Rattle.sctp_table.specs.Resets.{Handling, handling, respond, process, defers, performs, is_ahead, resets_if, outgoing_by, incoming_if, on_outcome, is_outgoing, on_parameter, Handled, handle_next, handle_all, send_responses, finished_if, on_reconfig, reset_refusal, prepared, prepare_all, reset_if, reset_streams}

@@ -13,12 +13,12 @@ use Rattle.sctp_outstanding.specs.Sack.{is_valid}
 use Rattle.sctp_rx.specs.Tracker as tracker
 use Rattle.sctp_rx.specs.ReassemblyQueue.{Reassembly}
 use Rattle.sctp_tx.specs.Retransmission.{is_quiet, SackAnswer, Invalid, Valid, sender_if, told_if, answer_if}
-use Rattle.sctp_table.specs.Association.{Tcb, Phase, CookieEchoed, Established, ShutdownPending, ShutdownSent, ShutdownReceived, ShutdownAckSent, State, Closed, CookieWait, Open, Context, Standing, with_context, where_open}
+use Rattle.sctp_table.specs.Association.{Tcb, Phase, CookieEchoed, Established, ShutdownPending, ShutdownSent, ShutdownReceived, ShutdownAckSent, State, Closed, CookieWait, Open, Context, Standing, where_open}
 use Rattle.sctp_table.specs.Packets.{Packet, add, packet_to, emit_chunk}
 use Rattle.sctp_table.specs.Sending.{is_alone, Sent, send_lost}
 use Rattle.sctp_table.specs.Closing.{closed, send_shutdown, send_shutdown_ack, Onward, pending, received, go_on, shut, shutdown_in, shutdown, shut_by_peer, on_shutdown, completed, out_of_the_blue, on_shutdown_ack_open, on_shutdown_ack_in, on_shutdown_ack, on_shutdown_complete, abort, close_in, close, too_many, violated, causes_text, on_abort, on_error}
 use Rattle.sctp_table.specs.Data.{no_data, on_no_data, not_connected, takes, added_unless, taken_if, on_data_in, on_data_if, on_data, skipped_if, forwarded_if, forwarded_in, on_forward}
-use Rattle.sctp_table.specs.Acknowledging.{cleaned, timed_by, sampled, answered, send_after, heard, on_clean_sack, on_sack_open, no_block, on_sack_in, on_sack}
+use Rattle.sctp_table.specs.Acknowledging.{cleaned, sampled, answered, send_after, heard, on_clean_sack, no_block, on_sack_in, on_sack}
 use Rattle.sctp_table.specs.Acknowledging as acks
 use Rattle.sctp_table_laws.proofs.StepsLemmas.{most_bytes}
 use Rattle.sctp_table_laws.proofs.TellsLemmas.{tells_sack}
@@ -119,10 +119,6 @@ sampled_fits (Some sample) t h = record {
 }
 
 module _ {P : Type 0} where
-  -- the state stays
-  pub stands_context : (s : Standing P) (d : Context P) → FitsState s.state → Stays s.context d → Stands s.context (with_context s d)
-  stands_context s d f g = record { state = f; stays = g }
-
   pub stands_same : (s : Standing P) → IsStanding s → Stands s.context s
   stands_same s k = record { state = k.state; stays = stays_same s.context k.context }
 

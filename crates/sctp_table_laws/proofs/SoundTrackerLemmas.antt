@@ -4,7 +4,7 @@ use Rattle.std.specs.Prelude.{All, nat_lt, nat_le, ◌==◌, filter}
 use Rattle.std.proofs.lemmas.List.Elements.{All-cons, All-nil}
 use Rattle.sctp_serial.specs.declared.api.StreamId.{StreamId}
 use Rattle.sctp_serial.specs.Serial.{serial_difference}
-use Rattle.sctp_serial.specs.Unwrapped.{origin, words, wire}
+use Rattle.sctp_serial.specs.Unwrapped.{origin, words}
 use Rattle.sctp_chunk.specs.declared.forward_tsn.SkippedStream.{SkippedStream}
 use Rattle.sctp_packet.specs.Chunk.{FragmentTree}
 use Rattle.sctp_packet.specs.Grammar.{Each, FitsBlock, FitsTsn, FitsSack}
@@ -20,6 +20,7 @@ use Rattle.sctp_rx.specs.ReassemblyQueue as reassembly
 use Rattle.sctp_tracker.proofs.SeenOneFormLemmas.{IsInRuns-add, IsInRuns-up_to}
 use Rattle.sctp_table_laws.specs.Sound.{FitsTracker}
 use Rattle.sctp_table_laws.proofs.HeardLemmas.{each_take}
+use Rattle.sctp_table_laws.proofs.SoundItemsLemmas.{word_small}
 
 -- ---- the tracker
 
@@ -130,9 +131,6 @@ take_few : {X : Type 0} (n : ℕ) (xs : List X) → length (take n xs) ≤ n
 take_few zero xs = omega arith
 take_few (suc n) [] = omega arith
 take_few (suc n) (x ∷ xs) = omega (arith, take_few n xs)
-
-word_small : (first n : ℕ) → wire words first n < 2 ^ 32
-word_small first n = omega arith
 
 tsns_fit : (first : ℕ) (ns : List ℕ) → All FitsTsn (tsns first ns)
 tsns_fit first [] = All-nil FitsTsn

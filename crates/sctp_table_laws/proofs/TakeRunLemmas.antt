@@ -21,11 +21,12 @@ use Rattle.sctp_table.specs.Packets.{add, new_packet}
 use Rattle.sctp_table.specs.Sending.{window, asked, acknowledged, open_with, send_with}
 use Rattle.sctp_table.specs.Data.{is_full, takes, added_unless, taken, taken_if, on_data_if, on_data}
 use Rattle.sctp_table.specs.Input as input
-use Rattle.sctp_table.specs.Input.{counts, ended, on_standing}
+use Rattle.sctp_table.specs.Input.{counts, ended}
 use Rattle.sctp_table_laws.specs.FirstRun.{first_of, tag_of, fragment, data_packet, sack_packet, packed, given, quiet, taking, IsSmall}
 use Rattle.sctp_table_laws.proofs.OpeningRunLemmas.{telling, open_b, first_small, tag_some, own_taken, drawn, block, opened_b, accepts}
-use Rattle.sctp_table_laws.proofs.QueueRunLemmas.{not_below_itself, is_itself}
-use Rattle.sctp_table_laws.proofs.SendRunLemmas.{not_empty, first_written}
+use Rattle.sctp_table_laws.proofs.QueueRunLemmas.{not_below_itself}
+use Rattle.sctp_table_laws.proofs.SendRunLemmas.{first_written}
+use Rattle.sctp_rules.proofs.CommonLemmas.{is_itself, not_zero}
 
 -- the first TSN is read as the first number
 pub near_first : (first : ℕ) → first < 2 ^ 32 → nearest words first 4294967295 first ≡ 4294967296
@@ -100,7 +101,7 @@ module _ {P : Type 0} (pack : Packing P) (a b : rng.Stream) (m : Message) (o : S
 
   hears_data : IsSmall m → on_data first false (fragment m o) (open_as Established tcb_b heard_context) ≡ open_as Established filled_tcb heard_context
   hears_data small =
-      ap (λ (t : Bool). on_data_if t first false (fragment m o) (open_as Established tcb_b heard_context)) (not_empty (length m.payload) small.some)
+      ap (λ (t : Bool). on_data_if t first false (fragment m o) (open_as Established tcb_b heard_context)) (not_zero (length m.payload) small.some)
       ∙ ap (λ (t : Bool). open_as Established (taken_if t first false (fragment m o) tcb_b) heard_context) is_taken
       ∙ ap (λ (t : Tcb). open_as Established t heard_context) fills
 

@@ -3,15 +3,18 @@ use Rattle.std.proofs.Common.{◌≡◌, ℕ, zero, suc, ◌+◌, ◌-◌, ◌&&
 use Rattle.std.specs.List.{list_all}
 use Rattle.std.proofs.lemmas.List.Elements.{All-cons, All-nil, All-append}
 use Rattle.std.proofs.lemmas.List.Folds.{list_all-append}
+use Rattle.std.proofs.lemmas.Bool.{and_parts}
 use Rattle.sctp_chunk.specs.declared.sack.GapAckBlock.{GapAckBlock}
 use Rattle.sctp_state.specs.declared.api.GivenUpCause.{GivenUpCause}
 use Rattle.sctp_state.specs.declared.api.GivenUpCause.TheVariants.{Lifetime, Retransmissions}
+use Rattle.sctp_state.specs.declared.api.errors.SendError.{SendError}
+use Rattle.sctp_state.specs.declared.api.errors.SendError.TheVariants.{EmptyPayload, MessageTooLarge, ShuttingDown, ResourceExhaustion as QueueFull, Memory, Failed}
 use Rattle.sctp_state.specs.Events.{Event, SendPacket, OnClosed, OnAborted, OnBufferedAmountLow, OnTotalBufferedAmountLow, Told, tell, tell_all, give_up, expiry}
 use Rattle.sctp_outstanding.specs.Item.{Item, is_abandoned}
 use Rattle.sctp_outstanding.specs.Items.{Items, Discard}
 use Rattle.sctp_outstanding.specs.Losses.{Step, first_step, given_up, gives_up, loses, change_items, nack_item, nack_below, nack_all, given_up_if, expired_at, expire_below, expire_outstanding}
 use Rattle.sctp_outstanding.specs.Item as item
-use Rattle.sctp_outstanding.specs.Sack.{report, reports, leaving, staying, acked_by, reported_below, heard_first, hear}
+use Rattle.sctp_outstanding.specs.Sack.{report, reports, leaving, staying, reported_below, heard_first, hear}
 use Rattle.sctp_outstanding.specs.Sack as sack
 use Rattle.sctp_state.specs.Thresholds.{crosses}
 use Rattle.sctp_send_queue.specs.Queue.{Queued, Stream, Streams, Queue, stream, watched_amount, watched_total}
@@ -23,6 +26,7 @@ use Rattle.sctp_tx.specs.Resent.{resent, may_send_new}
 use Rattle.sctp_tx.specs.Sending.{Filling, Turned, appended, turned_if, turned, offered, fill, discard_all, without_discards, filled_with, filled, send}
 use Rattle.sctp_table.specs.Association.{Packing}
 use Rattle.sctp_table.specs.Laws.{IsShort, ending, endings}
+use Rattle.sctp_table.specs.Calls.{ended, refusal_events}
 use Rattle.sctp_table_laws.proofs.StepsLemmas.{Tells}
 
 -- ---- events that are neither packets nor endings
@@ -33,11 +37,7 @@ is_quiet OnClosed = false
 is_quiet (OnAborted kind text) = false
 is_quiet e = true
 
-pub split_and : (a b : Bool) → (a && b) ≡ true → (a ≡ true) × (b ≡ true)
-split_and true b h = (refl, h)
-split_and false b h = cc
-
-endings_append : {P : Type 0} (es fs : List (Event P)) → endings (es ++ fs) ≡ endings es + endings fs
+pub endings_append : {P : Type 0} (es fs : List (Event P)) → endings (es ++ fs) ≡ endings es + endings fs
 endings_append [] fs = omega arith
 endings_append (e ∷ es) fs = omega (arith, endings_append es fs)
 
@@ -50,7 +50,7 @@ quiet_ending e h = refl
 quiet_endings : {P : Type 0} (es : List (Event P)) → list_all is_quiet es ≡ true → endings es ≡ 0
 quiet_endings [] h = refl
 quiet_endings (e ∷ es) h =
-    let both = split_and (is_quiet e) (list_all is_quiet es) h in
+    let both = and_parts (is_quiet e) (list_all is_quiet es) h in
     omega (arith, quiet_ending e both.0, quiet_endings es both.1)
 
 pub quiet_expiry : (P : Type 0) (l : Option ℕ) → list_all is_quiet (expiry {P = P} l) ≡ true
@@ -96,7 +96,7 @@ module _ {P : Type 0} (pack : Packing P) (most : ℕ) where
   quiet_short : (es : List (Event P)) → list_all is_quiet es ≡ true → All (IsShort pack most) es
   quiet_short [] h = All-nil (IsShort pack most)
   quiet_short (e ∷ es) h =
-      let both = split_and (is_quiet e) (list_all is_quiet es) h in
+      let both = and_parts (is_quiet e) (list_all is_quiet es) h in
       All-cons (IsShort pack most) e es (quiet_one e both.0) (quiet_short es both.1)
 
   pub tells_nothing : (t : Told P) → Tells pack most 0 t t
@@ -260,3 +260,15 @@ module _ {P : Type 0} (pack : Packing P) (most : ℕ) where
       let left : Changed P = discard_all s.outstanding.items.discards q t in
       let x : Filling P = filled_with size (without_discards s) (resent size (without_discards s)) left in
       tells_then t left.told (filled now x).told (discards s.outstanding.items.discards q t) (fills (suc x.left) now x)
+
+pub quiet_refusal : (P : Type 0) (e : SendError) → list_all is_quiet (refusal_events {P = P} e) ≡ true
+quiet_refusal P EmptyPayload = refl
+quiet_refusal P (MessageTooLarge len limit) = refl
+quiet_refusal P ShuttingDown = refl
+quiet_refusal P QueueFull = refl
+quiet_refusal P Memory = refl
+quiet_refusal P Failed = refl
+
+pub quiet_end : (P : Type 0) (l : Option ℕ) → list_all is_quiet (ended {P = P} l) ≡ true
+quiet_end P None = refl
+quiet_end P (Some id) = refl

@@ -11,7 +11,7 @@ use Rattle.sctp_table.specs.Requests.{lasting, expired, woken, is_unanswered}
 use Rattle.sctp_table.specs.Sending.{Sent, add_request, send_cookie}
 use Rattle.sctp_table.specs.Closing.{send_shutdown, send_shutdown_ack}
 use Rattle.sctp_table.specs.Heartbeats.{counted_on, heartbeat, beat_if, unanswered_if}
-use Rattle.sctp_table.specs.Time.{Ticking, tick_ack, t3_if, tick_t3, tick_interval, tick_timeout, request_again, errs_if, requests_again, unanswered, requests_if, tick_requests, ticking, ticked, Left, standing_if, standing_left, ended_if, ended, ended_or_sent, goes_on, settled_if, settled, t2_expired, t2_if, tick_t2, waits_if, echoed_again, t1_expired, t1_if, tick_cookie, Waited, waiting_if, init_expired, init_if, tick_init, tick_open, tick_in, advance_if, advance}
+use Rattle.sctp_table.specs.Time.{Ticking, tick_ack, t3_if, tick_t3, tick_interval, tick_timeout, request_again, errs_if, requests_again, unanswered, requests_if, ticking, ticked, Left, standing_if, standing_left, ended_if, ended, ended_or_sent, goes_on, settled_if, settled, t2_expired, t2_if, tick_t2, waits_if, echoed_again, t1_expired, t1_if, tick_cookie, Waited, waiting_if, init_expired, init_if, tick_init, tick_open, tick_in, advance_if, advance}
 use Rattle.sctp_table.specs.Laws.{ends}
 use Rattle.sctp_table_laws.proofs.StepsLemmas.{most_bytes, Goes, Steps}
 use Rattle.sctp_table_laws.proofs.TellsLemmas.{tells_nack_all}
