@@ -50,7 +50,7 @@ cookie_in_named n (zero_checksum_acceptable method ∷ ps) = cookie_in_named n p
 cookie_in_named n (unknown_parameter typ value ∷ ps) = cookie_in_named n ps
 
 -- the first TSN of an association that would take this one's place
-next_first_named : (n : Names) (t : Tcb) → next_first (named_tcb n t) ≡ moved n.own (next_first t)
+pub next_first_named : (n : Names) (t : Tcb) → next_first (named_tcb n t) ≡ moved n.own (next_first t)
 next_first_named n t =
     let last : ℕ = next_number t.sender.outstanding.items in
     ap (λ (k : ℕ). (k + 1000000) % 2 ^ 32) (moved_wire n.own t.sender.outstanding.first last)

@@ -4,7 +4,7 @@ use Rattle.sctp_serial.specs.declared.types.tsn.Tsn.{Tsn}
 use Rattle.sctp_serial.specs.Unwrapped.{words}
 use Rattle.sctp_packet.specs.Chunk.{ChunkTree, FragmentTree, sack_chunk, forward_tsn_chunk, i_forward_tsn_chunk}
 use Rattle.sctp_state.specs.Rtt.{rto}
-use Rattle.sctp_outstanding.specs.Items.{Outstanding, written, fast_items}
+use Rattle.sctp_outstanding.specs.Items.{written, fast_items}
 use Rattle.sctp_outstanding.specs.Items as items
 use Rattle.sctp_outstanding.specs.Entries.{ssn_skip, mid_skip}
 use Rattle.sctp_outstanding.specs.Forward.{is_forward_due}

@@ -1,5 +1,6 @@
 -- Packets that open no association, chunk by chunk, under other names.
-use Rattle.std.proofs.Common.{◌≡◌, ℕ, ◌==◌, ◌&&◌, not, Bool, true, false, Option, Some, None, List, [], ◌∷◌, length, map, refl, ap, ◌∙◌}
+use Rattle.std.proofs.Common.{◌≡◌, ℕ, ◌==◌, Bool, true, false, Option, Some, None, List, [], ◌∷◌, length, map, refl, ap, ◌∙◌}
+use Rattle.std.proofs.lemmas.Bool.{and_parts, not-true}
 use Rattle.std.specs.List.{list_all}
 use Rattle.sctp_wire.specs.Parameter.{ParameterTree}
 use Rattle.sctp_wire.specs.Cause.{no_user_data, protocol_violation}
@@ -35,14 +36,6 @@ use Rattle.sctp_draws.proofs.ClosingLemmas.{OpenIsNamed, where_named, on_shutdow
 
 abbrev pub heard_as : {P : Type 0} → Bool → Endpoint P → Heard P
 heard_as on e = record { end = e; goes_on = on }
-
-not_true : (b : Bool) → not b ≡ true → b ≡ false
-not_true true h = cc
-not_true false h = refl
-
-pub both_true : (a b : Bool) → (a && b) ≡ true → (a ≡ true) × (b ≡ true)
-both_true true b h = (refl, h)
-both_true false b h = cc
 
 -- ---- who writes stays
 
@@ -189,7 +182,7 @@ module _ {P : Type 0} where
   pub all_stay : (tag : ℕ) (chunks : List ChunkTree) (e : Endpoint P) → list_all is_flowing chunks ≡ true → (hear_all tag chunks e).standing.context.pack ≡ e.standing.context.pack
   all_stay tag [] e h = refl
   all_stay tag (c ∷ cs) e h =
-      let both = both_true (is_flowing c) (list_all is_flowing cs) h in
+      let both = and_parts (is_flowing c) (list_all is_flowing cs) h in
       let x : Heard P = hear tag c e in
       rest_stays (hear_all tag cs) x.goes_on x.end (λ y. all_stay tag cs y both.1) ∙ heard_if_stays (violation e.standing.state c) tag c e both.0
 
@@ -299,8 +292,8 @@ module _ {P : Type 0} (n : Names) (are : AreNames n) (pack : Packing P) where
 
   chunk_named : (tag : ℕ) (chunk : ChunkTree) (e : Endpoint P) → is_flowing chunk ≡ true → NumbersFitIn e.standing.state → Knows n pack e.standing.context
       → on_chunk (n.tag tag) (named_chunk (flipped n) chunk) (named_end n pack e) ≡ named_end n pack (on_chunk tag chunk e)
-  chunk_named tag (data_chunk tsn immediate f) e h fit knows = on_named (on_data tsn immediate f) (on_data (moved n.peer tsn) immediate f) e (named_data n pack tsn immediate f e.standing (not_true (length f.payload == 0) h))
-  chunk_named tag (idata_chunk tsn immediate f) e h fit knows = on_named (on_data tsn immediate f) (on_data (moved n.peer tsn) immediate f) e (named_data n pack tsn immediate f e.standing (not_true (length f.payload == 0) h))
+  chunk_named tag (data_chunk tsn immediate f) e h fit knows = on_named (on_data tsn immediate f) (on_data (moved n.peer tsn) immediate f) e (named_data n pack tsn immediate f e.standing (not-true (length f.payload == 0) h))
+  chunk_named tag (idata_chunk tsn immediate f) e h fit knows = on_named (on_data tsn immediate f) (on_data (moved n.peer tsn) immediate f) e (named_data n pack tsn immediate f e.standing (not-true (length f.payload == 0) h))
   chunk_named tag (init_chunk i) e h f knows = cc
   chunk_named tag (init_ack_chunk i) e h f knows = cc
   chunk_named tag (sack_chunk k) e h f knows = on_named (on_sack k) (on_sack (named_sack (flipped n) k)) e (named_on_sack n are pack k e.standing knows)
@@ -341,7 +334,7 @@ module _ {P : Type 0} (n : Names) (are : AreNames n) (pack : Packing P) where
       → hear_all (n.tag tag) (named_chunks (flipped n) cs) (named_end n pack e) ≡ named_end n pack (hear_all tag cs e)
   all_named tag [] e h f k = refl
   all_named tag (c ∷ cs) e h f k =
-      let both = both_true (is_flowing c) (list_all is_flowing cs) h in
+      let both = and_parts (is_flowing c) (list_all is_flowing cs) h in
       let x : Heard P = hear tag c e in
       ap (λ (y : Heard P). hear_rest (hear_all (n.tag tag) (named_chunks (flipped n) cs)) y) (hear_named tag c e both.0 f k)
       ∙ rest_named (hear_all tag cs) (hear_all (n.tag tag) (named_chunks (flipped n) cs)) x.goes_on x.end

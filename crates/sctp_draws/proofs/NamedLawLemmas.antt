@@ -1,5 +1,5 @@
 -- The law of each call, and of packets that are refused: rows under other names and the map of what was told, joined.
-use Rattle.std.proofs.Common.{◌≡◌, ℕ, Option, is_some, List, [], refl, ap, ◌∙◌}
+use Rattle.std.proofs.Common.{◌≡◌, ℕ, Option, is_some, List, refl, ap, ◌∙◌}
 use Rattle.rand_core.specs.Stream.{Stream}
 use Rattle.sctp_packet.specs.Chunk.{ChunkTree}
 use Rattle.sctp_table.specs.Association.{Context, Standing, Endpoint, Packing}

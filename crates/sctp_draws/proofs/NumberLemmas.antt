@@ -24,15 +24,15 @@ use Rattle.sctp_tx.specs.ForwardPoints.{forward_chunk}
 use Rattle.sctp_table.specs.Association.{Tcb, Phase, CookieEchoed, Established, ShutdownPending, ShutdownSent, ShutdownReceived, ShutdownAckSent, State, Closed, CookieWait, Open, Context, Standing, Endpoint, where_open}
 use Rattle.sctp_table.specs.Packets.{Packet, fits, add, has_chunks, packet_to, new_packet, say}
 use Rattle.sctp_table.specs.Requests.{Request, Requests, is_final, is_last, is_next, is_known, answered_by, answered_if, answered_in, answered}
-use Rattle.sctp_table.specs.Sending.{Filling, asked, acknowledged, selective_ack, ack_if, goes_along, with_ack, forward_added_if, forward_if, tested, tested_if, with_forward, most_streams, request_of, request_if, with_request, filled_as, Turned, turned_if, turned, go_on, burst, is_alone, send_with, send_buffered, fast_if, send_lost}
-use Rattle.sctp_table.specs.Closing.{on_shutdown, on_shutdown_ack_in, on_shutdown_ack, on_shutdown_complete, violated, on_abort, on_error}
+use Rattle.sctp_table.specs.Sending.{Filling, asked, ack_if, goes_along, with_ack, forward_added_if, forward_if, tested, tested_if, with_forward, most_streams, request_of, request_if, filled_as, Turned, turned_if, turned, go_on, burst, is_alone, send_with, fast_if, send_lost}
+use Rattle.sctp_table.specs.Closing.{on_shutdown, on_shutdown_ack_in, on_shutdown_complete, violated, on_abort, on_error}
 use Rattle.sctp_table.specs.Closing as closing
-use Rattle.sctp_table.specs.Data.{on_data_in, on_data_if, on_data, takes, taken_if, forwarded_if, forwarded_in, on_forward}
-use Rattle.sctp_table.specs.Acknowledging.{cleaned, sampled, heard, on_sack_in, on_sack}
+use Rattle.sctp_table.specs.Data.{on_data_in, on_data_if, on_data, takes, taken_if, forwarded_if, forwarded_in}
+use Rattle.sctp_table.specs.Acknowledging.{cleaned, sampled, heard, on_sack_in}
 use Rattle.sctp_table.specs.Acknowledging as acks
 use Rattle.sctp_table.specs.Opening.{on_cookie_ack, connected, tcb_by, queue_for, cookie_ack, anew, kept, keep, restarts, restarts_in, restart, Verdict, EstablishNew, RestartDetected, SimultaneousInit, MaintainExisting, Discard, InvalidTag, judged, on_verdict, on_read_cookie, on_cookie_echo, long_word}
 use Rattle.sctp_table.specs.Resets.{Handling, handling, is_ahead, resets_if, outgoing_by, incoming_if, on_parameter, is_outgoing, Handled, handle_next, handle_all, send_responses, finished_if, on_reconfig}
-use Rattle.sctp_table.specs.Input.{violation, on_unknown_if, is_reported, on_heartbeat, Heard, on_chunk, heard_if, hear, hear_rest, hear_all, repeats, repeats_if, ended_if, at_end, ended}
+use Rattle.sctp_table.specs.Input.{violation, on_unknown_if, is_reported, on_heartbeat, on_chunk, heard_if, hear, repeats, repeats_if}
 use Rattle.sctp_draws.specs.Laws.{NumberFits, NumbersFit, NumbersFitIn, number_fits, is_flowing}
 
 abbrev standing_in : {P : Type 0} → State → Context P → Standing P

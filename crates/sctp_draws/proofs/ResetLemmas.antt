@@ -1,5 +1,5 @@
 -- RE-CONFIG under other names: requests and answers are told apart as before.
-use Rattle.std.proofs.Common.{◌≡◌, ℕ, ◌+◌, ◌-◌, ◌%◌, ◌<◌, ◌&&◌, ◌||◌, ◌==◌, nat_lt, if◌then◌else◌, Bool, true, false, Option, Some, None, is_some, option_map, unwrap_or, List, [], ◌∷◌, ◌++◌, map, inl, inr, refl, sym, ap, ◌∙◌, arith}
+use Rattle.std.proofs.Common.{◌≡◌, ℕ, ◌+◌, ◌-◌, ◌%◌, ◌<◌, ◌&&◌, ◌||◌, ◌==◌, nat_lt, if◌then◌else◌, Bool, true, false, Option, Some, None, is_some, option_map, unwrap_or, List, [], ◌∷◌, map, inl, inr, refl, sym, ap, ◌∙◌, arith}
 use Rattle.std.specs.List.{list_all}
 use Rattle.std.proofs.lemmas.Bool.{cases_eq, eq-eqb, ne_eqb, ltb-true, and_parts}
 use Rattle.std.proofs.lemmas.List.{map-append}
@@ -22,7 +22,7 @@ use Rattle.sctp_table.specs.Requests.{Request, Requests, nothing_to_do, performe
 use Rattle.sctp_table.specs.Sending.{Sent, is_alone, open_with, send_buffered}
 use Rattle.sctp_table.specs.Resets as resets_rows
 use Rattle.sctp_table.specs.Resets.{Handling, handling, respond, process, is_ahead, resets_if, resets, outgoing_by, on_outgoing, incoming_if, on_outcome, on_response, is_outgoing, on_parameter, Handled, handle_next, handle_all, send_responses, finished_if, finished, on_reconfig}
-use Rattle.sctp_draws.specs.NamedChunks.{Names, AreNames, flipped, moved, moved_tsn, named_parameter}
+use Rattle.sctp_draws.specs.NamedChunks.{Names, AreNames, flipped, moved, named_parameter}
 use Rattle.sctp_draws.specs.Names.{named_phase, named_reassembly, named_request, named_requests, named_tcb, named_standing, plain}
 use Rattle.sctp_draws.specs.Laws.{NumberFits, NumbersFit, number_fits}
 use Rattle.sctp_draws.proofs.MovedLemmas.{sum_moved, difference_moved}
@@ -30,7 +30,6 @@ use Rattle.sctp_draws.proofs.WritingLemmas.{Knows, named_emit_chunk, emit_stays}
 use Rattle.sctp_draws.proofs.ReadingLemmas.{heard_number, queue_number, first_named}
 use Rattle.sctp_draws.proofs.TagLemmas.{alone_named}
 use Rattle.sctp_draws.proofs.FillingLemmas.{send_with_stays, send_buffered_named}
-use Rattle.sctp_draws.proofs.ClosingLemmas.{OpenIsNamed}
 use Rattle.sctp_draws.proofs.NumberLemmas.{parameter_fits}
 
 -- ---- numbers that are moved are told apart as before

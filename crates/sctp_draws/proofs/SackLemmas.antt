@@ -11,7 +11,7 @@ use Rattle.sctp_table.specs.Association.{Tcb, Phase, CookieEchoed, Established, 
 use Rattle.sctp_table.specs.Packets.{add, new_packet, emit_chunk}
 use Rattle.sctp_table.specs.Sending.{Sent, is_alone, open_with, send_buffered, send_lost}
 use Rattle.sctp_table.specs.Closing.{t2_shutdown, send_shutdown, Onward, onward, pending, received, go_on}
-use Rattle.sctp_table.specs.Acknowledging.{cleaned, sampled, answered, send_after, heard, on_clean_sack, on_sack_open, on_sack_in, on_sack}
+use Rattle.sctp_table.specs.Acknowledging.{cleaned, sampled, answered, send_after, heard, on_clean_sack, on_sack_in, on_sack}
 use Rattle.sctp_table.specs.Acknowledging as acks
 use Rattle.sctp_draws.specs.NamedChunks.{Names, AreNames, flipped, named_sack}
 use Rattle.sctp_draws.specs.Names.{named_sender, named_phase, named_tcb, named_state, named_standing, plain}

@@ -1,5 +1,6 @@
 -- Packets that are taken, also those that begin with what opens an association, and packets that are refused.
 use Rattle.std.proofs.Common.{◌≡◌, ℕ, Bool, true, false, Option, Some, None, is_some, List, [], ◌∷◌, refl, sym, ap, subst, ◌∙◌}
+use Rattle.std.proofs.lemmas.Bool.{and_parts}
 use Rattle.std.specs.List.{list_all}
 use Rattle.rand_core.specs.Stream.{Stream}
 use Rattle.sctp_packet.specs.Chunk.{ChunkTree, InitTree, data_chunk, idata_chunk, init_chunk, init_ack_chunk, sack_chunk, heartbeat_request_chunk, heartbeat_ack_chunk, abort_chunk, shutdown_chunk, shutdown_ack_chunk, error_chunk, cookie_echo_chunk, cookie_ack_chunk, shutdown_complete_chunk, re_config_chunk, forward_tsn_chunk, i_forward_tsn_chunk, unknown_chunk}
@@ -17,7 +18,7 @@ use Rattle.sctp_draws.proofs.WritingLemmas.{Knows}
 use Rattle.sctp_draws.proofs.TagLemmas.{data_named, refused_named}
 use Rattle.sctp_draws.proofs.ClosingLemmas.{where_named, ended_named}
 use Rattle.sctp_draws.proofs.NumberLemmas.{repeats_if_fits, cookie_echo_fits}
-use Rattle.sctp_draws.proofs.HearLemmas.{heard_as, both_true, all_stay, repeats_if_stays, violation_named, all_named, repeats_if_named}
+use Rattle.sctp_draws.proofs.HearLemmas.{heard_as, all_stay, repeats_if_stays, violation_named, all_named, repeats_if_named}
 use Rattle.sctp_draws.proofs.ComingLemmas.{init_named, init_ack_named, cookie_echo_named}
 
 -- ---- chunks that open nothing draw nothing
@@ -63,7 +64,7 @@ module _ {P : Type 0} (v : Stream) where
   all_quiet : (tag : ℕ) (cs : List ChunkTree) (e : Endpoint P) → list_all is_flowing cs ≡ true → hear_all tag cs (worded v e) ≡ worded v (hear_all tag cs e)
   all_quiet tag [] e h = refl
   all_quiet tag (c ∷ cs) e h =
-      let both = both_true (is_flowing c) (list_all is_flowing cs) h in
+      let both = and_parts (is_flowing c) (list_all is_flowing cs) h in
       let x : Heard P = hear tag c e in
       ap (λ (y : Heard P). hear_rest (hear_all tag cs) y) (heard_quiet (violation e.standing.state c) tag c e both.0)
       ∙ rest_quiet (hear_all tag cs) x.goes_on x.end (all_quiet tag cs x.end both.1)
@@ -136,7 +137,7 @@ ties_from n tag k before after same tell phase t e = let had = same phase t e in
 
 -- ---- packets
 
-none_of : (o : Option (List ℕ)) → is_some o ≡ false → o ≡ None
+pub none_of : (o : Option (List ℕ)) → is_some o ≡ false → o ≡ None
 none_of None h = refl
 none_of (Some text) h = cc
 
