@@ -1,5 +1,6 @@
 -- The first run, event by event: the opening.
 use Rattle.std.proofs.Common.{◌≡◌, ℕ, Bool, true, ◌&&◌, ◌==◌, Some, List, [], ◌∷◌, ◌++◌, refl, sym, ap, subst, ◌∙◌, arith}
+use Rattle.std.proofs.lemmas.Option.{same_Some}
 use Rattle.std.specs.Prelude.{slice_get}
 use Rattle.rand_core.specs.Stream.{Stream}
 use Rattle.sctp_serial.specs.Messages.{Message}
@@ -11,17 +12,15 @@ use Rattle.sctp_table.specs.Hearing.{Hears}
 use Rattle.sctp_table.specs.Wire.{writing}
 use Rattle.sctp_table_laws.specs.Mapped.{Carried, as_written}
 use Rattle.sctp_table_laws.specs.FirstRun.{init_packet, init_ack_packet, cookie_echo_packet, cookie_ack_packet, quiet, asking, answering, echoing, accepting, opening, association, IsSmall, Leads, LeadsOn}
-use Rattle.sctp_table_laws.proofs.OpeningRunLemmas.{same, waiting, answered, echoed, opened_a, opened_b, asks, answers, echoes, accepts, opens}
+use Rattle.sctp_table_laws.proofs.OpeningRunLemmas.{waiting, answered, echoed, opened_a, opened_b, asks, answers, echoes, accepts, opens}
 use Rattle.sctp_table_laws.proofs.RunPacketsLemmas.{leads_on}
 use Rattle.sctp_network_table.specs.Judge.{A, B, same_association, Connect, Done, Entry, Called, Given, Associated, Emitted, Happened}
 use Rattle.sctp_network_table.specs.World.{Action, Side, World, Takes, Gives, Runs, recorded, settled, news_of, clock, calls, associated_if, ready_entries, ready_before, fresh_side, fresh_world}
 use Rattle.sctp_network_table.specs.FirstRun as first_run
 use Rattle.sctp_network_table.specs.FirstRun.{IsOpen, IsFresh}
+use Rattle.sctp_rules.proofs.CommonLemmas.{is_itself}
 
 -- ---- a packet that is given
-
-some_inj : {X : Type 0} (x y : X) → Some x ≡ Some y → x ≡ y
-some_inj x y e = cc
 
 same_world : (v u : World) → v.a ≡ u.a → v.b ≡ u.b → v.log ≡ u.log → v ≡ u
 same_world v u a b l =
@@ -32,14 +31,14 @@ same_world v u a b l =
 pub given_to_a : (k : ℕ) (w v : World) (p : List ℕ) (s : Endpoint (List ℕ)) → slice_get w.b.packets k ≡ Some p → ((t : Endpoint (List ℕ)) → Takes p w.a.socket t → t ≡ s)
     → Gives A k w v → v ≡ recorded A (Given A (clock w.a.socket) k) s w
 given_to_a k w v p s there hears g =
-    let e : g.told.after ≡ s = hears g.told.after (subst (λ (b : List ℕ). Takes b w.a.socket g.told.after) (some_inj _ _ (sym g.there ∙ there)) g.told.takes) in
+    let e : g.told.after ≡ s = hears g.told.after (subst (λ (b : List ℕ). Takes b w.a.socket g.told.after) (same_Some _ _ (sym g.there ∙ there)) g.told.takes) in
     same_world v (recorded A (Given A (clock w.a.socket) k) s w) (g.told.side ∙ ap (settled w.a) e) g.other_side
     (g.told.logged ∙ ap (λ (t : Endpoint (List ℕ)). w.log ++ Given A (clock w.a.socket) k ∷ news_of A w.a t) e)
 
 pub given_to_b : (k : ℕ) (w v : World) (p : List ℕ) (s : Endpoint (List ℕ)) → slice_get w.a.packets k ≡ Some p → ((t : Endpoint (List ℕ)) → Takes p w.b.socket t → t ≡ s)
     → Gives B k w v → v ≡ recorded B (Given B (clock w.b.socket) k) s w
 given_to_b k w v p s there hears g =
-    let e : g.told.after ≡ s = hears g.told.after (subst (λ (b : List ℕ). Takes b w.b.socket g.told.after) (some_inj _ _ (sym g.there ∙ there)) g.told.takes) in
+    let e : g.told.after ≡ s = hears g.told.after (subst (λ (b : List ℕ). Takes b w.b.socket g.told.after) (same_Some _ _ (sym g.there ∙ there)) g.told.takes) in
     same_world v (recorded B (Given B (clock w.b.socket) k) s w) g.other_side (g.told.side ∙ ap (settled w.b) e)
     (g.told.logged ∙ ap (λ (t : Endpoint (List ℕ)). w.log ++ Given B (clock w.b.socket) k ∷ news_of B w.b t) e)
 
@@ -51,10 +50,10 @@ takes_on f p before after leads own t k =
 
 pub same_self : (a : Association) → same_association (Some a) (Some a) ≡ true
 same_self a =
-    ap (λ (t : Bool). t && ((a.my_initial_tsn == a.my_initial_tsn) && ((a.peer_tag == a.peer_tag) && (a.peer_initial_tsn == a.peer_initial_tsn)))) (same a.my_tag)
-    ∙ ap (λ (t : Bool). t && ((a.peer_tag == a.peer_tag) && (a.peer_initial_tsn == a.peer_initial_tsn))) (same a.my_initial_tsn)
-    ∙ ap (λ (t : Bool). t && (a.peer_initial_tsn == a.peer_initial_tsn)) (same a.peer_tag)
-    ∙ same a.peer_initial_tsn
+    ap (λ (t : Bool). t && ((a.my_initial_tsn == a.my_initial_tsn) && ((a.peer_tag == a.peer_tag) && (a.peer_initial_tsn == a.peer_initial_tsn)))) (is_itself a.my_tag)
+    ∙ ap (λ (t : Bool). t && ((a.peer_tag == a.peer_tag) && (a.peer_initial_tsn == a.peer_initial_tsn))) (is_itself a.my_initial_tsn)
+    ∙ ap (λ (t : Bool). t && (a.peer_initial_tsn == a.peer_initial_tsn)) (is_itself a.peer_tag)
+    ∙ is_itself a.peer_initial_tsn
 
 -- ---- the opening
 

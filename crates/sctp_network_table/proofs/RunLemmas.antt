@@ -1,6 +1,5 @@
 -- Events one after the other.
 use Rattle.std.proofs.Common.{◌≡◌, List, [], ◌∷◌, ◌++◌, refl, sym, ap, subst, ◌∙◌, append_assoc}
-use Rattle.std.proofs.lemmas.List.{append-nil}
 use Rattle.sctp_network_table.specs.World.{Action, World, Happens, Runs, Lacks, RunsUpToLack, RunsUpToWant}
 
 pub Runs-snoc : (front : List Action) (action : Action) (w u v : World) → Runs front w u → Happens action u v → Runs (front ++ action ∷ []) w v
@@ -24,17 +23,6 @@ pub stepped : (all rest more : List Action) (action : Action) (w u v : World)
 stepped all rest more action w u v done next happens =
     (done.0 ++ action ∷ [], done.1 ∙ ap (λ (r : List Action). done.0 ++ r) next ∙ sym (append_assoc done.0 (action ∷ []) more), Runs-snoc done.0 action w u v done.2 happens)
 
-pub lacking : (all rest more : List Action) (action : Action) (w u v : World)
-    → (front : List Action) × (all ≡ front ++ rest) × Runs front w u → rest ≡ action ∷ more → Lacks action u → v ≡ u → RunsUpToLack all w v
-lacking all rest more action w u v done next lacks same = record {
-  before = done.0;
-  action = action;
-  rest = more;
-  split = done.1 ∙ ap (λ (r : List Action). done.0 ++ r) next;
-  runs = subst (λ (x : World). Runs done.0 w x) (sym same) done.2;
-  lacks = subst (λ (x : World). Lacks action x) (sym same) lacks;
-}
-
 pub wanting : (all rest more : List Action) (action : Action) (w u : World)
     → (front : List Action) × (all ≡ front ++ rest) × Runs front w u → rest ≡ action ∷ more → (Lacks action u → ⊥) → RunsUpToWant all w
 wanting all rest more action w u done next there = record {
@@ -46,7 +34,3 @@ wanting all rest more action w u done next there = record {
   runs = done.2;
   there = there;
 }
-
-pub finished : (all rest : List Action) (w u : World) → (front : List Action) × (all ≡ front ++ rest) × Runs front w u → rest ≡ [] → Runs all w u
-finished all rest w u done none =
-    subst (λ (actions : List Action). Runs actions w u) (sym (done.1 ∙ ap (λ (r : List Action). done.0 ++ r) none ∙ append-nil done.0)) done.2
