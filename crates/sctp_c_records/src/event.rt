@@ -23,7 +23,7 @@ pub struct EventRecord {
     pub length: usize,
 }
 
-fn error_number(kind: ErrorKind) -> u32
+pub(crate) fn error_number(kind: ErrorKind) -> u32
     ensures { result ≡ error_number kind }
 {
     match kind {
@@ -40,7 +40,13 @@ fn error_number(kind: ErrorKind) -> u32
 }
 
 impl EventRecord {
-    fn of(kind: u32, error: u32, stream: u32, lifecycle: u64, length: usize) -> EventRecord
+    pub(crate) fn of(
+        kind: u32,
+        error: u32,
+        stream: u32,
+        lifecycle: u64,
+        length: usize,
+    ) -> EventRecord
         ensures { result ≡ shown kind error stream lifecycle length }
     {
         EventRecord {

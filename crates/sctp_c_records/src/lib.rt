@@ -7,9 +7,11 @@ mod event;
 mod message;
 mod metrics;
 mod options;
+mod parts;
 
 pub use checksum::PacketChecksum;
 pub use event::{EventRecord, hand_out, put_bytes};
 pub use message::{MessageRecord, OutgoingRecord, SendRecord};
 pub use metrics::MetricsRecord;
 pub use options::OptionsRecord;
+pub use parts::{EventParts, parts_of};
