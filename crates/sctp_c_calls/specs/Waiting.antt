@@ -24,6 +24,11 @@ abbrev pub Shows : EventRecord → (buffer : List ℕ) → List (Event (List ℕ
 Shows head buffer [] = ⊥
 Shows head buffer (e ∷ es) = (head ≡ record_of e) × (take (length (bytes_of e)) buffer ≡ bytes_of e)
 
+-- the first event was handed out: its record, and all its bytes
+abbrev pub ShowsAll : EventRecord → (bytes : List ℕ) → List (Event (List ℕ)) → Type 0
+ShowsAll head bytes [] = ⊥
+ShowsAll head bytes (e ∷ es) = (head ≡ record_of e) × (bytes ≡ bytes_of e)
+
 -- the first event needs a longer buffer than one of this length, and its record says how long
 abbrev pub Needs : EventRecord → (room : ℕ) → List (Event (List ℕ)) → Type 0
 Needs head room [] = ⊥
@@ -36,6 +41,10 @@ message_record m = record { stream = m.stream; ppid = m.ppid; length = length m.
 abbrev pub HasMessage : MessageRecord → (buffer : List ℕ) → List Message → Type 0
 HasMessage head buffer [] = ⊥
 HasMessage head buffer (m ∷ ms) = (head ≡ message_record m) × (take (length m.payload) buffer ≡ m.payload)
+
+abbrev pub HasAll : MessageRecord → (bytes : List ℕ) → List Message → Type 0
+HasAll head bytes [] = ⊥
+HasAll head bytes (m ∷ ms) = (head ≡ message_record m) × (bytes ≡ m.payload)
 
 abbrev pub NeedsMore : MessageRecord → (room : ℕ) → List Message → Type 0
 NeedsMore head room [] = ⊥

@@ -1,14 +1,14 @@
-//! What a socket told, handed out. What doesn't fit stays.
+//! What a socket told, handed out or lent. What doesn't fit stays.
 
 ghost use Rattle.std.specs.Prelude.{◌≡◌, None, [], ◌∷◌, length, drop, option_map};
 ghost use Rattle.sctp_c_calls.specs.Answers.{IsAmong, OnAnswer, OnOthers};
-ghost use Rattle.sctp_c_calls.specs.Waiting.{Needs, Shows, waiting, with_events};
+ghost use Rattle.sctp_c_calls.specs.Waiting.{Needs, Shows, ShowsAll, waiting, with_events};
 ghost use Rattle.sctp_state.specs.Events.{event_of, first_of};
 
 use rand_core::Rng;
 use sctp_association::{Checksum, DcSctpSocket, Socket, SocketEvent};
 use sctp_c_records::answers::{NO_ROOM, NOTHING, OK, SHORT_BUFFER};
-use sctp_c_records::{EventRecord, hand_out};
+use sctp_c_records::{EventParts, EventRecord, hand_out, parts_of};
 use std::alloc::Global;
 
 /// Takes out the event that was told first: the one that is kept, or else the socket's.
@@ -55,6 +55,47 @@ pub fn poll_event<R: Rng, C: Checksum>(
                 SHORT_BUFFER
             }
             Err(_error) => {
+                drop(std::mem::replace(kept, Some(told)));
+                NO_ROOM
+            }
+        },
+    }
+}
+
+/// Hands out the event that was told first, whose bytes `lent` has then in place of what it had. Where there is no memory for
+/// those of streams, the event is kept.
+pub fn borrow_event<R: Rng, C: Checksum>(
+    alloc: Global,
+    socket: &mut Socket<R, C>,
+    kept: &mut Option<SocketEvent>,
+    head: &mut EventRecord,
+    lent: &mut Vec<u8>,
+) -> u32
+    ensures answers { IsAmong (0 ∷ 8 ∷ 17 ∷ []) result }
+    ensures taken { OnAnswer 0 result (waiting kept.new socket.new ≡ drop 1 (waiting kept.old socket.old)) }
+    ensures shown { OnAnswer 0 result (ShowsAll head.new lent.new.items (waiting kept.old socket.old)) }
+    ensures stays { OnOthers 0 result (waiting kept.new socket.new ≡ waiting kept.old socket.old) }
+    ensures nothing { OnAnswer 8 result (waiting kept.old socket.old ≡ []) }
+    ensures let_go { OnAnswer 8 result (lent.new.items ≡ []) }
+    ensures rest { socket.new ≡ with_events socket.old socket.new.context.told.events }
+{
+    match take_first(socket, kept) {
+        None => {
+            drop(std::mem::replace(lent, Vec::new(alloc)));
+            NOTHING
+        }
+        Some(told) => match parts_of(alloc, told) {
+            Ok(
+                EventParts {
+                    head: record,
+                    bytes,
+                },
+            ) => {
+                *head = record;
+                drop(std::mem::replace(lent, bytes));
+                OK
+            }
+            Err(told) => {
                 drop(std::mem::replace(kept, Some(told)));
                 NO_ROOM
             }

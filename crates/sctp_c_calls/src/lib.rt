@@ -1,4 +1,4 @@
-//! The calls of a socket as C has them: answers are numbers, what is handed out is copied into buffers. For every generator and checksum.
+//! The calls of a socket as C has them: answers are numbers, what is handed out is copied into buffers, or lent. For every generator and checksum.
 #![tactic(auto)]
 
 mod asking;
@@ -13,9 +13,9 @@ mod settings;
 pub use asking::{buffered_amount, handover_readiness, metrics, nanos_until, state_number};
 pub use batch::{have_streams, send_many};
 pub use calls::{advance_time, close, connect, handle_input, shutdown};
-pub use events::poll_event;
+pub use events::{borrow_event, poll_event};
 pub use handover::{hand_over, restore};
-pub use messages::{next_message, send};
+pub use messages::{borrow_message, next_message, send};
 pub use settings::{
     reset_stream, reset_streams, set_buffered_amount_low_threshold, set_stream_priority,
 };

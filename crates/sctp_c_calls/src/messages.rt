@@ -3,7 +3,7 @@
 ghost use Rattle.std.specs.Prelude.{◌≡◌, ◌<◌, ◌^◌, [], ◌∷◌, length};
 ghost use Rattle.sctp_association.specs.Socket.{endpoint};
 ghost use Rattle.sctp_c_calls.specs.Answers.{Ended, IsAmong, OnAnswer, OnOthers, OnSettled, refusal_number};
-ghost use Rattle.sctp_c_calls.specs.Waiting.{HasMessage, NeedsMore, message_record};
+ghost use Rattle.sctp_c_calls.specs.Waiting.{HasAll, HasMessage, NeedsMore, message_record};
 ghost use Rattle.sctp_c_records.specs.Shown.{Copied};
 ghost use Rattle.sctp_serial.specs.Messages.{message_of};
 ghost use Rattle.sctp_c_records.specs.Records.{given_send_options};
@@ -17,16 +17,23 @@ use sctp_c_records::answers::{NO_ROOM, NOTHING, OK, SHORT_BUFFER};
 use sctp_c_records::{MessageRecord, SendRecord, put_bytes};
 use std::alloc::Global;
 
+/// The record of a message.
+fn record_of(message: &Message) -> MessageRecord
+    ensures { result ≡ message_record (message_of message.now) }
+{
+    MessageRecord {
+        stream: message.stream_id.0 as u32,
+        ppid: message.ppid.0,
+        length: message.payload.len(),
+    }
+}
+
 /// Writes a message's record and, where they fit, its bytes. Answers whether they do.
 fn show(message: &Message, head: &mut MessageRecord, buffer: &mut [u8]) -> bool
     ensures head { head.new ≡ message_record (message_of message.now) }
     ensures bytes { Copied result message.now.payload.items buffer.old buffer.new }
 {
-    *head = MessageRecord {
-        stream: message.stream_id.0 as u32,
-        ppid: message.ppid.0,
-        length: message.payload.len(),
-    };
+    *head = record_of(message);
     put_bytes(&message.payload, buffer)
 }
 
@@ -53,6 +60,33 @@ pub fn next_message<R: Rng, C: Checksum>(
     }
     drop(socket.get_next_message());
     OK
+}
+
+/// Hands out the message that was ready first, whose payload `lent` has then in place of what it had.
+pub fn borrow_message<R: Rng, C: Checksum>(
+    alloc: Global,
+    socket: &mut Socket<R, C>,
+    head: &mut MessageRecord,
+    lent: &mut Vec<u8>,
+) -> u32
+    ensures answers { IsAmong (0 ∷ 8 ∷ []) result }
+    ensures message { OnAnswer 0 result (HasAll head.new lent.new.items (calls.ready_in socket.old.state)) }
+    ensures taken { endpoint R.stream C.word_of socket.new ≡ on_standing calls.take_message (endpoint R.stream C.word_of socket.old) }
+    ensures failure { socket.new.has_failed ≡ socket.old.has_failed }
+    ensures nothing { OnAnswer 8 result (calls.ready_in socket.old.state ≡ []) }
+    ensures let_go { OnAnswer 8 result (lent.new.items ≡ []) }
+{
+    match socket.get_next_message() {
+        None => {
+            drop(std::mem::replace(lent, Vec::new(alloc)));
+            NOTHING
+        }
+        Some(message) => {
+            *head = record_of(&message);
+            drop(std::mem::replace(lent, message.payload));
+            OK
+        }
+    }
 }
 
 /// Queues a copy of a message, and sends as much as may be sent.
