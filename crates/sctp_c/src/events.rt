@@ -1,9 +1,10 @@
-//! What a socket told, handed out. What doesn't fit stays.
+//! What a socket told, handed out or lent. What doesn't fit stays.
 
 ghost use Rattle.std.specs.Prelude.{◌≡◌, [], ◌∷◌, length, drop};
 ghost use Rattle.sctp_c.specs.Calls.{Answers};
+ghost use Rattle.sctp_c.specs.Lent.{PointsAt};
 ghost use Rattle.sctp_c_calls.specs.Answers.{IsAmong, OnAnswer, OnOthers};
-ghost use Rattle.sctp_c_calls.specs.Waiting.{Needs, Shows, waiting, with_events};
+ghost use Rattle.sctp_c_calls.specs.Waiting.{Needs, Shows, ShowsAll, waiting, with_events};
 
 use crate::handle::Handle;
 use sctp_c_calls as calls;
@@ -31,5 +32,40 @@ pub extern "C" fn sctp_poll_event(
     match socket.as_mut() {
         None => NO_SOCKET,
         Some(end) => calls::poll_event(alloc, &mut end.socket, &mut end.event, head, buffer),
+    }
+}
+
+/// Hands out the event that was told first, and lends its bytes until the next call. Where there is no memory for those of streams, it
+/// stays.
+#[unsafe(no_mangle)]
+pub extern "C" fn sctp_borrow_event(
+    alloc: Global,
+    socket: &mut Handle,
+    head: &mut EventRecord,
+    bytes: &mut *const u8,
+) -> u32
+    ensures answers { Answers (λ e n f. IsAmong (0 ∷ 8 ∷ 17 ∷ []) n) socket.old.held result socket.new.held }
+    ensures taken { Answers (λ e n f. OnAnswer 0 n (waiting f.event f.socket ≡ drop 1 (waiting e.event e.socket))) socket.old.held result socket.new.held }
+    ensures shown { Answers (λ e n f. OnAnswer 0 n (ShowsAll head.new f.lent.items (waiting e.event e.socket))) socket.old.held result socket.new.held }
+    ensures lent { Answers (λ e n f. PointsAt bytes.new f) socket.old.held result socket.new.held }
+    ensures stays { Answers (λ e n f. OnOthers 0 n (waiting f.event f.socket ≡ waiting e.event e.socket)) socket.old.held result socket.new.held }
+    ensures nothing { Answers (λ e n f. OnAnswer 8 n (waiting e.event e.socket ≡ [])) socket.old.held result socket.new.held }
+    ensures let_go { Answers (λ e n f. OnAnswer 8 n (f.lent.items ≡ [])) socket.old.held result socket.new.held }
+    ensures record { Answers (λ e n f. f.handed_over ≡ e.handed_over) socket.old.held result socket.new.held }
+    ensures rest { Answers (λ e n f. f.socket ≡ with_events e.socket f.socket.context.told.events) socket.old.held result socket.new.held }
+{
+    match socket.as_mut() {
+        None => NO_SOCKET,
+        Some(end) => {
+            let number = calls::borrow_event(
+                alloc,
+                &mut end.socket,
+                &mut end.event,
+                head,
+                &mut end.lent,
+            );
+            *bytes = end.lent.as_ptr();
+            number
+        }
     }
 }

@@ -34,6 +34,7 @@ fn boxed(
                 socket,
                 event: None,
                 handed_over: None,
+                lent: Vec::new(alloc),
             },
         ) {
             Ok(end) => Ok(end),

@@ -2,8 +2,9 @@
 
 ghost use Rattle.std.specs.Prelude.{◌≡◌, [], ◌∷◌, length, ◌<◌, ◌≤◌};
 ghost use Rattle.sctp_c.specs.Calls.{Answers, OnSocket, end_of};
+ghost use Rattle.sctp_c.specs.Lent.{PointsAt};
 ghost use Rattle.sctp_c_calls.specs.Answers.{Ended, IsAmong, OnAnswer, OnOthers, OnSettled, refusal_number};
-ghost use Rattle.sctp_c_calls.specs.Waiting.{HasMessage, NeedsMore};
+ghost use Rattle.sctp_c_calls.specs.Waiting.{HasAll, HasMessage, NeedsMore};
 ghost use Rattle.sctp_c_records.specs.Records.{IsKnown, given_send_options};
 ghost use Rattle.sctp_table.specs.Calls as table;
 ghost use Rattle.sctp_table.specs.Input.{on_standing};
@@ -32,6 +33,32 @@ pub extern "C" fn sctp_next_message(
     match socket.as_mut() {
         None => NO_SOCKET,
         Some(end) => calls::next_message(&mut end.socket, head, buffer),
+    }
+}
+
+/// Hands out the message that was ready first, and lends its payload until the next call.
+#[unsafe(no_mangle)]
+pub extern "C" fn sctp_borrow_message(
+    alloc: Global,
+    socket: &mut Handle,
+    head: &mut MessageRecord,
+    payload: &mut *const u8,
+) -> u32
+    ensures answers { Answers (λ e n f. IsAmong (0 ∷ 8 ∷ []) n) socket.old.held result socket.new.held }
+    ensures message { Answers (λ e n f. OnAnswer 0 n (HasAll head.new f.lent.items (table.ready_in e.socket.state))) socket.old.held result socket.new.held }
+    ensures lent { Answers (λ e n f. PointsAt payload.new f) socket.old.held result socket.new.held }
+    ensures taken { Answers (OnSocket (λ s n t. end_of t ≡ on_standing table.take_message (end_of s))) socket.old.held result socket.new.held }
+    ensures failure { Answers (OnSocket (λ s n t. t.has_failed ≡ s.has_failed)) socket.old.held result socket.new.held }
+    ensures nothing { Answers (OnSocket (λ s n t. OnAnswer 8 n (table.ready_in s.state ≡ []))) socket.old.held result socket.new.held }
+    ensures let_go { Answers (λ e n f. OnAnswer 8 n (f.lent.items ≡ [])) socket.old.held result socket.new.held }
+{
+    match socket.as_mut() {
+        None => NO_SOCKET,
+        Some(end) => {
+            let number = calls::borrow_message(alloc, &mut end.socket, head, &mut end.lent);
+            *payload = end.lent.as_ptr();
+            number
+        }
     }
 }
 
