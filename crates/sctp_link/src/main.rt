@@ -1,16 +1,19 @@
-//! Two sockets over a link in memory that loses every third packet: the loop in which an owner drives a socket.
+//! Two sockets over a link in memory that loses packets: the loop in which an owner drives a socket.
 //!
-//! Once they are connected three messages cross, and the association shuts down. Prints what each socket tells and hands out, and
-//! when time passes.
+//! Standard input has a conversation a line. At `talk` three messages cross once the sockets are connected, and the association shuts
+//! down, while every third packet is lost; what each socket tells and hands out is printed, and when time passes. A line of numbers is a
+//! plan for many messages (`soak`). A line that begins with `#` is printed.
 #![tactic(auto)]
 
+mod soak;
+
 use anyhow::Result;
-use rand_core::Rng;
 use rand_pcg::Pcg32;
 use sctp_association::{
     CallError, Checksum, DcSctpSocket, Message, Options, PpId, SendOptions, Socket, SocketEvent,
     SocketState, SocketTime, StreamId,
 };
+use soak::{Plan, Soaked, plan_of, soak};
 
 /// More turns, or events of one turn, are not looked for.
 const MANY: u32 = 1000;
@@ -134,12 +137,11 @@ fn talk<S: DcSctpSocket>(rt: &HostRuntime, a: &mut End<S>, b: &mut End<S>) -> Re
     Ok(())
 }
 
-/// Two sockets talk.
-fn meet<R: Rng + Drop, C: Checksum + Drop>(
-    rt: &HostRuntime,
-    a: Socket<R, C>,
-    b: Socket<R, C>,
-) -> Result<()> {
+/// Two sockets talk, or go through a plan.
+fn meet<S: Soaked>(rt: &HostRuntime, a: S, b: S, plan: Option<Plan>) -> Result<()> {
+    if let Some(plan) = plan {
+        return soak(rt, a, b, plan);
+    }
     let (mut a, mut b) = (new_end(rt, a), new_end(rt, b));
     let outcome = talk(rt, &mut a, &mut b);
     a.socket.let_go();
@@ -161,7 +163,24 @@ fn sockets(rt: &HostRuntime) -> Result<(Linked, Linked), CallError> {
     }
 }
 
+fn converse(rt: &HostRuntime, plan: Option<Plan>) -> Result<()> {
+    let (a, b) = sockets(rt)?;
+    meet(rt, a, b, plan)
+}
+
+fn answer(rt: &HostRuntime, line: &str) -> Result<()> {
+    if line.starts_with('#') {
+        return Ok(println!(rt; "{line}")?);
+    }
+    match plan_of(rt.alloc(), line)? {
+        None if line != "talk" => Ok(println!(rt; "? {line}")?),
+        plan => converse(rt, plan),
+    }
+}
+
 fn main(rt: HostRuntime) -> Result<()> {
-    let (a, b) = sockets(&rt)?;
-    meet(&rt, a, b)
+    for line in rt.lines(rt.alloc()) {
+        answer(&rt, &line?)?;
+    }
+    Ok(())
 }

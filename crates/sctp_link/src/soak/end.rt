@@ -1,6 +1,8 @@
 //! An end of a conversation.
 
-use crate::messages::{STREAMS, is_reliable, label_of, message, options, stream, wanted_label};
+use crate::soak::messages::{
+    STREAMS, is_reliable, label_of, message, options, stream, wanted_label,
+};
 use anyhow::Result;
 use rand_core::Rng;
 use sctp_association::{
@@ -113,9 +115,8 @@ fn count_message<S>(end: &mut End<S>, message: &Message) {
     }
 }
 
-fn take_event<S>(end: &mut End<S>, event: SocketEvent) -> Result<()> {
+fn count_event<S>(end: &mut End<S>, event: &SocketEvent) {
     match event {
-        SocketEvent::SendPacket(bytes) => end.sent.push(bytes)?,
         SocketEvent::OnStreamsResetPerformed(_streams) => {
             end.reset_events = end.reset_events.saturating_add(1)
         }
@@ -123,7 +124,17 @@ fn take_event<S>(end: &mut End<S>, event: SocketEvent) -> Result<()> {
         SocketEvent::OnAborted(_kind, _text) => end.errors = end.errors.saturating_add(1),
         _event => (),
     }
-    Ok(())
+}
+
+fn take_event<S>(end: &mut End<S>, event: SocketEvent) -> Result<()> {
+    match event {
+        SocketEvent::SendPacket(bytes) => Ok(end.sent.push(bytes)?),
+        event => {
+            count_event(end, &event);
+            drop(event);
+            Ok(())
+        }
+    }
 }
 
 /// Takes all that the socket tells.

@@ -1,7 +1,7 @@
 //! The link between the ends.
 
-use crate::end::End;
-use crate::messages::Plan;
+use crate::soak::end::End;
+use crate::soak::messages::Plan;
 use anyhow::Result;
 use rand_core::Rng;
 

@@ -1,8 +1,8 @@
 //! The course of a conversation.
 
-use crate::end::{End, Soaked, expect_all, new_end, send, turn};
-use crate::link::{Link, carry};
-use crate::messages::{Plan, STREAMS};
+use crate::soak::end::{End, Soaked, expect_all, new_end, send, turn};
+use crate::soak::link::{Link, carry};
+use crate::soak::messages::{Plan, STREAMS};
 use anyhow::Result;
 use rand_core::Rng;
 use sctp_association::{HandoverReadiness, SocketTime, StreamId};
