@@ -22,6 +22,7 @@ static void without_a_socket(void) {
     uint16_t streams[1] = {1};
     uint64_t nanos;
     uint32_t state, answers[1];
+    const uint8_t *lent;
     size_t bytes;
     is("connect", sctp_connect(&none), SCTP_NO_SOCKET);
     is("shutdown", sctp_shutdown(&none), SCTP_NO_SOCKET);
@@ -42,7 +43,9 @@ static void without_a_socket(void) {
     is("send", sctp_send(&none, 1, 1, SCTP_EMPTY, 0, &plainly), SCTP_NO_SOCKET);
     is("send_many", sctp_send_many(&none, &outgoing, 1, &plainly, answers, 1), SCTP_NO_SOCKET);
     is("next_message", sctp_next_message(&none, &message, SCTP_EMPTY, 0), SCTP_NO_SOCKET);
+    is("borrow_message", sctp_borrow_message(&none, &message, &lent), SCTP_NO_SOCKET);
     is("poll_event", sctp_poll_event(&none, &event, SCTP_EMPTY, 0), SCTP_NO_SOCKET);
+    is("borrow_event", sctp_borrow_event(&none, &event, &lent), SCTP_NO_SOCKET);
     sctp_free(&none);
 }
 
@@ -237,6 +240,71 @@ static void short_buffers(sctp_socket *a, sctp_socket *b) {
     is("no other", sctp_next_message(b, &message, buffer, 4), SCTP_NOTHING);
 }
 
+/* Hands the packets of one end to the other as they are lent, four times. Answers how many events of a kind the other end told. */
+static int lend_packets(sctp_socket *from, sctp_socket *to, uint32_t kind) {
+    const uint8_t *bytes;
+    sctp_event event;
+    int told = 0;
+    for (int turn = 0; turn < 4; turn++) {
+        while (sctp_borrow_event(from, &event, &bytes) == SCTP_OK) {
+            if (event.kind == SCTP_SEND_PACKET)
+                is("input", sctp_handle_input(to, bytes, event.length), SCTP_OK);
+            told += event.kind == kind;
+        }
+        sctp_socket *other = from;
+        from = to;
+        to = other;
+    }
+    return told;
+}
+
+/* What is lent is what would be copied, once. What didn't fit a buffer is lent next, and what isn't asked for again is let go. */
+static void lends(const sctp_options *options) {
+    sctp_socket a = SCTP_NO_HANDLE, twin = SCTP_NO_HANDLE, b = SCTP_NO_HANDLE;
+    sctp_send_options plainly = {0, 0, 0, 0};
+    uint16_t streams[2] = {3, 258};
+    uint8_t buffer[1500];
+    const uint8_t *bytes;
+    sctp_event event, copied;
+    sctp_message message;
+    is("new", sctp_new(&a, options, 1, 1), SCTP_OK);
+    is("new", sctp_new(&twin, options, 1, 1), SCTP_OK);
+    is("new", sctp_new(&b, options, 2, 2), SCTP_OK);
+    is("nothing to lend", sctp_borrow_event(&a, &event, &bytes), SCTP_NOTHING);
+    is("no message to lend", sctp_borrow_message(&a, &message, &bytes), SCTP_NOTHING);
+    is("connect", sctp_connect(&a), SCTP_OK);
+    is("connect", sctp_connect(&twin), SCTP_OK);
+    is("short", sctp_poll_event(&a, &event, SCTP_EMPTY, 0), SCTP_SHORT_BUFFER);
+    is("copied", sctp_poll_event(&twin, &copied, buffer, sizeof buffer), SCTP_OK);
+    is("lent", sctp_borrow_event(&a, &event, &bytes), SCTP_OK);
+    is("the same", memcmp(&event, &copied, sizeof event) == 0 && memcmp(bytes, buffer, event.length) == 0, 1);
+    is("handed on", sctp_handle_input(&b, bytes, event.length), SCTP_OK);
+    is("lent once", sctp_borrow_event(&a, &event, &bytes), SCTP_NOTHING);
+    is("both are connected", lend_packets(&b, &a, SCTP_ON_CONNECTED), 2);
+    is("send", sctp_send(&a, 258, 51, (const uint8_t *)"first", 5, &plainly), SCTP_OK);
+    is("send", sctp_send(&a, 3, 52, (const uint8_t *)"second", 6, &plainly), SCTP_OK);
+    lend_packets(&a, &b, SCTP_ON_ERROR);
+    is("short message", sctp_next_message(&b, &message, buffer, 4), SCTP_SHORT_BUFFER);
+    is("lent", sctp_borrow_message(&b, &message, &bytes), SCTP_OK);
+    is("as it was sent", message.stream == 258 && message.ppid == 51 && message.length == 5 && memcmp(bytes, "first", 5) == 0, 1);
+    is("copied", sctp_next_message(&b, &message, buffer, sizeof buffer), SCTP_OK);
+    is("as it was sent", message.stream == 3 && message.ppid == 52 && message.length == 6 && memcmp(buffer, "second", 6) == 0, 1);
+    is("no other", sctp_borrow_message(&b, &message, &bytes), SCTP_NOTHING);
+    is("reset", sctp_reset_streams(&a, streams, 2), SCTP_OK);
+    is("lent", sctp_borrow_event(&a, &event, &bytes), SCTP_OK);
+    is("input", sctp_handle_input(&b, bytes, event.length), SCTP_OK);
+    is("lent", sctp_borrow_event(&b, &event, &bytes), SCTP_OK);
+    while (event.kind == SCTP_SEND_PACKET)
+        is("lent", sctp_borrow_event(&b, &event, &bytes), SCTP_OK);
+    is("streams", event.kind == SCTP_INCOMING_STREAM_RESET && event.length == 4 && memcmp(bytes, "\0\3\1\2", 4) == 0, 1);
+    is("no packet", sctp_handle_input(&a, SCTP_EMPTY, 0), SCTP_OK);
+    is("lent", sctp_borrow_event(&a, &event, &bytes), SCTP_OK);
+    is("a text", event.kind == SCTP_ON_ERROR && event.error == SCTP_PARSE_FAILED && event.length > 0, 1);
+    sctp_free(&a); /* with a text that is lent, */
+    sctp_free(&twin);
+    sctp_free(&b); /* and with streams */
+}
+
 int main(void) {
     sctp_socket a = SCTP_NO_HANDLE, b = SCTP_NO_HANDLE;
     sctp_send_options odd = {8, 0, 0, 0};
@@ -264,6 +332,7 @@ int main(void) {
     is("resets", sctp_reset_streams(&a, streams, 1), SCTP_NOT_CONNECTED);
     is("stream", sctp_reset_stream(&a, 65536), SCTP_INVALID_STREAM);
     is("send flags", sctp_send(&a, 1, 1, text, 1, &odd), SCTP_INVALID_ARGUMENT);
+    lends(&options);
     short_buffers(&a, &b);
     batches(&a, &b);
     resets_and_counts(&a, &b);

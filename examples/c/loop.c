@@ -13,12 +13,12 @@ static void must(const char *what, uint32_t answer) {
 
 /* Takes all that a socket tells, and hands its packets to the other end. Answers how many there were. */
 static int take_events(const char *name, sctp_socket *from, sctp_socket *to) {
-    uint8_t buffer[1500];
+    const uint8_t *bytes;
     sctp_event event;
     int packets = 0;
-    while (sctp_poll_event(from, &event, buffer, sizeof buffer) == SCTP_OK)
+    while (sctp_borrow_event(from, &event, &bytes) == SCTP_OK)
         if (event.kind == SCTP_SEND_PACKET) {
-            must("handle_input", sctp_handle_input(to, buffer, event.length));
+            must("handle_input", sctp_handle_input(to, bytes, event.length));
             packets++;
         } else
             printf("%s: event %u, stream %u\n", name, (unsigned)event.kind, (unsigned)event.stream);
@@ -42,10 +42,10 @@ static void settle(sctp_socket *a, sctp_socket *b, uint64_t *now) {
 }
 
 static void take_messages(const char *name, sctp_socket *socket) {
-    uint8_t buffer[256];
+    const uint8_t *payload;
     sctp_message message;
-    while (sctp_next_message(socket, &message, buffer, sizeof buffer) == SCTP_OK)
-        printf("%s: stream %u: %.*s\n", name, (unsigned)message.stream, (int)message.length, (const char *)buffer);
+    while (sctp_borrow_message(socket, &message, &payload) == SCTP_OK)
+        printf("%s: stream %u: %.*s\n", name, (unsigned)message.stream, (int)message.length, (const char *)payload);
 }
 
 int main(void) {
