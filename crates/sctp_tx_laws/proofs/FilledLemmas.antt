@@ -1,16 +1,16 @@
 -- A packet is filled until nothing more goes: each turn takes a byte of it at least.
-use Rattle.std.proofs.Common.{◌≡◌, ℕ, zero, suc, ◌+◌, ◌-◌, ◌*◌, ◌/◌, ◌<◌, ◌≤◌, Bool, true, false, min, Option, Some, None, List, [], length, refl, sym, ap, subst, ◌∙◌, arith}
+use Rattle.std.proofs.Common.{◌≡◌, ℕ, zero, suc, ◌+◌, ◌-◌, ◌*◌, ◌/◌, ◌<◌, ◌≤◌, Bool, true, false, min, Option, Some, None, length, refl, sym, ap, subst, ◌∙◌, arith}
 use Rattle.std.specs.Prelude.{◌&&◌, nat_lt, if◌then◌else◌}
 use Rattle.std.proofs.lemmas.Bool.{ltb-true, ltb-false}
 use Rattle.sctp_state.specs.Events.{Told}
 use Rattle.sctp_send_queue.specs.Queue.{Queue}
 use Rattle.sctp_send_queue.specs.Produced.{Produced, Turn, produce}
-use Rattle.sctp_outstanding.specs.Item.{header_size, size_of}
+use Rattle.sctp_outstanding.specs.Item.{header_size}
 use Rattle.sctp_tx.specs.Retransmission.{Sender}
 use Rattle.sctp_tx.specs.Resent.{mixes, may_send_new, room_of}
 use Rattle.sctp_tx.specs.Sending.{Filling, Turned, offered, appended, is_made, turned_if, fill}
 use Rattle.sctp_tx_laws.specs.Filled as filled
-use Rattle.sctp_tx_laws.specs.Filled.{Goes, Stops, windows, nothing, IsFilled, ends, goes_on, began, TakesWhatIsDue}
+use Rattle.sctp_tx_laws.specs.Filled.{windows, nothing, IsFilled, ends, goes_on, began, TakesWhatIsDue}
 use Rattle.sctp_tx_laws.proofs.ScheduledLemmas.{idle_where_none}
 
 zero_of : (n : ℕ) → nat_lt 0 n ≡ false → n ≡ 0

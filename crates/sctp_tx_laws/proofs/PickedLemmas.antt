@@ -1,6 +1,6 @@
 -- Items that are sent again, from the first place on.
-use Rattle.std.proofs.Common.{◌≡◌, ℕ, zero, suc, ◌+◌, ◌-◌, ◌<◌, ◌≤◌, ◌==◌, Bool, true, false, cond, min, Option, Some, None, List, [], ◌∷◌, ◌++◌, length, length-append, append_assoc, append-nil, refl, sym, ap, subst, ◌∙◌, arith}
-use Rattle.std.specs.Prelude.{◌&&◌, nat_le, slice_get}
+use Rattle.std.proofs.Common.{◌≡◌, ℕ, zero, suc, ◌+◌, ◌-◌, ◌<◌, ◌≤◌, ◌==◌, Bool, true, false, cond, Option, Some, List, [], ◌∷◌, ◌++◌, length, length-append, append_assoc, append-nil, refl, sym, ap, subst, ◌∙◌, arith}
+use Rattle.std.specs.Prelude.{nat_le, slice_get}
 use Rattle.std.specs.List.{sum_by}
 use Rattle.std.proofs.lemmas.Bool.{leb-true, leb-false}
 use Rattle.std.proofs.lemmas.Bool.Decides.{nat_tests}
@@ -9,8 +9,8 @@ use Rattle.sctp_chunk.specs.Chunk.{FragmentTree}
 use Rattle.sctp_serial.specs.Unwrapped.{words, wire}
 use Rattle.sctp_outstanding.specs.declared.item.ItemState.{ItemState}
 use Rattle.sctp_outstanding.specs.declared.item.ItemState.TheVariants.{InFlight, Missing, Queued, QueuedFast, Acked, GivenUp}
-use Rattle.sctp_outstanding.specs.Item.{Item, flies, waits, waits_fast, resent, slowed, is_fast, should_be_retransmitted, is_outstanding, chunk_size, mark_as_retransmitted, miss_fast}
-use Rattle.sctp_outstanding.specs.Items.{Outstanding, Items, written, when, flight_part, flight_items, change_at}
+use Rattle.sctp_outstanding.specs.Item.{Item, flies, waits, waits_fast, resent, slowed, is_fast, should_be_retransmitted, chunk_size, mark_as_retransmitted, miss_fast}
+use Rattle.sctp_outstanding.specs.Items.{Outstanding, when, flight_part, flight_items, change_at}
 use Rattle.sctp_outstanding.specs.Resending.{Resent, size_in, again, again_of, again_at, passed_over, allowed, turn_of, taken, step_at, resent_below, empty_packet, resend}
 use Rattle.sctp_tx_laws.specs.Picked.{is_due, left, Picks, no_more, goes, has_no_room, is_not_due, tsn_at}
 

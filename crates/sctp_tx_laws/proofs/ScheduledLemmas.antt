@@ -1,5 +1,5 @@
 -- The queue asks one stream after another, as they go next.
-use Rattle.std.proofs.Common.{◌≡◌, ℕ, zero, suc, ◌+◌, ◌<◌, Option, Some, None, List, [], length, refl, sym, ap, subst, arith}
+use Rattle.std.proofs.Common.{◌≡◌, ℕ, zero, suc, ◌+◌, ◌<◌, Option, Some, None, [], length, refl, sym, subst, arith}
 use Rattle.sctp_state.specs.Events.{Told}
 use Rattle.sctp_send_queue.specs.Queue.{Queue}
 use Rattle.sctp_send_queue.specs.Produced.{Produced, Turn, turn, next_stream, produce_within, produce}

@@ -1,13 +1,12 @@
 -- What a packet takes behind that: new fragments, as long as the windows let them go, the packet has room, and one waits.
-use Rattle.std.specs.Prelude.{◌≡◌, ℕ, suc, ◌-◌, Bool, true, false, Option, Some, None, List, [], ◌∷◌, ◌++◌, min}
-use Rattle.sctp_chunk.specs.Chunk.{FragmentTree}
+use Rattle.std.specs.Prelude.{◌≡◌, ℕ, true, false, Some, None, List, [], ◌∷◌, ◌++◌}
 use Rattle.sctp_state.specs.Events.{Told}
 use Rattle.sctp_outstanding.specs.Items.{next_number, written}
 use Rattle.sctp_send_queue.specs.Queue.{Queue}
-use Rattle.sctp_send_queue.specs.Produced.{Produced, Turn, produce}
+use Rattle.sctp_send_queue.specs.Produced.{Produced, produce}
 use Rattle.sctp_tx.specs.Retransmission.{Sender}
-use Rattle.sctp_tx.specs.Resent.{mixes, may_send_new, resent}
-use Rattle.sctp_tx.specs.Sending.{Filling, offered, item_of, sent_new, filled_with, discard_all, without_discards, fill, send, timed_filling}
+use Rattle.sctp_tx.specs.Resent.{may_send_new, resent}
+use Rattle.sctp_tx.specs.Sending.{Filling, offered, sent_new, filled_with, discard_all, without_discards, send, timed_filling}
 
 -- one more fragment goes: the queue is offered what is left, and its fragment takes the next TSN
 pub record Goes {P : Type 0} (now : ℕ) (x y : Filling P) (p : Produced) : Type 0 where

@@ -1,8 +1,8 @@
 -- Which fragment the send queue gives: the next one of the stream that goes next.
-use Rattle.std.specs.Prelude.{◌≡◌, ℕ, Option, Some, None, List, []}
+use Rattle.std.specs.Prelude.{◌≡◌, ℕ, Some, None, List, []}
 use Rattle.sctp_state.specs.Events.{Told}
-use Rattle.sctp_send_queue.specs.Queue.{Queue, stream}
-use Rattle.sctp_send_queue.specs.Produced.{Produced, Turn, turn, idle, next_stream, next_fragment, without_stale, produce}
+use Rattle.sctp_send_queue.specs.Queue.{Queue}
+use Rattle.sctp_send_queue.specs.Produced.{Produced, Turn, turn, idle, next_stream, produce}
 
 module _ {P : Type 0} (now size : ℕ) where
   -- The stream that goes next gives its next fragment. One whose messages all expired gives none, and another one goes next. The
@@ -12,11 +12,6 @@ module _ {P : Type 0} (now size : ℕ) where
     gives : {q : Queue} {told : Told P} (id : ℕ) (made : Produced) → next_stream q ≡ Some id → (turn now id size q told).made ≡ Some made → IsProduced q told (turn now id size q told)
     all_expired : {q : Queue} {told : Told P} (id : ℕ) (t : Turn P) → next_stream q ≡ Some id → (turn now id size q told).made ≡ None
         → IsProduced (turn now id size q told).queue (turn now id size q told).told t → IsProduced q told t
-
--- a stream's turn gives the first of its messages that isn't expired, or what is left of it
-pub record GivesItsNext (now size id : ℕ) (q : Queue) (made : Produced) : Type 0 where
-  pub next : next_fragment id size (without_stale now (stream id q.streams)) ≡ Some made
-  pub own : made.fragment.stream_id ≡ id
 
 -- ---- the laws
 
