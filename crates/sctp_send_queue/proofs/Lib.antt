@@ -15,3 +15,4 @@ pub mod StreamsLemmas
 pub mod TellingLemmas
 pub mod TakenUpLemmas
 pub mod UnfinishedLemmas
+pub mod WholeLemmas

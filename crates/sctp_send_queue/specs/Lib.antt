@@ -12,5 +12,6 @@ pub mod Restarted
 pub mod Restored
 pub mod Settings
 pub mod Views
+pub mod Whole
 pub mod TakenUp
 pub mod Unfinished

@@ -25,6 +25,7 @@ ghost use Rattle.sctp_send_queue.specs.Views.{produced_of, queued_of};
 
 pub mod message;
 mod restoring;
+mod sending;
 pub mod stream;
 pub mod streams;
 mod telling;
@@ -39,8 +40,8 @@ use sctp_stream_scheduler::StreamScheduler;
 use std::alloc::{AllocError, Global};
 use std::marker::Model;
 use stream::ResetStep;
-use streams::{Lows, Streams};
-use telling::{tell_expired, tell_if, tell_made};
+use streams::Streams;
+use telling::{tell_expired, tell_if};
 
 /// The messages of all streams that wait or are partly sent, and which of them goes next.
 #[derive(Drop)]
@@ -60,58 +61,6 @@ impl Model for SendQueue {
     ghost Value = { Queue };
 
     ghost view = { λ q. record { streams = q.streams; scheduler = q.scheduler; next_number = q.next_message_id.0; begun = option_map (λ id. id.0) q.begun } };
-}
-
-// What a stream has to send next, and which amounts are low then.
-#[derive(Clone, Copy)]
-struct Next {
-    bytes: usize,
-    priority: u16,
-    lows: Lows,
-}
-
-// Tells of a fragment, and puts its stream in line for the next one; a stream that had none leaves.
-fn tell_and_queue(
-    scheduler: &mut StreamScheduler,
-    events: &mut Events,
-    id: StreamId,
-    next: Next,
-    made: &Option<DataToSend>,
-) -> Result<(), AllocError>
-    ensures ok { OnOk result (scheduler.new ≡ in_line id.0 next.bytes next.priority (option_map produced_of made.now) scheduler.old) }
-    ensures told { OnOk result (events.new ≡ told_made id.0 next.lows.is_low next.lows.is_total_low (option_map produced_of made.now) events.old) }
-    ensures err { OnErr result (scheduler.new ≡ scheduler.old) }
-    ensures grown { OnErr result (Grown events.old events.new) }
-{
-    tell_made(events, id, next.lows, made)?;
-    match made {
-        Some(_) => scheduler.take_turn(id, next.bytes, next.priority),
-        None => {
-            scheduler.leave(id);
-            Ok(())
-        }
-    }
-}
-
-// The same. Without memory nothing changes.
-fn go_in_line(
-    scheduler: &mut StreamScheduler,
-    events: &mut Events,
-    id: StreamId,
-    next: Next,
-    made: &Option<DataToSend>,
-) -> Result<(), AllocError>
-    ensures ok { OnOk result (scheduler.new ≡ in_line id.0 next.bytes next.priority (option_map produced_of made.now) scheduler.old) }
-    ensures told { OnOk result (events.new ≡ told_made id.0 next.lows.is_low next.lows.is_total_low (option_map produced_of made.now) events.old) }
-    ensures err { OnErr result (scheduler.new ≡ scheduler.old) }
-    ensures silent { OnErr result (events.new ≡ events.old) }
-{
-    let mark = events.mark();
-    let done = tell_and_queue(scheduler, events, id, next, made);
-    if done.is_err() {
-        events.roll_back(mark);
-    }
-    done
 }
 
 // Tells that a message was dropped, and what its stream has to send then. Without memory nothing changes.
@@ -203,22 +152,23 @@ impl SendQueue {
         let message_id = self.next_message_id;
         let message = QueuedMessage::new(message_id, now, message, options);
         let bytes = self.streams.sendable_with(id, &message);
-        let priority = self.streams.priority(id);
         if bytes == 0 {
             self.streams.push(self.alloc, id, message)?;
             self.scheduler.leave(id);
             self.next_message_id += 1;
             return Ok(message_id);
         }
-        let was_active = self.scheduler.is_active(id);
+        if self.scheduler.is_active(id) {
+            self.streams.push(self.alloc, id, message)?;
+            self.next_message_id += 1;
+            return Ok(message_id);
+        }
+        let priority = self.streams.priority(id);
         self.scheduler.set_bytes_remaining(id, bytes, priority)?;
         let Err(_) = self.streams.push(self.alloc, id, message) else {
             self.next_message_id += 1;
             return Ok(message_id);
         };
-        if was_active {
-            return Err(AllocError);
-        }
         self.scheduler.leave(id);
         Err(AllocError)
     }
@@ -243,6 +193,9 @@ impl SendQueue {
         ensures ok { OnOk result (Freed now id.0 self.old events.old self.new events.new) }
         ensures err { OnErr result (Same self.old events.old self.new events.new) }
     {
+        if !self.streams.is_stale(id, now) {
+            return Ok(());
+        }
         let mark = events.mark();
         if self.streams.tell_stale(id, now, events).is_err() {
             events.roll_back(mark);
@@ -250,20 +203,6 @@ impl SendQueue {
         }
         self.streams.drop_stale(id, now);
         Ok(())
-    }
-
-    // What a stream has to send after its next fragment.
-    fn next_after(&self, id: StreamId, size: usize) -> Next
-        ensures bytes { result.bytes ≡ sendable (stream id.0 (streams_after id.0 size self.now.streams)) }
-        ensures priority { result.priority ≡ (stream id.0 (streams_after id.0 size self.now.streams)).priority }
-        ensures low { result.lows.is_low ≡ crosses (watched_amount (stream id.0 self.now.streams)) (watched_amount (advanced size (stream id.0 self.now.streams))) }
-        ensures total { result.lows.is_total_low ≡ crosses (watched_total self.now.streams) (watched_total (streams_after id.0 size self.now.streams)) }
-    {
-        Next {
-            bytes: self.streams.sendable_after(id, size),
-            priority: self.streams.priority_after(id, size),
-            lows: self.streams.lows_after(id, size),
-        }
     }
 
     // The next fragment of a stream. Without memory nothing changes.
@@ -278,11 +217,10 @@ impl SendQueue {
         ensures made { IfOk result (λ found. option_map produced_of found ≡ (turn_from id.0 size self.old.streams self.old events.old).made) }
         ensures err { OnErr result (Same self.old events.old self.new events.new) }
     {
-        let made = self.streams.fragment(self.alloc, id, size)?;
-        let next = self.next_after(id, size);
         let is_interleaved = self.scheduler.is_interleaved();
-        go_in_line(&mut self.scheduler, events, id, next, &made)?;
-        self.streams.advance(id, size);
+        let made = self
+            .streams
+            .send_front(self.alloc, id, size, &mut self.scheduler, events)?;
         self.begun = begun_by(id, is_interleaved, &made);
         Ok(made)
     }

@@ -74,6 +74,31 @@ fn sends(alloc: Global) -> bool {
     hold(alloc, &steps)
 }
 
+// Messages that leave whole, of streams that go on or have nothing more, and one that is parted.
+fn sends_whole(alloc: Global) -> bool {
+    let steps = [
+        Threshold(1, 6),
+        AcceptNamed(1, 5, 3),
+        AcceptNamed(1, 6, 4),
+        AcceptNamed(2, 4, 5),
+        GivesWhole(1, 0, 0, 5),
+        Hears(Heard::Low(1)),
+        Hears(Heard::FullySent(3)),
+        Amount(1, 6),
+        GivesWhole(2, 2, 0, 4),
+        Hears(Heard::Low(2)),
+        Hears(Heard::FullySent(5)),
+        Gives(0, 4, (1, 1, 1, 0, 0, 4)),
+        Hears(Heard::Nothing),
+        Gives(0, 2, (1, 1, 1, 1, 4, 2)),
+        Hears(Heard::FullySent(4)),
+        GivesNone(0),
+        Total(0),
+        IsEmpty(true),
+    ];
+    hold(alloc, &steps)
+}
+
 // A reset with a message that waits is performed, one is refused, and all begins again.
 fn resets(alloc: Global) -> bool {
     let steps = [
@@ -168,6 +193,7 @@ fn goes_on(alloc: Global) -> bool {
 #[test]
 fn tells_want_of_memory(rt: HostRuntime) {
     assert!(rt; sends(rt.alloc()));
+    assert!(rt; sends_whole(rt.alloc()));
     assert!(rt; resets(rt.alloc()));
     assert!(rt; goes_on(rt.alloc()));
 }

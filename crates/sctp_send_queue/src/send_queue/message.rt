@@ -1,12 +1,13 @@
 //! A message that waits or is partly sent, and its fragments.
 
-ghost use Rattle.std.specs.Prelude.{◌≡◌, ℕ, ◌+◌, ◌-◌, ◌<◌, ◌≤◌, ◌^◌, Bool, length, IfOk, None, option_map, min, if◌then◌else◌};
+ghost use Rattle.std.specs.Prelude.{◌≡◌, ℕ, ◌+◌, ◌-◌, ◌<◌, ◌≤◌, ◌^◌, Bool, length, IfOk, IsTrue, None, option_map, min, take, drop, if◌then◌else◌};
 ghost use Rattle.std.specs.Duration.{as_nanos};
 ghost use Rattle.sctp_chunk.specs.Written.{key_stream};
 ghost use Rattle.sctp_chunk.specs.Views.{is_unordered_key, fragment_tree};
 ghost use Rattle.sctp_send_queue.specs.Queue.{left, expiry_of};
 ghost use Rattle.sctp_send_queue.specs.Produced.{is_stale, is_due, ends, piece, made_of, moved};
 ghost use Rattle.sctp_send_queue.specs.Resets.{is_partly};
+ghost use Rattle.sctp_send_queue.specs.Whole.{is_whole};
 ghost use Rattle.sctp_serial.specs.Unwrapped.{words, halves, wire};
 ghost use Rattle.sctp_state.specs.Handover.{stream_message_of};
 ghost use Rattle.sctp_send_queue.specs.Handover.{queued_message};
@@ -313,6 +314,52 @@ impl QueuedMessage {
             expires_at: self.expires_at,
             lifecycle_id: self.lifecycle_ended(size),
         })
+    }
+
+    /// Whether a fragment of this size is all of it.
+    pub fn is_whole(&self, size: usize) -> bool
+        ensures { result ≡ is_whole size self.now }
+    {
+        self.offset == 0 && self.left() <= size
+    }
+
+    // Its payload, of which a fragment of this size is all.
+    fn into_payload(self, _size: usize) -> Vec<u8>
+        requires { IsTrue (is_whole _size self) }
+        ensures { result.items ≡ take _size (drop self.offset self.payload) }
+    {
+        self.payload
+    }
+
+    /// The fragment that is all of it, with its payload and not a copy.
+    pub fn into_fragment(self, id: StreamId, numbers: MessageNumbers, size: usize) -> DataToSend
+        requires { IsTrue (is_whole size self) }
+        ensures { produced_of result ≡ made_of id.0 size numbers self }
+    {
+        let message_id = self.message_id;
+        let max_retransmissions = self.max_retransmissions;
+        let expires_at = self.expires_at;
+        let lifecycle_id = self.lifecycle_ended(size);
+        let key = stream_key(self.is_unordered, id);
+        let (fsn, ppid) = (self.next_fsn, self.ppid);
+        let is_beginning = self.offset == 0;
+        let is_end = self.left() <= size;
+        DataToSend {
+            message_id,
+            data: Data {
+                stream_key: key,
+                ssn: Ssn::wrapped(Ssn(0), numbers.ssn),
+                mid: Mid::wrapped(Mid(0), numbers.mid),
+                fsn,
+                ppid,
+                payload: self.into_payload(size),
+                is_beginning,
+                is_end,
+            },
+            max_retransmissions,
+            expires_at,
+            lifecycle_id,
+        }
     }
 
     /// That fragment was sent, and it was not the end.

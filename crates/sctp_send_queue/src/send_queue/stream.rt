@@ -1,6 +1,6 @@
 //! What waits on one stream.
 
-ghost use Rattle.std.specs.Prelude.{◌≡◌, ℕ, Bool, ◌+◌, ◌-◌, ◌<◌, ◌≤◌, ◌^◌, ◌==◌, [], ◌∷◌, ◌++◌, length, sum_by, drop, is_some, None, Some, IfOk, IfSome, OnOk, OnErr, option_map, filter, map, if◌then◌else◌};
+ghost use Rattle.std.specs.Prelude.{◌≡◌, ℕ, Bool, ◌+◌, ◌-◌, ◌<◌, ◌≤◌, ◌^◌, ◌==◌, [], ◌∷◌, ◌++◌, length, sum_by, drop, is_some, None, Some, IsTrue, IfOk, IfSome, OnOk, OnErr, option_map, filter, map, if◌then◌else◌};
 ghost use Rattle.sctp_state.specs.Events.{Grown};
 ghost use Rattle.sctp_state.specs.Thresholds.{crosses};
 ghost use Rattle.sctp_send_queue.specs.Queue.{Queued, left, amount_of, watched_amount, blank_stream, front_left, sendable, pushed, is_stopped};
@@ -12,6 +12,7 @@ ghost use Rattle.sctp_send_queue.specs.Handover.{queued_message, messages_of, ou
 ghost use Rattle.sctp_send_queue.specs.Readiness.{is_waiting};
 ghost use Rattle.sctp_send_queue.specs.Restarted.{whole_front, restarted};
 ghost use Rattle.sctp_send_queue.specs.Restored.{stream_from};
+ghost use Rattle.sctp_send_queue.specs.Whole.{is_front_whole, front_lifecycle};
 ghost use Rattle.sctp_send_queue.specs.Views.{produced_of};
 
 use crate::data_to_send::DataToSend;
@@ -228,6 +229,41 @@ fn front_fragment(
     match messages.front() {
         Some(message) => Ok(Some(message.fragment(alloc, id, numbers, size)?)),
         None => Ok(None),
+    }
+}
+
+fn is_front_whole(messages: &VecDeque<QueuedMessage>, size: usize) -> bool
+    ensures { result ≡ is_front_whole size messages.now.items }
+{
+    match messages.front() {
+        Some(message) => message.is_whole(size),
+        None => false,
+    }
+}
+
+fn front_lifecycle(messages: &VecDeque<QueuedMessage>) -> Option<LifecycleId>
+    ensures { result ≡ front_lifecycle messages.now.items }
+{
+    match messages.front() {
+        Some(message) => message.lifecycle_id(),
+        None => None,
+    }
+}
+
+// The message at the front leaves as the fragment that is all of it.
+fn take_front(
+    messages: &mut VecDeque<QueuedMessage>,
+    id: StreamId,
+    numbers: MessageNumbers,
+    size: usize,
+) -> Option<DataToSend>
+    requires { IsTrue (is_front_whole size messages.old.items) }
+    ensures messages { messages.new.items ≡ moved_front size numbers messages.old.items }
+    ensures made { option_map produced_of result ≡ front_made id.0 size numbers messages.old.items }
+{
+    match messages.pop_front() {
+        Some(message) => Some(message.into_fragment(id, numbers, size)),
+        None => None,
     }
 }
 
@@ -566,6 +602,59 @@ impl Stream {
         move_front_on(&mut self.messages, numbers, size);
         self.pause_state = pause_after(is_end, self.pause_state);
         self.buffered.decrease(bytes);
+    }
+
+    /// Whether the next fragment is a whole message.
+    pub fn is_next_whole(&self, size: usize) -> bool
+        ensures { result ≡ is_front_whole size self.now.messages }
+    {
+        is_front_whole(&self.messages, size)
+    }
+
+    /// The lifecycle id of the message at the front.
+    pub fn front_lifecycle(&self) -> Option<LifecycleId>
+        ensures { result ≡ front_lifecycle self.now.messages }
+    {
+        front_lifecycle(&self.messages)
+    }
+
+    /// The next fragment is sent, which is a whole message: its payload isn't copied.
+    pub fn take_whole(&mut self, id: StreamId, size: usize) -> Option<DataToSend>
+        requires { IsTrue (is_front_whole size self.old.messages) }
+        ensures made { option_map produced_of result ≡ next_fragment id.0 size self.old }
+        ensures after { self.new ≡ advanced size self.old }
+        ensures less { amount_of self.new ≤ amount_of self.old }
+    {
+        let numbers = self.front_numbers();
+        self.number_front();
+        self.take_numbered(id, numbers, size)
+    }
+
+    // The message at the front, which has its numbers, leaves as the fragment that is all of it.
+    fn take_numbered(
+        &mut self,
+        id: StreamId,
+        numbers: MessageNumbers,
+        size: usize,
+    ) -> Option<DataToSend>
+        requires { IsTrue (is_front_whole size self.old.messages) }
+        ensures made { option_map produced_of result ≡ front_made id.0 size numbers self.old.messages }
+        ensures after { self.new ≡ record self.old { messages = moved_front size numbers self.old.messages; pause = pause_after (front_ends size self.old.messages) self.old.pause } }
+        ensures less { amount_of self.new ≤ amount_of self.old }
+    {
+        let bytes = front_left(&self.messages).min(size);
+        let is_end = front_ends(&self.messages, size);
+        let made = take_front(&mut self.messages, id, numbers, size);
+        self.pause_state = pause_after(is_end, self.pause_state);
+        self.buffered.decrease(bytes);
+        made
+    }
+
+    /// Whether the message at the front expired before it was begun.
+    pub fn is_stale(&self, now: SocketTime) -> bool
+        ensures { result ≡ is_front_stale now self.now.messages }
+    {
+        is_front_stale(&self.messages, now)
     }
 
     /// The amount at which the stream is low.

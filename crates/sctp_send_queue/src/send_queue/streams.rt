@@ -10,7 +10,7 @@ ghost use Rattle.sctp_state.specs.Events.{Grown};
 ghost use Rattle.sctp_state.specs.Options.{options_of};
 ghost use Rattle.sctp_state.specs.Thresholds.{crosses};
 ghost use Rattle.sctp_send_queue.specs.Queue.{Queued, amount_of, total_of, watched_amount, watched_total, no_streams, stream, opened, put, pushed, sendable, front_left, has_nothing};
-ghost use Rattle.sctp_send_queue.specs.Produced.{dropped, streams_without_stale, streams_after, advanced, next_fragment};
+ghost use Rattle.sctp_send_queue.specs.Produced.{is_front_stale, dropped, streams_without_stale, streams_after, advanced, next_fragment, told_of, in_line};
 ghost use Rattle.sctp_send_queue.specs.Settings.{with_threshold, with_priority, streams_discarded, front_discarded};
 ghost use Rattle.sctp_send_queue.specs.Resets.{is_ready, after_step, ready, prepared, told_waiting};
 ghost use Rattle.sctp_state.specs.Handover.{stream_message_of};
@@ -25,12 +25,14 @@ ghost use Rattle.sctp_send_queue.specs.Views.{produced_of};
 
 use crate::data_to_send::DataToSend;
 use crate::send_queue::message::QueuedMessage;
+use crate::send_queue::sending::send_from;
 use crate::send_queue::stream::{Discarded, ResetStep, Stream};
 use sctp_serial::{OutgoingMessageId, SocketTime, StreamId};
 use sctp_state::api::handover::{
     HandoverOutgoingStream, HandoverStreamMessage, HandoverTransmission,
 };
 use sctp_state::{Events, Options, ThresholdWatcher};
+use sctp_stream_scheduler::StreamScheduler;
 use std::alloc::{AllocError, Global};
 use std::collections::BTreeMap;
 use std::marker::Model;
@@ -232,6 +234,16 @@ impl Streams {
         }
     }
 
+    /// Whether the message at the front of a stream expired before it was begun.
+    pub fn is_stale(&self, id: StreamId, now: SocketTime) -> bool
+        ensures { result ≡ is_front_stale now (stream id.0 self.now).messages }
+    {
+        match self.streams.get(&id.0) {
+            Some(stream) => stream.is_stale(now),
+            None => false,
+        }
+    }
+
     /// Tells of the messages at the front of a stream that expired before they were begun.
     pub fn tell_stale(
         &self,
@@ -325,6 +337,38 @@ impl Streams {
         stream.advance(size);
         self.total.decrease(before - stream.amount());
         self.ready_count = ready_count_after(self.ready_count, was_ready, stream.is_ready());
+    }
+
+    /// A stream sends its next fragment, of at most `size` bytes: it is told, and the stream goes in line for the one after
+    /// it; one that has none leaves. Without memory nothing changes.
+    pub fn send_front(
+        &mut self,
+        alloc: Global,
+        id: StreamId,
+        size: usize,
+        scheduler: &mut StreamScheduler,
+        events: &mut Events,
+    ) -> Result<Option<DataToSend>, AllocError>
+        ensures streams { OnOk result (self.new ≡ streams_after id.0 size self.old) }
+        ensures line { OnOk result (scheduler.new ≡ in_line id.0 (sendable (stream id.0 (streams_after id.0 size self.old))) (stream id.0 (streams_after id.0 size self.old)).priority (next_fragment id.0 size (stream id.0 self.old)) scheduler.old) }
+        ensures told { OnOk result (events.new ≡ told_of id.0 size self.old events.old) }
+        ensures made { IfOk result (λ found. option_map produced_of found ≡ next_fragment id.0 size (stream id.0 self.old)) }
+        ensures err { OnErr result (self.new ≡ self.old) }
+        ensures kept { OnErr result (scheduler.new ≡ scheduler.old) }
+        ensures silent { OnErr result (events.new ≡ events.old) }
+    {
+        let _count = self.streams.len();
+        let Some(stream) = self.streams.get_mut(&id.0) else {
+            scheduler.leave(id);
+            return Ok(None);
+        };
+        let before = stream.amount();
+        let was_ready = stream.is_ready();
+        let is_total_low = self.total.is_crossed_by(stream.fragment_size(size));
+        let made = send_from(alloc, id, size, is_total_low, stream, scheduler, events)?;
+        self.total.decrease(before - stream.amount());
+        self.ready_count = ready_count_after(self.ready_count, was_ready, stream.is_ready());
+        Ok(made)
     }
 
     pub fn low_threshold(&self, id: StreamId) -> usize

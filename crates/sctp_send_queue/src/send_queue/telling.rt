@@ -2,10 +2,8 @@
 
 ghost use Rattle.std.specs.Prelude.{◌≡◌, Bool, [], ◌∷◌, ◌++◌, OnOk, OnErr, option_map};
 ghost use Rattle.sctp_state.specs.Events.{event_of, expiry, give_up, tell_all, Grown};
-ghost use Rattle.sctp_send_queue.specs.Produced.{when, fully_sent, production, told_made};
-ghost use Rattle.sctp_send_queue.specs.Views.{produced_of};
+ghost use Rattle.sctp_send_queue.specs.Produced.{when, fully_sent, production};
 
-use crate::data_to_send::DataToSend;
 use crate::send_queue::streams::Lows;
 use sctp_serial::{LifecycleId, OutgoingMessageId, StreamId};
 use sctp_state::{Events, GivenUp, GivenUpCause, SocketEvent};
@@ -65,7 +63,8 @@ fn tell_fully_sent(events: &mut Events, lifecycle_id: Option<LifecycleId>) -> Re
     Ok(())
 }
 
-fn tell_production(
+// A fragment was handed out.
+pub(crate) fn tell_production(
     events: &mut Events,
     id: StreamId,
     lows: Lows,
@@ -82,20 +81,4 @@ fn tell_production(
     )?;
     tell_fully_sent(events, lifecycle_id)?;
     Ok(())
-}
-
-// A fragment was handed out, if there was one.
-pub(crate) fn tell_made(
-    events: &mut Events,
-    id: StreamId,
-    lows: Lows,
-    made: &Option<DataToSend>,
-) -> Result<(), AllocError>
-    ensures ok { OnOk result (events.new ≡ told_made id.0 lows.is_low lows.is_total_low (option_map produced_of made.now) events.old) }
-    ensures err { OnErr result (Grown events.old events.new) }
-{
-    match made {
-        Some(made) => tell_production(events, id, lows, made.lifecycle_id),
-        None => Ok(()),
-    }
 }
