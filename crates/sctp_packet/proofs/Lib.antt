@@ -5,9 +5,6 @@ pub mod StandsLemmas
 pub mod BuilderLemmas
 pub mod LawLemmas
 pub mod CanonicalLemmas
-pub mod CoveredLemmas
-pub mod CoveredOnceLemmas
-pub mod ValidLemmas
 pub mod RangeLemmas
 pub mod BuiltLemmas
 pub mod ViewLemmas

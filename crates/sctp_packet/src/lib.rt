@@ -2,14 +2,12 @@
 #![tactic(auto)]
 
 mod builder;
-mod chunk_validators;
 mod laws;
 mod packet;
 mod ranges;
 mod view;
 
 pub use builder::SctpPacketBuilder;
-pub use chunk_validators::{clean_sack, validate_sack};
 pub use laws::{
     built_packet, built_reads_back, chunk_is_not_refused, one_answer, one_chunk, one_packet,
     read_back, refused_or_accepted, same_answer, same_packets,
@@ -20,6 +18,7 @@ pub use sctp_chunk::{
     Data, DataChunk, DataView, ForwardTsnChunk, GapAckBlock, IDataChunk, IForwardTsnChunk,
     RawChunk, SackChunk, SkippedStream, write_chunk_header,
 };
+pub use sctp_chunk_validators::{clean_sack, validate_sack};
 pub use sctp_control_chunk::{
     AbortChunk, Chunk, CookieAckChunk, CookieEchoChunk, ErrorChunk, HeartbeatAckChunk,
     HeartbeatRequestChunk, InitAckChunk, InitChunk, ReConfigChunk, ShutdownAckChunk, ShutdownChunk,

@@ -5,7 +5,7 @@ use Rattle.std.proofs.lemmas.Bool.{cases_lt, both_ways}
 use Rattle.std.proofs.lemmas.List.Elements.{All-head, All-tail}
 use Rattle.sctp_chunk.specs.declared.sack.GapAckBlock.{GapAckBlock}
 use Rattle.sctp_chunk.specs.Covered.{AreRuns, AreValid, IsMaximalRun}
-use Rattle.sctp_packet.proofs.CoveredOnceLemmas.{is_covered-below, runs_are_maximal}
+use Rattle.sctp_chunk_validators.proofs.CoveredOnceLemmas.{is_covered-below, runs_are_maximal}
 
 abbrev StartsBelow : GapAckBlock → GapAckBlock → Type 0
 StartsBelow block later = block.start < later.start

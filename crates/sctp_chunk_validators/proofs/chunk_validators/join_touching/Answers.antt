@@ -2,8 +2,8 @@ use Rattle.std.proofs.Common.{rules, ◌≡◌, ◌∙◌, List, sym, ap, subst,
 use Rattle.std.proofs.lemmas.Grind.{common_steps}
 use Rattle.sctp_chunk.specs.declared.sack.GapAckBlock.{GapAckBlock}
 use Rattle.sctp_chunk.specs.Covered.{is_covered, AreRuns}
-use Rattle.sctp_packet.proofs.CoveredLemmas.{joined_all, is_covered-joined_all, AreRuns-joined_all}
-use Rattle.sctp_packet.proofs.chunk_validators.join_touching.Goals as goal
+use Rattle.sctp_chunk_validators.proofs.CoveredLemmas.{joined_all, is_covered-joined_all, AreRuns-joined_all}
+use Rattle.sctp_chunk_validators.proofs.chunk_validators.join_touching.Goals as goal
 
 pub returns-clause-covered : goal.returns-clause-covered
 returns-clause-covered c =

@@ -3,8 +3,8 @@ use Rattle.std.specs.List.{filter}
 use Rattle.std.proofs.lemmas.List.Elements.{filter_from_retain, filter_passes, All-same}
 use Rattle.std.proofs.lemmas.List.Sorted.{list_any-IsPermutation, All-permutation, IsNonDecreasingBy-from_sort_by_key}
 use Rattle.sctp_chunk.specs.Covered.{covers}
-use Rattle.sctp_packet.proofs.CoveredLemmas.{is_full, is_covered-filter, Ascend-from_sorted}
-use Rattle.sctp_packet.proofs.chunk_validators.clean.Goals as goal
+use Rattle.sctp_chunk_validators.proofs.CoveredLemmas.{is_full, is_covered-filter, Ascend-from_sorted}
+use Rattle.sctp_chunk_validators.proofs.chunk_validators.clean.Goals as goal
 
 pub join_touching-requires : goal.join_touching-requires
 join_touching-requires c =

@@ -1,6 +1,6 @@
 use Rattle.std.proofs.Common.{◌≡◌, ◌<◌, ◌++◌, take, drop, vec_len}
-use Rattle.sctp_packet.proofs.CoveredLemmas.{joined_to, joined_all}
-use Rattle.sctp_packet.proofs.chunk_validators.join_touching.Given as goal
+use Rattle.sctp_chunk_validators.proofs.CoveredLemmas.{joined_to, joined_all}
+use Rattle.sctp_chunk_validators.proofs.chunk_validators.join_touching.Given as goal
 
 abbrev pub invariant-loop-place : goal.invariant-loop-place
 invariant-loop-place l = record {

@@ -1,6 +1,6 @@
 use Rattle.std.proofs.Common.{◌∙◌, sym}
-use Rattle.sctp_packet.proofs.CoveredOnceLemmas.{runs_are_maximal, one_form, shortest}
-use Rattle.sctp_packet.proofs.chunk_validators.clean_sack.Goals as goal
+use Rattle.sctp_chunk_validators.proofs.CoveredOnceLemmas.{runs_are_maximal, one_form, shortest}
+use Rattle.sctp_chunk_validators.proofs.chunk_validators.clean_sack.Goals as goal
 
 pub returns-clause-maximal : goal.returns-clause-maximal
 returns-clause-maximal c = runs_are_maximal _ _ c.clean.ensures.runs c.clean.ensures.covered

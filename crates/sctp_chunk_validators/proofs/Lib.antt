@@ -1,0 +1,3 @@
+pub mod CoveredLemmas
+pub mod CoveredOnceLemmas
+pub mod ValidLemmas

@@ -1,0 +1,6 @@
+//! The blocks of a SACK, put into one form and judged.
+#![tactic(auto)]
+
+mod chunk_validators;
+
+pub use chunk_validators::{clean_sack, validate_sack};
