@@ -5,7 +5,7 @@ use Rattle.std.proofs.lemmas.Nat.{be_bytes_2, be_bytes_4, be_bytes_8, from_be_by
 use Rattle.std.proofs.lemmas.Bool.{cases_lt}
 use Rattle.std.proofs.lemmas.List.{take-append-drop, length-take-le, get_or-take, get_or_past, length-take}
 use Rattle.sctp_wire.specs.Fields.{be16, be32, be64}
-use Rattle.sctp_wire.proofs.ItemLemmas.{IsBytes}
+use Rattle.sctp_item.proofs.ItemLemmas.{IsBytes}
 use Rattle.sctp_wire.proofs.TilesLemmas.{cut_same}
 
 pub IsBytes-take : (n : ℕ) (bytes : List ℕ) → IsBytes bytes → IsBytes (take n bytes)

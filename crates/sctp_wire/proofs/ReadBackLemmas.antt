@@ -4,7 +4,7 @@ use Rattle.std.specs.Prelude.{replicate, All}
 use Rattle.std.specs.List.{flat_map}
 use Rattle.std.proofs.lemmas.List.{append-nil, length-replicate}
 use Rattle.std.proofs.lemmas.List.Concat.{flat_map-cons}
-use Rattle.sctp_wire.specs.Item.{Item, item_bytes, padding, Takes, Tiles}
+use Rattle.sctp_item.specs.Item.{Item, item_bytes, padding, Takes, Tiles}
 use Rattle.sctp_wire.specs.Serialize.{IsEncodable, padded_item, inner_items, typed, type_of}
 
 pub type_of_typed : (typ : ℕ) (value : List ℕ) → typ ≡ type_of (typed typ value)

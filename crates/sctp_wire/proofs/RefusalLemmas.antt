@@ -1,6 +1,6 @@
 -- Lists of items that stand for values, seen as what the values say.
 use Rattle.std.proofs.Common.{◌≡◌, ◌≢◌, inl, inr, ℕ, List, [], ◌∷◌, map, refl, sym, subst, ◌∙◌}
-use Rattle.sctp_wire.specs.Item.{Item, Takes, Tiles, Breaks}
+use Rattle.sctp_item.specs.Item.{Item, Takes, Tiles, Breaks}
 use Rattle.sctp_wire.specs.Refusal.{IsStuck, BreaksAs}
 use Rattle.sctp_wire.specs.Shape.{Shape, RefusesAs}
 use Rattle.sctp_wire.proofs.TilesLemmas.{one_item_lem}

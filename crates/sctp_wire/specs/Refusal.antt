@@ -1,6 +1,6 @@
 -- Why a list of items is refused: by the first item from the left that cannot be read.
 use Rattle.std.specs.Prelude.{◌≡◌, ◌⊎◌, ℕ, ◌<◌, List, length}
-use Rattle.sctp_wire.specs.Item.{Item, Takes, TakesNone, Tiles}
+use Rattle.sctp_item.specs.Item.{Item, Takes, TakesNone, Tiles}
 use Rattle.sctp_wire.specs.declared.error.ChunkParseError.{ChunkParseError}
 use Rattle.sctp_wire.specs.declared.error.ChunkParseError.TheVariants.{InvalidLength}
 

@@ -1,6 +1,6 @@
 -- The bytes of written items (RFC 9260 section 3.2).
 use Rattle.std.specs.Prelude.{◌≡◌, ℕ, ◌+◌, ◌<◌, ◌^◌, ◌/◌, ◌%◌, ◌*◌, List, [], ◌∷◌, ◌++◌, length, replicate, Bool, nat_lt, ◌&&◌}
-use Rattle.sctp_wire.specs.Item.{Item, item_bytes, padding, Takes}
+use Rattle.sctp_item.specs.Item.{Item, item_bytes, padding, Takes}
 
 -- the length of an item fits its field
 abbrev pub IsEncodable : Item → Type 0

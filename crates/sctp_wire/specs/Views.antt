@@ -1,5 +1,5 @@
 -- What the program's values say, without where they lie in memory.
-use Rattle.sctp_wire.specs.Item.{Item}
+use Rattle.sctp_item.specs.Item.{Item}
 use Rattle.sctp_wire.specs.declared.item.RawItem.{RawItem}
 
 abbrev pub raw_item : RawItem → Item

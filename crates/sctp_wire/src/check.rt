@@ -2,7 +2,7 @@
 
 ghost use Rattle.std.specs.Prelude.{◌≡◌, ◌≢◌, ◌⊎◌, ◌-◌, ◌%◌, ◌<◌, ◌≤◌, List, [], length, OnOk, OnErr, IfErr};
 ghost use Rattle.sctp_wire.specs.declared.error.ChunkParseError.{ChunkParseError};
-ghost use Rattle.sctp_wire.specs.Item.{Item, Tiles};
+ghost use Rattle.sctp_item.specs.Item.{Item, Tiles};
 ghost use Rattle.sctp_wire.specs.Views.{raw_item};
 ghost use Rattle.sctp_wire.specs.Refusal.{BreaksAs, StandsForSome};
 

@@ -1,5 +1,5 @@
 use Rattle.std.proofs.Common.{List, length}
-use Rattle.sctp_wire.specs.Item.{Tiles}
+use Rattle.sctp_item.specs.Item.{Tiles}
 use Rattle.sctp_wire.proofs.check.check_items.Given as goal
 
 abbrev pub invariant-loop-rest : goal.invariant-loop-rest

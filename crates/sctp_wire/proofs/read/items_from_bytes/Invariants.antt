@@ -1,5 +1,5 @@
 use Rattle.std.proofs.Common.{length}
-use Rattle.sctp_wire.specs.Item.{Tiles}
+use Rattle.sctp_item.specs.Item.{Tiles}
 use Rattle.sctp_wire.proofs.read.items_from_bytes.Given as goal
 
 abbrev pub invariant-loop-rest : goal.invariant-loop-rest

@@ -1,6 +1,6 @@
 use Rattle.std.proofs.Common.{◌≡◌, ◌∙◌, refl, sym, ap, subst, take, map, length, arith}
 use Rattle.std.proofs.lemmas.List.{append-nil}
-use Rattle.sctp_wire.specs.Item.{padding}
+use Rattle.sctp_item.specs.Item.{padding}
 use Rattle.sctp_wire.specs.Serialize.{IsEncodable, inner_items}
 use Rattle.sctp_wire.proofs.SerializeLemmas.{written_more, padding_more, taken_more, length_item_bytes, length_inner_items-more}
 use Rattle.sctp_wire.proofs.serialize.parameters_serialize_to.Goals as goal

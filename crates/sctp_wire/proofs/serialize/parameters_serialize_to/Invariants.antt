@@ -1,6 +1,6 @@
 use Rattle.std.proofs.Common.{◌≡◌, ◌+◌, ◌≤◌, ◌++◌, length, map, take}
 use Rattle.std.specs.Prelude.{vec_len, vec_capacity}
-use Rattle.sctp_wire.specs.Item.{padding}
+use Rattle.sctp_item.specs.Item.{padding}
 use Rattle.sctp_wire.specs.Serialize.{inner_items}
 use Rattle.sctp_wire.proofs.serialize.parameters_serialize_to.Given as goal
 

@@ -1,5 +1,5 @@
 use Rattle.std.proofs.Common.{◌≡◌, ◌+◌, ◌-◌, ◌^◌, refl, take, map, min, length, arith}
-use Rattle.sctp_wire.specs.Item.{padding}
+use Rattle.sctp_item.specs.Item.{padding}
 use Rattle.sctp_wire.specs.Serialize.{inner_items}
 use Rattle.sctp_wire.proofs.SerializeLemmas.{size_more, taken_more}
 use Rattle.sctp_wire.proofs.serialize.parameters_serialized_size.Goals as goal

@@ -1,6 +1,6 @@
 use Rattle.std.proofs.Common.{◌≡◌, arith, length}
 use Rattle.std.proofs.lemmas.Result.{IfOk-equal}
-use Rattle.sctp_wire.specs.Item.{padding}
+use Rattle.sctp_item.specs.Item.{padding}
 use Rattle.sctp_wire.proofs.SerializeLemmas.{item_padded}
 use Rattle.sctp_wire.proofs.serialize.SerializableTlv.serialize_to.Goals as goal
 
