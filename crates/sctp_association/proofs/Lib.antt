@@ -1,4 +1,2 @@
 pub mod HearLemmas
-pub mod KindLemmas
-pub mod OutlineLemmas
 pub mod PlaceLemmas

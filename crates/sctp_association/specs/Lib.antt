@@ -1,7 +1,5 @@
 pub mod Socket
-pub mod RefusalView
 pub mod Kinds
-pub mod Outlines
 pub use Rattle.sctp_table.specs.Requests
 pub use Rattle.sctp_endpoint.specs.RequestViews
 pub use Rattle.sctp_table.specs.Association

@@ -14,30 +14,28 @@ ghost use Rattle.sctp_association.specs.Kinds.{carries_data, carrying};
 ghost use Rattle.sctp_table.specs.Association.{where_open};
 ghost use Rattle.sctp_table.specs.Opening.{on_cookie_ack};
 ghost use Rattle.sctp_table.specs.Packets.{complain};
-ghost use Rattle.sctp_table.specs.Hearing.{Hears, Judges, policy_of};
+ghost use Rattle.sctp_table.specs.Hearing.{Hears};
 ghost use Rattle.sctp_endpoint.specs.Views.{context_of, endpoint_of, heard_of, opened_of, phase_of, standing_of, state_of, tcb_of};
-ghost use Rattle.sctp_table.specs.Wire.{word_at};
 ghost use Rattle.sctp_table.specs.Input as table;
 
-use crate::validation::{Outline, validate_packet};
 use rand_core::Rng;
 use sctp_closing::aborts::{handle_abort, handle_error, handle_misuse};
 use sctp_closing::misuse::{Misuse, data_misused, handle_unknown, is_passed_over, violation};
 use sctp_closing::shutdown::{
     handle_shutdown_ack, handle_shutdown_chunk, handle_shutdown_complete,
 };
-use sctp_endpoint::outgoing_packet::word_of;
 use sctp_endpoint::{Context, Phase, State, TransmissionControlBlock};
 use sctp_handshake::cookie_echo::{handle_cookie_ack, handle_cookie_echo};
 use sctp_handshake::opening::{handle_init, handle_init_ack};
 use sctp_packet::{Chunk, DataView, HeartbeatAckChunk, IDataChunk, PacketView, RawChunk};
 use sctp_parameter::Parameter;
+use sctp_receiving::{Outline, packet_word, policy, validate_packet};
 use sctp_state::{ErrorKind, SocketEvent};
 use sctp_timers::heartbeats::handle_heartbeat_ack;
 use sctp_transfer::data::{handle_data, handle_forward_tsn};
 use sctp_transfer::sack::handle_sack;
 use sctp_transfer::stream_reset::handle_reconfig;
-use sctp_wire::{Checksum, Policy};
+use sctp_wire::Checksum;
 use std::alloc::{AllocError, Global};
 
 /// A packet came.
@@ -342,24 +340,6 @@ pub(crate) fn handle_packet<R: Rng, C: Checksum>(
     }
 }
 
-/// What is asked of the checksum of a packet that comes.
-fn policy<C: Checksum>(context: &Context<C>) -> Policy
-    ensures { result ≡ policy_of context.now.options }
-{
-    let options = &context.options;
-    Policy {
-        disable_checksum_verification: options.disable_checksum_verification,
-        zero_checksum_alternate_error_detection_method: options.zero_checksum_alternate_error_detection_method,
-    }
-}
-
-/// The word of a packet's bytes, with the checksum's field as zeros.
-fn packet_word<C: Checksum>(context: &Context<C>, bytes: &[u8]) -> u32
-    ensures { result ≡ word_at (C.word_of context.now.checksum) bytes.now }
-{
-    word_of(&context.checksum, bytes)
-}
-
 /// Bytes that are no packet.
 fn refuse_bytes<C: Checksum>(context: &mut Context<C>) -> Result<(), AllocError>
     ensures { OnOk result (context_of C.word_of context.new
@@ -383,19 +363,5 @@ pub(crate) fn handle_input<R: Rng, C: Checksum>(
     match PacketView::new(bytes, word, &policy(context)) {
         Ok(view) => handle_packet(state, context, rng, view),
         Err(_) => refuse_bytes(context),
-    }
-}
-
-/// Whether the bytes would be refused: they are no packet, or not one for this association. It takes no memory.
-pub(crate) fn judge<C: Checksum>(state: &State, context: &Context<C>, bytes: &[u8]) -> bool
-    ensures { Judges (C.word_of context.now.checksum) bytes.now context.now.options (state_of state.now) result }
-{
-    let word = packet_word(context, bytes);
-    match PacketView::new(bytes, word, &policy(context)) {
-        Ok(view) => {
-            let tag = view.header().verification_tag;
-            validate_packet(state, tag, &Outline::of(&view)).is_some()
-        }
-        Err(_) => true,
     }
 }

@@ -7,7 +7,6 @@
 mod api;
 mod input;
 mod socket;
-mod validation;
 
 pub use api::DcSctpSocket;
 pub use sctp_endpoint::{

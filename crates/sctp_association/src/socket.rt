@@ -21,8 +21,7 @@ ghost use Rattle.sctp_table.specs.Resets as resets;
 ghost use Rattle.sctp_table.specs.Time as time;
 
 use crate::api::DcSctpSocket;
-use crate::input::{handle_input, judge};
-use crate::validation::my_verification_tag;
+use crate::input::handle_input;
 use rand_core::Rng;
 use sctp_calls::calls::{
     send, send_many, set_buffered_amount_low_threshold, set_max_message_size, set_stream_priority,
@@ -30,10 +29,11 @@ use sctp_calls::calls::{
 };
 use sctp_calls::handover::{get_handover_readiness, hand_over, restore};
 use sctp_calls::metrics::metrics_in;
-use sctp_calls::receiving::{get_next_message, keeps_items, ready_count, ready_message};
 use sctp_closing::shutdown::{handle_close, handle_shutdown};
 use sctp_endpoint::{Association, Context, State};
 use sctp_handshake::opening::connect;
+use sctp_receiving::messages::{get_next_message, keeps_items, ready_count, ready_message};
+use sctp_receiving::{judge, my_verification_tag};
 use sctp_serial::{Message, SocketTime, StreamId};
 use sctp_state::{
     BatchFault, BatchSendError, CallError, GivenUp, HandoverError, HandoverReadiness, Metrics,

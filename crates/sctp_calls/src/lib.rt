@@ -1,7 +1,8 @@
-//! The calls that send, set and ask something, ready messages, what is counted, and the handover.
+//! The calls that send, set and ask something, what is counted, and the handover.
 #![tactic(auto)]
 
 pub mod calls;
 pub mod handover;
 pub mod metrics;
-pub mod receiving;
+
+pub use sctp_receiving::messages as receiving;

@@ -1,1 +1,1 @@
-pub mod VerdictView
+pub use Rattle.sctp_receiving.specs.VerdictView

@@ -3,5 +3,6 @@
 
 pub mod cookie_echo;
 pub mod draws;
-pub mod handshake;
 pub mod opening;
+
+pub use sctp_receiving::handshake;

@@ -11,9 +11,6 @@ ghost use Rattle.sctp_endpoint.specs.Views.{context_of, endpoint_of, identity_of
 ghost use Rattle.sctp_table.specs.Opening as table;
 
 use crate::draws::{tag_from, tsn_from};
-use crate::handshake::{
-    agreed_by, cookie_in, determine_sctp_implementation, send_init_ack, t1_cookie, t1_init,
-};
 use rand_core::Rng;
 use sctp_endpoint::{
     Context, CookieEchoedState, CookieWaitState, Identity, OutgoingPacket, Phase, State,
@@ -21,6 +18,10 @@ use sctp_endpoint::{
 };
 use sctp_error_cause::{ErrorCause, MissingMandatoryParameterErrorCause};
 use sctp_packet::{AbortChunk, Chunk, InitAckChunk, InitChunk};
+pub use sctp_receiving::cookies::reset_queue;
+use sctp_receiving::handshake::{
+    agreed_by, cookie_in, determine_sctp_implementation, send_init_ack, t1_cookie, t1_init,
+};
 use sctp_serial::Tsn;
 use sctp_state::ErrorKind;
 use sctp_wire::Checksum;
@@ -240,21 +241,6 @@ fn echo<C: Checksum>(
         return Err(fault);
     }
     state.enter(State::Open(Phase::CookieEchoed(echoed), tcb));
-    Ok(())
-}
-
-/// The queue begins anew, for an association with or without interleaving.
-pub fn reset_queue<C: Checksum>(
-    context: &mut Context<C>,
-    is_interleaved: bool,
-) -> Result<(), AllocError>
-    ensures { let c = context_of C.word_of context.old in
-        OnOk result (context_of C.word_of context.new ≡ record c { queue = table.queue_anew is_interleaved c.queue }) }
-{
-    context.send_queue.reset()?;
-    context
-        .send_queue
-        .enable_message_interleaving(is_interleaved);
     Ok(())
 }
 

@@ -5,18 +5,18 @@ ghost use Rattle.sctp_wire.specs.Cause.{no_user_data};
 ghost use Rattle.sctp_packet.specs.Chunk.{error_chunk};
 ghost use Rattle.sctp_table.specs.Packets.{emit_chunk};
 ghost use Rattle.sctp_packet.specs.Views.{viewed_fragment};
-ghost use Rattle.sctp_rx.specs.Tracker.{is_valid, number_of};
-ghost use Rattle.sctp_table.specs.Data.{forwarded_if, on_data, taken_if, takes};
+ghost use Rattle.sctp_table.specs.Data.{on_data};
 ghost use Rattle.sctp_endpoint.specs.Views.{context_of, standing_of, state_of, tcb_of};
 ghost use Rattle.sctp_table.specs.Data as table;
 
 use sctp_endpoint::{Context, State, TransmissionControlBlock};
 use sctp_error_cause::{ErrorCause, NoUserDataErrorCause};
 use sctp_packet::{Chunk, DataView, ErrorChunk, SkippedStream};
+use sctp_receiving::data::{skip_to, take_data};
 use sctp_serial::{SocketTime, Tsn};
 use sctp_state::ErrorKind;
 use sctp_wire::Checksum;
-use std::alloc::{AllocError, Global};
+use std::alloc::AllocError;
 
 /// DATA or I-DATA, where it lies. Its payload is copied only where it is kept.
 pub fn handle_data<C: Checksum>(
@@ -79,30 +79,6 @@ fn send_no_user_data<C: Checksum>(
     context.emit_chunk(tcb, Chunk::Error(ErrorChunk { error_causes }))
 }
 
-/// A fragment is observed, and copied and kept where its TSN is new; unless there is no room, or the TSN lies too far away.
-fn take_data(
-    tcb: &mut TransmissionControlBlock,
-    alloc: Global,
-    now: SocketTime,
-    fragment: DataView<'_>,
-) -> Result<(), AllocError>
-    ensures { OnOk result (tcb_of tcb.new
-        ≡ taken_if (takes fragment.entry.tsn.0 (tcb_of tcb.old)) fragment.entry.tsn.0 fragment.entry.immediate_ack (viewed_fragment fragment.entry) (tcb_of tcb.old)) }
-{
-    if tcb.reassembly_queue.is_full() || tcb.reassembly_queue.is_above_watermark() {
-        return Ok(());
-    }
-    let tsn = fragment.tsn;
-    if !tcb.data_tracker.is_tsn_valid(tsn) {
-        return Ok(());
-    }
-    if tcb.data_tracker.observe(now, tsn, fragment.immediate_ack)? {
-        let data = fragment.to_data(alloc)?;
-        tcb.reassembly_queue.add(tsn, data)?;
-    }
-    Ok(())
-}
-
 /// FORWARD-TSN or I-FORWARD-TSN. It reaches reassembly where it moves the cumulative TSN.
 pub fn handle_forward_tsn(
     state: &mut State,
@@ -117,23 +93,4 @@ pub fn handle_forward_tsn(
         State::CookieWait(_) => Ok(()),
         State::Open(_, tcb) => skip_to(tcb, now, new_cumulative_tsn, skipped),
     }
-}
-
-fn skip_to(
-    tcb: &mut TransmissionControlBlock,
-    now: SocketTime,
-    new_cumulative_tsn: Tsn,
-    skipped: &[SkippedStream],
-) -> Result<(), AllocError>
-    ensures { let n = number_of (tcb_of tcb.old).tracker new_cumulative_tsn.0 in
-        OnOk result (tcb_of tcb.new ≡ forwarded_if (is_valid (tcb_of tcb.old).tracker.tracker n) new_cumulative_tsn.0 skipped.now (tcb_of tcb.old)) }
-{
-    if !tcb.data_tracker.is_tsn_valid(new_cumulative_tsn) {
-        return Ok(());
-    }
-    if tcb.data_tracker.handle_forward_tsn(now, new_cumulative_tsn) {
-        tcb.reassembly_queue
-            .handle_forward_tsn(new_cumulative_tsn, skipped)?;
-    }
-    Ok(())
 }

@@ -5,12 +5,9 @@ ghost use Rattle.sctp_wire.specs.Parameter.{reset_response};
 ghost use Rattle.sctp_parameter.specs.ParameterViews.{parameter_tree, result_number};
 ghost use Rattle.sctp_state.specs.Events.{numbers_of};
 ghost use Rattle.sctp_table.specs.Association.{where_open};
-ghost use Rattle.sctp_table.specs.Requests.{is_final};
-ghost use Rattle.sctp_endpoint.specs.RequestViews.{outcome_of};
 ghost use Rattle.sctp_endpoint.specs.Views.{context_of, handled_of, handling_of, opened_of, phase_of, sent_of, standing_of, state_of, tcb_of};
 ghost use Rattle.sctp_table.specs.Resets as table;
 
-use sctp_endpoint::reset_requests::ResetOutcome;
 use sctp_endpoint::sending::send_waiting;
 use sctp_endpoint::{Context, Phase, State, TransmissionControlBlock};
 use sctp_packet::{Chunk, ReConfigChunk};
@@ -18,17 +15,11 @@ use sctp_parameter::{
     OutgoingSsnResetRequestParameter, Parameter, ReconfigurationResponseParameter,
     ReconfigurationResponseResult,
 };
-use sctp_serial::{SerialNumber, StreamId, Tsn};
+use sctp_receiving::resets::{handle_outcome, is_ahead, is_final};
+use sctp_serial::StreamId;
 use sctp_state::{ErrorKind, ResetStreamsError, SocketEvent};
 use sctp_wire::Checksum;
 use std::alloc::AllocError;
-
-/// Whether some TSN up to this one did not come yet.
-fn is_ahead(tcb: &TransmissionControlBlock, tsn: Tsn) -> bool
-    ensures { result ≡ table.is_ahead tsn.0 (tcb_of tcb.now) }
-{
-    tsn.greater_than(tcb.data_tracker.last_cumulative_acked_tsn())
-}
 
 /// A request is answered.
 fn respond(
@@ -142,26 +133,6 @@ fn handle_incoming_request<C: Checksum>(
     let answer = ReconfigurationResponseResult::SuccessNothingToDo;
     tcb.reset_requests.process(number, answer);
     respond(responses, number, answer)
-}
-
-/// What an answer says of the streams of the own request, and of no others.
-fn handle_outcome<C: Checksum>(
-    context: &mut Context<C>,
-    outcome: ResetOutcome,
-) -> Result<(), AllocError>
-    ensures { OnOk result (context_of C.word_of context.new ≡ table.on_outcome (outcome_of outcome) (context_of C.word_of context.old)) }
-{
-    match outcome {
-        ResetOutcome::Unsettled => Ok(()),
-        ResetOutcome::Done(streams) => {
-            context.send_queue.commit_reset_streams(&streams)?;
-            context.tell(SocketEvent::OnStreamsResetPerformed(streams))
-        }
-        ResetOutcome::Denied(streams) => {
-            context.send_queue.rollback_reset_streams(&streams)?;
-            context.tell(SocketEvent::OnStreamsResetFailed(streams))
-        }
-    }
 }
 
 /// The peer answers a request (RFC 6525 section 5.2.7).
@@ -323,12 +294,6 @@ fn prepare_resets<C: Checksum>(
         prepare_reset(context, *id)?;
     }
     Ok(())
-}
-
-fn is_final(answer: ReconfigurationResponseResult) -> bool
-    ensures { result ≡ is_final (result_number answer) }
-{
-    !matches!(answer, ReconfigurationResponseResult::InProgress)
 }
 
 fn is_outgoing(parameter: &Parameter) -> bool

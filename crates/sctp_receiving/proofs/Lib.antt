@@ -1,0 +1,3 @@
+pub mod KindLemmas
+pub mod OutlineLemmas
+pub mod JudgeLemmas

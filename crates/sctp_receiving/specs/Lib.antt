@@ -1,0 +1,4 @@
+pub mod RefusalView
+pub mod Kinds
+pub mod Outlines
+pub mod VerdictView

@@ -1,0 +1,56 @@
+//! What a control block takes of DATA, I-DATA and forward points.
+
+ghost use Rattle.std.specs.Prelude.{◌≡◌, OnOk};
+ghost use Rattle.sctp_packet.specs.Views.{viewed_fragment};
+ghost use Rattle.sctp_rx.specs.Tracker.{is_valid, number_of};
+ghost use Rattle.sctp_table.specs.Data.{forwarded_if, taken_if, takes};
+ghost use Rattle.sctp_endpoint.specs.Views.{tcb_of};
+
+use sctp_endpoint::TransmissionControlBlock;
+use sctp_packet::{DataView, SkippedStream};
+use sctp_serial::{SocketTime, Tsn};
+use std::alloc::{AllocError, Global};
+
+/// A fragment is observed, and copied and kept where its TSN is new; unless there is no room, or the TSN lies too far away.
+pub fn take_data(
+    tcb: &mut TransmissionControlBlock,
+    alloc: Global,
+    now: SocketTime,
+    fragment: DataView<'_>,
+) -> Result<(), AllocError>
+    ensures { OnOk result (tcb_of tcb.new
+        ≡ taken_if (takes fragment.entry.tsn.0 (tcb_of tcb.old)) fragment.entry.tsn.0 fragment.entry.immediate_ack (viewed_fragment fragment.entry) (tcb_of tcb.old)) }
+{
+    if tcb.reassembly_queue.is_full() || tcb.reassembly_queue.is_above_watermark() {
+        return Ok(());
+    }
+    let tsn = fragment.tsn;
+    if !tcb.data_tracker.is_tsn_valid(tsn) {
+        return Ok(());
+    }
+    if tcb.data_tracker.observe(now, tsn, fragment.immediate_ack)? {
+        let data = fragment.to_data(alloc)?;
+        tcb.reassembly_queue.add(tsn, data)?;
+    }
+    Ok(())
+}
+
+/// A forward point is observed. It reaches reassembly where it moves the cumulative TSN.
+pub fn skip_to(
+    tcb: &mut TransmissionControlBlock,
+    now: SocketTime,
+    new_cumulative_tsn: Tsn,
+    skipped: &[SkippedStream],
+) -> Result<(), AllocError>
+    ensures { let n = number_of (tcb_of tcb.old).tracker new_cumulative_tsn.0 in
+        OnOk result (tcb_of tcb.new ≡ forwarded_if (is_valid (tcb_of tcb.old).tracker.tracker n) new_cumulative_tsn.0 skipped.now (tcb_of tcb.old)) }
+{
+    if !tcb.data_tracker.is_tsn_valid(new_cumulative_tsn) {
+        return Ok(());
+    }
+    if tcb.data_tracker.handle_forward_tsn(now, new_cumulative_tsn) {
+        tcb.reassembly_queue
+            .handle_forward_tsn(new_cumulative_tsn, skipped)?;
+    }
+    Ok(())
+}
