@@ -8,7 +8,7 @@ use Rattle.sctp_fragments.specs.Runs.{is_held, with_item}
 use Rattle.sctp_fragments.specs.Held.{Held, rank_of, NonePass, NoneComplete, NoneInTurn, without_first_of, left_by, intervals_of, is_in_turn, is_complete, IsTaken, IsPlaced, message_of_run}
 use Rattle.sctp_reassembly.specs.Delivery.{OrderedDelivery, OrderedStream, deliver, deliver_within, at_rest, preceded_by, delivering, ordered_arrival, completed, ready_bytes}
 use Rattle.std.proofs.lemmas.List.Sums.{sum_by_push}
-use Rattle.sctp_reassembly.proofs.FindLemmas.{found, not_found, taken_left}
+use Rattle.sctp_reassembly.proofs.FindLemmas.{found, without_found, not_found, taken_left}
 
 module _ (test : List Held → Bool) where
   pub length_found : (rs : List (List Held)) (r : List Held) → find test rs ≡ Some r → length rs ≡ suc (length (without_first_of test rs))
@@ -98,6 +98,30 @@ none_turned old mid x place n p told none =
 -- a fragment comes by which nothing is in turn
 pub arrives_settled : (x : Held) (s : OrderedStream) (hs : List Held) → nat_lt x.number s.next ≡ false → hs ≡ with_item rank_of x s.held → NoneInTurn s.next (intervals_of hs) → ordered_arrival x s ≡ at_rest s.next hs
 arrives_settled x s hs late made none = rw late (ap (deliver s.next) (sym made) ∙ deliver_ends s.next hs (not_found (is_in_turn s.next) (intervals_of hs) none))
+
+no_items : (hs : List Held) → (length hs == 0) ≡ true → hs ≡ []
+no_items [] none = refl
+no_items (h ∷ hs) none = absurd (cc)
+
+-- the next message, of one fragment, comes where nothing is held
+pub whole_arrives : (x : Held) (s : OrderedStream) → (length s.held == 0) ≡ true → is_in_turn s.next (x ∷ []) ≡ true → ordered_arrival x s ≡ record { stream = record { next = suc s.next; held = [] }; messages = message_of_run (x ∷ []) ∷ [] }
+whole_arrives x s none turn =
+    rw late (ap (λ (hs : List Held). deliver s.next (with_item rank_of x hs)) (no_items s.held none)
+    ∙ deliver_step s.next (x ∷ []) [] (x ∷ []) (found (is_in_turn s.next) [] [] (x ∷ []) tt turn)
+    (taken_left (is_in_turn s.next) (x ∷ []) (x ∷ []) [] [] [] refl tt turn refl) (sym (without_found (is_in_turn s.next) [] [] (x ∷ []) tt turn)))
+  where
+    late : nat_lt x.number s.next ≡ false
+    late = ap (λ (n : ℕ). nat_lt n s.next) (second (is_complete (x ∷ [])) x.number s.next turn) ∙ grind (arith, nat_tests)
+
+pub whole_leaves : (x : Held) (s : OrderedStream) (n : ℕ) (hs : List Held) → (length s.held == 0) ≡ true → is_in_turn s.next (x ∷ []) ≡ true → n ≡ s.next → hs ≡ s.held → record { next = n + 1; held = hs } ≡ (ordered_arrival x s).stream
+whole_leaves x s n hs none turn same kept =
+    made ∙ sym (ap (λ (d : OrderedDelivery). d.stream) (whole_arrives x s none turn))
+  where
+    state : ℕ → List Held → OrderedStream
+    state n hs = record { next = suc n; held = hs }
+
+    made : record { next = n + 1; held = hs } ≡ state s.next []
+    made = ap (λ (n : ℕ). state n hs) same ∙ ap (state s.next) (kept ∙ no_items s.held none)
 
 pub none_completed : (hs : List Held) → NoneComplete (intervals_of hs) → completed hs ≡ []
 none_completed hs none = ap (λ (o : Option (List Held)). option_to_list (option_map message_of_run o)) (not_found is_complete (intervals_of hs) none)

@@ -1,8 +1,8 @@
 //! A stream whose messages become ready in the order of their numbers.
 
-ghost use Rattle.std.specs.Prelude.{◌≡◌, ℕ, suc, ◌+◌, ◌<◌, ◌≤◌, ◌^◌, ◌++◌, max, length, OnOk, OnErr, IfOk, [], true, false, nat_lt};
+ghost use Rattle.std.specs.Prelude.{◌≡◌, ◌==◌, ℕ, suc, ◌+◌, ◌<◌, ◌≤◌, ◌^◌, ◌++◌, ◌∷◌, max, length, OnOk, OnErr, IfOk, [], true, false, nat_lt};
 ghost use Rattle.sctp_serial.specs.Unwrapped.{origin};
-ghost use Rattle.sctp_fragments.specs.Held.{bytes_of, rank_of, intervals_of, NoneInTurn};
+ghost use Rattle.sctp_fragments.specs.Held.{bytes_of, rank_of, intervals_of, is_in_turn, message_of_run, NoneInTurn};
 ghost use Rattle.sctp_fragments.specs.Key.{rank_at};
 ghost use Rattle.sctp_fragments.specs.Intervals.{held};
 ghost use Rattle.sctp_fragments.specs.Runs.{with_item, from_rank};
@@ -12,6 +12,7 @@ use crate::interval_list::IntervalList;
 use crate::ready_messages::ReadyMessages;
 use sctp_chunk::Data;
 use sctp_fragments::{ReassemblyKey, message_of};
+use sctp_serial::Message;
 use std::alloc::{AllocError, Global};
 use std::marker::Model;
 
@@ -25,7 +26,7 @@ pub struct OrderedStream<K: ReassemblyKey> {
     // wide enough for the number behind that of any key
     next: u128,
     list: IntervalList<K>,
-    // whether nothing in the list is in turn; not so after want of memory
+    // whether nothing in the list is known to be in turn: not after want of memory, nor where a message was handed on
     is_settled: bool,
 }
 
@@ -83,6 +84,26 @@ fn add_in<K: ReassemblyKey>(
         Some(place) => Ok(list.is_in_turn_at(place, next)),
         None => Ok(false),
     }
+}
+
+// Whether the fragment is all of the message with the number.
+fn is_whole_at<K: ReassemblyKey>(key: K, fragment: &Data, number: u128) -> bool
+    ensures turn { result ≡ is_in_turn number (held (K.number key) (K.index key) fragment.now ∷ []) }
+    ensures number { result ≡ true → K.number key ≡ number }
+{
+    fragment.is_beginning && fragment.is_end && key.number() as u128 == number
+}
+
+// Makes a message ready that is one fragment.
+#[tactic(auto, using(crate::proofs::ExtendsLemmas::extends_none))]
+fn hand_on(fragment: Data, ready: &mut ReadyMessages) -> Result<(), AllocError>
+    requires { ready_bytes ready.old + length fragment.payload.items < 2 ^ 64 }
+    ensures ready { OnOk result (ready.new ≡ ready.old ++ message_of_run (held 0 0 fragment ∷ []) ∷ []) }
+    ensures kept { Extends ready.old ready.new }
+    ensures bytes { ready_bytes ready.new ≤ ready_bytes ready.old + length fragment.payload.items }
+{
+    let id = fragment.stream_key.id();
+    ready.push(Message::new(id, fragment.ppid, fragment.payload))
 }
 
 // Whether nothing is in turn: nothing was before, and no interval came to be.
@@ -143,17 +164,32 @@ impl<K: ReassemblyKey> OrderedStream<K> {
         self.list.total_bytes()
     }
 
-    /// Adds a fragment, unless its message is below the next one; what is in turn then becomes ready. Takes a search by
-    /// halves, unless the fragment completes the next message.
-    ///
-    /// Without memory the fragment, or a message that was in turn, may be lost; what was ready stays ready.
-    #[tactic(auto, using(crate::proofs::ExtendsLemmas::extends_none))]
-    pub fn add(
+    // Makes the next message ready, which is one fragment, where none is held.
+    fn pass_on(
         &mut self,
         key: K,
         fragment: Data,
         ready: &mut ReadyMessages,
     ) -> Result<(), AllocError>
+        requires none { (length self.old.held == 0) ≡ true }
+        requires turn { is_in_turn self.old.next (held (K.number key) (K.index key) fragment ∷ []) ≡ true }
+        requires number { K.number key ≡ self.old.next }
+        requires room { bytes_of self.old.held + ready_bytes ready.old + length fragment.payload.items < 2 ^ 64 }
+        ensures ok { OnOk result (self.new ≡ (ordered_arrival (held (K.number key) (K.index key) fragment) self.old).stream) }
+        ensures ready { OnOk result (ready.new ≡ ready.old ++ (ordered_arrival (held (K.number key) (K.index key) fragment) self.old).messages) }
+        ensures kept { Extends ready.old ready.new }
+        ensures bytes { bytes_of self.new.held + ready_bytes ready.new ≤ bytes_of self.old.held + ready_bytes ready.old + length fragment.payload.items }
+    {
+        let number = key.number();
+        hand_on(fragment, ready)?;
+        self.is_settled = false;
+        self.next = number as u128 + 1;
+        Ok(())
+    }
+
+    // Adds a fragment to those that are held, and makes ready what is then in turn.
+    #[tactic(auto, using(crate::proofs::ExtendsLemmas::extends_none))]
+    fn keep(&mut self, key: K, fragment: Data, ready: &mut ReadyMessages) -> Result<(), AllocError>
         requires { bytes_of self.old.held + ready_bytes ready.old + length fragment.payload.items < 2 ^ 64 }
         ensures ok { OnOk result (self.new ≡ (ordered_arrival (held (K.number key) (K.index key) fragment) self.old).stream) }
         ensures ready { OnOk result (ready.new ≡ ready.old ++ (ordered_arrival (held (K.number key) (K.index key) fragment) self.old).messages) }
@@ -171,6 +207,29 @@ impl<K: ReassemblyKey> OrderedStream<K> {
         deliver(self.alloc, &mut self.next, &mut self.list, ready)?;
         self.is_settled = true;
         Ok(())
+    }
+
+    /// Adds a fragment, unless its message is below the next one; what is in turn then becomes ready. Takes a search by
+    /// halves, unless the fragment completes the next message. One that is all of it, where nothing is held, is handed on.
+    ///
+    /// Without memory the fragment, or a message that was in turn, may be lost; what was ready stays ready.
+    #[tactic(auto, using(crate::proofs::ExtendsLemmas::extends_none))]
+    pub fn add(
+        &mut self,
+        key: K,
+        fragment: Data,
+        ready: &mut ReadyMessages,
+    ) -> Result<(), AllocError>
+        requires { bytes_of self.old.held + ready_bytes ready.old + length fragment.payload.items < 2 ^ 64 }
+        ensures ok { OnOk result (self.new ≡ (ordered_arrival (held (K.number key) (K.index key) fragment) self.old).stream) }
+        ensures ready { OnOk result (ready.new ≡ ready.old ++ (ordered_arrival (held (K.number key) (K.index key) fragment) self.old).messages) }
+        ensures kept { Extends ready.old ready.new }
+        ensures bytes { bytes_of self.new.held + ready_bytes ready.new ≤ bytes_of self.old.held + ready_bytes ready.old + length fragment.payload.items }
+    {
+        if self.list.is_empty() && is_whole_at(key, &fragment, self.next) {
+            return self.pass_on(key, fragment, ready);
+        }
+        self.keep(key, fragment, ready)
     }
 
     /// Drops the messages up to the number before that of the key, and moves the next number to it, never back. What is in

@@ -3,7 +3,7 @@ use Rattle.std.specs.Prelude.{nat_lt}
 use Rattle.sctp_fragments.specs.Intervals.{held}
 use Rattle.sctp_reassembly.specs.Delivery.{OrderedStream, ordered_arrival}
 use Rattle.sctp_reassembly.proofs.DeliverLemmas.{arrives_settled, nothing_more}
-use Rattle.sctp_reassembly.proofs.ordered_stream.OrderedStream.add.Goals as goal
+use Rattle.sctp_reassembly.proofs.ordered_stream.OrderedStream.keep.Goals as goal
 
 pub returns-then-self-clause-ok : goal.returns-then-self-clause-ok
 returns-then-self-clause-ok g c =
