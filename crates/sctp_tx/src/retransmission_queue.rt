@@ -485,7 +485,7 @@ impl RetransmissionQueue {
         let Some(fragment) = queue.produce(now, max_payload, events)? else {
             return Ok(None);
         };
-        let size = self.append(now, left, fragment, chunks)?;
+        let size = self.append(now, fragment, chunks)?;
         Ok(Some(left.saturating_sub(size)))
     }
 
@@ -500,11 +500,10 @@ impl RetransmissionQueue {
         room.saturating_sub(header_size(self.outstanding.is_interleaved()))
     }
 
-    // The fragment takes the next TSN, with so much left of the packet. The answer is the size of its chunk.
+    // The fragment takes the next TSN. The answer is the size of its chunk.
     fn append(
         &mut self,
         now: SocketTime,
-        left: usize,
         fragment: DataToSend,
         chunks: &mut Vec<(Tsn, Data)>,
     ) -> Result<usize, AllocError>
@@ -516,7 +515,6 @@ impl RetransmissionQueue {
         ensures partly { PartlySent self.old self.new }
     {
         let size = chunk_size(&fragment.data, self.outstanding.is_interleaved());
-        make_room(chunks, left / size.max(1))?;
         let copy = copy_of(self.alloc, &fragment.data)?;
         let tsn = self.outstanding.insert(
             fragment.message_id,
@@ -569,16 +567,6 @@ fn discard_all(
 {
     while let Some(next) = outstanding.get_unsent_message_to_discard() {
         queue.discard(next.stream_id, next.message_id, events)?;
-    }
-    Ok(())
-}
-
-// The first fragment of a packet makes room for as many as fit if all are as large.
-fn make_room(chunks: &mut Vec<(Tsn, Data)>, count: usize) -> Result<(), AllocError>
-    ensures { chunks.new.items ≡ chunks.old.items }
-{
-    if chunks.is_empty() {
-        chunks.reserve(count)?;
     }
     Ok(())
 }

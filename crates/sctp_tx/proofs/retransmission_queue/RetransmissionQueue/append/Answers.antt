@@ -7,9 +7,6 @@ use Rattle.sctp_tx.specs.Interrupted.{PartlySent}
 use Rattle.sctp_tx.proofs.PartlyLemmas.{sent-none, new-sent, took-sent}
 use Rattle.sctp_tx.proofs.retransmission_queue.RetransmissionQueue.append.Goals as goal
 
-pub returns-in_err-make_room-clause-partly : goal.returns-in_err-make_room-clause-partly
-returns-in_err-make_room-clause-partly c = sent-none c.args.self.now
-
 pub returns-in_err-copy-clause-partly : goal.returns-in_err-copy-clause-partly
 returns-in_err-copy-clause-partly c = sent-none c.args.self.now
 
