@@ -181,9 +181,6 @@ few-opened id es after w priority threshold sorted is_after is_w h =
     let s : Stream = blank_stream priority threshold in
     subst (λ (x : Entries). AreFew x) (sym (is_after ∙ ap (λ (t : Stream). insert_entry nat_cmp es id t) is_w)) (few_inserted id es s sorted refl (omega (arith, h.count)) h)
 
-pub few-none : AreFew []
-few-none = record { small = refl; count = omega arith }
-
 pub few-restored : (threshold : ℕ) (ss : List HandoverOutgoingStream) → AreFew (entries_from 0 threshold [] ss)
 few-restored threshold ss = record { small = small ss; count = omega (arith, none ss) }
   where

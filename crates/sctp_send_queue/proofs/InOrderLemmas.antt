@@ -88,9 +88,6 @@ module _ (T : ℕ → List Queued → Type 0) where
       go true e = subst (λ i. T i (stream i (put id s ss)).messages) (sym (same_id k id e)) (at_id (lookup (is_at (nat_cmp id)) ss.entries) refl)
       go false e = subst (λ o. T k (unwrap_or o (blank ss)).messages) (sym (written_elsewhere k id s ss.entries e)) (h k)
 
-  pub each_opened : (id : ℕ) (ss : Streams) → ((k : ℕ) → T k (stream k ss).messages) → (k : ℕ) → T k (stream k (opened id ss)).messages
-  each_opened id ss h k = subst (λ (s : Stream). T k s.messages) (sym (opened_same k id ss)) (h k)
-
 -- ---- lists of messages
 
 waits : (m : Queued) → is_waiting m ≡ true → (is_some m.numbers ≡ false) × ((m.offset == 0) ≡ true)

@@ -46,11 +46,6 @@ given n now size id q told made more next is =
     let e : n ≡ suc (n - 1) = omega (arith, more) in
     ap (λ k. produce_within k now size q told) e ∙ gives (n - 1) now size id q told made next is
 
-pub ended : {P : Type 0} (n now size : ℕ) (q : Queue) (told : Told P) → 0 < n → next_stream q ≡ None → produce_within n now size q told ≡ idle q told
-ended n now size q told more next =
-    let e : n ≡ suc (n - 1) = omega (arith, more) in
-    ap (λ k. produce_within k now size q told) e ∙ idles (n - 1) now size q told next
-
 -- one more turn without a fragment
 pub passed-more : {P : Type 0} (turns now size id : ℕ) (q p : Queue) (told later : Told P) → Passed turns now size q told p later → next_stream p ≡ Some id → (turn now id size p later).made ≡ None
     → Passed (suc turns) now size q told (turn now id size p later).queue (turn now id size p later).told

@@ -1,11 +1,10 @@
 -- A new association, a stream at a time.
-use Rattle.std.proofs.Common.{◌≡◌, ℕ, zero, suc, ◌+◌, ◌<◌, List, [], ◌∷◌, length, take, drop, get_or, refl, ap, sym, subst, ◌∙◌, arith, add-one}
+use Rattle.std.proofs.Common.{◌≡◌, ℕ, zero, suc, ◌+◌, ◌<◌, List, [], ◌∷◌, length, take, drop, get_or, refl, ap, sym, ◌∙◌, arith, add-one}
 use Rattle.std.specs.Prelude.{map}
 use Rattle.std.proofs.Math.Seq.{drop-cons}
 use Rattle.sctp_serial.specs.declared.api.StreamId.{StreamId}
-use Rattle.std.specs.Map.{keys_of}
 use Rattle.sctp_send_queue.specs.Queue.{Queue, Queued, stream}
-use Rattle.sctp_send_queue.specs.Restarted.{whole_front, restarted, restarted_one, each_restarted, reset, SomeRestarted, numbers_on, NumbersGoOn}
+use Rattle.sctp_send_queue.specs.Restarted.{whole_front, restarted, restarted_one, each_restarted, numbers_on, NumbersGoOn}
 use Rattle.sctp_send_queue.proofs.InOrderLemmas.{each_put}
 
 pub restart-each : (ids : List StreamId) (i : ℕ) (none : StreamId) (q r : Queue) → i < length ids → r ≡ restarted_one (get_or ids i none).0 q
@@ -46,11 +45,3 @@ restarted-numbers (id ∷ ids) q =
     let first = one-numbers id q in
     let rest = restarted-numbers ids (restarted_one id q) in
     record { next = rest.next ∙ first.next; waiting = λ k. rest.waiting k ∙ first.waiting k }
-
-pub reset-numbers : (q : Queue) → NumbersGoOn q (reset q)
-reset-numbers q =
-    let h = restarted-numbers (keys_of q.streams.entries) q in
-    record { next = h.next; waiting = h.waiting }
-
-pub some-numbers : (q after : Queue) → SomeRestarted q after → NumbersGoOn q after
-some-numbers q after h = subst (λ (t : Queue). NumbersGoOn q t) (sym h.1) (restarted-numbers (take h.0 (keys_of q.streams.entries)) q)

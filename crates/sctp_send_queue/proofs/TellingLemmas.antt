@@ -1,11 +1,10 @@
 -- What was told stands, whatever is told behind it.
-use Rattle.std.proofs.Common.{◌≡◌, ℕ, Bool, true, false, cond, List, [], ◌∷◌, Option, Some, None, sym, subst}
+use Rattle.std.proofs.Common.{◌≡◌, ℕ, Bool, true, false, cond, List, [], ◌∷◌, Option, sym, subst}
 use Rattle.sctp_state.specs.declared.api.GivenUpCause.{GivenUpCause}
 use Rattle.sctp_state.specs.declared.api.GivenUpCause.TheVariants.{Reset}
 use Rattle.sctp_state.specs.Events.{Event, Told, Grown, tell_all, give_up, expiry}
 use Rattle.sctp_state.proofs.EventLemmas.{grown-same, grown-through, grown-told, grown-given_up}
 use Rattle.sctp_send_queue.specs.Queue.{Queued}
-use Rattle.sctp_send_queue.specs.Produced.{Produced, production, told_made}
 use Rattle.sctp_send_queue.specs.Resets.{told_waiting, is_partly}
 
 pub grown-after : {P : Type 0} (es : List (Event P)) (t u v : Told P) → u ≡ tell_all es t → Grown u v → Grown t v
@@ -18,10 +17,6 @@ pub grown-dropped : {P : Type 0} (n : ℕ) (cause : GivenUpCause) (lifecycle : O
 grown-dropped n cause lifecycle t =
     let gone = give_up n cause t in
     grown-through t gone (tell_all (expiry lifecycle) gone) (grown-given_up n cause t) (grown-told (expiry lifecycle) gone)
-
-pub grown-made : {P : Type 0} (id : ℕ) (is_low is_total_low : Bool) (made : Option Produced) (t u v : Told P) → u ≡ told_made id is_low is_total_low made t → Grown u v → Grown t v
-grown-made id is_low is_total_low None t u v e g = subst (λ x. Grown x v) e g
-grown-made id is_low is_total_low (Some made) t u v e g = grown-after (production id is_low is_total_low made.lifecycle) t u v e g
 
 pub grown-waiting : {P : Type 0} (ms : List Queued) (t : Told P) → Grown t (told_waiting ms t)
 grown-waiting [] t = grown-same t

@@ -1,6 +1,6 @@
 -- A fragment that is a whole message, and a stream without one.
 use Rattle.std.proofs.Common.{◌≡◌, ℕ, ◌-◌, ◌<◌, ◌≤◌, Bool, true, false, cond, List, [], ◌∷◌, length, Option, Some, None, refl, ap, sym, ◌∙◌, arith}
-use Rattle.std.specs.Prelude.{◌==◌, ◌&&◌, is_some, nat_le, take, drop}
+use Rattle.std.specs.Prelude.{◌==◌, is_some, nat_le, take, drop}
 use Rattle.std.specs.Map.{lookup}
 use Rattle.std.specs.Ordering.{nat_cmp}
 use Rattle.std.specs.BTreeMap.{is_at}
@@ -11,8 +11,8 @@ use Rattle.sctp_state.specs.declared.api.GivenUpCause.TheVariants.{Lifetime}
 use Rattle.sctp_stream_scheduler.specs.Scheduler.{Scheduler, accept, is_active, entered, finish_now, set_bytes_remaining}
 use Rattle.sctp_send_queue.specs.declared.send_queue.message.MessageNumbers.{MessageNumbers}
 use Rattle.sctp_send_queue.specs.declared.send_queue.stream.PauseState.{PauseState}
-use Rattle.sctp_send_queue.specs.Queue.{Queued, Stream, Streams, left, stream, sendable}
-use Rattle.sctp_send_queue.specs.Produced.{is_stale, is_front_stale, fresh, dropped, streams_without_stale, without_stale, Produced, ends, front_ends, front_made, front_numbers, in_line, made_of, moved, moved_front, took, front_took, counted, pause_after, next_fragment, production, streams_after, advanced, told_made}
+use Rattle.sctp_send_queue.specs.Queue.{Queued, Stream, Streams, stream, sendable}
+use Rattle.sctp_send_queue.specs.Produced.{is_front_stale, fresh, dropped, streams_without_stale, without_stale, ends, front_ends, front_made, front_numbers, in_line, moved, moved_front, took, front_took, counted, pause_after, next_fragment, production, streams_after, advanced, told_made}
 use Rattle.sctp_send_queue.specs.Whole.{is_whole, is_front_whole, front_lifecycle}
 use Rattle.sctp_send_queue.proofs.RestoreLemmas.{both}
 use Rattle.sctp_send_queue.proofs.StreamLemmas.{advanced-priority, front_took-messages}
@@ -32,15 +32,8 @@ whole-payload size m h =
     let none = none_sent m.offset hs.0 in
     sym (ap (λ n. take size (drop n m.payload)) none ∙ take_all size m.payload (all_fits m.offset (length m.payload) size none hs.1))
 
-pub whole-begins : (size : ℕ) (m : Queued) → is_whole size m ≡ true → true ≡ (m.offset == 0)
-whole-begins size m h = sym (both (m.offset == 0) (ends size m) h).0
-
 pub whole-ends : (size : ℕ) (m : Queued) → is_whole size m ≡ true → true ≡ ends size m
 whole-ends size m h = sym (both (m.offset == 0) (ends size m) h).1
-
-pub front_whole-ends : (size : ℕ) (ms : List Queued) → is_front_whole size ms ≡ true → true ≡ front_ends size ms
-front_whole-ends size [] h = absurd (cc)
-front_whole-ends size (m ∷ rest) h = whole-ends size m h
 
 pub whole-moved : (size : ℕ) (n : MessageNumbers) (ms : List Queued) → is_front_whole size ms ≡ true → drop 1 ms ≡ moved_front size n ms
 whole-moved size n [] h = absurd (cc)

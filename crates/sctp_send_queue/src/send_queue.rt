@@ -1,6 +1,6 @@
 //! Messages that wait to be sent.
 
-ghost use Rattle.std.specs.Prelude.{◌≡◌, ℕ, Bool, ◌<◌, ◌^◌, ◌==◌, [], length, not, is_some, None, Some, IsSome, IfOk, IfSome, OnOk, OnErr, option_map, map, take};
+ghost use Rattle.std.specs.Prelude.{◌≡◌, ℕ, ◌<◌, ◌^◌, ◌==◌, [], length, not, is_some, None, Some, IsSome, IfOk, OnOk, OnErr, option_map, map, take};
 ghost use Rattle.std.specs.List.{list_any};
 ghost use Rattle.std.specs.List.Sorted.{IsStrictlySortedBy};
 ghost use Rattle.std.specs.Map.{lookup, keys_of, values_of};
@@ -9,10 +9,9 @@ ghost use Rattle.std.specs.BTreeMap.{is_at};
 ghost use Rattle.sctp_state.specs.Options.{options_of};
 ghost use Rattle.sctp_state.specs.Events.{Grown, expiry, tell_all};
 ghost use Rattle.sctp_stream_scheduler.specs.Scheduler.{set_bytes_remaining};
-ghost use Rattle.sctp_state.specs.Thresholds.{crosses};
 ghost use Rattle.sctp_send_queue.specs.declared.send_queue.stream.ResetStep.TheVariants.{Requested, Performed, Refused};
-ghost use Rattle.sctp_send_queue.specs.Queue.{amount_of, total_of, watched_amount, watched_total, stream, opened, sendable, queue, added, is_empty};
-ghost use Rattle.sctp_send_queue.specs.Produced.{in_line, begun_by, turn, turn_from, produce, next_stream, streams_after, advanced, told_made};
+ghost use Rattle.sctp_send_queue.specs.Queue.{amount_of, total_of, stream, opened, queue, added, is_empty};
+ghost use Rattle.sctp_send_queue.specs.Produced.{begun_by, turn, turn_from, produce, next_stream};
 ghost use Rattle.sctp_send_queue.specs.Settings.{set_low_threshold, set_priority, set_mode, discard, begun_without};
 ghost use Rattle.sctp_send_queue.specs.Resets.{prepare_reset, told_waiting, is_ready, requested, request_resets, commit_resets, roll_back_resets, stepped, each_stepped};
 ghost use Rattle.sctp_send_queue.specs.Begun.{Begins, GoesOn};

@@ -1,10 +1,10 @@
 //! What waits on one stream.
 
-ghost use Rattle.std.specs.Prelude.{◌≡◌, ℕ, Bool, ◌+◌, ◌-◌, ◌<◌, ◌≤◌, ◌^◌, ◌==◌, [], ◌∷◌, ◌++◌, length, sum_by, drop, is_some, None, Some, IsTrue, IfOk, IfSome, OnOk, OnErr, option_map, filter, map, if◌then◌else◌};
+ghost use Rattle.std.specs.Prelude.{◌≡◌, ◌+◌, ◌-◌, ◌<◌, ◌≤◌, ◌^◌, ◌==◌, [], ◌∷◌, ◌++◌, length, sum_by, drop, is_some, None, Some, IsTrue, IfOk, OnOk, OnErr, option_map, filter, map, if◌then◌else◌};
 ghost use Rattle.sctp_state.specs.Events.{Grown};
 ghost use Rattle.sctp_state.specs.Thresholds.{crosses};
-ghost use Rattle.sctp_send_queue.specs.Queue.{Queued, left, amount_of, watched_amount, blank_stream, front_left, sendable, pushed, is_stopped};
-ghost use Rattle.sctp_send_queue.specs.Produced.{is_front_stale, fresh, dropped, without_stale, counted, front_numbers, front_made, front_ends, moved_front, front_took, next_fragment, advanced, front_left_after, pause_after, settled};
+ghost use Rattle.sctp_send_queue.specs.Queue.{left, amount_of, watched_amount, blank_stream, front_left, sendable, pushed, is_stopped};
+ghost use Rattle.sctp_send_queue.specs.Produced.{is_front_stale, fresh, dropped, without_stale, front_numbers, front_made, front_ends, moved_front, front_took, next_fragment, advanced, front_left_after, pause_after, settled};
 ghost use Rattle.sctp_send_queue.specs.Settings.{with_threshold, with_priority, without_front, front_discarded, is_front};
 ghost use Rattle.sctp_send_queue.specs.Resets.{is_ready, after_step, is_partly, told_waiting, prepared, waiting};
 ghost use Rattle.sctp_state.specs.Handover.{stream_message_of};
@@ -229,24 +229,6 @@ fn front_fragment(
     match messages.front() {
         Some(message) => Ok(Some(message.fragment(alloc, id, numbers, size)?)),
         None => Ok(None),
-    }
-}
-
-fn is_front_whole(messages: &VecDeque<QueuedMessage>, size: usize) -> bool
-    ensures { result ≡ is_front_whole size messages.now.items }
-{
-    match messages.front() {
-        Some(message) => message.is_whole(size),
-        None => false,
-    }
-}
-
-fn front_lifecycle(messages: &VecDeque<QueuedMessage>) -> Option<LifecycleId>
-    ensures { result ≡ front_lifecycle messages.now.items }
-{
-    match messages.front() {
-        Some(message) => message.lifecycle_id(),
-        None => None,
     }
 }
 
@@ -608,14 +590,20 @@ impl Stream {
     pub fn is_next_whole(&self, size: usize) -> bool
         ensures { result ≡ is_front_whole size self.now.messages }
     {
-        is_front_whole(&self.messages, size)
+        match self.messages.front() {
+            Some(message) => message.is_whole(size),
+            None => false,
+        }
     }
 
     /// The lifecycle id of the message at the front.
     pub fn front_lifecycle(&self) -> Option<LifecycleId>
         ensures { result ≡ front_lifecycle self.now.messages }
     {
-        front_lifecycle(&self.messages)
+        match self.messages.front() {
+            Some(message) => message.lifecycle_id(),
+            None => None,
+        }
     }
 
     /// The next fragment is sent, which is a whole message: its payload isn't copied.

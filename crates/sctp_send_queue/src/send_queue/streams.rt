@@ -1,6 +1,6 @@
 //! The streams that were named, and what is left on all of them.
 
-ghost use Rattle.std.specs.Prelude.{◌≡◌, ℕ, Bool, ◌+◌, ◌<◌, ◌≤◌, ◌^◌, ◌==◌, [], is_some, None, Some, IsTrue, IsSome, IfOk, IfSome, OnOk, OnErr, option_map, map};
+ghost use Rattle.std.specs.Prelude.{◌≡◌, ◌+◌, ◌<◌, ◌≤◌, ◌^◌, ◌==◌, [], None, Some, IsTrue, IsSome, IfOk, OnOk, OnErr, option_map, map};
 ghost use Rattle.std.specs.Map.{lookup, keys_of, values_of};
 ghost use Rattle.std.specs.List.{list_all, list_any};
 ghost use Rattle.std.specs.List.Sorted.{IsStrictlySortedBy};
@@ -9,7 +9,7 @@ ghost use Rattle.std.specs.BTreeMap.{is_at};
 ghost use Rattle.sctp_state.specs.Events.{Grown};
 ghost use Rattle.sctp_state.specs.Options.{options_of};
 ghost use Rattle.sctp_state.specs.Thresholds.{crosses};
-ghost use Rattle.sctp_send_queue.specs.Queue.{Queued, amount_of, total_of, watched_amount, watched_total, no_streams, stream, opened, put, pushed, sendable, front_left, has_nothing};
+ghost use Rattle.sctp_send_queue.specs.Queue.{amount_of, total_of, watched_amount, watched_total, no_streams, stream, opened, put, pushed, sendable, has_nothing};
 ghost use Rattle.sctp_send_queue.specs.Produced.{is_front_stale, dropped, streams_without_stale, streams_after, advanced, next_fragment, told_of, in_line};
 ghost use Rattle.sctp_send_queue.specs.Settings.{with_threshold, with_priority, streams_discarded, front_discarded};
 ghost use Rattle.sctp_send_queue.specs.Resets.{is_ready, after_step, ready, prepared, told_waiting};
@@ -18,7 +18,7 @@ ghost use Rattle.sctp_send_queue.specs.Handover.{outgoing_streams, queued_messag
 ghost use Rattle.sctp_send_queue.specs.Readiness.{is_waiting};
 ghost use Rattle.sctp_send_queue.specs.Bounded.{one};
 ghost use Rattle.sctp_send_queue.specs.Restarted.{restarted};
-ghost use Rattle.sctp_state.specs.Validity.{is_valid_message, are_valid_messages, queued_bytes, outgoing_ids, rises_from};
+ghost use Rattle.sctp_state.specs.Validity.{are_valid_messages, queued_bytes, outgoing_ids, rises_from};
 ghost use Rattle.sctp_state.specs.Handover.{transmission_of};
 ghost use Rattle.sctp_send_queue.specs.Restored.{entries_from, streams_from};
 ghost use Rattle.sctp_send_queue.specs.Views.{produced_of};

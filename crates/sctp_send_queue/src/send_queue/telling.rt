@@ -1,6 +1,6 @@
 //! What the send queue tells the socket's user.
 
-ghost use Rattle.std.specs.Prelude.{◌≡◌, Bool, [], ◌∷◌, ◌++◌, OnOk, OnErr, option_map};
+ghost use Rattle.std.specs.Prelude.{◌≡◌, [], ◌∷◌, ◌++◌, OnOk, OnErr};
 ghost use Rattle.sctp_state.specs.Events.{event_of, expiry, give_up, tell_all, Grown};
 ghost use Rattle.sctp_send_queue.specs.Produced.{when, fully_sent, production};
 
