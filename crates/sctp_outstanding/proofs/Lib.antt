@@ -7,6 +7,7 @@ pub mod IdleLemmas
 pub mod KeepsLemmas
 pub mod LaidLemmas
 pub mod LossesLemmas
+pub mod MessagesLemmas
 pub mod PointLemmas
 pub mod RecordLemmas
 pub mod RoomLemmas

@@ -1,9 +1,10 @@
 -- The items that wait to be sent again, as items come, change and leave.
-use Rattle.std.proofs.Common.{◌≡◌, ℕ, zero, suc, ◌+◌, ◌<◌, ◌≤◌, ◌==◌, Bool, true, false, cond, List, [], ◌∷◌, ◌++◌, length, slice_index_or, refl, ap, sym, subst, ◌∙◌, arith}
-use Rattle.std.specs.Prelude.{nat_lt}
+use Rattle.std.proofs.Common.{◌≡◌, ℕ, zero, suc, ◌+◌, ◌-◌, ◌<◌, ◌≤◌, ◌==◌, Bool, true, false, cond, List, [], ◌∷◌, ◌++◌, length, slice_index_or, refl, ap, sym, subst, ◌∙◌, inl, inr, arith}
+use Rattle.std.specs.Prelude.{nat_lt, nat_le, ◌&&◌}
 use Rattle.std.specs.List.{sum_by, All}
 use Rattle.std.specs.Ordering.{nat_cmp}
 use Rattle.std.specs.BTreeMap.{is_at}
+use Rattle.std.proofs.lemmas.Bool.{cases_lt}
 use Rattle.std.proofs.lemmas.Bool.Decides.{nat_tests}
 use Rattle.std.proofs.lemmas.List.Sums.{sum_by-cons}
 use Rattle.std.proofs.lemmas.List.Elements.{All-head, All-tail, All-cons, All-nil}
@@ -13,8 +14,8 @@ use Rattle.sctp_outstanding.specs.declared.kept.Change.TheVariants as changes
 use Rattle.sctp_outstanding.specs.Item.{Item, should_be_retransmitted, header_size, chunk_size}
 use Rattle.sctp_outstanding.specs.Change.{changed}
 use Rattle.sctp_outstanding.specs.Items.{change_at, when, queued_part}
-use Rattle.sctp_outstanding.specs.Totals.{Exchanges}
-use Rattle.sctp_outstanding.specs.Waiting.{waits_at, waits_as, NoneWaits, is_listed, AreListed, IsAtLeast, Lists, HasSize, StaysAtLeast, Turns}
+use Rattle.sctp_outstanding.specs.Totals.{parts, nothing, Exchanges}
+use Rattle.sctp_outstanding.specs.Waiting.{waits_at, by_number, waits_as, NoneWaits, is_listed, AreListed, IsAtLeast, Lists, HasSize, StaysAtLeast, Turns}
 use Rattle.sctp_outstanding.specs.declared.waiting.Waiting.{Waiting}
 
 -- ---- numbers as keys
@@ -22,16 +23,16 @@ use Rattle.sctp_outstanding.specs.declared.waiting.Waiting.{Waiting}
 same-key : (m n : ℕ) → is_at (nat_cmp m) n ≡ (n == m)
 same-key m n = grind (arith, nat_tests)
 
-not-same : (m n : ℕ) → m < n → (n == m) ≡ false
+pub not-same : (m n : ℕ) → m < n → (n == m) ≡ false
 not-same m n h = grind (arith, nat_tests, h)
 
-not-below : (m n : ℕ) → n < m → (n == m) ≡ false
+pub not-below : (m n : ℕ) → n < m → (n == m) ≡ false
 not-below m n h = grind (arith, nat_tests, h)
 
-is-same : (m n : ℕ) → n ≡ m → (n == m) ≡ true
+pub is-same : (m n : ℕ) → n ≡ m → (n == m) ≡ true
 is-same m n h = grind (arith, nat_tests, h)
 
-equal : (m n : ℕ) → (n == m) ≡ true → n ≡ m
+pub equal : (m n : ℕ) → (n == m) ≡ true → n ≡ m
 equal m n h = grind (arith, nat_tests, h)
 
 -- a number is listed or taken out
@@ -39,127 +40,184 @@ pub listed-put : (m : ℕ) (waits : Bool) (old new : List ℕ) → ((n : ℕ) �
     → (n : ℕ) → is_listed new n ≡ cond (n == m) waits (is_listed old n)
 listed-put m waits old new h n = h n ∙ ap (λ b. cond b waits (is_listed old n)) (same-key m n)
 
--- ---- the item of a number
+-- ---- places by their numbers
 
-as-at : (first k : ℕ) (is : List Item) → waits_as first (first + k) is ≡ waits_at k is
-as-at first k [] = refl
-as-at first zero (i ∷ is) = ap (λ b. cond b (should_be_retransmitted i) (waits_as (suc first) (first + 0) is)) (is-same first (first + 0) (omega arith))
-as-at first (suc k) (i ∷ is) =
-    let past : (first + suc k == first) ≡ false = not-same first (first + suc k) (omega arith) in
-    let more : first + suc k ≡ suc first + k = omega arith in
-    ap (λ b. cond b (should_be_retransmitted i) (waits_as (suc first) (first + suc k) is)) past ∙ ap (λ n. waits_as (suc first) n is) more ∙ as-at (suc first) k is
+from : (first n : ℕ) → first ≤ n → nat_le first n ≡ true
+from first n h = grind (arith, nat_tests, h)
 
-as-below : (first n : ℕ) (is : List Item) → n < first → waits_as first n is ≡ false
-as-below first n [] h = refl
-as-below first n (i ∷ is) h =
-    ap (λ b. cond b (should_be_retransmitted i) (waits_as (suc first) n is)) (not-below first n h) ∙ as-below (suc first) n is (omega (arith, h))
+before : (first n : ℕ) → n < first → nat_le first n ≡ false
+before first n h = grind (arith, nat_tests, h)
+
+same-place : (first place n : ℕ) → first ≤ n → (n - first == place) ≡ (n == first + place)
+same-place first place n h = elim (cases_lt n (first + place)) [
+  | inl less ↦ not-below place (n - first) (omega (arith, less, h)) ∙ sym (not-below (first + place) n less)
+  | inr above ↦ elim (cases_lt (first + place) n) [
+    | inl more ↦ not-same place (n - first) (omega (arith, more, h)) ∙ sym (not-same (first + place) n more)
+    | inr below ↦ is-same place (n - first) (omega (arith, above, below)) ∙ sym (is-same (first + place) n (omega (arith, above, below)))
+  ]
+]
+
+module _ (first : ℕ) (f : ℕ → Bool) where
+  pub as-from : (n : ℕ) → first ≤ n → by_number first f n ≡ f (n - first)
+  as-from n h = ap (λ b. b && f (n - first)) (from first n h)
+
+  pub as-below : (n : ℕ) → n < first → by_number first f n ≡ false
+  as-below n h = ap (λ b. b && f (n - first)) (before first n h)
+
+  pub as-at : (k : ℕ) → by_number first f (first + k) ≡ f k
+  as-at k =
+      let e : first + k - first ≡ k = omega arith in
+      as-from (first + k) (omega arith) ∙ ap (λ m. f m) e
+
+  pub as-never : ((k : ℕ) → f k ≡ false) → (n : ℕ) → by_number first f n ≡ false
+  as-never none n = ap (λ b. nat_le first n && b) (none (n - first)) ∙ never-and (nat_le first n)
+    where
+      never-and : (b : Bool) → (b && false) ≡ false
+      never-and true = refl
+      never-and false = refl
+
+  -- behind the first one
+  pub as-next : (n : ℕ) → first < n → by_number (first + 1) (λ k. f (suc k)) n ≡ by_number first f n
+  as-next n h =
+      let e : suc (n - (first + 1)) ≡ n - first = omega (arith, h) in
+      ap (λ b. b && f (suc (n - (first + 1)))) (from (first + 1) n (omega (arith, h))) ∙ ap (λ m. f m) e ∙ sym (as-from n (omega (arith, h)))
+
+-- the same at each place
+pub as-alike : (first : ℕ) (f g : ℕ → Bool) → ((k : ℕ) → g k ≡ f k) → (n : ℕ) → by_number first g n ≡ by_number first f n
+as-alike first f g h n = ap (λ b. nat_le first n && b) (h (n - first))
+
+-- something else at one place
+pub as-turned : (first place : ℕ) (b : Bool) (f g : ℕ → Bool) → ((k : ℕ) → g k ≡ cond (k == place) b (f k)) → (n : ℕ) → by_number first g n ≡ cond (n == first + place) b (by_number first f n)
+as-turned first place b f g h n = elim (cases_lt n first) [
+  | inl less ↦ as-below first g n less ∙ sym (ap (λ t. cond t b (by_number first f n)) (not-below (first + place) n (omega (arith, less))) ∙ as-below first f n less)
+  | inr above ↦
+      as-from first g n above ∙ h (n - first) ∙ ap (λ t. cond t b (f (n - first))) (same-place first place n above)
+      ∙ ap (λ c. cond (n == first + place) b c) (sym (as-from first f n above))
+]
 
 -- where no number from one on up to another is listed, none of the items waits
 pub none-waits : (numbers : List ℕ) (first from to least : ℕ) (is : List Item) → AreListed numbers first is → first + to ≤ least
     → ((n : ℕ) → first + from ≤ n → n < least → is_listed numbers n ≡ false) → NoneWaits from to is
 none-waits numbers first from to least is listed le none = λ k above below.
-    sym (as-at first k is) ∙ (sym (listed (first + k)) ∙ none (first + k) (omega (arith, above)) (omega (arith, below, le)))
-
-pub none-here : (place : ℕ) (is : List Item) → NoneWaits place place is
-none-here place is = λ k above below. absurd (omega (arith, above, below))
+    sym (as-at first (λ j. waits_at j is) k) ∙ (sym (listed (first + k)) ∙ none (first + k) (omega (arith, above)) (omega (arith, below, le)))
 
 -- ---- an item changes
-
-past : (b c w q r s : Bool) → (b ≡ true → c ≡ false) → s ≡ cond c q r → cond b w s ≡ cond c q (cond b w r)
-past true c w q r s out h = sym (ap (λ d. cond d q w) (out refl))
-past false c w q r s out h = h
-
-here : (b c v w q r : Bool) → c ≡ b → q ≡ v → cond b v r ≡ cond c q (cond b w r)
-here true c v w q r same is_q = sym is_q ∙ sym (ap (λ d. cond d q w) same)
-here false c v w q r same is_q = sym (ap (λ d. cond d q r) same)
-
-nowhere : (c q : Bool) → q ≡ false → false ≡ cond c q false
-nowhere true q h = sym h
-nowhere false q h = refl
 
 one-of : (b : Bool) (n : ℕ) → n ≡ when b 1 → nat_lt 0 n ≡ b
 one-of true n h = grind (arith, nat_tests, h)
 one-of false n h = grind (arith, nat_tests, h)
 
-module _ (n : ℕ) where
-  behind : (first k : ℕ) → (n == first) ≡ true → (n == first + suc k) ≡ false
-  behind first k h = not-below (first + suc k) n (omega (arith, equal first n h))
+-- at the place, before it, behind it, and one place on
+pub here : (q v r : Bool) → v ≡ q → v ≡ cond (0 == 0) q r
+here q v r e = e ∙ sym (ap (λ t. cond t q r) (is-same 0 0 refl))
 
-  same-place : (first : ℕ) → (n == first + 0) ≡ (n == first)
-  same-place first = ap (λ m. n == m) (omega arith)
+pub ahead : (p : ℕ) (q v : Bool) → v ≡ cond (0 == suc p) q v
+ahead p q v = sym (ap (λ t. cond t q v) (not-below (suc p) 0 (omega arith)))
 
-  next-place : (first k : ℕ) → (n == suc first + k) ≡ (n == first + suc k)
-  next-place first k = ap (λ m. n == m) (omega arith)
+pub behind : (k : ℕ) (q v : Bool) → v ≡ cond (suc k == 0) q v
+behind k q v = sym (ap (λ t. cond t q v) (not-same 0 (suc k) (omega arith)))
 
-  before-at : (m : Bool) (x : Change) (first k : ℕ) (is : List Item) (old new : Totals) → Exchanges m k x is old new → waits_as first n is ≡ cond (n == first + k) (nat_lt 0 old.queued) (waits_as first n is)
-  before-at m x first k [] old new h = nowhere (n == first + k) (nat_lt 0 old.queued) (ap (λ (t : Totals). nat_lt 0 t.queued) h.0)
-  before-at m x first zero (i ∷ is) old new h =
-      here (n == first) (n == first + 0) (should_be_retransmitted i) (should_be_retransmitted i) (nat_lt 0 old.queued) (waits_as (suc first) n is) (same-place first)
-      (one-of (should_be_retransmitted i) old.queued (ap (λ (t : Totals). t.queued) h.0))
-  before-at m x first (suc k) (i ∷ is) old new h =
-      past (n == first) (n == first + suc k) (should_be_retransmitted i) (nat_lt 0 old.queued) (waits_as (suc first) n is) (waits_as (suc first) n is) (behind first k)
-      (before-at m x (suc first) k is old new h ∙ ap (λ b. cond b (nat_lt 0 old.queued) (waits_as (suc first) n is)) (next-place first k))
+same-next : (k p : ℕ) → (k == p) ≡ (suc k == suc p)
+same-next k p = elim (cases_lt k p) [
+  | inl less ↦ not-below p k less ∙ sym (not-below (suc p) (suc k) (omega (arith, less)))
+  | inr le ↦ elim (cases_lt p k) [
+    | inl more ↦ not-same p k more ∙ sym (not-same (suc p) (suc k) (omega (arith, more)))
+    | inr ge ↦ is-same p k (omega (arith, le, ge)) ∙ sym (is-same (suc p) (suc k) (omega (arith, le, ge)))
+  ]
+]
 
-  after-at : (m : Bool) (x : Change) (first k : ℕ) (is : List Item) (old new : Totals) → Exchanges m k x is old new
-      → waits_as first n (change_at k (changed x) is) ≡ cond (n == first + k) (nat_lt 0 new.queued) (waits_as first n is)
-  after-at m x first k [] old new h = nowhere (n == first + k) (nat_lt 0 new.queued) (ap (λ (t : Totals). nat_lt 0 t.queued) h.1)
-  after-at m x first zero (i ∷ is) old new h =
-      here (n == first) (n == first + 0) (should_be_retransmitted (changed x i)) (should_be_retransmitted i) (nat_lt 0 new.queued) (waits_as (suc first) n is) (same-place first)
-      (one-of (should_be_retransmitted (changed x i)) new.queued (ap (λ (t : Totals). t.queued) h.1))
-  after-at m x first (suc k) (i ∷ is) old new h =
-      past (n == first) (n == first + suc k) (should_be_retransmitted i) (nat_lt 0 new.queued) (waits_as (suc first) n is) (waits_as (suc first) n (change_at k (changed x) is)) (behind first k)
-      (after-at m x (suc first) k is old new h ∙ ap (λ b. cond b (nat_lt 0 new.queued) (waits_as (suc first) n is)) (next-place first k))
+pub further : (k p : ℕ) (q r v : Bool) → v ≡ cond (k == p) q r → v ≡ cond (suc k == suc p) q r
+further k p q r v h = h ∙ ap (λ t. cond t q r) (same-next k p)
 
-  -- ---- one comes
+nowhere : (c q : Bool) → q ≡ false → false ≡ cond c q false
+nowhere true q h = sym h
+nowhere false q h = refl
 
-  end-before : (first k : ℕ) (is : List Item) → length is ≡ k → waits_as first n is ≡ cond (n == first + k) false (waits_as first n is)
-  end-before first k [] e = nowhere (n == first + k) false refl
-  end-before first zero (i ∷ is) e = absurd (omega (arith, e))
-  end-before first (suc k) (i ∷ is) e =
-      past (n == first) (n == first + suc k) (should_be_retransmitted i) false (waits_as (suc first) n is) (waits_as (suc first) n is) (behind first k)
-      (end-before (suc first) k is (omega (arith, e)) ∙ ap (λ b. cond b false (waits_as (suc first) n is)) (next-place first k))
+queued-is : (t u : Totals) → t ≡ u → nat_lt 0 t.queued ≡ nat_lt 0 u.queued
+queued-is t u e = ap (λ (x : Totals). nat_lt 0 x.queued) e
 
-  end-after : (first k : ℕ) (is : List Item) (i : Item) (waits : Bool) → length is ≡ k → waits ≡ should_be_retransmitted i → waits_as first n (is ++ i ∷ []) ≡ cond (n == first + k) waits (waits_as first n is)
-  end-after first zero [] i waits e w =
-      here (n == first) (n == first + 0) (should_be_retransmitted i) false waits false (same-place first) w ∙ ap (λ b. cond (n == first + 0) waits b) (neither (n == first))
-    where
-      neither : (b : Bool) → cond b false false ≡ false
-      neither true = refl
-      neither false = refl
-  end-after first (suc k) [] i waits e w = absurd (omega (arith, e))
-  end-after first zero (x ∷ is) i waits e w = absurd (omega (arith, e))
-  end-after first (suc k) (x ∷ is) i waits e w =
-      past (n == first) (n == first + suc k) (should_be_retransmitted x) waits (waits_as (suc first) n is) (waits_as (suc first) n (is ++ i ∷ [])) (behind first k)
-      (end-after (suc first) k is i waits (omega (arith, e)) w ∙ ap (λ b. cond b waits (waits_as (suc first) n is)) (next-place first k))
+queued-of : (m : Bool) (i : Item) (t : Totals) → t ≡ parts m i → should_be_retransmitted i ≡ nat_lt 0 t.queued
+queued-of m i t e = sym (one-of (should_be_retransmitted i) t.queued (ap (λ (x : Totals). x.queued) e))
+
+module _ (m : Bool) (x : Change) where
+  before-at : (p : ℕ) (is : List Item) (old new : Totals) → Exchanges m p x is old new → (k : ℕ) → waits_at k is ≡ cond (k == p) (nat_lt 0 old.queued) (waits_at k is)
+  before-at p [] old new h k = nowhere (k == p) (nat_lt 0 old.queued) (queued-is old nothing h.0)
+  before-at zero (i ∷ is) old new h zero = here (nat_lt 0 old.queued) (should_be_retransmitted i) (should_be_retransmitted i) (queued-of m i old h.0)
+  before-at zero (i ∷ is) old new h (suc k) = behind k (nat_lt 0 old.queued) (waits_at k is)
+  before-at (suc p) (i ∷ is) old new h zero = ahead p (nat_lt 0 old.queued) (should_be_retransmitted i)
+  before-at (suc p) (i ∷ is) old new h (suc k) = further k p (nat_lt 0 old.queued) (waits_at k is) (waits_at k is) (before-at p is old new h k)
+
+  after-at : (p : ℕ) (is : List Item) (old new : Totals) → Exchanges m p x is old new → (k : ℕ) → waits_at k (change_at p (changed x) is) ≡ cond (k == p) (nat_lt 0 new.queued) (waits_at k is)
+  after-at p [] old new h k = nowhere (k == p) (nat_lt 0 new.queued) (queued-is new nothing h.1)
+  after-at zero (i ∷ is) old new h zero = here (nat_lt 0 new.queued) (should_be_retransmitted (changed x i)) (should_be_retransmitted i) (queued-of m (changed x i) new h.1)
+  after-at zero (i ∷ is) old new h (suc k) = behind k (nat_lt 0 new.queued) (waits_at k is)
+  after-at (suc p) (i ∷ is) old new h zero = ahead p (nat_lt 0 new.queued) (should_be_retransmitted i)
+  after-at (suc p) (i ∷ is) old new h (suc k) = further k p (nat_lt 0 new.queued) (waits_at k is) (waits_at k (change_at p (changed x) is)) (after-at p is old new h k)
+
+-- ---- one comes
+
+end-before : (p : ℕ) (is : List Item) → length is ≡ p → (k : ℕ) → waits_at k is ≡ cond (k == p) false (waits_at k is)
+end-before p [] e k = nowhere (k == p) false refl
+end-before zero (i ∷ is) e k = absurd (omega (arith, e))
+end-before (suc p) (i ∷ is) e zero = ahead p false (should_be_retransmitted i)
+end-before (suc p) (i ∷ is) e (suc k) = further k p false (waits_at k is) (waits_at k is) (end-before p is (omega (arith, e)) k)
+
+end-after : (p : ℕ) (is : List Item) (i : Item) (waits : Bool) → length is ≡ p → waits ≡ should_be_retransmitted i → (k : ℕ) → waits_at k (is ++ i ∷ []) ≡ cond (k == p) waits (waits_at k is)
+end-after zero [] i waits e w zero = here waits (should_be_retransmitted i) false (sym w)
+end-after zero [] i waits e w (suc k) = behind k waits false
+end-after (suc p) [] i waits e w k = absurd (omega (arith, e))
+end-after zero (x ∷ is) i waits e w k = absurd (omega (arith, e))
+end-after (suc p) (x ∷ is) i waits e w zero = ahead p waits (should_be_retransmitted x)
+end-after (suc p) (x ∷ is) i waits e w (suc k) = further k p waits (waits_at k is) (waits_at k (is ++ i ∷ [])) (end-after p is i waits (omega (arith, e)) w k)
 
 pub turns-changed : (m : Bool) (x : Change) (first k : ℕ) (is : List Item) (old new : Totals) → Exchanges m k x is old new → Turns first k (nat_lt 0 old.queued) (nat_lt 0 new.queued) is (change_at k (changed x) is)
-turns-changed m x first k is old new h = record { before = λ n. before-at n m x first k is old new h; after = λ n. after-at n m x first k is old new h }
+turns-changed m x first p is old new h = record {
+  before = as-turned first p (nat_lt 0 old.queued) (λ k. waits_at k is) (λ k. waits_at k is) (before-at m x p is old new h);
+  after = as-turned first p (nat_lt 0 new.queued) (λ k. waits_at k is) (λ k. waits_at k (change_at p (changed x) is)) (after-at m x p is old new h);
+}
 
 pub turns-pushed : (first k : ℕ) (is : List Item) (i : Item) (waits : Bool) → length is ≡ k → waits ≡ should_be_retransmitted i → Turns first k false waits is (is ++ i ∷ [])
-turns-pushed first k is i waits e w = record { before = λ n. end-before n first k is e; after = λ n. end-after n first k is i waits e w }
+turns-pushed first p is i waits e w = record {
+  before = as-turned first p false (λ k. waits_at k is) (λ k. waits_at k is) (end-before p is e);
+  after = as-turned first p waits (λ k. waits_at k is) (λ k. waits_at k (is ++ i ∷ [])) (end-after p is i waits e w);
+}
 
 -- ---- the first one leaves
 
-gone : (b w r : Bool) → (b ≡ true → r ≡ false) → cond b false (cond b w r) ≡ r
-gone true w r h = sym (h refl)
-gone false w r h = refl
+out : (b w : Bool) → b ≡ true → cond b false w ≡ false
+out true w h = refl
+out false w h = cc
 
-gone-not : (b w r : Bool) → w ≡ false → (b ≡ true → r ≡ false) → cond b w r ≡ r
-gone-not true w r e h = e ∙ sym (h refl)
-gone-not false w r e h = refl
-
-no-first : (first n : ℕ) (is : List Item) → (n == first) ≡ true → waits_as (suc first) n is ≡ false
-no-first first n is h = as-below (suc first) n is (omega (arith, equal first n h))
+stays : (b w : Bool) → b ≡ false → cond b false w ≡ w
+stays true w h = cc
+stays false w h = refl
 
 pub passed : (numbers news : List ℕ) (first next : ℕ) (i : Item) (is : List Item) → next ≡ first + 1 → ((n : ℕ) → is_listed news n ≡ cond (n == first) false (is_listed numbers n))
     → AreListed numbers first (i ∷ is) → AreListed news next is
-passed numbers news first next i is e put listed = λ n.
-    put n ∙ (ap (λ b. cond (n == first) false b) (listed n)
-    ∙ (gone (n == first) (should_be_retransmitted i) (waits_as (suc first) n is) (no-first first n is) ∙ ap (λ m. waits_as m n is) (omega (arith, e))))
+passed numbers news first next i is e put listed = λ n. put n ∙ (leaves n ∙ ap (λ m. waits_as m n is) (sym e))
+  where
+    leaves : (n : ℕ) → cond (n == first) false (is_listed numbers n) ≡ waits_as (first + 1) n is
+    leaves n = elim (cases_lt first n) [
+      | inl more ↦ stays (n == first) (is_listed numbers n) (not-same first n more) ∙ (listed n ∙ sym (as-next first (λ k. waits_at k (i ∷ is)) n more))
+      | inr le ↦ none n le ∙ sym (as-below (first + 1) (λ k. waits_at k is) n (omega (arith, le)))
+    ] where
+      none : (n : ℕ) → n ≤ first → cond (n == first) false (is_listed numbers n) ≡ false
+      none n le = elim (cases_lt n first) [
+        | inl less ↦ stays (n == first) (is_listed numbers n) (not-below first n less) ∙ (listed n ∙ as-below first (λ k. waits_at k (i ∷ is)) n less)
+        | inr ge ↦ out (n == first) (is_listed numbers n) (is-same first n (omega (arith, le, ge)))
+      ]
 
 pub passed-not : (numbers : List ℕ) (first next : ℕ) (i : Item) (is : List Item) → next ≡ first + 1 → should_be_retransmitted i ≡ false → AreListed numbers first (i ∷ is) → AreListed numbers next is
-passed-not numbers first next i is e w listed = λ n.
-    listed n ∙ (gone-not (n == first) (should_be_retransmitted i) (waits_as (suc first) n is) w (no-first first n is) ∙ ap (λ m. waits_as m n is) (omega (arith, e)))
+passed-not numbers first next i is e w listed = passed numbers numbers first next i is e same listed
+  where
+    already : (b v : Bool) → (b ≡ true → v ≡ false) → v ≡ cond b false v
+    already true v h = h refl
+    already false v h = refl
+
+    same : (n : ℕ) → is_listed numbers n ≡ cond (n == first) false (is_listed numbers n)
+    same n = already (n == first) (is_listed numbers n) (λ t. listed n ∙ ap (λ j. waits_as first j (i ∷ is)) (at-end n t) ∙ (as-at first (λ k. waits_at k (i ∷ is)) 0 ∙ w)) where
+      at-end : (n : ℕ) → (n == first) ≡ true → n ≡ first + 0
+      at-end n t = omega (arith, equal first n t)
 
 -- ---- none waits
 
@@ -167,18 +225,13 @@ none-of : (b : Bool) → when b 1 ≤ 0 → b ≡ false
 none-of true h = absurd (omega (arith, h))
 none-of false h = refl
 
-neither : (b w r : Bool) → w ≡ false → r ≡ false → false ≡ cond b w r
-neither true w r h e = sym h
-neither false w r h e = sym e
+none-at : (is : List Item) → sum_by queued_part is ≤ 0 → (k : ℕ) → waits_at k is ≡ false
+none-at [] h k = refl
+none-at (i ∷ is) h zero = none-of (should_be_retransmitted i) (omega (arith, sum_by-cons queued_part i is, h))
+none-at (i ∷ is) h (suc k) = none-at is (omega (arith, sum_by-cons queued_part i is, h)) k
 
 pub none-listed : (first : ℕ) (is : List Item) → sum_by queued_part is ≤ 0 → AreListed [] first is
-none-listed first [] h n = refl
-none-listed first (i ∷ is) h n =
-    let sum = sum_by-cons queued_part i is in
-    neither (n == first) (should_be_retransmitted i) (waits_as (suc first) n is) (none-of (should_be_retransmitted i) (omega (arith, sum, h))) (sym (none-listed (suc first) is (omega (arith, sum, h)) n))
-
-pub lists-as : (w u : Waiting) (is js : List Item) → Lists w is → js ≡ is → u ≡ w → Lists u js
-lists-as w u is js h a b = subst (λ (ks : List Item). Lists u ks) (sym a) (subst (λ (v : Waiting). Lists v is) (sym b) h)
+none-listed first is h n = sym (as-never first (λ k. waits_at k is) (none-at is h) n)
 
 -- ---- no item that waits is smaller
 
@@ -218,6 +271,37 @@ stays-changed m x zero size (i ∷ is) old new e s least less le w h =
 stays-changed m x (suc k) size (i ∷ is) old new e s least less le w h =
     All-cons (IsAtLeast less) i (change_at k (changed x) is) (less-too less least i le (All-head (IsAtLeast least) i is h))
     (stays-changed m x k size is old new e s least less le w (All-tail (IsAtLeast least) i is h))
+
+-- the payload stays
+pub has-before : (x : Change) (k size : ℕ) (is : List Item) → HasSize k size (change_at k (changed x) is) → HasSize k size is
+has-before x k size [] h = h
+has-before x zero size (i ∷ is) h = h ∙ ap (λ f. length f.payload) (same-fragment x i)
+has-before x (suc k) size (i ∷ is) h = has-before x k size is h
+
+-- an item that neither begins nor ceases to wait
+still : (m : Bool) (x : Change) (i : Item) (old new : Totals) → old ≡ parts m i → new ≡ parts m (changed x i) → old.queued ≡ new.queued → should_be_retransmitted (changed x i) ≡ should_be_retransmitted i
+still m x i old new a b e = queued-of m (changed x i) new b ∙ (ap (λ n. nat_lt 0 n) (sym e) ∙ sym (queued-of m i old a))
+
+least-still : (m : Bool) (x : Change) (least k : ℕ) (is : List Item) (old new : Totals) → Exchanges m k x is old new → old.queued ≡ new.queued → All (IsAtLeast least) is → All (IsAtLeast least) (change_at k (changed x) is)
+least-still m x least k [] old new h e all = all
+least-still m x least zero (i ∷ is) old new h e all =
+    let same : length (changed x i).fragment.payload ≡ length i.fragment.payload = ap (λ f. length f.payload) (same-fragment x i) in
+    All-cons (IsAtLeast least) (changed x i) is (λ t. omega (arith, All-head (IsAtLeast least) i is all (sym (still m x i old new h.0 h.1 e) ∙ t), same)) (All-tail (IsAtLeast least) i is all)
+least-still m x least (suc k) (i ∷ is) old new h e all =
+    All-cons (IsAtLeast least) i (change_at k (changed x) is) (All-head (IsAtLeast least) i is all) (least-still m x least k is old new h e (All-tail (IsAtLeast least) i is all))
+
+at-still : (m : Bool) (x : Change) (p : ℕ) (is : List Item) (old new : Totals) → Exchanges m p x is old new → old.queued ≡ new.queued → (k : ℕ) → waits_at k (change_at p (changed x) is) ≡ waits_at k is
+at-still m x p [] old new h e k = refl
+at-still m x zero (i ∷ is) old new h e zero = still m x i old new h.0 h.1 e
+at-still m x zero (i ∷ is) old new h e (suc k) = refl
+at-still m x (suc p) (i ∷ is) old new h e zero = refl
+at-still m x (suc p) (i ∷ is) old new h e (suc k) = at-still m x p is old new h e k
+
+pub lists-still : (m : Bool) (x : Change) (w : Waiting) (k : ℕ) (is : List Item) (old new : Totals) → Exchanges m k x is old new → old.queued ≡ new.queued → Lists w is → Lists w (change_at k (changed x) is)
+lists-still m x w p is old new h e known = (
+  λ yes n. known.0 yes n ∙ sym (as-alike w.first (λ k. waits_at k is) (λ k. waits_at k (change_at p (changed x) is)) (at-still m x p is old new h e) n),
+  least-still m x w.least p is old new h e known.1,
+)
 
 pub stays-pushed : (size : ℕ) (waits : Bool) (is : List Item) (i : Item) → waits ≡ should_be_retransmitted i → size ≡ length i.fragment.payload → StaysAtLeast size waits is (is ++ i ∷ [])
 stays-pushed size waits [] i e s least less le w h = All-cons (IsAtLeast less) i [] (λ t. omega (arith, w (e ∙ t), s)) (All-nil (IsAtLeast less))

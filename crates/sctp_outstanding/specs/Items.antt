@@ -122,6 +122,12 @@ later_of number found (i ∷ is) = later_of number (if is_of number i then Some 
 abbrev pub last_of : ℕ → List Item → Option FragmentTree
 last_of number is = later_of number None is
 
+-- the fragment at the place, where it is one of the message, or the one found before
+abbrev pub later_at : ℕ → ℕ → Option FragmentTree → List Item → Option FragmentTree
+later_at number k found [] = found
+later_at number zero found (i ∷ is) = if is_of number i then Some (without_payload i.fragment) else found
+later_at number (suc k) found (i ∷ is) = later_at number k found is
+
 -- whether the item at the place is one of them
 abbrev pub is_of_at : ℕ → ℕ → List Item → Bool
 is_of_at number k [] = false

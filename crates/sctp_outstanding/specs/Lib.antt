@@ -9,6 +9,7 @@ pub mod Item
 pub mod Items
 pub mod Keeps
 pub mod Losses
+pub mod Messages
 pub mod Passes
 pub mod Point
 pub mod Records

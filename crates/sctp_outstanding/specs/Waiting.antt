@@ -1,5 +1,5 @@
 -- The items that wait to be sent again, by their numbers, so that those between them aren't looked at.
-use Rattle.std.specs.Prelude.{◌≡◌, ℕ, zero, suc, ◌+◌, ◌<◌, ◌≤◌, ◌==◌, Bool, true, false, if◌then◌else◌, List, [], ◌∷◌, length}
+use Rattle.std.specs.Prelude.{◌≡◌, ℕ, zero, suc, ◌+◌, ◌-◌, ◌<◌, ◌≤◌, ◌==◌, ◌&&◌, nat_le, Bool, true, false, if◌then◌else◌, List, [], ◌∷◌, length}
 use Rattle.std.specs.List.{list_any, All}
 use Rattle.std.specs.Ordering.{nat_cmp}
 use Rattle.std.specs.BTreeMap.{is_at}
@@ -18,10 +18,13 @@ NoneWaits from to is = (k : ℕ) → from ≤ k → k < to → waits_at k is ≡
 
 -- ---- their numbers, of which the first item's is `first`
 
+-- what holds at places, by number
+abbrev pub by_number : (first : ℕ) → (ℕ → Bool) → (n : ℕ) → Bool
+by_number first holds n = nat_le first n && holds (n - first)
+
 -- whether the item of number n waits
 abbrev pub waits_as : (first n : ℕ) → List Item → Bool
-waits_as first n [] = false
-waits_as first n (i ∷ is) = if n == first then should_be_retransmitted i else waits_as (suc first) n is
+waits_as first n is = by_number first (λ k. waits_at k is) n
 
 abbrev pub is_listed : List ℕ → ℕ → Bool
 is_listed numbers n = list_any (is_at (nat_cmp n)) numbers

@@ -2,12 +2,13 @@
 
 ghost use Rattle.std.specs.Prelude.{◌≡◌, ◌==◌, ◌+◌, ℕ, Some, map, min, option_map, slice_get, not, nat_lt, sum_by, ◌<◌, ◌≤◌, ◌^◌, ◌∷◌, ◌++◌, [], length, drop, take, OnOk, OnErr, IfSome, IfNone};
 ghost use Rattle.sctp_outstanding.specs.Change.{changed};
-ghost use Rattle.sctp_outstanding.specs.Items.{change_at, lay_down, is_of_at, last_of, later_of, without_payload, packet_part, payload_part, flight_part, queued_part, fast_part, expiring_part};
+ghost use Rattle.sctp_outstanding.specs.Items.{change_at, lay_down, is_of_at, last_of, later_of, later_at, without_payload, packet_part, payload_part, flight_part, queued_part, fast_part, expiring_part};
 ghost use Rattle.sctp_outstanding.specs.Totals.{AreTotals, Exchanges};
 ghost use Rattle.sctp_outstanding.specs.Losses.{placeholder};
 ghost use Rattle.sctp_outstanding.specs.Views.{last_tree};
 ghost use Rattle.sctp_outstanding.specs.Heard.{Rest, RestBelow, RestFrom};
 ghost use Rattle.sctp_outstanding.specs.Sack.{reports};
+ghost use Rattle.sctp_outstanding.specs.Messages.{Finds};
 ghost use Rattle.sctp_outstanding.specs.Waiting.{HasSize, Lists, NoneWaits};
 ghost use Rattle.sctp_state.specs.Events.{tell_all, Grown};
 
@@ -15,6 +16,7 @@ mod handover;
 
 use crate::heard::{Heard, alike, reach};
 use crate::item::{Item, header_size};
+use crate::messages::Messages;
 use crate::sack::highest_end;
 use crate::telling::tell_left;
 use crate::totals::Totals;
@@ -77,17 +79,70 @@ impl LastFragment {
     }
 }
 
+// The fragment at the place, where it is one of the message, or else the one found before.
+fn later_at(
+    items: &VecDeque<Item>,
+    place: usize,
+    message_id: OutgoingMessageId,
+    found: Option<LastFragment>,
+) -> Option<LastFragment>
+    ensures { option_map last_tree result ≡ later_at message_id.0 place (option_map last_tree found) items.now.items }
+{
+    let Some(item) = items.get(place) else {
+        return found;
+    };
+    if item.message_id().0 == message_id.0 {
+        return Some(LastFragment::of(item));
+    }
+    found
+}
+
 // The last fragment of a message.
-fn find_last(items: &VecDeque<Item>, message_id: OutgoingMessageId) -> Option<LastFragment>
+fn find_last(
+    items: &VecDeque<Item>,
+    messages: &Messages,
+    message_id: OutgoingMessageId,
+) -> Option<LastFragment>
+    requires { Finds messages.now items.now.items }
     ensures { option_map last_tree result ≡ last_of message_id.0 items.now.items }
 {
+    let count = items.len();
     let mut last = None;
-    for item in items.iter() {
-        if item.message_id().0 == message_id.0 {
-            last = Some(LastFragment::of(item));
+    let mut place = 0;
+    while place < count {
+        let next = messages.next(message_id, place);
+        if count <= next {
+            return last;
         }
+        last = later_at(items, next, message_id, last);
+        place = next + 1;
     }
     last
+}
+
+// The item at the place is one of those that are known.
+fn list_at(items: &VecDeque<Item>, messages: &mut Messages, place: usize)
+    requires { Finds messages.old (take place items.now.items) }
+    ensures { Finds messages.new (take (place + 1) items.now.items) }
+{
+    let Some(item) = items.get(place) else {
+        return;
+    };
+    messages.add(item.message_id(), place);
+}
+
+// Makes known which items are of which message, if there is memory for that.
+fn list_all(items: &VecDeque<Item>, messages: &mut Messages)
+    requires { Finds messages.old items.now.items }
+    ensures { Finds messages.new items.now.items }
+{
+    if messages.is_known {
+        return;
+    }
+    messages.begin();
+    for place in 0..items.len() {
+        list_at(items, messages, place);
+    }
 }
 
 // Tells what is to be told as the first items leave.
@@ -164,10 +219,13 @@ fn change_one(
     ensures waiting { Lists waiting.new items.new.items }
 {
     let _count = items.len();
-    let size = payload_at(items, place);
     let (old, new) = change_item(items, is_interleaved, place, change);
-    waiting.follow(place, size, old.queued > 0, new.queued > 0);
     *totals = totals.exchanged(old, new);
+    if old.queued == new.queued {
+        return;
+    }
+    let size = payload_at(items, place);
+    waiting.follow(place, size, old.queued > 0, new.queued > 0);
 }
 
 // Adds an item behind the others. Without memory nothing changes.
@@ -196,6 +254,17 @@ fn push_item(
     Ok(())
 }
 
+// The first item is about to leave.
+fn leave_first(items: &VecDeque<Item>, messages: &mut Messages)
+    requires { Finds messages.old items.now.items }
+    ensures { Finds messages.new (drop 1 items.now.items) }
+{
+    let Some(item) = items.get(0) else {
+        return;
+    };
+    messages.leave(item.message_id());
+}
+
 // Takes the first item out.
 fn pop_item(
     items: &mut VecDeque<Item>,
@@ -219,31 +288,59 @@ fn pop_item(
     Some(item)
 }
 
+// Gives up the item at the place, where it is one of the message.
+fn abandon_at(
+    items: &mut VecDeque<Item>,
+    totals: &mut Totals,
+    waiting: &mut Waiting,
+    is_interleaved: bool,
+    place: usize,
+    message_id: OutgoingMessageId,
+)
+    requires totals { AreTotals is_interleaved items.old.items totals.old }
+    requires waiting { Lists waiting.old items.old.items }
+    ensures items { items.new.items ≡ change_at place (lay_down message_id.0) items.old.items }
+    ensures totals { AreTotals is_interleaved items.new.items totals.new }
+    ensures waiting { Lists waiting.new items.new.items }
+{
+    if !is_of(items, place, message_id) {
+        return;
+    }
+    change_one(
+        items,
+        totals,
+        waiting,
+        is_interleaved,
+        place,
+        Change::Abandon,
+    );
+}
+
 // Gives up all items of a message.
 fn abandon_all(
     items: &mut VecDeque<Item>,
     totals: &mut Totals,
     waiting: &mut Waiting,
+    messages: &Messages,
     is_interleaved: bool,
     message_id: OutgoingMessageId,
 )
     requires totals { AreTotals is_interleaved items.old.items totals.old }
     requires waiting { Lists waiting.old items.old.items }
+    requires messages { Finds messages.now items.old.items }
     ensures items { items.new.items ≡ map (lay_down message_id.0) items.old.items }
     ensures totals { AreTotals is_interleaved items.new.items totals.new }
     ensures waiting { Lists waiting.new items.new.items }
 {
-    for place in 0..items.len() {
-        if is_of(items, place, message_id) {
-            change_one(
-                items,
-                totals,
-                waiting,
-                is_interleaved,
-                place,
-                Change::Abandon,
-            );
+    let count = items.len();
+    let mut place = 0;
+    while place < count {
+        let next = messages.next(message_id, place);
+        if count <= next {
+            return;
         }
+        abandon_at(items, totals, waiting, is_interleaved, next, message_id);
+        place = next + 1;
     }
 }
 
@@ -265,6 +362,7 @@ pub struct Kept {
     totals: Totals,
     heard: Heard,
     waiting: Waiting,
+    messages: Messages,
 }
 
 impl Model for Kept {
@@ -272,12 +370,13 @@ impl Model for Kept {
     ghost use Rattle.sctp_outstanding.specs.Totals.{AreTotals};
     ghost use Rattle.sctp_outstanding.specs.Heard.{Knows};
     ghost use Rattle.sctp_outstanding.specs.Waiting.{Lists};
+    ghost use Rattle.sctp_outstanding.specs.Messages.{Finds};
 
     ghost Value = { Kept };
 
     ghost view = { λ k. record { is_interleaved = k.is_interleaved; items = k.items.items } };
 
-    ghost invariant = { λ k. AreTotals k.is_interleaved k.items.items k.totals × (Knows k.heard k.items.items × Lists k.waiting k.items.items) };
+    ghost invariant = { λ k. AreTotals k.is_interleaved k.items.items k.totals × (Knows k.heard k.items.items × (Lists k.waiting k.items.items × Finds k.messages k.items.items)) };
 }
 
 impl Kept {
@@ -295,6 +394,7 @@ impl Kept {
             totals: Totals::nothing(),
             heard: Heard::new(alloc),
             waiting: Waiting::new(alloc),
+            messages: Messages::new(alloc),
         }
     }
 
@@ -431,6 +531,8 @@ impl Kept {
         ensures err { OnErr result (self.new ≡ self.old) }
     {
         let acked = item.is_acked();
+        let message_id = item.message_id();
+        let place = self.items.len();
         push_item(
             &mut self.items,
             &mut self.totals,
@@ -439,6 +541,7 @@ impl Kept {
             item,
         )?;
         self.heard.take(acked);
+        self.messages.add(message_id, place);
         Ok(())
     }
 
@@ -449,6 +552,7 @@ impl Kept {
         ensures rest { self.new ≡ record self.old { items = drop 1 self.old.items } }
     {
         self.heard.pass();
+        leave_first(&self.items, &mut self.messages);
         pop_item(
             &mut self.items,
             &mut self.totals,
@@ -469,7 +573,15 @@ impl Kept {
     pub fn last_of(&self, message_id: OutgoingMessageId) -> Option<LastFragment>
         ensures { option_map last_tree result ≡ last_of message_id.0 self.now.items }
     {
-        find_last(&self.items, message_id)
+        find_last(&self.items, &self.messages, message_id)
+    }
+
+    /// Looks up which items are of which message, so that none of another is looked at.
+    pub(crate) fn find_messages(&mut self)
+        ensures { self.new ≡ self.old }
+    {
+        list_all(&self.items, &mut self.messages);
+        self.messages.hold(self.items.len());
     }
 
     /// Gives up all items of a message.
@@ -480,6 +592,7 @@ impl Kept {
             &mut self.items,
             &mut self.totals,
             &mut self.waiting,
+            &self.messages,
             self.is_interleaved,
             message_id,
         );

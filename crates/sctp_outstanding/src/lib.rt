@@ -5,6 +5,7 @@ mod heard;
 pub mod item;
 pub mod kept;
 pub mod laws;
+mod messages;
 pub mod outstanding_data;
 pub mod sack;
 pub mod skips;

@@ -296,6 +296,7 @@ impl OutstandingData {
         let mark = events.mark();
         let number = message_id;
         events.add_given_up(GivenUp { number, cause })?;
+        self.kept.find_messages();
         if self.close(message_id).is_err() {
             events.roll_back(mark);
             return Err(AllocError);

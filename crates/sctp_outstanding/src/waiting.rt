@@ -18,8 +18,8 @@ pub struct Waiting {
     pub least: usize,
 }
 
-// Lists the number or takes it out. Says whether there was memory.
-fn put(numbers: &mut BTreeSet<u64>, number: u64, waits: bool) -> bool
+/// Lists the number or takes it out. Says whether there was memory.
+pub(crate) fn put(numbers: &mut BTreeSet<u64>, number: u64, waits: bool) -> bool
     ensures { result ≡ true → (n : ℕ) → is_listed numbers.new.keys n ≡ (if n == number then waits else is_listed numbers.old.keys n) }
 {
     if waits {
@@ -37,8 +37,8 @@ fn lesser(least: usize, waits: bool, size: usize) -> usize
     if waits { least.min(size) } else { least }
 }
 
-// The least number from this one on.
-fn least_from(numbers: &BTreeSet<u64>, from: u64) -> Option<u64>
+/// The least number from this one on.
+pub(crate) fn least_from(numbers: &BTreeSet<u64>, from: u64) -> Option<u64>
     ensures from { IfSome result (λ least. from ≤ least) }
     ensures least { IfSome result (λ least. (n : ℕ) → from ≤ n → n < least → is_listed numbers.now.keys n ≡ false) }
     ensures none { IfNone result ((n : ℕ) → from ≤ n → is_listed numbers.now.keys n ≡ false) }

@@ -1,4 +1,4 @@
-use Rattle.std.proofs.Common.{◌≡◌}
+use Rattle.std.proofs.Common.{◌≡◌, ◌≤◌, ◌-◌}
 use Rattle.sctp_outstanding.specs.Totals.{AreTotals}
 use Rattle.sctp_outstanding.specs.Waiting.{Lists}
 use Rattle.sctp_outstanding.proofs.LaidLemmas.{laid}
@@ -6,7 +6,11 @@ use Rattle.sctp_outstanding.proofs.kept.abandon_all.Given as goal
 
 abbrev pub invariant-loop-place : goal.invariant-loop-place
 invariant-loop-place l = record {
+  within : l.place ≤ l.count;
   items : l.items.items ≡ laid l.place l.message_id.0 l.initial.items.items;
   totals : AreTotals l.is_interleaved l.items.items l.totals;
   waiting : Lists l.waiting l.items.items;
 }
+
+abbrev pub decreases-loop-place : goal.decreases-loop-place
+decreases-loop-place l = l.count - l.place

@@ -3,10 +3,24 @@ use Rattle.sctp_outstanding.specs.Item.{Item}
 use Rattle.sctp_outstanding.specs.Change.{changed}
 use Rattle.sctp_outstanding.specs.Items.{change_at}
 use Rattle.sctp_outstanding.specs.Totals.{exchanged}
-use Rattle.sctp_outstanding.specs.Waiting.{Lists}
+use Rattle.sctp_outstanding.specs.Waiting.{HasSize, Lists}
 use Rattle.sctp_outstanding.proofs.TotalsLemmas.{totals-changed, totals-as}
-use Rattle.sctp_outstanding.proofs.WaitingLemmas.{turns-changed, stays-changed}
+use Rattle.sctp_outstanding.proofs.WaitingLemmas.{turns-changed, stays-changed, has-before, lists-still}
 use Rattle.sctp_outstanding.proofs.kept.change_one.Goals as goal
+
+pub returns-then-old-new-clause-totals : goal.returns-then-old-new-clause-totals
+returns-then-old-new-clause-totals c =
+    let few : length c.args.items.now.items < 2 ^ 64 = omega arith in
+    totals-as c.args.is_interleaved (change_at c.args.place (changed c.args.change) c.args.items.now.items) c.change_item.new.items.items
+    (exchanged c.change_item.result.0 c.change_item.result.1 c.args.totals.now) c.exchanged.result
+    (totals-changed c.args.is_interleaved c.args.place c.args.change c.args.items.now.items c.change_item.result.0 c.change_item.result.1 c.args.totals.now c.requires.totals few c.change_item.ensures.parts)
+    c.change_item.ensures.items c.exchanged.ensures
+
+pub returns-then-old-new-clause-waiting : goal.returns-then-old-new-clause-waiting
+returns-then-old-new-clause-waiting c =
+    let is = c.args.items.now.items in
+    subst (λ (ks : List Item). Lists c.args.waiting.now ks) (sym c.change_item.ensures.items)
+    (lists-still c.args.is_interleaved c.args.change c.args.waiting.now c.args.place is c.change_item.result.0 c.change_item.result.1 c.change_item.ensures.parts c.if-old-new.true c.requires.waiting)
 
 pub returns-clause-totals : goal.returns-clause-totals
 returns-clause-totals c =
@@ -20,6 +34,7 @@ pub returns-clause-waiting : goal.returns-clause-waiting
 returns-clause-waiting c =
     let is = c.args.items.now.items in
     let js = change_at c.args.place (changed c.args.change) is in
+    let size : HasSize c.args.place c.payload_at-size.result js = subst (λ (ks : List Item). HasSize c.args.place c.payload_at-size.result ks) c.change_item.ensures.items c.payload_at-size.ensures in
     subst (λ (ks : List Item). Lists c.follow.new.self ks) (sym c.change_item.ensures.items)
     (c.follow.ensures is js (turns-changed c.args.is_interleaved c.args.change c.args.waiting.now.first c.args.place is c.change_item.result.0 c.change_item.result.1 c.change_item.ensures.parts)
-    (stays-changed c.args.is_interleaved c.args.change c.args.place c.payload_at-size.result is c.change_item.result.0 c.change_item.result.1 c.change_item.ensures.parts c.payload_at-size.ensures) c.requires.waiting)
+    (stays-changed c.args.is_interleaved c.args.change c.args.place c.payload_at-size.result is c.change_item.result.0 c.change_item.result.1 c.change_item.ensures.parts (has-before c.args.change c.args.place c.payload_at-size.result is size)) c.requires.waiting)

@@ -1,11 +1,18 @@
 use Rattle.std.proofs.Common.{List, sym, subst}
 use Rattle.sctp_outstanding.specs.Item.{Item}
 use Rattle.sctp_outstanding.specs.Heard.{Knows}
+use Rattle.sctp_outstanding.specs.Messages.{Finds}
 use Rattle.sctp_outstanding.proofs.HeardLemmas.{knows-laid}
+use Rattle.sctp_outstanding.proofs.MessagesLemmas.{finds-laid}
 use Rattle.sctp_outstanding.proofs.kept.Kept.abandon.Goals as goal
 
 pub invariant_of-self : goal.invariant_of-self
-invariant_of-self c = (
-  c.abandon_all.ensures.totals,
-  (subst (λ (is : List Item). Knows c.self.inside.heard is) (sym c.abandon_all.ensures.items) (knows-laid c.self.inside.heard c.args.message_id.0 c.self.inside.items.items c.self.invariant.1.0), c.abandon_all.ensures.waiting),
-)
+invariant_of-self c =
+    let is = c.self.inside.items.items in
+    let id = c.args.message_id.0 in (
+      c.abandon_all.ensures.totals,
+      (
+        subst (λ (js : List Item). Knows c.self.inside.heard js) (sym c.abandon_all.ensures.items) (knows-laid c.self.inside.heard id is c.self.invariant.1.0),
+        (c.abandon_all.ensures.waiting, subst (λ (js : List Item). Finds c.self.inside.messages js) (sym c.abandon_all.ensures.items) (finds-laid c.self.inside.messages id is c.self.invariant.1.1.1)),
+      ),
+    )

@@ -11,4 +11,4 @@ returns c =
     let least = c.self.inside.waiting.least in
     let size = c.header_size.result + c.min.result in
     let le : size ≤ header_size m + least = omega (arith, c.header_size.ensures, c.min.ensures) in
-    subst (λ (k : Kept). All (λ i. should_be_retransmitted i ≡ true → size ≤ chunk_size k.is_interleaved i) k.items) c.self.view_is (chunks-at-least m least size c.self.inside.items.items le c.self.invariant.1.1.1)
+    subst (λ (k : Kept). All (λ i. should_be_retransmitted i ≡ true → size ≤ chunk_size k.is_interleaved i) k.items) c.self.view_is (chunks-at-least m least size c.self.inside.items.items le c.self.invariant.1.1.0.1)
