@@ -6,11 +6,6 @@ use Rattle.sctp_rules.specs.State.{IsAmong}
 use Rattle.sctp_rx.specs.Runs.{is_held, put_in, from_rank, last_of}
 
 module _ {A : Type 0} where
-  pub among_left : (x : A) (xs ys : List A) → IsAmong x xs → IsAmong x (xs ++ ys)
-  among_left x [] ys h = absurd h
-  among_left x (y ∷ xs) ys (inl e) = inl e
-  among_left x (y ∷ xs) ys (inr h) = inr (among_left x xs ys h)
-
   pub among_right : (x : A) (xs ys : List A) → IsAmong x ys → IsAmong x (xs ++ ys)
   among_right x [] ys h = h
   among_right x (y ∷ xs) ys h = inr (among_right x xs ys h)

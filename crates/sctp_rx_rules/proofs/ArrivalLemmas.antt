@@ -2,6 +2,7 @@
 use Rattle.std.proofs.Common.{◌≡◌, ◌≢◌, ℕ, ◌+◌, ◌-◌, ◌^◌, ◌<◌, Bool, true, false, cond, ◌⊎◌, inl, inr, None, List, [], ◌++◌, length, refl, ap, sym, ◌∙◌, subst, arith, append-nil}
 use Rattle.std.specs.Prelude.{not, ◌&&◌, ◌==◌, nat_lt, max}
 use Rattle.std.proofs.lemmas.Bool.{cases_eq, cases_Bool, cond-true, cond-false, eq-eqb, ne_eqb}
+use Rattle.std.proofs.lemmas.Option.{none-some}
 use Rattle.sctp_serial.specs.Messages.{Message}
 use Rattle.sctp_serial.specs.Unwrapped.{origin}
 use Rattle.sctp_rx.specs.Key.{pair_rank}
@@ -14,7 +15,7 @@ use Rattle.sctp_reassembly.proofs.SettledInsertLemmas.{came_in}
 use Rattle.sctp_rules.specs.Reassembly.{Queue, KeyOf, next_of, Added}
 use Rattle.sctp_rx_rules.specs.View.{View, IsFiled, IsSeenAs, chunk_of_held, key_of_held, ordered_at, unordered_at, held_on, view_with}
 use Rattle.sctp_rx_rules.proofs.AmongLemmas.{held_item}
-use Rattle.sctp_rx_rules.proofs.KeyLemmas.{Decided, none_some}
+use Rattle.sctp_rx_rules.proofs.KeyLemmas.{Decided}
 use Rattle.sctp_rx_rules.proofs.SeenAsLemmas.{with_chunk, added, seen_with}
 use Rattle.sctp_rx_rules.proofs.TakesLemmas.{Leads, AreAlike, is_place, moved, moved_at, moved_none, moved_twice, leads_alike, after_delivery, delivers, completes}
 use Rattle.sctp_rx_rules.proofs.StreamLemmas.{changed_here, changed_off, all_at}
@@ -106,7 +107,7 @@ module _ (mixed : Bool) (shift : ℕ) (decide : Decided mixed) (ss : Streams) (r
           | inr n ↦ n
           | inl t ↦
               let h = held_item rank_of (rank_of x) (held_on ss kind id) t in
-              let c = p.holds kind id h.0 h.1 in absurd (none_some (chunk_of_held c.0 h.0) (sym new ∙ (ap q.chunks (sym (same_key h.0 (p.filed kind id h.0 h.1) h.2)) ∙ c.1)))
+              let c = p.holds kind id h.0 h.1 in absurd (none-some (chunk_of_held c.0 h.0) (sym new ∙ (ap q.chunks (sym (same_key h.0 (p.filed kind id h.0 h.1) h.2)) ∙ c.1)))
         ]
       where
         numbers : (a b c d : ℕ) → b < 2 ^ 63 → d < 2 ^ 63 → pair_rank a b ≡ pair_rank c d → (a ≡ c) × (b ≡ d)

@@ -15,13 +15,12 @@ use Rattle.sctp_rules.specs.Lifted.{as_written, wire_point}
 use Rattle.sctp_rules.specs.Rules.{covers}
 use Rattle.sctp_rules.specs.Resets.{Request, Epochs}
 use Rattle.sctp_rules.specs.Based.{InEpochs, NothingWaits}
-use Rattle.sctp_rules.proofs.ToolsLemmas.{not_both}
+use Rattle.sctp_rules.proofs.ToolsLemmas.{not_both, among_covers}
 use Rattle.sctp_rules.proofs.EpochLawsLemmas.{nothing_waits}
 use Rattle.sctp_rx_rules.specs.Read.{StandForAll}
 use Rattle.sctp_rx_rules.specs.Resets.{IsNextTo, AreNextTo, IsDeferral, named_by}
 use Rattle.sctp_rx_rules.proofs.EntryLemmas.{id_is}
 use Rattle.sctp_rx_rules.proofs.ForwardRowLemmas.{not_far, called_at_once}
-use Rattle.sctp_rx_rules.proofs.NearNumberLemmas.{among_covers}
 
 -- ---- the streams that are named
 

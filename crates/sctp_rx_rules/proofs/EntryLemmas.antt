@@ -9,6 +9,7 @@ use Rattle.sctp_rules.specs.State.{Entry, IsAmong}
 use Rattle.sctp_rules.specs.Rules.{same, covers, raised}
 use Rattle.sctp_rx_rules.specs.Read.{StandsFor, StandForAll}
 use Rattle.sctp_rules.specs.Points.{AreApart, IsApart}
+use Rattle.sctp_rules.proofs.CommonLemmas.{or_none}
 
 abbrev pub put_entry : Entry → List Entry → List Entry
 put_entry e [] = e ∷ []
@@ -63,10 +64,6 @@ module _ (kind : Bool) (s n : ℕ) where
   turn false true c = refl
   turn false false c = refl
 
-  none : (a : Bool) → (a || false) ≡ a
-  none true = refl
-  none false = refl
-
   put_covers : (e : Entry) (es : List Entry) → covers (put_entry e es) kind s n ≡ covers (e ∷ es) kind s n
   put_covers e [] = refl
   put_covers e (d ∷ es) = go (nat_lt e.stream d.stream) (put_covers e es)
@@ -84,7 +81,7 @@ module _ (kind : Bool) (s n : ℕ) where
       ∙ turn (covers es kind s n) (same e.ordered kind && ((e.stream == s) && nat_le n e.number)) (covers ds kind s n))
 
   pub sorted_covers : (es : List Entry) → covers (put_entries es []) kind s n ≡ covers es kind s n
-  sorted_covers es = puts_covers es [] ∙ none (covers es kind s n)
+  sorted_covers es = puts_covers es [] ∙ or_none (covers es kind s n)
 
 module _ (kind : Bool) (s : ℕ) where
   abbrev lifted : Entry → ℕ → ℕ

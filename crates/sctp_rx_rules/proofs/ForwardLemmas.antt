@@ -3,6 +3,7 @@ use Rattle.std.proofs.Common.{◌≡◌, ℕ, ◌+◌, ◌-◌, ◌^◌, ◌<◌
 use Rattle.std.specs.Prelude.{not, ◌&&◌, ◌||◌, ◌==◌, nat_lt, nat_le}
 use Rattle.std.proofs.lemmas.Bool.{cond-false, or_from, or_parts}
 use Rattle.std.proofs.lemmas.Bool.Decides.{nat_tests}
+use Rattle.std.proofs.lemmas.Option.{same_Some, none-some}
 use Rattle.sctp_serial.specs.Messages as messages
 use Rattle.sctp_serial.specs.Unwrapped.{origin}
 use Rattle.sctp_rx.specs.Key.{pair_rank}
@@ -15,7 +16,7 @@ use Rattle.sctp_rules.specs.Reassembly as queues
 use Rattle.sctp_rules.specs.Reassembly.{Chunk, Queue, KeyOf, next_of, below_of, undropped}
 use Rattle.sctp_rx_rules.specs.View.{View, IsFiled, IsSeenAs, chunk_of_held, key_of_held, ordered_at, unordered_at, held_on, view_with}
 use Rattle.sctp_rx_rules.proofs.AmongLemmas.{from_cases, from_kept}
-use Rattle.sctp_rx_rules.proofs.KeyLemmas.{none_some, some_same, twice_not}
+use Rattle.sctp_rx_rules.proofs.KeyLemmas.{twice_not}
 use Rattle.sctp_rx_rules.proofs.StreamLemmas.{mapped_at}
 use Rattle.sctp_rx_rules.proofs.PendingLemmas.{is_named, pending, lift_next, lift_passed, lift_none, cut_sub, cut_uncovered, cut_kept}
 
@@ -93,12 +94,12 @@ module _ (mixed : Bool) (shift : ℕ) (ss : Streams) (ready : List messages.Mess
   drops κ w = covers f.entries w.ordered w.stream w.number || (not mixed && (not w.ordered && below_of mixed κ f.upto))
 
   drop_some : (κ : KeyOf mixed) (o : Option Chunk) (w : Chunk) → undropped (KeyOf mixed) (next_of mixed) mixed (below_of mixed) f κ o ≡ Some w → (o ≡ Some w) × (drops κ w ≡ false)
-  drop_some κ None w e = absurd (none_some w e)
+  drop_some κ None w e = absurd (none-some w e)
   drop_some κ (Some v) w e = go (drops κ v) refl e
     where
       go : (b : Bool) → drops κ v ≡ b → cond b None (Some v) ≡ Some w → (Some v ≡ Some w) × (drops κ w ≡ false)
-      go true t e = absurd (none_some w e)
-      go false t e = (e, ap (drops κ) (sym (some_same v w e)) ∙ t)
+      go true t e = absurd (none-some w e)
+      go false t e = (e, ap (drops κ) (sym (same_Some v w e)) ∙ t)
 
   pub left_fewer : (κ : KeyOf mixed) (w : Chunk) → left.chunks κ ≡ Some w → q.chunks κ ≡ Some w
   left_fewer κ w e = (drop_some κ (q.chunks κ) w e).0

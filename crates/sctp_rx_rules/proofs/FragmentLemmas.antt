@@ -12,7 +12,7 @@ use Rattle.sctp_rx.specs.Streams as streams
 use Rattle.sctp_rx.specs.Streams.{is_far, held_as, place_of}
 use Rattle.sctp_rx.specs.ReassemblyQueue.{Reassembly, number_of, came, made, add, add_now, add_or_wait, fragment_waits, waits, Added}
 use Rattle.sctp_rules.specs.State as rules
-use Rattle.sctp_rules.specs.State.{Message, Transfer, Sender, Receiver, IsAmong, fragment, count, ordered_of, stream_of, put}
+use Rattle.sctp_rules.specs.State.{Message, Transfer, Sender, fragment, ordered_of, stream_of}
 use Rattle.sctp_rules.specs.Rules.{floor}
 use Rattle.sctp_rules.specs.Joints.{Shows}
 use Rattle.sctp_rules.specs.Reassembly.{Queue, KeyOf, next_of, IsLate}
@@ -127,9 +127,6 @@ module _ (message : ℕ → Message) (mixed : Bool) (shift : ℕ) (x : Transfer)
 
   ordered_is : (b : Bool) → f.is_unordered ≡ b → ordered_of message place ≡ not b
   ordered_is b e = sym (not-not (ordered_of message place)) ∙ (ap not (sym carries.kind) ∙ ap not e)
-
-  behind : Bool → Bool → Bool
-  behind m b = (b || m) && nat_lt number (floor x.receiver b (stream_of message place))
 
   pub ordered_behind : f.is_unordered ≡ false → nat_lt (item r tsn f).number (ordered_at r.streams f.stream_id).next ≡ is_behind message mixed x.sender x.receiver k
   ordered_behind e =

@@ -2,6 +2,7 @@
 use Rattle.std.proofs.Common.{◌≡◌, ℕ, suc, ◌-◌, ◌^◌, ◌<◌, Bool, true, false, ◌⊎◌, inl, inr, Option, Some, None, List, [], ◌∷◌, refl, ap, sym, ◌∙◌, arith}
 use Rattle.std.specs.Prelude.{not, ◌&&◌, ◌==◌}
 use Rattle.std.proofs.lemmas.Bool.{cases_eq, and_parts}
+use Rattle.std.proofs.lemmas.Option.{none-some}
 use Rattle.sctp_serial.specs.Unwrapped.{origin}
 use Rattle.sctp_rx.specs.Key.{pair_rank}
 use Rattle.sctp_rx.specs.Runs.{is_next}
@@ -30,12 +31,6 @@ place_cases k kind a s =
     kinds true false = inr (λ e. cc)
     kinds false true = inr (λ e. cc)
     kinds false false = inl refl
-
-pub some_same : {A : Type 0} (a b : A) → Some a ≡ Some b → a ≡ b
-some_same a b e = cc
-
-pub none_some : {A : Type 0} (a : A) → None ≡ Some a → ⊥
-none_some a e = cc
 
 pub kind_back : (a b k c : Bool) → a ≡ not k → b ≡ not c → not a ≡ not b → k ≡ c
 kind_back a b true true p q e = refl
@@ -123,7 +118,7 @@ module _ (mixed : Bool) (shift : ℕ) (decide : Decided mixed) where
     where
       go : (d : (κ ≡ key_of_held mixed shift f) ⊎ (κ ≡ key_of_held mixed shift f → ⊥))
           → (without es c κ ≡ Some w → (c κ ≡ Some w) × ((h : Held) → IsAmong h es → κ ≡ key_of_held mixed shift h → ⊥)) → pick d None (without es c κ) ≡ Some w → (c κ ≡ Some w) × ((h : Held) → IsAmong h (f ∷ es) → κ ≡ key_of_held mixed shift h → ⊥)
-      go (inl y) ih e = absurd (none_some w e)
+      go (inl y) ih e = absurd (none-some w e)
       go (inr n) ih e =
           let r = ih e in
           (r.0, λ h a. elim a [ inl s ↦ (λ k. n (k ∙ ap (key_of_held mixed shift) s)) | inr b ↦ r.1 h b ])

@@ -13,13 +13,14 @@ use Rattle.sctp_rules.specs.Kept.{Kept, Outgoing}
 use Rattle.sctp_rules.proofs.DeliverLemmas.{lower_place}
 use Rattle.sctp_rules.proofs.SackLemmas.{end_before}
 use Rattle.sctp_rules.proofs.WindowsLemmas.{words_read}
+use Rattle.sctp_rules.proofs.ToolsLemmas.{among_covers}
 use Rattle.sctp_rx_rules.specs.View.{unordered_at}
 use Rattle.sctp_rx_rules.specs.Read.{Carries, number_read}
 use Rattle.sctp_rules.specs.Points.{AreApart}
 use Rattle.sctp_rx_rules.specs.Near.{IsOn, IsNearStream, AreNearStreams, IsWritten, IsInWindow}
 use Rattle.sctp_rx_rules.proofs.KeyLemmas.{twice_not}
 use Rattle.sctp_rx_rules.proofs.NearTsnLemmas.{not_acknowledged, counted_from}
-use Rattle.sctp_rx_rules.proofs.NearNumberLemmas.{among_covers, greatest}
+use Rattle.sctp_rx_rules.proofs.NearNumberLemmas.{greatest}
 
 module _ (message : ℕ → Message) (o : Sender) (out : Outgoing message o) (s : ℕ) where
   abbrev number : ℕ → ℕ

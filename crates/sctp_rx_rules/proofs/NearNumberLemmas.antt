@@ -1,7 +1,7 @@
 -- SSNs and MIDs of ordered messages are near their stream's next one, and none is out of bounds.
 use Rattle.std.proofs.Common.{◌≡◌, ℕ, zero, suc, ◌+◌, ◌^◌, ◌<◌, ◌≤◌, Bool, true, false, cond, inl, inr, List, [], ◌∷◌, length, map, refl, sym, ap, ◌∙◌, subst, arith, eqb, leb}
 use Rattle.std.specs.Prelude.{◌||◌, ◌&&◌, not}
-use Rattle.std.proofs.lemmas.Bool.{cond-true, cond-false, or_cases, or_left, or_right, and_parts, and_from, leb-true, le-leb, eqb-true, eq-eqb}
+use Rattle.std.proofs.lemmas.Bool.{cond-true, cond-false, or_cases, or_left, or_right, and_parts, leb-true, eqb-true}
 use Rattle.sctp_serial.specs.Messages as messages
 use Rattle.sctp_serial.specs.Unwrapped.{origin, words, halves, wire, nearest}
 use Rattle.sctp_serial.specs.declared.types.StreamKey.TheVariants.{Ordered, Unordered}
@@ -15,7 +15,7 @@ use Rattle.sctp_rules.specs.State.{Message, Fragment, Entry, ForwardPoint, Sende
 use Rattle.sctp_rules.specs.Rules.{same, covers}
 use Rattle.sctp_rules.specs.Kept.{Kept, Outgoing}
 use Rattle.sctp_rules.specs.Lifted.{as_written, wire_chunk, wire_point, IsNow, AreEntriesNow}
-use Rattle.sctp_rules.proofs.ToolsLemmas.{same_is, same_self}
+use Rattle.sctp_rules.proofs.ToolsLemmas.{same_is, among_covers}
 use Rattle.sctp_rules.proofs.DeliverLemmas.{lower_place}
 use Rattle.sctp_rules.proofs.WindowsLemmas.{words_read, halves_read}
 use Rattle.sctp_rx_rules.specs.View.{ordered_at, unordered_at}
@@ -59,14 +59,6 @@ index_below message mixed x kept few k h =
     omega (arith, a, b, c)
 
 -- ---- among entries
-
-pub among_covers : (e : Entry) (es : List Entry) → IsAmong e es → covers es e.ordered e.stream e.number ≡ true
-among_covers e [] a = absurd a
-among_covers e (d ∷ es) (inl s) =
-    or_left (same d.ordered e.ordered && (eqb d.stream e.stream && leb e.number d.number)) (covers es e.ordered e.stream e.number)
-    (and_from (same d.ordered e.ordered) (eqb d.stream e.stream && leb e.number d.number) (same_self d.ordered e.ordered (ap (λ z. z.ordered) (sym s)))
-    (and_from (eqb d.stream e.stream) (leb e.number d.number) (eq-eqb d.stream e.stream (ap (λ z. z.stream) (sym s))) (le-leb e.number d.number (let q = ap (λ z. z.number) s in omega (arith, q)))))
-among_covers e (d ∷ es) (inr a) = or_right (same d.ordered e.ordered && (eqb d.stream e.stream && leb e.number d.number)) (covers es e.ordered e.stream e.number) (among_covers e es a)
 
 -- some entry names it
 covered_by : (kind : Bool) (s m : ℕ) (es : List Entry) → covers es kind s m ≡ true → (c : Entry) × IsAmong c es × (c.ordered ≡ kind) × (c.stream ≡ s) × (m ≤ c.number)

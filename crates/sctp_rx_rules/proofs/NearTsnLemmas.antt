@@ -21,7 +21,7 @@ use Rattle.sctp_rx_rules.specs.Receives.{Receives}
 use Rattle.sctp_rx_rules.specs.Near.{IsNearLast, IsNearQueue, IsInWindow}
 
 -- a number less than half its space away is read as it was meant, also from just below `origin`
-words_near : (first near n : ℕ) → IsNear (2 ^ 31) near n → 2 ^ 31 ≤ near → nearest (2 ^ 32) first near (wire (2 ^ 32) first n) ≡ n
+pub words_near : (first near n : ℕ) → IsNear (2 ^ 31) near n → 2 ^ 31 ≤ near → nearest (2 ^ 32) first near (wire (2 ^ 32) first n) ≡ n
 words_near first near n d far =
     let a = d.0 in
     let b = d.1 in

@@ -2,9 +2,10 @@
 use Rattle.std.proofs.Common.{◌≡◌, ℕ, suc, ◌<◌, ◌≤◌, Bool, true, inl, inr, Option, Some, List, [], ◌∷◌, ◌++◌, refl, ap, sym, ◌∙◌, subst, arith}
 use Rattle.std.proofs.lemmas.Bool.Decides.{nat_tests}
 use Rattle.sctp_rules.specs.State.{IsAmong}
+use Rattle.sctp_rules.proofs.ToolsLemmas.{among_left}
 use Rattle.sctp_rx.specs.Runs.{is_next, last_of, IsLinked, flat, AreRuns}
 use Rattle.sctp_fragments.proofs.RunLemmas.{linked_rises}
-use Rattle.sctp_rx_rules.proofs.AmongLemmas.{around, among_left, among_right, among_cases}
+use Rattle.sctp_rx_rules.proofs.AmongLemmas.{around, among_right, among_cases}
 
 module _ {A : Type 0} (rank : A → ℕ) where
   abbrev pub AllAbove : ℕ → List A → Type 0

@@ -3,6 +3,7 @@ use Rattle.std.proofs.Common.{◌≡◌, ℕ, suc, ◌+◌, ◌-◌, ◌<◌, Bo
 use Rattle.std.specs.Prelude.{◌||◌, ◌==◌, nat_lt, nat_le}
 use Rattle.std.proofs.lemmas.Bool.{cases_eq, cond-true, cond-false, eq-eqb, ne_eqb}
 use Rattle.std.proofs.lemmas.Bool.Decides.{nat_tests}
+use Rattle.std.proofs.lemmas.Option.{none-some}
 use Rattle.sctp_serial.specs.Messages as messages
 use Rattle.sctp_serial.specs.Unwrapped.{origin}
 use Rattle.sctp_state.specs.Options.{Options}
@@ -22,7 +23,6 @@ use Rattle.sctp_rules.proofs.LiftedLemmas.{lift_some}
 use Rattle.sctp_rules.proofs.WireResetLemmas.{wire_sack_row}
 use Rattle.sctp_rx_rules.specs.View.{IsSeenAs, was_seen, held_on, view_of}
 use Rattle.sctp_rx_rules.specs.Receives.{Receives}
-use Rattle.sctp_rx_rules.proofs.KeyLemmas.{none_some}
 use Rattle.sctp_rx_rules.proofs.FragmentRowLemmas.{observed_seen}
 use Rattle.sctp_rx_rules.proofs.ReceivesLemmas.{none_ready}
 
@@ -40,7 +40,7 @@ module _ (message : ℕ → Message) (mixed : Bool) (shift : ℕ) where
   first_seen max_size = record {
     filed = λ kind s h a. absurd (empty max_size kind s h a);
     holds = λ kind s h a. absurd (empty max_size kind s h a);
-    found = λ κ w e. absurd (none_some w e);
+    found = λ κ w e. absurd (none-some w e);
     next = λ s. refl;
     passed = λ m s. refl;
     none_passed = λ m s. omega arith;
@@ -53,7 +53,7 @@ module _ (message : ℕ → Message) (mixed : Bool) (shift : ℕ) where
     queue = first_queue;
     shows = record {
       holds = λ t h. cc;
-      held = λ κ w e. absurd (let z = lift_some no_base mixed first_queue κ w e in none_some z.0 z.2);
+      held = λ κ w e. absurd (let z = lift_some no_base mixed first_queue κ w e in none-some z.0 z.2);
       next_is = λ s. refl;
       passed_is = λ m s. refl;
       ready_is = refl;

@@ -3,16 +3,18 @@ use Rattle.std.proofs.Common.{◌≡◌, ℕ, zero, suc, ◌+◌, ◌-◌, ◌<�
 use Rattle.std.specs.Prelude.{◌&&◌, ◌==◌}
 use Rattle.std.proofs.lemmas.Bool.{cases_lt, and_parts}
 use Rattle.std.proofs.lemmas.List.{map-append}
+use Rattle.std.proofs.lemmas.Option.{same_Some, none-some}
 use Rattle.sctp_serial.specs.Unwrapped.{origin}
 use Rattle.sctp_rx.specs.Runs.{is_next, last_of, IsLinked, put_in}
 use Rattle.sctp_rx.specs.Held.{Held, rank_of, goes_on, is_complete, payload_of}
 use Rattle.sctp_rx.specs.Held.{message_of_run}
 use Rattle.sctp_rules.specs.State.{IsAmong}
 use Rattle.sctp_rules.specs.Reassembly.{joined, Chunk, Queue, KeyOf, next_of, nth, ReadyRun, RunTaken, Added}
+use Rattle.sctp_rules.proofs.ToolsLemmas.{among_left}
 use Rattle.sctp_rx_rules.specs.View.{View, IsFiled, IsSeenAs, chunk_of_held, key_of_held, ready_of}
-use Rattle.sctp_rx_rules.proofs.AmongLemmas.{among_left, among_right, among_cases, at_among, place_among, at_last, put_here, put_others, put_cases}
+use Rattle.sctp_rx_rules.proofs.AmongLemmas.{among_right, among_cases, at_among, place_among, at_last, put_here, put_others, put_cases}
 use Rattle.sctp_rx_rules.proofs.RisingLemmas.{Rising, rising_apart}
-use Rattle.sctp_rx_rules.proofs.KeyLemmas.{Decided, place_cases, some_same, none_some, kind_back, twice_not, rank_same, index_same, Next, next_item, next_key, pick, pick_yes, pick_no, without, without_among, without_apart, without_some}
+use Rattle.sctp_rx_rules.proofs.KeyLemmas.{Decided, place_cases, kind_back, twice_not, rank_same, index_same, Next, next_item, next_key, pick, pick_yes, pick_no, without, without_among, without_apart, without_some}
 
 -- one list of a view changed
 pub record IsAt (v v' : View) (kind : Bool) (s : ℕ) (hs : List Held) : Type 0 where
@@ -52,7 +54,7 @@ module _ (mixed : Bool) (shift : ℕ) (v : View) (q : Queue (KeyOf mixed) (next_
       let fh = p.filed c b h y in
       let u = p.holds k a g x in
       let w = p.holds c b h y in
-      let same : chunk_of_held u.0 g ≡ chunk_of_held w.0 h = some_same (chunk_of_held u.0 g) (chunk_of_held w.0 h) (sym u.1 ∙ (ap q.chunks e ∙ w.1)) in
+      let same : chunk_of_held u.0 g ≡ chunk_of_held w.0 h = same_Some (chunk_of_held u.0 g) (chunk_of_held w.0 h) (sym u.1 ∙ (ap q.chunks e ∙ w.1)) in
       let number : g.number - origin ≡ h.number - origin = ap (λ (z : Chunk). z.number) same in
       let from_g = fg.number_from in
       let from_h = fh.number_from in
@@ -117,7 +119,7 @@ module _ (mixed : Bool) (shift : ℕ) (decide : Decided mixed) (v v' : View) (q 
             | inr z ↦
                 let c = p.holds k a h z in (
                   c.0,
-                  pick_no (decide (key_of_held mixed shift h) (key_of_held mixed shift x)) (Some (chunk_of_held id x)) (q.chunks (key_of_held mixed shift h)) (λ e. none_some (chunk_of_held c.0 h) (sym new ∙ (ap q.chunks (sym e) ∙ c.1)))
+                  pick_no (decide (key_of_held mixed shift h) (key_of_held mixed shift x)) (Some (chunk_of_held id x)) (q.chunks (key_of_held mixed shift h)) (λ e. none-some (chunk_of_held c.0 h) (sym new ∙ (ap q.chunks (sym e) ∙ c.1)))
                       ∙ c.1,
                   c.2,
                 )
@@ -131,7 +133,7 @@ module _ (mixed : Bool) (shift : ℕ) (decide : Decided mixed) (v v' : View) (q 
       where
         find : {κ : KeyOf mixed} (d : (κ ≡ key_of_held mixed shift x) ⊎ (κ ≡ key_of_held mixed shift x → ⊥)) (w : Chunk) → pick d (Some (chunk_of_held id x)) (q.chunks κ) ≡ Some w
             → (k : Bool) × (a : ℕ) × (h : Held) × IsAmong h (v'.held k a) × (key_of_held mixed shift h ≡ κ) × ((i : ℕ) × (chunk_of_held i h ≡ w))
-        find (inl y) w e = (kind, s, x, subst (IsAmong x) (sym at.here) (put_here rank_of x (v.held kind s)), sym y, (id, some_same (chunk_of_held id x) w e))
+        find (inl y) w e = (kind, s, x, subst (IsAmong x) (sym at.here) (put_here rank_of x (v.held kind s)), sym y, (id, same_Some (chunk_of_held id x) w e))
         find {κ = κ} (inr n) w e = let f = p.found κ w e in (f.0, f.1, f.2, stays f.0 f.1 f.2 f.3, f.4, f.5)
 
   -- ---- a message goes out

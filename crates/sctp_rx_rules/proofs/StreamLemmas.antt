@@ -1,57 +1,29 @@
 -- A map of streams where one stream changes.
-use Rattle.std.proofs.Common.{◌≡◌, ◌≢◌, ℕ, Bool, true, false, cond, Some, None, [], ◌∷◌, refl, ap, sym, ◌∙◌, arith, Ordering, Less, Equal, Greater}
+use Rattle.std.proofs.Common.{◌≡◌, ◌≢◌, ℕ, Bool, true, false, cond, Some, [], ◌∷◌, refl, ap, sym, ◌∙◌, arith}
 use Rattle.std.specs.Prelude.{unwrap_or, is_some, map}
 use Rattle.std.specs.List.{All}
 use Rattle.std.specs.Map.{lookup, values_of}
-use Rattle.std.specs.Ordering.{nat_cmp, match_ordering}
+use Rattle.std.specs.Ordering.{nat_cmp}
 use Rattle.std.specs.BTreeMap.{is_at, insert_entry}
 use Rattle.std.proofs.lemmas.Bool.Decides.{nat_tests}
 use Rattle.std.proofs.lemmas.List.Elements.{All-head, All-tail}
 use Rattle.sctp_rx.specs.Streams.{Entries, stream_at, opened, written, changed}
-
-at_same : (q k : ℕ) → q ≡ k → is_at (nat_cmp q) k ≡ true
-at_same q k e = grind (arith, nat_tests)
-
-at_other : (q k : ℕ) → q ≢ k → is_at (nat_cmp q) k ≡ false
-at_other q k d = grind (arith, nat_tests)
+use Rattle.sctp_rules.proofs.CommonLemmas.{at_other, inserted_here, inserted_off}
 
 module _ {S : Type 0} (fresh : S) (id : ℕ) where
-  inserted_here : (s : S) (es : Entries S) → lookup (is_at (nat_cmp id)) (insert_entry nat_cmp es id s) ≡ Some s
-  inserted_here s [] = ap (λ t. cond t (Some s) None) (at_same id id refl)
-  inserted_here s (e ∷ es) = go (nat_cmp id e.0) refl (inserted_here s es)
-    where
-      go : (o : Ordering) → nat_cmp id e.0 ≡ o → lookup (is_at (nat_cmp id)) (insert_entry nat_cmp es id s) ≡ Some s
-          → lookup (is_at (nat_cmp id)) (match_ordering o ((id, s) ∷ e ∷ es) ((e.0, s) ∷ es) (e ∷ insert_entry nat_cmp es id s)) ≡ Some s
-      go Less h ih = ap (λ t. cond t (Some s) (lookup (is_at (nat_cmp id)) (e ∷ es))) (at_same id id refl)
-      go Equal h ih = ap (λ t. cond t (Some s) (lookup (is_at (nat_cmp id)) es)) (let n : id ≡ e.0 = grind (arith, nat_tests) in at_same id e.0 n)
-      go Greater h ih = ap (λ t. cond t (Some e.1) (lookup (is_at (nat_cmp id)) (insert_entry nat_cmp es id s))) (let n : id ≢ e.0 = λ x. grind (arith, nat_tests) in at_other id e.0 n) ∙ ih
-
-  inserted_off : (q : ℕ) → q ≢ id → (s : S) (es : Entries S) → lookup (is_at (nat_cmp q)) (insert_entry nat_cmp es id s) ≡ lookup (is_at (nat_cmp q)) es
-  inserted_off q d s [] = ap (λ t. cond t (Some s) None) (at_other q id d)
-  inserted_off q d s (e ∷ es) = go (nat_cmp id e.0) refl (inserted_off q d s es)
-    where
-      go : (o : Ordering) → nat_cmp id e.0 ≡ o → lookup (is_at (nat_cmp q)) (insert_entry nat_cmp es id s) ≡ lookup (is_at (nat_cmp q)) es
-          → lookup (is_at (nat_cmp q)) (match_ordering o ((id, s) ∷ e ∷ es) ((e.0, s) ∷ es) (e ∷ insert_entry nat_cmp es id s)) ≡ lookup (is_at (nat_cmp q)) (e ∷ es)
-      go Less h ih = ap (λ t. cond t (Some s) (lookup (is_at (nat_cmp q)) (e ∷ es))) (at_other q id d)
-      go Equal h ih =
-          let n : id ≡ e.0 = grind (arith, nat_tests) in
-          let off = at_other q e.0 (λ x. d (x ∙ sym n)) in
-          ap (λ t. cond t (Some s) (lookup (is_at (nat_cmp q)) es)) off ∙ sym (ap (λ t. cond t (Some e.1) (lookup (is_at (nat_cmp q)) es)) off)
-      go Greater h ih = ap (λ t. cond (is_at (nat_cmp q) e.0) (Some e.1) t) ih
-
   opened_some : (es : Entries S) → is_some (lookup (is_at (nat_cmp id)) (opened fresh id es)) ≡ true
   opened_some es = go (is_some (lookup (is_at (nat_cmp id)) es)) refl
     where
       go : (b : Bool) → is_some (lookup (is_at (nat_cmp id)) es) ≡ b → is_some (lookup (is_at (nat_cmp id)) (cond b es (insert_entry nat_cmp es id fresh))) ≡ true
       go true e = e
-      go false e = ap is_some (inserted_here fresh es)
+      go false e = ap is_some (inserted_here id fresh es)
 
   opened_off : (q : ℕ) → q ≢ id → (es : Entries S) → lookup (is_at (nat_cmp q)) (opened fresh id es) ≡ lookup (is_at (nat_cmp q)) es
   opened_off q d es = go (is_some (lookup (is_at (nat_cmp id)) es))
     where
       go : (b : Bool) → lookup (is_at (nat_cmp q)) (cond b es (insert_entry nat_cmp es id fresh)) ≡ lookup (is_at (nat_cmp q)) es
       go true = refl
-      go false = inserted_off q d fresh es
+      go false = inserted_off id q d fresh es
 
   written_here : (s : S) (es : Entries S) → is_some (lookup (is_at (nat_cmp id)) es) ≡ true → lookup (is_at (nat_cmp id)) (written id s es) ≡ Some s
   written_here s [] h = absurd (cc)
