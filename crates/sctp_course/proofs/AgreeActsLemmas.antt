@@ -12,8 +12,9 @@ use Rattle.sctp_table_laws.specs.Mapped.{Carried}
 use Rattle.sctp_course.specs.Acts.{Making, is_plain}
 use Rattle.sctp_course.specs.Course.{as_carried, packets_in, has_connected}
 use Rattle.sctp_course.proofs.ToldLemmas.{is_light}
-use Rattle.sctp_course.proofs.JoinActsLemmas.{packets_both, light_packets, light_connected, connected_both, or_false}
+use Rattle.sctp_course.proofs.JoinActsLemmas.{packets_both, light_packets, light_connected, connected_both}
 use Rattle.sctp_course.proofs.AgreeLemmas.{Past, View, view_of, Says, says_later, Shape, is_load, shape_with, shape_plain, Stands, stands_later, Agreed, Bound, Tagged, Later, later_same, Said, said_later}
+use Rattle.sctp_rules.proofs.CommonLemmas.{or_none}
 
 -- the options of the end that acts, what it told before this turn, and under which tag its packet came
 pub record Setting : Type 0 where
@@ -71,7 +72,7 @@ module _ (g : Setting) (x y : Past) (v : View) (o : Options) (pack : Packing Car
 
   still : (more : List (Event Carried)) → has_connected more ≡ false → has_connected (es ++ more) ≡ true → has_connected es ≡ true
   still more none h =
-      sym (connected_both es more ∙ (ap (λ (b : Bool). has_connected es || b) none ∙ or_false (has_connected es))) ∙ h
+      sym (connected_both es more ∙ (ap (λ (b : Bool). has_connected es || b) none ∙ or_none (has_connected es))) ∙ h
 
   -- more is told, that is no packet and no connection
   pub inv_silent : (more : List (Event Carried)) → packets_in more ≡ [] → has_connected more ≡ false → Inv g x y v o pack (es ++ more) tag chunks

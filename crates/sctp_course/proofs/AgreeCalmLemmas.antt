@@ -13,8 +13,9 @@ use Rattle.sctp_course.specs.Course.{has_connected}
 use Rattle.sctp_course.specs.Agreement.{Association, Has, held_in}
 use Rattle.sctp_course.proofs.ToldLemmas.{TellsLightly}
 use Rattle.sctp_course.proofs.UntilLemmas.{light_sack, light_sending, light_time, light_call, light_reset}
-use Rattle.sctp_course.proofs.JoinActsLemmas.{connected_both, light_connected, or_false}
+use Rattle.sctp_course.proofs.JoinActsLemmas.{connected_both, light_connected}
 use Rattle.sctp_course.proofs.AgreeLemmas.{is_opening}
+use Rattle.sctp_rules.proofs.CommonLemmas.{or_none}
 
 -- what a call may hear and do
 pub record IsCalm (call : Call) : Type 0 where
@@ -30,7 +31,7 @@ abbrev pub RestsAt : (before after : Making Carried) → Type 0
 RestsAt a b = Rests a.state a.context.told.events b.state b.context.told.events
 
 told_more : (es more : List (Event Carried)) → has_connected more ≡ false → has_connected (es ++ more) ≡ has_connected es
-told_more es more none = connected_both es more ∙ (ap (λ (b : Bool). has_connected es || b) none ∙ or_false (has_connected es))
+told_more es more none = connected_both es more ∙ (ap (λ (b : Bool). has_connected es || b) none ∙ or_none (has_connected es))
 
 rests_same : (s : State) (es : List (Event Carried)) → Rests s es s es
 rests_same s es = record { held = λ a h. h; told = refl }

@@ -2,7 +2,6 @@
 use Rattle.std.proofs.Common.{◌≡◌, ℕ, ◌==◌, not, Bool, true, false, Option, Some, None, Ok, List, [], ◌∷◌, ◌++◌, codes, inl, inr, refl, sym, ap, subst, ◌∙◌}
 use Rattle.std.proofs.lemmas.Bool.Decides.{nat_tests}
 use Rattle.std.proofs.Common.{arith}
-use Rattle.std.specs.List.{list_all}
 use Rattle.sctp_wire.specs.Cause.{cookie_received_while_shutting_down}
 use Rattle.rand_core.specs.Stream.{Stream}
 use Rattle.sctp_packet.specs.Chunk.{ChunkTree, error_chunk, cookie_ack_chunk, shutdown_ack_chunk}
@@ -11,14 +10,14 @@ use Rattle.sctp_state.specs.Events.{Event, OnConnected, OnConnectionRestarted}
 use Rattle.sctp_state.specs.Options.{Options}
 use Rattle.sctp_state.specs.declared.api.ErrorKind.TheVariants.{ParseFailed, WrongSequence}
 use Rattle.sctp_table.specs.Association.{Tcb, Phase, CookieEchoed, Established, ShutdownPending, ShutdownSent, ShutdownReceived, ShutdownAckSent, State, Closed, CookieWait, Open, Context, Endpoint}
-use Rattle.sctp_table.specs.Packets.{Packet, new_packet, fits, added_if, add, say, emit}
+use Rattle.sctp_table.specs.Packets.{Packet, new_packet, fits, add, say, emit}
 use Rattle.sctp_table.specs.Opening.{long_word, connected, cookie_ack, tcb_by, establishes, Verdict, EstablishNew, RestartDetected, SimultaneousInit, MaintainExisting, Discard, InvalidTag, new_if, judged, compared, by_tags, kept, too_late, restarts_in, on_verdict}
 use Rattle.sctp_table.specs.Laws.{NoPacket}
 use Rattle.sctp_table_laws.specs.Mapped.{Carried}
-use Rattle.sctp_course.specs.Acts.{at, nothing, idle, calm, is_opened, is_plain, all_along, as_held, adds_plain, Keeps}
+use Rattle.sctp_course.specs.Acts.{at, nothing, idle, calm, is_opened, all_along, as_held, adds_plain, Keeps}
 use Rattle.sctp_course.specs.Course.{AreGiven}
 use Rattle.sctp_course.specs.Agreement.{Draw, Association, crossed, Has, Notes, association_of, held_in, AreDistinct}
-use Rattle.sctp_course.proofs.BundledLemmas.{added_more, first_more}
+use Rattle.sctp_course.proofs.BundledLemmas.{added_more, first_more, plain_added}
 use Rattle.sctp_course.proofs.PacketActsLemmas.{does_begin, does_out, does_complain, does_send_with}
 use Rattle.sctp_course.proofs.OpeningActsLemmas.{accepting, end_in}
 use Rattle.sctp_course.proofs.AgreeLemmas.{Past, View, holds, view_of, own_in, peer_in, SaysEcho, SaysAck, Holds, Tagged, Later, later_same, one_draw}
@@ -205,10 +204,6 @@ module _ (o : Options) (past : List (Event Carried)) (y : Past) (fine : AreGiven
     quiet_here : Keeps NoPacket (λ p q. InvAt g x y p → InvAt g x y q)
     quiet_here = kept_quiet g y fine x
 
-    plain_two : (b : Bool) (p : Packet) → p.chunks ≡ [] → list_all is_plain (added_if b shutdown_ack_chunk p).chunks ≡ true
-    plain_two true p new = ap (λ (cs : List ChunkTree). list_all is_plain (cs ++ shutdown_ack_chunk ∷ [])) new
-    plain_two false p new = ap (list_all is_plain) new
-
     late_by : (phase : Phase) (t : Tcb) (c : Context Carried) (w : Stream) → InvAt g x y (idle (Open phase t) c w) → InvAt g x y (idle (Open phase t) (too_late t c) w)
     late_by phase t c w inv =
         let p : Packet = new_packet c.options t in
@@ -217,7 +212,7 @@ module _ (o : Options) (past : List (Event Carried)) (y : Past) (fine : AreGiven
         let s : State = Open phase t in
         let one : InvAt g x y (at s c w q) = quiet_here.packets (adds_plain shutdown_ack_chunk (at s c w p) refl refl) (does_begin quiet_here s c w p refl (as_held phase t refl refl) inv) in
         let two : InvAt g x y (at s c w (add chunk q)) =
-        quiet_here.packets (adds_plain chunk (at s c w q) refl (plain_two (fits p shutdown_ack_chunk) p refl)) one in
+        quiet_here.packets (adds_plain chunk (at s c w q) refl (plain_added (fits p shutdown_ack_chunk) p refl)) one in
         does_complain quiet_here WrongSequence (codes "Received COOKIE-ECHO while shutting down") s (emit (add chunk q) c) w (does_out quiet_here s c w (add chunk q) (all_along (added_more chunk q (first_more shutdown_ack_chunk p refl refl) refl)) two)
 
     restarts_by : (phase : Phase) (t : Tcb) (c : Context Carried) (s : Endpoint Carried) → InvAt g x y (idle (Open phase t) c s.words)

@@ -1,6 +1,7 @@
 -- A packet is heard chunk by chunk, over every course: what holds of an end is kept, and its notes grow.
 use Rattle.std.proofs.Common.{◌≡◌, ℕ, true, false, Option, Some, None, Result, Ok, Err, List, [], ◌∷◌, ◌++◌, All, codes, inl, inr, refl, sym, ap, subst, ◌∙◌, Bool}
 use Rattle.std.proofs.lemmas.List.Elements.{All-nil, All-cons}
+use Rattle.std.proofs.lemmas.Option.{same_Some}
 use Rattle.rand_core.specs.Stream.{Stream}
 use Rattle.sctp_wire.specs.Cause.{missing_mandatory_parameter}
 use Rattle.sctp_packet.specs.Chunk.{ChunkTree, InitTree, data_chunk, init_chunk, init_ack_chunk, sack_chunk, heartbeat_request_chunk, heartbeat_ack_chunk, abort_chunk, shutdown_chunk, shutdown_ack_chunk, error_chunk, cookie_echo_chunk, cookie_ack_chunk, shutdown_complete_chunk, idata_chunk, re_config_chunk, forward_tsn_chunk, i_forward_tsn_chunk, unknown_chunk}
@@ -25,7 +26,6 @@ use Rattle.sctp_course.proofs.PacketActsLemmas.{does_plain, does_complain, does_
 use Rattle.sctp_course.proofs.RowActsLemmas.{does_closed, does_send_shutdown_ack}
 use Rattle.sctp_course.proofs.OpeningActsLemmas.{end_in}
 use Rattle.sctp_course.proofs.ActsLemmas.{does_hear}
-use Rattle.sctp_course.proofs.JoinLemmas.{some_same}
 use Rattle.sctp_course.proofs.AddedLemmas.{all_at}
 use Rattle.sctp_course.proofs.AgreeLemmas.{Past, View, view_of, holds, draw_in, SaysInit, SaysInitAck, SaysEcho, SaysAck, Says, waits, Waits, Holds, IsUnder, Tagged, Later}
 use Rattle.sctp_course.proofs.AgreeActsLemmas.{Setting, Inv, InvAt, inv_grown, inv_bound}
@@ -205,7 +205,7 @@ module _ (o : Options) (past : List (Event Carried)) (under : Option ℕ) (y : P
     module _ (i : InitTree) (said : SaysInitAck y x tag i) (is : under ≡ Some tag) (mine : AreDistinct n.drawn) where
       own_tag : (u : Option ℕ) (d : Draw) → u ≡ Some tag → IsUnder u (waits d) → d.tag ≡ tag
       own_tag None d e h = cc
-      own_tag (Some v) d e h = h ∙ some_same v tag e
+      own_tag (Some v) d e h = h ∙ same_Some v tag e
 
       taken : (cookie : List ℕ) (my_tag first : ℕ) (t1 : Timer) (s : Endpoint Carried) → cookie_in i.parameters ≡ Some cookie
           → InvAt g x y (calm (end_in (CookieWait my_tag first t1) s))
@@ -260,7 +260,7 @@ module _ (o : Options) (past : List (Event Carried)) (under : Option ℕ) (y : P
     module _ (said : SaysAck y x tag) (is : under ≡ Some tag) where
       mine_under : (u : Option ℕ) (a : Association) (kept : Option (List ℕ)) → u ≡ Some tag → IsUnder u (holds a kept) → a.mine.tag ≡ tag
       mine_under None a kept e h = cc
-      mine_under (Some v) a kept e h = h ∙ some_same v tag e
+      mine_under (Some v) a kept e h = h ∙ same_Some v tag e
 
       acked_open : (phase : Phase) (t : Tcb) (s : Endpoint Carried) → InvAt g x y (calm (end_in (Open phase t) s)) → Hears cookie_ack_chunk (end_in (Open phase t) s)
       acked_open (CookieEchoed t1 cookie) t s inv =

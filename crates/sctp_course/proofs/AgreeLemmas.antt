@@ -300,11 +300,6 @@ module _ (x y z w : Past) (l : Later x z) (m : Later y w) where
     is_kept = kept_later e a kept h.is_kept;
   }
 
-  pub agreed_later : (v : View) → Agreed y v → Agreed w v
-  agreed_later rests h = tt
-  agreed_later (waits d) h = h
-  agreed_later (holds a kept) h = m.held (crossed a) h
-
 -- ---- packets that were said
 
 pub record Said (x y : Past) (p : Carried) : Type 0 where

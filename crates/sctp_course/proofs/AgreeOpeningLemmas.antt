@@ -1,8 +1,8 @@
 -- How an association is opened, over every course: each row of the handshake keeps what holds of an end.
 use Rattle.std.proofs.Common.{◌≡◌, ℕ, ◌^◌, ◌%◌, Bool, true, false, Some, None, Result, Ok, Err, List, [], ◌∷◌, ◌++◌, inl, inr, refl, sym, ap, subst, ◌∙◌, arith}
 use Rattle.std.proofs.lemmas.List.Elements.{All-nil}
+use Rattle.std.proofs.lemmas.Option.{same_Some}
 use Rattle.rand_core.specs.Stream.{Stream}
-use Rattle.sctp_wire.specs.Fields.{be64}
 use Rattle.sctp_packet.specs.Chunk.{InitTree, init_ack_chunk}
 use Rattle.sctp_packet.specs.Packet.{PacketTree}
 use Rattle.sctp_capabilities.specs.declared.state_cookie.StateCookieError.{StateCookieError}
@@ -22,22 +22,13 @@ use Rattle.sctp_course.specs.Agreement.{Draw, Association, crossed, Has, associa
 use Rattle.sctp_course.proofs.BundledLemmas.{one_bundled}
 use Rattle.sctp_course.proofs.PacketActsLemmas.{does_out}
 use Rattle.sctp_course.proofs.OpeningActsLemmas.{answering, does_send_init}
-use Rattle.sctp_course.proofs.JoinLemmas.{some_same}
 use Rattle.sctp_course.proofs.JoinKeepsLemmas.{cookie_found}
 use Rattle.sctp_course.proofs.AgreeLemmas.{Past, rests, waits, holds, view_of, own_in, peer_in, Names, draw_in, FitsDraw, FitsInit, SaysInit, SaysInitAck, SaysAck, Says, Waits, Holds, Tagged, tagged_holds, Later, later_same, one_draw}
 use Rattle.sctp_course.proofs.AgreeActsLemmas.{Setting, Inv, InvAt, inv_made, inv_view, inv_later, adds}
 use Rattle.sctp_course.proofs.AgreeQuietLemmas.{Quiet, quiet}
+use Rattle.sctp_course.proofs.NegotiatedLemmas.{be64_wraps}
 
 -- ---- the cookie that is made
-
-eight : (a b c d e f g h p q r s t u v w : ℕ) → a ≡ p → b ≡ q → c ≡ r → d ≡ s → e ≡ t → f ≡ u → g ≡ v → h ≡ w
-    → (a ∷ b ∷ c ∷ d ∷ e ∷ f ∷ g ∷ h ∷ []) ≡ (p ∷ q ∷ r ∷ s ∷ t ∷ u ∷ v ∷ w ∷ [])
-eight a b c d e f g h p q r s t u v w e1 e2 e3 e4 e5 e6 e7 e8 = rw (e1, e2, e3, e4, e5, e6, e7, e8) refl
-
-be64_wraps : (n : ℕ) → be64 (n % 2 ^ 64) ≡ be64 n
-unfolding be64
-be64_wraps n =
-    eight _ _ _ _ _ _ _ _ _ _ _ _ _ _ _ _ (omega arith) (omega arith) (omega arith) (omega arith) (omega arith) (omega arith) (omega arith) (omega arith)
 
 -- only the tie may be too large for its field
 wrapped : (k : Cookie) → cookie_bytes k ≡ cookie_bytes (record k { tie_tag = k.tie_tag % 2 ^ 64 })
@@ -102,7 +93,7 @@ module _ (g : Setting) (y : Past) (own : AreGiven g.own) where
       let found : cookie_in (init_ack_of o i tag first tie).parameters ≡ Some made = cookie_found o (agreed_by o i).zero_checksum_method made in
       record {
         peer = draw_in i;
-        names = λ c e. subst (λ (z : List ℕ). Names z (record { tag = tag; first = first }) (draw_in i)) (some_same made c (sym found ∙ e))
+        names = λ c e. subst (λ (z : List ℕ). Names z (record { tag = tag; first = first }) (draw_in i)) (same_Some made c (sym found ∙ e))
             (names_made i tag first tie fits mine);
         own = here;
         other = there;

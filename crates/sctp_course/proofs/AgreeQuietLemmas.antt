@@ -7,7 +7,7 @@ use Rattle.sctp_capabilities.specs.Capabilities.{announced}
 use Rattle.sctp_capabilities.specs.Cookie.{Cookie, CapabilitiesFit}
 use Rattle.sctp_state.specs.Handover.{HandoverState}
 use Rattle.sctp_state.specs.Options.{Options}
-use Rattle.sctp_state.specs.Events.{Event, SendPacket, OnError, OnClosed}
+use Rattle.sctp_state.specs.Events.{Event, OnError, OnClosed}
 use Rattle.sctp_capabilities.proofs.CapabilitiesLemmas.{told_with-options}
 use Rattle.sctp_table.specs.Association.{Tcb, Phase, CookieEchoed, Established, ShutdownPending, CookieWait, Open, Context}
 use Rattle.sctp_table.specs.Packets.{Packet, packet_to, add}
@@ -22,12 +22,13 @@ use Rattle.sctp_tx.specs.ForwardPoints.{chunk_if, forward_chunk}
 use Rattle.sctp_tx.specs.Sending as fragments
 use Rattle.sctp_table_laws.specs.Mapped.{Carried}
 use Rattle.sctp_course.specs.Acts.{Making, in_open, may_shut, IsHeard, IsEchoed, fragments_of, PacketAct, begins, adds_plain, emits, complains, counts, before_packets, after_packets, OpeningAct, connects, adds_init, answers_new, answers_waiting, answers_echoed, answers_again, echoes, adds_cookie, establishes, opens, restarts, opens_again, maintains, adds_cookie_ack, before_opening, after_opening, ClosingAct, closes, shuts, shuts_on, before_closing, after_closing, DataAct, takes_data, takes_idata, takes_forward, takes_iforward, before_data, after_data, SackAct, takes_sack, samples, counts_errors, before_sack, after_sack, SendingAct, asks, adds_ack, expires, adds_forward, forwards_later, asks_no_reset, asks_reset, adds_request, sends, sends_fast, before_sending, after_sending, TimeAct, advances, delay_ends, times_out, beats, times_init, times_cookie, times_request, wakes_request, before_time, after_time, CallAct, accepts, refuses, takes_message, sets_low_threshold, sets_priority, sets_max_message_size, before_call, after_call, ResetAct, prepares, defers, performs, processes, takes_response, adds_responses, before_reset, after_reset, HandoverAct, leaves, takes_up, before_handover, after_handover, InputAct, ends_packet, before_input, after_input, Keeps}
-use Rattle.sctp_course.specs.Course.{packets_in, AreGiven}
+use Rattle.sctp_course.specs.Course.{AreGiven}
 use Rattle.sctp_course.specs.Agreement.{association_of}
 use Rattle.sctp_course.proofs.ToldLemmas.{TellsLightly}
 use Rattle.sctp_course.proofs.UntilLemmas.{light_sack, light_sending, light_time, light_call, light_reset}
 use Rattle.sctp_course.proofs.AgreeLemmas.{Past, View, rests, holds, view_of, late_phase, FitsDraw, FitsInit, Says, Shape, Holds, tagged_rests, tagged_holds, later_same}
 use Rattle.sctp_course.proofs.AgreeActsLemmas.{Setting, Inv, InvAt, inv_made, inv_view, inv_light, inv_emitted, inv_options, inv_later, adds, IsLoad, adds_load, adds_data, adds_simple}
+use Rattle.sctp_course.proofs.JoinActsLemmas.{ends_no_packet}
 
 -- chunks that don't open an association
 abbrev pub opens_nothing : ChunkTree → Bool
@@ -57,10 +58,6 @@ fits_init o os size tag first fine e fits =
 
 one_alone : (p q : Packet) (c : ChunkTree) → p ≡ q → Shape (q.chunks ++ c ∷ []) → Shape (p.chunks ++ c ∷ [])
 one_alone p q c e h = subst (λ (z : Packet). Shape (z.chunks ++ c ∷ [])) (sym e) h
-
-ends_no_packet : (e : Event Carried) → ending e ≡ 1 → packets_in (e ∷ []) ≡ []
-ends_no_packet (SendPacket p) h = cc
-ends_no_packet e h = refl
 
 module _ (g : Setting) (x y : Past) (call : Call) (own : AreGiven g.own) (q : Quiet call) where
   tells : (v : View) (m n : Making Carried) (tag : ℕ) (cs : List ChunkTree) → TellsLightly m.context.told n.context.told

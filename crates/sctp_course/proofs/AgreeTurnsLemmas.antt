@@ -224,7 +224,7 @@ module _ (o q : Options) (x y : Side) (own : AreGiven o) (other : AreGiven q) (k
 
 -- ---- notes of turns beside those of chunks
 
-has_front : {A : Type 0} (a : A) (xs ys : List A) → Has a xs → Has a (xs ++ ys)
+pub has_front : {A : Type 0} (a : A) (xs ys : List A) → Has a xs → Has a (xs ++ ys)
 has_front a [] ys h = absurd h
 has_front a (x ∷ xs) ys (inl e) = inl e
 has_front a (x ∷ xs) ys (inr h) = inr (has_front a xs ys h)

@@ -20,8 +20,6 @@ use Rattle.sctp_send_queue.specs.Queue.{Queued, Queue, pushed, stream}
 use Rattle.sctp_send_queue.specs.Resets.{requested}
 use Rattle.sctp_send_queue.proofs.InOrderLemmas.{added_in_order, hears_mode}
 use Rattle.sctp_send_queue.proofs.RestLemmas.{calls_leave_rests}
-use Rattle.sctp_tx.specs.Retransmission.{Sender}
-use Rattle.sctp_tx.specs.Resent.{resent_fast, send_fast, resent_by}
 use Rattle.sctp_table.specs.Association.{Tcb, Phase, CookieEchoed, Established, State, Closed, CookieWait, Open, Context}
 use Rattle.sctp_table.specs.Packets.{say, room}
 use Rattle.sctp_table.specs.Requests.{Requests, Outcome, Unsettled, Done, Denied, outcome}
@@ -37,7 +35,7 @@ use Rattle.sctp_table.specs.Laws.{Call, Restore}
 use Rattle.sctp_table_laws.specs.HandoverRoundTrip.{IsNumberedOnce, CallsNumberOnce, MadeConnected}
 use Rattle.sctp_course.specs.Acts.{Making, end_of, point_of, IsOffered, fragments_of, PacketAct, begins, adds_plain, emits, complains, counts, before_packets, after_packets, OpeningAct, connects, adds_init, answers_new, answers_waiting, answers_echoed, answers_again, echoes, adds_cookie, establishes, opens, restarts, opens_again, maintains, adds_cookie_ack, before_opening, after_opening, ClosingAct, closes, shuts, shuts_on, before_closing, after_closing, DataAct, takes_data, takes_idata, takes_forward, takes_iforward, before_data, after_data, SackAct, takes_sack, samples, counts_errors, before_sack, after_sack, SendingAct, asks, adds_ack, expires, adds_forward, forwards_later, asks_no_reset, asks_reset, adds_request, sends, sends_fast, before_sending, after_sending, TimeAct, advances, delay_ends, times_out, beats, times_init, times_cookie, times_request, wakes_request, before_time, after_time, CallAct, accepts, refuses, takes_message, sets_low_threshold, sets_priority, sets_max_message_size, before_call, after_call, ResetAct, prepares, defers, performs, processes, takes_response, adds_responses, before_reset, after_reset, HandoverAct, leaves, takes_up, before_handover, after_handover, InputAct, ends_packet, before_input, after_input, Keeps}
 use Rattle.sctp_course.specs.Asked.{IsOrdered, IsAsked, HandsIn}
-use Rattle.sctp_course.proofs.StayLemmas.{Stays, stays_same, stays_then, stays_resent, stays_timed, alike_all, alike_outstanding, alike_heard, added_mode, forwarded_mode, reset_mode, Lasts, lasts_same, lasts_sent}
+use Rattle.sctp_course.proofs.StayLemmas.{stays_same, alike_all, alike_outstanding, alike_heard, added_mode, forwarded_mode, reset_mode, Lasts, lasts_same, lasts_sent, stays_fast}
 use Rattle.sctp_course.proofs.QueueGoesLemmas.{Goes, goes_same, goes_threshold, goes_priority, goes_prepared, goes_steps, put_opened_sorted, sent_stays, sent_goes}
 use Rattle.sctp_course.proofs.AskedActsLemmas.{names, IsNamed, echo_named, Begins, begins_anew, begins_for, Leads, leads_on, leads_still, leads_block, leads_closed, associated_on}
 
@@ -51,10 +49,6 @@ wrapped : (n : ℕ) → (n + 1) % 2 ^ 32 < 2 ^ 32
 wrapped n = omega arith
 
 -- ---- control blocks
-
-with_reassembly : (t : Tcb) (d : DataTracker) (r : Reassembly) → d.first ≡ t.tracker.first → r.streams.is_interleaved ≡ t.reassembly.streams.is_interleaved
-    → Lasts t (record t { tracker = d; reassembly = r })
-with_reassembly t d r received mode = record { identity = refl; capabilities = refl; received = received; sent = stays_same t.sender.outstanding; mode = mode }
 
 added_unless_mode : (b : Bool) (tsn : ℕ) (f : FragmentTree) (r : Reassembly) → (added_unless b tsn f r).streams.is_interleaved ≡ r.streams.is_interleaved
 added_unless_mode true tsn f r = refl
@@ -84,11 +78,11 @@ lasts_forwarded tsn es t = record {
 
 -- ---- a message is accepted
 
-some_payload : (a b c d : Bool) (len limit : ℕ) → refusal_by a b c d len limit ≡ None → a ≡ false
+pub some_payload : (a b c d : Bool) (len limit : ℕ) → refusal_by a b c d len limit ≡ None → a ≡ false
 some_payload true b c d len limit e = absurd (cc)
 some_payload false b c d len limit e = refl
 
-has_bytes : (n : ℕ) → (n == 0) ≡ false → nat_lt 0 n ≡ true
+pub has_bytes : (n : ℕ) → (n == 0) ≡ false → nat_lt 0 n ≡ true
 has_bytes n e = grind (arith, nat_tests)
 
 accepted_ordered : (m : Message) (o : SendOptions) (s : State) (c : Context (List ℕ)) → refusal m (shown_state s) c ≡ None → IsOrdered c.queue
@@ -124,11 +118,6 @@ lasts_read t r e = record { identity = refl; capabilities = refl; received = ref
 
 lasts_started : (now : ℕ) (streams : List ℕ) (t : Tcb) → Lasts t (request_started now streams t)
 lasts_started now streams t = record { identity = refl; capabilities = refl; received = refl; sent = record { first = refl; items = record { partial = refl; mode = refl } }; mode = refl }
-
-stays_fast : (now most : ℕ) (s : Sender) → Stays s.outstanding (send_fast now most s).outstanding
-stays_fast now most s =
-    let x = resent_fast most s in
-    stays_then s.outstanding x.outstanding (send_fast now most s).outstanding (stays_resent true most 0 s.outstanding) (stays_timed now x.chunks (resent_by s x))
 
 outcome_goes : CallsNumberOnce → (o : Outcome) (c : Context (List ℕ)) → Goes c.queue (on_outcome o c).queue
 outcome_goes once Unsettled c = goes_same c.queue

@@ -1,5 +1,5 @@
 -- What takes a valid record up has what a handover asks.
-use Rattle.std.proofs.Common.{◌≡◌, ℕ, ◌+◌, ◌%◌, ◌^◌, ◌<◌, ◌&&◌, ◌||◌, nat_lt, nat_le, Bool, true, false, cond, Less, Option, Some, unwrap_or, List, [], ◌∷◌, length, map, filter, refl, sym, ap, subst, ◌∙◌, arith}
+use Rattle.std.proofs.Common.{◌≡◌, ℕ, ◌+◌, ◌^◌, ◌&&◌, ◌||◌, nat_lt, nat_le, Bool, true, false, cond, Less, Option, Some, unwrap_or, List, [], ◌∷◌, length, map, filter, refl, sym, ap, subst, ◌∙◌, arith}
 use Rattle.std.specs.List.{AllByRecursion, list_all}
 use Rattle.std.specs.List.Sorted.{IsStrictlySortedBy}
 use Rattle.std.specs.Map.{lookup, keys_of}
@@ -19,6 +19,7 @@ use Rattle.sctp_send_queue.specs.InOrder.{has_rest}
 use Rattle.sctp_send_queue.specs.TakenUp.{is_numbered_as_sent}
 use Rattle.sctp_send_queue.proofs.TakenUpLemmas.{restored_in_order}
 use Rattle.sctp_table_laws.proofs.HandoverAgainLemmas.{heard_mode, read_again}
+use Rattle.sctp_table_laws.proofs.HeardBackLemmas.{small_word}
 use Rattle.sctp_course.specs.Asked.{IsOrdered, IsRecord}
 use Rattle.sctp_course.proofs.AskedKeepsLemmas.{TakesUp}
 
@@ -83,9 +84,6 @@ rests_in now threshold k none ms (s ∷ ss) empty h = go (is_at (nat_cmp k) s.id
 
 -- ---- the queue
 
-wrapped : (n : ℕ) → n % 2 ^ 32 < 2 ^ 32
-wrapped n = omega arith
-
 module _ (is_interleaved : Bool) (tx : Transmission) (valid : is_valid_transmission is_interleaved tx ≡ true) where
   rise_and : (rises_from 0 (outgoing_ids tx.streams) ≡ true) × (has_valid_queue is_interleaved tx ≡ true)
   rise_and =
@@ -104,7 +102,7 @@ module _ (is_interleaved : Bool) (tx : Transmission) (valid : is_valid_transmiss
   restored_ordered now q numbered = record {
     sorted = subst (IsStrictlySortedBy nat_cmp) (sym (keys_are now q.streams.default_threshold tx.queued_messages tx.streams)) (rising_sorted 0 (outgoing_ids tx.streams) rise_and.0);
     order = restored_in_order now is_interleaved tx q valid numbered;
-    next = wrapped tx.next_outgoing_message_id;
+    next = small_word tx.next_outgoing_message_id;
     rests = record {
       rests = λ k. rests_in now q.streams.default_threshold k (blank q.streams) tx.queued_messages tx.streams refl
           (λ id. rests_on now tx.next_outgoing_message_id id tx.streams tx.queued_messages messages_valid);

@@ -1,9 +1,9 @@
 -- What stands in a packet as it is filled: an INIT and an INIT ACK are alone, and a COOKIE ECHO comes first.
 use Rattle.std.proofs.Common.{◌≡◌, ℕ, ◌&&◌, nat_le, Bool, true, false, Option, Some, None, is_some, List, [], ◌∷◌, ◌++◌, map, refl, sym, ap, subst, ◌∙◌}
 use Rattle.std.specs.List.{list_all}
-use Rattle.std.proofs.lemmas.Bool.{and_parts}
+use Rattle.std.proofs.lemmas.Bool.{and_parts, and_from}
 use Rattle.std.proofs.lemmas.List.Folds.{list_all-append}
-use Rattle.sctp_packet.specs.Chunk.{ChunkTree, FragmentTree, init_chunk, init_ack_chunk, cookie_echo_chunk}
+use Rattle.sctp_packet.specs.Chunk.{ChunkTree, FragmentTree, init_chunk, init_ack_chunk, cookie_echo_chunk, shutdown_ack_chunk}
 use Rattle.sctp_tx.specs.Retransmission.{Sender}
 use Rattle.sctp_tx.specs.Resent.{mixes}
 use Rattle.sctp_tx.specs.ForwardPoints.{chunk_if, forward_chunk}
@@ -34,15 +34,12 @@ plain_along c e = refl
 pub plain_first : (c : ChunkTree) → is_plain c ≡ true → goes_first c ≡ true
 plain_first c e = along_first c (plain_along c e)
 
-both_true : (a b : Bool) → a ≡ true → b ≡ true → (a && b) ≡ true
-both_true a b e f = ap (λ (x : Bool). x && b) e ∙ f
-
 takes_pushed : (cs : List ChunkTree) (c : ChunkTree) → takes_more cs ≡ true → goes_along c ≡ true → takes_more (cs ++ c ∷ []) ≡ true
-takes_pushed [] c h e = both_true (goes_first c) true (along_first c e) refl
+takes_pushed [] c h e = and_from (goes_first c) true (along_first c e) refl
 takes_pushed (d ∷ ds) c h e =
     let parts = and_parts (goes_first d) (list_all goes_along ds) h in
-    both_true (goes_first d) (list_all goes_along (ds ++ c ∷ [])) parts.0
-    (list_all-append goes_along ds (c ∷ []) ∙ both_true (list_all goes_along ds) (goes_along c && true) parts.1 (both_true (goes_along c) true e refl))
+    and_from (goes_first d) (list_all goes_along (ds ++ c ∷ [])) parts.0
+    (list_all-append goes_along ds (c ∷ []) ∙ and_from (list_all goes_along ds) (goes_along c && true) parts.1 (and_from (goes_along c) true e refl))
 
 -- ---- packets
 
@@ -72,7 +69,7 @@ pub one_bundled : (c : ChunkTree) (p : Packet) → p.chunks ≡ [] → IsBundled
 one_bundled c p new h = one_if (fits p c) c p new h
 
 first_if : (b : Bool) (c : ChunkTree) (p : Packet) → p.chunks ≡ [] → goes_first c ≡ true → takes_more (added_if b c p).chunks ≡ true
-first_if true c p new e = subst (λ (cs : List ChunkTree). takes_more (cs ++ c ∷ []) ≡ true) (sym new) (both_true (goes_first c) true e refl)
+first_if true c p new e = subst (λ (cs : List ChunkTree). takes_more (cs ++ c ∷ []) ≡ true) (sym new) (and_from (goes_first c) true e refl)
 first_if false c p new e = new_more p.chunks new
 
 pub first_more : (c : ChunkTree) (p : Packet) → p.chunks ≡ [] → goes_first c ≡ true → takes_more (add c p).chunks ≡ true
@@ -149,3 +146,7 @@ module _ {P : Type 0} where
 
   pub turned_more : (is_first is_alone : Bool) (x : Filling P) → TakesMore x → TakesMore (turned is_first is_alone x).filling
   turned_more is_first is_alone x h = turned_if_more (has_chunks (filled_as is_first x).packet) is_alone (filled_as is_first x) (filled_more is_first x h)
+
+pub plain_added : (b : Bool) (p : Packet) → p.chunks ≡ [] → list_all is_plain (added_if b shutdown_ack_chunk p).chunks ≡ true
+plain_added true p new = ap (λ (cs : List ChunkTree). list_all is_plain (cs ++ shutdown_ack_chunk ∷ [])) new
+plain_added false p new = ap (list_all is_plain) new

@@ -194,7 +194,7 @@ stayed call r s rs last result h = All-weaker (Answers call r) (Answers call s) 
     )
     one q a = absurd a
 
-answers_leave : (o : Option Request) (now rto number result : ℕ) (r : Requests)
+pub answers_leave : (o : Option Request) (now rto number result : ℕ) (r : Requests)
     → ((answered_in o now rto number result r).last ≡ r.last) × ((answered_in o now rto number result r).result ≡ r.result)
 answers_leave None now rto number result r = (refl, refl)
 answers_leave (Some q) now rto number result r = its (q.number == number)

@@ -17,9 +17,10 @@ use Rattle.sctp_table.specs.Opening.{complains}
 use Rattle.sctp_table.specs.Input.{refusal, counts, taken_if}
 use Rattle.sctp_table.specs.Laws.{Call, Packet, called, endings}
 use Rattle.sctp_table_laws.specs.Mapped.{Carried}
+use Rattle.sctp_table_laws.proofs.TellsLemmas.{endings_append}
 use Rattle.sctp_course.specs.Acts.{calm, nothing, IsHeard}
 use Rattle.sctp_course.specs.Course.{Side, Pair, as_carried, new_side, packets_in, emitted, has_connected, Turn, Calls, Gives, Refuses, took, as_heard, given, foreign_if, turned, goes, run, MayCall, MayTurn, side_of, FollowsTheRules, HasNotEnded, AreGiven, start, state_of, AreJoined}
-use Rattle.sctp_course.proofs.UntilLemmas.{endings_both, until_end}
+use Rattle.sctp_course.proofs.UntilLemmas.{until_end}
 use Rattle.sctp_course.proofs.AddedLemmas.{all_at, all_get}
 use Rattle.sctp_course.proofs.JoinLemmas.{Draw, View, own_draw, peer_draw, view_of, Says, says_carried, Faces, Can, Stands}
 use Rattle.sctp_course.proofs.JoinActsLemmas.{Setting, Uttered, UtteredAll, Inv, InvAt, inv_light}
@@ -211,10 +212,10 @@ pub swapped : (o q : Options) (x y : Side) → Halves o q x y → Halves q o y x
 swapped o q x y h = record { own = h.other; other = h.own }
 
 pub none_of : (past es : List (Event Carried)) → endings (past ++ es) ≡ 0 → endings es ≡ 0
-none_of past es h = omega (arith, endings_both past es, h)
+none_of past es h = omega (arith, endings_append past es, h)
 
 none_past : (past es : List (Event Carried)) → endings (past ++ es) ≡ 0 → endings past ≡ 0
-none_past past es h = omega (arith, endings_both past es, h)
+none_past past es h = omega (arith, endings_append past es, h)
 
 module _ (o q : Options) (x y : Side) (own : AreGiven o) (other : AreGiven q) (h : Halves o q x y) where
   pub ends_turn : (asked : Bool) (e : Endpoint Carried) → InvAt (setting o q x y asked) (calm e) → Halves o q (record (took e x) { is_asked = asked }) y
@@ -343,3 +344,16 @@ pub ends_joined : (a b : Options) (words_a words_b : Stream) (es : List (Bool ×
 ends_joined a b words_a words_b es own other follows none =
     let w : Pair = start a b words_a words_b in
     joined_of a b (run es w) (run_joined a b own other es w follows none (record { own = first_half a b words_a words_b; other = first_half b a words_b words_a }))
+
+pub run_both : (es fs : List (Bool × Turn)) (c : Pair) → run (es ++ fs) c ≡ run fs (run es c)
+run_both [] fs c = refl
+run_both (e ∷ es) fs c = run_both es fs (goes e.0 e.1 c)
+
+pub follows_more : (es : List (Bool × Turn)) (e : Bool × Turn) (c : Pair) → FollowsTheRules es c → MayTurn e.1 (side_of e.0 (run es c))
+    → FollowsTheRules (es ++ e ∷ []) c
+follows_more [] e c h may = (may, tt)
+follows_more (d ∷ es) e c h may = (h.0, follows_more es e (goes d.0 d.1 c) h.1 may)
+
+pub follows_front : (es fs : List (Bool × Turn)) (w : Pair) → FollowsTheRules (es ++ fs) w → FollowsTheRules es w
+follows_front [] fs w h = tt
+follows_front (e ∷ es) fs w h = (h.0, follows_front es fs (goes e.0 e.1 w) h.1)

@@ -9,11 +9,13 @@ use Rattle.sctp_state.specs.Events.{Event, SendPacket, OnConnected}
 use Rattle.sctp_table.specs.Association.{Tcb, State, Packing}
 use Rattle.sctp_table.specs.Packets.{header_to}
 use Rattle.sctp_table.specs.Sending.{data_chunk_of, data_chunks}
+use Rattle.sctp_table.specs.Laws.{ending}
 use Rattle.sctp_table_laws.specs.Mapped.{Carried}
 use Rattle.sctp_course.specs.Acts.{Making, is_plain}
 use Rattle.sctp_course.specs.Course.{as_carried, packets_in, has_connected}
 use Rattle.sctp_course.proofs.ToldLemmas.{is_light}
 use Rattle.sctp_course.proofs.JoinLemmas.{View, view_of, Says, Leads, says_leads, heard_leads, Stands}
+use Rattle.sctp_rules.proofs.CommonLemmas.{or_none}
 
 -- ---- what is told
 
@@ -37,10 +39,6 @@ light_connected [] h = refl
 light_connected (OnConnected ∷ es) h = cc
 light_connected (e ∷ es) h = light_connected es (and_parts (is_light e) (list_all is_light es) h).1
 
-pub or_false : (b : Bool) → (b || false) ≡ b
-or_false true = refl
-or_false false = refl
-
 module _ (past es more now : List (Event Carried)) (behind : now ≡ es ++ more) where
   later : past ++ now ≡ (past ++ es) ++ more
   later = ap (λ (z : List (Event Carried)). past ++ z) behind ∙ sym (append_assoc past es more)
@@ -49,7 +47,7 @@ module _ (past es more now : List (Event Carried)) (behind : now ≡ es ++ more)
   packets_later ps e = ap packets_in later ∙ (packets_both (past ++ es) more ∙ ap (λ (z : List Carried). packets_in (past ++ es) ++ z) e)
 
   connected_later : has_connected more ≡ false → has_connected (past ++ now) ≡ has_connected (past ++ es)
-  connected_later e = ap has_connected later ∙ (connected_both (past ++ es) more ∙ (ap (λ (b : Bool). has_connected (past ++ es) || b) e ∙ or_false (has_connected (past ++ es))))
+  connected_later e = ap has_connected later ∙ (connected_both (past ++ es) more ∙ (ap (λ (b : Bool). has_connected (past ++ es) || b) e ∙ or_none (has_connected (past ++ es))))
 
 -- ---- what holds of the end that acts
 
@@ -202,3 +200,7 @@ module _ (g : Setting) (v : View) (tag : ℕ) where
 
   pub utters_data : (t : Tcb) (is_immediate : Bool) (cs : List (ℕ × FragmentTree)) → All (Utters g v tag) (data_chunks t is_immediate cs)
   utters_data t is_immediate cs = utters_data_by t.capabilities.message_interleaving is_immediate cs
+
+pub ends_no_packet : (e : Event Carried) → ending e ≡ 1 → packets_in (e ∷ []) ≡ []
+ends_no_packet (SendPacket p) h = cc
+ends_no_packet e h = refl

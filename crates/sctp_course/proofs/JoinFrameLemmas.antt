@@ -22,9 +22,10 @@ use Rattle.sctp_course.specs.Course.{has_connected}
 use Rattle.sctp_course.proofs.ToldLemmas.{TellsLightly}
 use Rattle.sctp_course.proofs.UntilLemmas.{light_sack, light_sending, light_time, light_call, light_reset, no_end}
 use Rattle.sctp_course.proofs.AddedLemmas.{holds_added, holds_all_added}
-use Rattle.sctp_course.proofs.JoinLemmas.{Draw, drawn_is, View, both_of, view_of, late_view, late_phase, IsPlain, IsEcho, not_both}
+use Rattle.sctp_course.proofs.JoinLemmas.{Draw, drawn_is, View, both_of, view_of, late_view, late_phase, IsPlain, IsEcho}
 use Rattle.sctp_course.proofs.JoinActsLemmas.{Setting, Utters, Inv, InvAt, inv_made, inv_light, inv_emitted, inv_options, utters_plain, utters_data, connected_both}
 use Rattle.sctp_course.proofs.JoinKeepsLemmas.{Rules, init_said, does_connects, same_init, says_answer, does_echoes, does_late, does_opened, same_verdict, no_restart, no_again}
+use Rattle.sctp_rules.proofs.ToolsLemmas.{not_both}
 
 module _ (g : Setting) (call : Call) (r : Rules g call) where
   -- a chunk is put into the packet
@@ -139,7 +140,7 @@ module _ (g : Setting) (call : Call) (r : Rules g call) where
   shuts_from (CookieEchoed t1 cookie) t m is early inv =
       let now : has_connected (g.past ++ m.context.told.events) ≡ true =
       connected_both g.past m.context.told.events ∙ ap (λ (b : Bool). b || has_connected m.context.told.events) (r.shuts is) in
-      absurd (not_both false (inv.connected now) refl)
+      absurd (not_both (inv.connected now) refl)
   shuts_from Established t m is early inv = inv
   shuts_from phase t m is early inv = cc
 

@@ -2,6 +2,7 @@
 use Rattle.std.proofs.Common.{◌≡◌, ℕ, ◌==◌, ◌||◌, not, Bool, true, false, Option, Some, None, Result, Ok, Err, List, [], ◌∷◌, ◌++◌, All, ◌⊎◌, inl, inr, refl, sym, ap, subst, ◌∙◌, append-nil, arith}
 use Rattle.std.specs.List.{list_any}
 use Rattle.std.proofs.lemmas.Bool.Decides.{nat_tests}
+use Rattle.std.proofs.lemmas.Option.{same_Some}
 use Rattle.sctp_wire.specs.Parameter.{ParameterTree, supported_extensions, forward_tsn_supported, zero_checksum_acceptable, state_cookie}
 use Rattle.sctp_packet.specs.Chunk.{ChunkTree, InitTree, init_chunk, init_ack_chunk, cookie_echo_chunk}
 use Rattle.sctp_capabilities.specs.declared.state_cookie.StateCookieError.{StateCookieError}
@@ -19,8 +20,9 @@ use Rattle.sctp_table.specs.Laws.{Call, Connect, Shutdown, Restore}
 use Rattle.sctp_table_laws.specs.Mapped.{Carried}
 use Rattle.sctp_course.specs.Acts.{Making, end_of, drawn_tag, drawn_first, IsHeard, IsEchoed, connects, echoes, before_opening, after_opening}
 use Rattle.sctp_course.specs.Course.{has_connected, AreGiven}
-use Rattle.sctp_course.proofs.JoinLemmas.{Draw, Both, IsDraw, drawn_is, View, own_draw, peer_draw, both_of, view_of, late_view, init_by, cookie_by, IsInit, IsPlain, IsInitAck, IsEcho, not_both, Faces, some_same, faces_plain, faced_by, faced_at, faces_at, holds_mine, faced_none}
+use Rattle.sctp_course.proofs.JoinLemmas.{Draw, Both, IsDraw, drawn_is, View, own_draw, peer_draw, both_of, view_of, late_view, init_by, cookie_by, IsInit, IsPlain, IsInitAck, IsEcho, Faces, faces_plain, faced_by, faced_at, faces_at, holds_mine, faced_none}
 use Rattle.sctp_course.proofs.JoinActsLemmas.{Setting, Uttered, UtteredAll, Inv, InvAt, inv_view, connected_both}
+use Rattle.sctp_rules.proofs.ToolsLemmas.{not_both}
 
 -- what the call of this turn may be, and hears
 pub record Rules (g : Setting) (call : Call) : Type 0 where
@@ -75,7 +77,7 @@ cookie_found o method c = found_by o.enable_partial_reliability (not (method == 
 
 -- ---- the cookie that comes back
 
-cookie_fits : (o : Options) (d e : Draw) → AreGiven o → IsDraw d → IsDraw e → CookieFits (cookie_by o d e)
+pub cookie_fits : (o : Options) (d e : Draw) → AreGiven o → IsDraw d → IsDraw e → CookieFits (cookie_by o d e)
 cookie_fits o d e fine fd fe = record {
   peer_tag = fd.tag;
   my_tag = fe.tag;
@@ -88,7 +90,7 @@ cookie_fits o d e fine fd fe = record {
 }
 
 -- it is read as it was made
-read_back : (o : Options) (d e : Draw) (c : List ℕ) (k : Cookie) → AreGiven o → IsDraw d → IsDraw e → c ≡ cookie_bytes (cookie_by o d e)
+pub read_back : (o : Options) (d e : Draw) (c : List ℕ) (k : Cookie) → AreGiven o → IsDraw d → IsDraw e → c ≡ cookie_bytes (cookie_by o d e)
     → read_cookie c ≡ Ok k → k ≡ cookie_by o d e
 read_back o d e c k fine fd fe is reads =
     let written : Cookie = cookie_by o d e in
@@ -96,7 +98,7 @@ read_back o d e c k fine fd fe is reads =
     let same : Ok k ≡ Ok written = sym reads ∙ (ap read_cookie is ∙ good) in
     ap (λ (r : Result Cookie StateCookieError). elim r [ Ok x ↦ x | Err fault ↦ k ]) same
 
-eq_test : (a b : ℕ) → a ≡ b → not (a == b) ≡ false
+pub eq_test : (a b : ℕ) → a ≡ b → not (a == b) ≡ false
 eq_test a b e = grind (arith, nat_tests, e)
 
 maintain_by : (a b x y : Bool) → a ≡ false → b ≡ false → by_tags a b x y ≡ MaintainExisting
@@ -134,19 +136,16 @@ module _ (g : Setting) (call : Call) (r : Rules g call) where
   pub init_said : (tag : ℕ) (i : InitTree) (m : Making Carried) → IsHeard call tag (init_chunk i) → InvAt g m → IsInit g.other u tag i
   init_said tag i m h inv = r.says tag (init_chunk i) h (view_of m.state) inv.heard
 
-  pub echo_said : (tag : ℕ) (k : Cookie) (m : Making Carried) (h : IsEchoed call tag k) → InvAt g m → IsEcho g.other u tag h.cookie
-  echo_said tag k m h inv = r.says tag (cookie_echo_chunk h.cookie) h.heard (view_of m.state) inv.heard
-
   pub does_connects : (m : Making Carried) (is : call ≡ Connect) → InvAt g (before_opening {call = call} (connects m is)) → InvAt g (after_opening {call = call} (connects m is))
   does_connects m is inv =
       let d : Draw = record { tag = drawn_tag m; first = drawn_first m } in
       let es : List (Event Carried) = m.context.told.events in
       let v : View = view_of Closed in
       let w : View = record v { mine = Some d } in
-      let yet : has_connected (g.past ++ es) ≡ true → ⊥ = λ e. not_both false (inv.connected e) refl in
+      let yet : has_connected (g.past ++ es) ≡ true → ⊥ = λ e. not_both (inv.connected e) refl in
       let told : has_connected g.past ≡ true → ⊥ = λ e. yet (connected_both g.past es ∙ ap (λ (b : Bool). b || has_connected es) e) in
       let not_asked : g.asked ≡ false = elim (r.connects is) [ inl e ↦ absurd (told e) | inr e ↦ e ] in
-      let alone : u.is_opened ≡ true → ⊥ = λ e. not_both g.asked (inv.stands.was e refl) not_asked in
+      let alone : u.is_opened ≡ true → ⊥ = λ e. not_both (inv.stands.was e refl) not_asked in
       inv_view g v m.context.options m.context.pack es m.packet.tag m.packet.chunks inv w [] es (sym (append-nil es)) refl (λ e. refl) (λ e. cc)
       (record { mine = λ x e. cc; holds = λ b e. e; opened = λ e. e; none = λ e. inr (inr not_asked) })
       (record {
@@ -189,7 +188,7 @@ module _ (g : Setting) (call : Call) (r : Rules g call) where
         let made : List ℕ = cookie_bytes (cookie_for (init_by g.own own) d.tag d.first tie) in
         let method : ℕ = (agreed_by g.other (init_by g.own own)).zero_checksum_method in
         let found : Some cookie ≡ Some made = sym brought ∙ (ap (λ (j : InitTree). cookie_in j.parameters) is ∙ cookie_found g.other method made) in
-        some_same cookie made found
+        same_Some cookie made found
         ∙ (ap (λ (z : Draw). cookie_bytes (cookie_for (init_by g.own own) z.tag z.first tie)) (sym e)
         ∙ ap (λ (z : ℕ). cookie_bytes (cookie_for (init_by g.own own) x.tag x.first z)) none)
 
@@ -215,7 +214,7 @@ module _ (g : Setting) (call : Call) (r : Rules g call) where
       let said : IsInitAck g.other g.own u v g.other_asked i = r.says tag (init_ack_chunk i) h v inv.heard in
       let plain : IsPlain u said.draw said.tie = elim said.how [ inl e ↦ cc | inr p ↦ p ] in
       let is : i ≡ init_ack_of g.other (init_by g.own own) said.draw.tag said.draw.first said.tie =
-      said.is ∙ ap (λ (z : Draw). init_ack_of g.other (init_by g.own z) said.draw.tag said.draw.first said.tie) (sym (some_same own said.other said.to)) in
+      said.is ∙ ap (λ (z : Draw). init_ack_of g.other (init_by g.own z) said.draw.tag said.draw.first said.tie) (sym (same_Some own said.other said.to)) in
       let same : peer ≡ said.draw = ack_draw i cookie own said.draw said.tie is peer refl in
       inv_view g v m.context.options m.context.pack es m.packet.tag m.packet.chunks inv w [] es (sym (append-nil es)) refl (λ e. refl) (λ e. cc)
       (record { mine = λ x e. e; holds = λ b e. cc; opened = λ e. cc; none = λ e. cc })
@@ -282,7 +281,7 @@ module _ (g : Setting) (call : Call) (r : Rules g call) where
         kept = tt;
         can = can;
         was = λ e f. cc;
-        other_was = λ e f. absurd (not_both u.is_opened opened f);
+        other_was = λ e f. absurd (not_both opened f);
       })
 
   -- a cookie that comes to the association that it made

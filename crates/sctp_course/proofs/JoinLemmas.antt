@@ -1,5 +1,6 @@
 -- What two ends know of each other while an association is opened, read off their states and what they said.
 use Rattle.std.proofs.Common.{◌≡◌, ◌≢◌, ℕ, ◌^◌, ◌<◌, not, Bool, true, false, Option, Some, None, List, ◌⊎◌, inl, inr, refl, sym, ap, ◌∙◌, arith}
+use Rattle.std.proofs.lemmas.Option.{same_Some}
 use Rattle.std.specs.Prelude.{⊤}
 use Rattle.sctp_packet.specs.Chunk.{ChunkTree, InitTree, init_chunk, init_ack_chunk, cookie_echo_chunk, cookie_ack_chunk}
 use Rattle.sctp_packet.specs.Grammar.{carried}
@@ -9,6 +10,7 @@ use Rattle.sctp_capabilities.specs.Cookie.{Cookie, cookie_bytes}
 use Rattle.sctp_table.specs.Association.{Tcb, Phase, CookieEchoed, Established, ShutdownPending, ShutdownSent, ShutdownReceived, ShutdownAckSent, State, Closed, CookieWait, Open}
 use Rattle.sctp_table.specs.Sending.{is_alone}
 use Rattle.sctp_table.specs.Opening.{tsn_from, tag_from, init_of, init_ack_of, cookie_for}
+use Rattle.sctp_rules.proofs.ToolsLemmas.{not_both}
 
 -- ---- draws
 
@@ -152,15 +154,12 @@ pub record Leads (u v w : View) (asked : Bool) : Type 0 where
   pub opened : v.is_opened ≡ true → w.is_opened ≡ true
   pub none : v.mine ≡ None → (w.mine ≡ None) ⊎ ((u.is_opened ≡ true) ⊎ (asked ≡ false))
 
-pub not_both : (b : Bool) → b ≡ true → b ≡ false → ⊥
-not_both b e f = cc
-
 module _ (o q : Options) (u v w : View) (asked : Bool) (l : Leads u v w asked) where
   plain_none : (d : Draw) (tie : ℕ) → IsPlain v d tie → asked ≡ true → ((w.mine ≡ None) ⊎ ((u.is_opened ≡ true) ⊎ (asked ≡ false)))
       → (u.is_opened ≡ true) ⊎ IsPlain w d tie
   plain_none d tie p was (inl none) = inr (record { tie_is = p.tie_is; draw = p.draw; own = inl none })
   plain_none d tie p was (inr (inl opened)) = inl opened
-  plain_none d tie p was (inr (inr not_asked)) = absurd (not_both asked was not_asked)
+  plain_none d tie p was (inr (inr not_asked)) = absurd (not_both was not_asked)
 
   plain_leads : (d : Draw) (tie : ℕ) → IsPlain v d tie → asked ≡ true → ((v.mine ≡ None) ⊎ (v.mine ≡ Some d)) → (u.is_opened ≡ true) ⊎ IsPlain w d tie
   plain_leads d tie p was (inl none) = plain_none d tie p was (l.none none)
@@ -249,35 +248,27 @@ pub record Stands (o q : Options) (v u : View) (asked asked_other : Bool) : Type
 
 -- ---- reading it
 
-pub some_same : {A : Type 0} (a b : A) → Some a ≡ Some b → a ≡ b
-some_same {A} a b e = ap (λ (o : Option A). elim o [ None ↦ a | Some x ↦ x ]) e
-
 pub faces_plain : (x : Option Draw) (b : Both) (d : Draw) → ((x ≡ None) ⊎ (x ≡ Some d)) → b.peer ≡ d → Faces (Some b) x
 faces_plain None b d h e = tt
 faces_plain (Some f) b d (inl none) e = cc
-faces_plain (Some f) b d (inr some) e = some_same f d some ∙ sym e
+faces_plain (Some f) b d (inr some) e = same_Some f d some ∙ sym e
 
 pub faced_by : (x : Option Both) (b : Both) (d : Draw) → x ≡ Some b → d ≡ b.peer → Faces x (Some d)
 faced_by None b d h e = cc
-faced_by (Some c) b d h e = e ∙ ap (λ (z : Both). z.peer) (sym (some_same c b h))
+faced_by (Some c) b d h e = e ∙ ap (λ (z : Both). z.peer) (sym (same_Some c b h))
 
 pub faced_at : (x : Option Both) (b : Both) (d : Draw) → x ≡ Some b → Faces x (Some d) → d ≡ b.peer
 faced_at None b d h e = cc
-faced_at (Some c) b d h e = e ∙ ap (λ (z : Both). z.peer) (some_same c b h)
+faced_at (Some c) b d h e = e ∙ ap (λ (z : Both). z.peer) (same_Some c b h)
 
 pub faces_at : (x : Option Draw) (b : Both) (d : Draw) → x ≡ Some d → Faces (Some b) x → d ≡ b.peer
 faces_at None b d h e = cc
-faces_at (Some f) b d h e = sym (some_same f d h) ∙ e
+faces_at (Some f) b d h e = sym (same_Some f d h) ∙ e
 
 pub holds_mine : (s : State) (b : Both) → (view_of s).holds ≡ Some b → (view_of s).mine ≡ Some b.mine
 holds_mine Closed b e = cc
 holds_mine (CookieWait tag first t1) b e = cc
-holds_mine (Open phase t) b e = ap (λ (z : Both). Some z.mine) (some_same (both_of t) b e)
-
-pub holds_opened : (s : State) (b : Both) → (view_of s).holds ≡ Some b → (view_of s).is_opened ≡ true
-holds_opened Closed b e = cc
-holds_opened (CookieWait tag first t1) b e = cc
-holds_opened (Open phase t) b e = refl
+holds_mine (Open phase t) b e = ap (λ (z : Both). Some z.mine) (same_Some (both_of t) b e)
 
 pub faced_none : (s : State) (d : Draw) → ((view_of s).is_opened ≡ true → ⊥) → Faces (view_of s).holds (Some d)
 faced_none Closed d h = tt

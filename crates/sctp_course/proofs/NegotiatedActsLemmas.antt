@@ -12,7 +12,7 @@ use Rattle.sctp_send_queue.specs.Queue.{Queue}
 use Rattle.sctp_send_queue.specs.Produced.{Produced}
 use Rattle.sctp_outstanding.specs.Resending.{Resent}
 use Rattle.sctp_tx.specs.Retransmission.{Sender, sender_if, timed_out_sender}
-use Rattle.sctp_tx.specs.Resent.{resent, resent_fast, send_fast, resent_by}
+use Rattle.sctp_tx.specs.Resent.{resent, resent_fast, send_fast}
 use Rattle.sctp_tx.specs.ForwardPoints.{expired, chunk_if, forward_chunk}
 use Rattle.sctp_tx.specs.Sending as fragments
 use Rattle.sctp_tx.specs.Sending.{Filling, appended, turned_if, turned, fill, discard_all, without_discards, filled_with, send}
@@ -24,15 +24,15 @@ use Rattle.sctp_table.specs.Sending.{is_small, selective_ack, data_chunk_of, dat
 use Rattle.sctp_table.specs.Acknowledging.{cleaned}
 use Rattle.sctp_table.specs.Opening.{init_of, init_ack_of, agreed_by, names, long_word, tcb_by}
 use Rattle.sctp_table.specs.Input.{misused}
-use Rattle.sctp_table.specs.Laws.{Call, Restore, ending}
+use Rattle.sctp_table.specs.Laws.{Call, Restore}
 use Rattle.sctp_table_laws.specs.Mapped.{Carried}
 use Rattle.sctp_course.specs.Acts.{Making, in_open, end_of, is_plain, may_shut, point_of, IsHeard, IsEchoed, fragments_of, PacketAct, begins, adds_plain, emits, complains, counts, before_packets, after_packets, OpeningAct, connects, adds_init, answers_new, answers_waiting, answers_echoed, answers_again, echoes, adds_cookie, establishes, opens, restarts, opens_again, maintains, adds_cookie_ack, before_opening, after_opening, ClosingAct, closes, shuts, shuts_on, before_closing, after_closing, DataAct, takes_data, takes_idata, takes_forward, takes_iforward, before_data, after_data, SackAct, takes_sack, samples, counts_errors, before_sack, after_sack, SendingAct, asks, adds_ack, expires, adds_forward, forwards_later, asks_no_reset, asks_reset, adds_request, sends, sends_fast, before_sending, after_sending, TimeAct, advances, delay_ends, times_out, beats, times_init, times_cookie, times_request, wakes_request, before_time, timeout_of, after_time, CallAct, accepts, refuses, takes_message, sets_low_threshold, sets_priority, sets_max_message_size, before_call, after_call, ResetAct, prepares, defers, performs, processes, takes_response, adds_responses, before_reset, after_reset, HandoverAct, leaves, takes_up, before_handover, after_handover, InputAct, ends_packet, before_input, after_input, Keeps}
 use Rattle.sctp_course.specs.Course.{as_carried, packets_in, AreGiven}
 use Rattle.sctp_course.proofs.ToldLemmas.{TellsLightly}
 use Rattle.sctp_course.proofs.UntilLemmas.{light_sack, light_sending, light_time, light_call, light_reset}
 use Rattle.sctp_course.proofs.AddedLemmas.{holds_added, holds_all_added}
-use Rattle.sctp_course.proofs.StayLemmas.{Stays, stays_same, stays_then, stays_resent, stays_timed, alike_all, alike_outstanding, alike_heard}
-use Rattle.sctp_course.proofs.JoinActsLemmas.{packets_both, light_packets}
+use Rattle.sctp_course.proofs.StayLemmas.{Stays, stays_same, stays_then, stays_resent, stays_timed, alike_all, alike_outstanding, alike_heard, stays_fast}
+use Rattle.sctp_course.proofs.JoinActsLemmas.{packets_both, light_packets, ends_no_packet}
 use Rattle.sctp_course.proofs.NegotiatedLemmas.{Brings, Tells, tells_back, same_mode, same_partial, forward_right, View, alone, view_of, late_phase, Able, IsAble}
 
 -- ---- what goes out leaves the mode as it was
@@ -69,11 +69,6 @@ stays_sent {P} now most s q t =
     (stays_then u.outstanding r.outstanding (send now most s q t).sender.outstanding (stays_resent false _ _ u.outstanding)
     (stays_then r.outstanding y.sender.outstanding (send now most s q t).sender.outstanding (stays_fill (suc x.left) now x)
     (stays_timed now y.chunks y.sender)))
-
-stays_fast : (now most : ℕ) (s : Sender) → Stays s.outstanding (send_fast now most s).outstanding
-stays_fast now most s =
-    let x : Resent = resent_fast most s in
-    stays_then s.outstanding x.outstanding (send_fast now most s).outstanding (stays_resent true most 0 s.outstanding) (stays_timed now x.chunks (resent_by s x))
 
 -- ---- an end at work
 
@@ -272,10 +267,6 @@ module _ (g : Setting) (call : Call) (r : Hears g call) where
       adds (view_of (Open phase t)) m.context.options m.context.pack m.context.told.events m.packet cookie_ack_chunk inv refl
 
   -- ---- closing
-
-  ends_no_packet : (e : Event Carried) → ending e ≡ 1 → packets_in (e ∷ []) ≡ []
-  ends_no_packet (SendPacket p) h = cc
-  ends_no_packet e h = refl
 
   shuts_from : (phase : Phase) (t : Tcb) (m : Making Carried) → may_shut phase ≡ true → InvAt g (in_open phase t m) → InvAt g (in_open ShutdownPending t m)
   shuts_from (CookieEchoed t1 cookie) t m early inv = record {

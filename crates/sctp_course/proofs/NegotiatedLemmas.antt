@@ -1,5 +1,6 @@
 -- What an association can do, over every course: both ends negotiate the same, and no chunk that either emits is misused by it.
 use Rattle.std.proofs.Common.{◌≡◌, ℕ, ◌&&◌, ◌^◌, ◌%◌, Bool, true, false, Option, Some, None, Result, Ok, Err, List, [], ◌∷◌, ◌++◌, refl, sym, ap, subst, ◌∙◌, arith}
+use Rattle.std.proofs.lemmas.Option.{same_Some}
 use Rattle.std.specs.Prelude.{⊤}
 use Rattle.sctp_wire.specs.Fields.{be32, be64}
 use Rattle.sctp_packet.specs.Chunk.{ChunkTree, InitTree, init_chunk, init_ack_chunk, cookie_echo_chunk}
@@ -17,7 +18,7 @@ use Rattle.sctp_table.specs.Sending.{is_alone}
 use Rattle.sctp_table.specs.Opening.{cookie_for, agreed_by, init_ack_of, cookie_in}
 use Rattle.sctp_table.specs.Input.{misused}
 use Rattle.sctp_course.specs.Course.{AreGiven}
-use Rattle.sctp_course.proofs.JoinLemmas.{kept_in, some_same}
+use Rattle.sctp_course.proofs.JoinLemmas.{kept_in}
 use Rattle.sctp_course.proofs.JoinKeepsLemmas.{told_with_cookie, cookie_found}
 
 -- ---- a cookie says what its maker was told, whatever else it says
@@ -29,7 +30,7 @@ be32_wraps n = four _ _ _ _ _ _ _ _ (omega arith) (omega arith) (omega arith) (o
     four : (a b c d p q r s : ℕ) → a ≡ p → b ≡ q → c ≡ r → d ≡ s → (a ∷ b ∷ c ∷ d ∷ []) ≡ (p ∷ q ∷ r ∷ s ∷ [])
     four a b c d p q r s e1 e2 e3 e4 = rw (e1, e2, e3, e4) refl
 
-be64_wraps : (n : ℕ) → be64 (n % 2 ^ 64) ≡ be64 n
+pub be64_wraps : (n : ℕ) → be64 (n % 2 ^ 64) ≡ be64 n
 unfolding be64
 be64_wraps n =
     eight _ _ _ _ _ _ _ _ _ _ _ _ _ _ _ _ (omega arith) (omega arith) (omega arith) (omega arith) (omega arith) (omega arith) (omega arith) (omega arith)
@@ -148,7 +149,7 @@ tells_back o q i tag first tie fine said =
       can = ap (negotiated q) (told_with_cookie o.announced_maximum_outgoing_streams o.announced_maximum_incoming_streams (announced o method) bytes)
           ∙ (ap (λ (k : Capabilities). negotiated q (told_with (negotiated o k).zero_checksum_method o)) said ∙ negotiated-told_by_init_ack q o);
       cookie = λ c brought k reads.
-          let same : bytes ≡ c = some_same bytes c (sym (cookie_found o method bytes) ∙ brought) in
+          let same : bytes ≡ c = same_Some bytes c (sym (cookie_found o method bytes) ∙ brought) in
           let is : k.peer_capabilities ≡ made.peer_capabilities =
           reads_told made k (subst CapabilitiesFit (sym said) (told_fits q fine)) (ap read_cookie same ∙ reads) in
           ap (negotiated o) (is ∙ said) ∙ negotiated-told_by_init o q;

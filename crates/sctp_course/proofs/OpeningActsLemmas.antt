@@ -1,6 +1,5 @@
 -- The walk over the rows: the handshake.
-use Rattle.std.proofs.Common.{◌≡◌, ℕ, ◌==◌, not, Bool, true, false, Option, Some, None, Result, Ok, Err, List, [], ◌∷◌, ◌++◌, codes, refl, ap}
-use Rattle.std.specs.List.{list_all}
+use Rattle.std.proofs.Common.{◌≡◌, ℕ, ◌==◌, not, Bool, true, false, Option, Some, None, Result, Ok, Err, List, [], ◌∷◌, codes, refl}
 use Rattle.rand_core.specs.Stream.{Stream}
 use Rattle.sctp_wire.specs.Cause.{missing_mandatory_parameter, cookie_received_while_shutting_down}
 use Rattle.sctp_packet.specs.Chunk.{ChunkTree, InitTree, init_chunk, init_ack_chunk, abort_chunk, error_chunk, cookie_echo_chunk, cookie_ack_chunk, shutdown_ack_chunk}
@@ -12,12 +11,12 @@ use Rattle.sctp_capabilities.specs.Capabilities.{announced, zero_checksum_enable
 use Rattle.sctp_capabilities.specs.Cookie.{Cookie, read_cookie, refusal_text}
 use Rattle.sctp_state.specs.Events.{OnConnectionRestarted, OnAborted}
 use Rattle.sctp_table.specs.Association.{Tcb, tcb, Phase, CookieEchoed, Established, ShutdownPending, ShutdownSent, ShutdownReceived, ShutdownAckSent, State, Closed, CookieWait, Open, Context, Endpoint}
-use Rattle.sctp_table.specs.Packets.{Packet, fits, added_if, add, packet_to, new_packet, rounded, say, emit}
+use Rattle.sctp_table.specs.Packets.{Packet, fits, add, packet_to, new_packet, rounded, say, emit}
 use Rattle.sctp_table.specs.Sending.{is_alone}
 use Rattle.sctp_table.specs.Opening.{long_word, init_of, init_ack_of, next_first, send_init, t1_init, connect_in, connect, agreed_by, answers, answers_new, answers_again, on_init_open, on_init_in, on_init, cookie_in, without_cookie, t1_cookie, names, echoed, on_init_ack_in, on_init_ack, connected, on_cookie_ack, Verdict, EstablishNew, RestartDetected, SimultaneousInit, MaintainExisting, Discard, InvalidTag, by_tags, new_if, compared, judged, cookie_ack, tcb_by, establishes as establishes_by, kept, too_late, restarts as restarts_by, restarts_in, on_verdict, on_read_cookie, on_cookie_echo}
 use Rattle.sctp_table.specs.Laws.{Call, Connect}
-use Rattle.sctp_course.specs.Acts.{Making, at, nothing, idle, calm, drawn_first, drawn_tag, drawn_tag_alone, drew_two, drew_one, echoing, opened_by, IsHeard, IsEchoed, is_plain, IsBundled, an_init_alone, an_init_ack_alone, all_along, always, as_held, as_asked, adds_plain, connects, adds_init, answers_new as answers_new_act, answers_waiting, answers_echoed, answers_again as answers_again_act, echoes, establishes, opens, restarts, opens_again, maintains, adds_cookie_ack, Keeps}
-use Rattle.sctp_course.proofs.BundledLemmas.{added_more, one_bundled, first_more}
+use Rattle.sctp_course.specs.Acts.{Making, at, nothing, idle, calm, drawn_first, drawn_tag, drawn_tag_alone, drew_two, drew_one, echoing, opened_by, IsHeard, IsEchoed, IsBundled, an_init_alone, an_init_ack_alone, all_along, always, as_held, as_asked, adds_plain, connects, adds_init, answers_new as answers_new_act, answers_waiting, answers_echoed, answers_again as answers_again_act, echoes, establishes, opens, restarts, opens_again, maintains, adds_cookie_ack, Keeps}
+use Rattle.sctp_course.proofs.BundledLemmas.{added_more, one_bundled, first_more, plain_added}
 use Rattle.sctp_course.proofs.PacketActsLemmas.{does_out, does_begin, does_plain, does_complain, does_send_with, does_send_buffered, does_send_cookie}
 use Rattle.sctp_course.proofs.RowActsLemmas.{placed, OpenActs, does_closed, does_send_shutdown_ack}
 
@@ -204,10 +203,6 @@ module _ {P : Type 0} {call : Call} {R : Making P → Making P → Type 0} (k : 
     does_kept (ShutdownSent t2) t c w is = does_accept a.peer_tag (ShutdownSent t2) t c w refl
     does_kept ShutdownReceived t c w is = does_accept a.peer_tag ShutdownReceived t c w refl
     does_kept (ShutdownAckSent t2) t c w is = does_accept a.peer_tag (ShutdownAckSent t2) t c w refl
-
-    plain_added : (b : Bool) (p : Packet) → p.chunks ≡ [] → list_all is_plain (added_if b shutdown_ack_chunk p).chunks ≡ true
-    plain_added true p new = ap (λ (cs : List ChunkTree). list_all is_plain (cs ++ shutdown_ack_chunk ∷ [])) new
-    plain_added false p new = ap (list_all is_plain) new
 
     -- a restart comes too late
     does_too_late : (phase : Phase) (t : Tcb) (c : Context P) (w : Stream) → R (idle (Open phase t) c w) (idle (Open phase t) (too_late t c) w)

@@ -27,6 +27,7 @@ use Rattle.sctp_tx.specs.Resent.{may_send_new, resent}
 use Rattle.sctp_outstanding.specs.Resending.{Resent}
 use Rattle.sctp_table_laws.specs.HandoverRoundTrip.{IsNumberedOnce, CallsNumberOnce}
 use Rattle.sctp_course.proofs.StayLemmas.{Stays, stays_same, stays_then, stays_resent, stays_timed}
+use Rattle.sctp_rules.proofs.CommonLemmas.{is_less, is_greater, second_some}
 
 -- ---- ids stay sorted
 
@@ -35,12 +36,6 @@ AreSorted es = IsStrictlySortedBy nat_cmp (keys_of es)
 
 less : (m k : ℕ) → m < k → nat_cmp m k ≡ Less
 less m k l = grind (arith, nat_tests)
-
-below : (m k : ℕ) → nat_cmp m k ≡ Less → m < k
-below m k e = grind (arith, nat_tests)
-
-above : (m k : ℕ) → nat_cmp m k ≡ Greater → k < m
-above m k e = grind (arith, nat_tests)
 
 all_less : (k m : ℕ) (es : Entries) → k ≤ m → AreAbove m es → AllByRecursion (λ (y : ℕ). nat_cmp k y ≡ Less) (keys_of es)
 all_less k m [] l h = tt
@@ -64,11 +59,11 @@ inserted_sorted id s (e ∷ es) h = go (nat_cmp id e.0) refl (inserted_sorted id
     go : (r : Ordering) → nat_cmp id e.0 ≡ r → AreSorted (insert_entry nat_cmp es id s)
         → AreSorted (match_ordering r ((id, s) ∷ e ∷ es) ((e.0, s) ∷ es) (e ∷ insert_entry nat_cmp es id s))
     go Less p ih =
-        let l : id < e.0 = below id e.0 p in
+        let l : id < e.0 = is_less id e.0 p in
         ((p, all_less id e.0 es (omega (arith, l)) (are_above e.0 es h)), h)
     go Equal p ih = h
     go Greater p ih =
-        (all_less e.0 e.0 (insert_entry nat_cmp es id s) (omega arith) (above_inserted e.0 id s es (above id e.0 p) (are_above e.0 es h)), ih)
+        (all_less e.0 e.0 (insert_entry nat_cmp es id s) (omega arith) (above_inserted e.0 id s es (is_greater id e.0 p) (are_above e.0 es h)), ih)
 
 put_sorted : (id : ℕ) (s : Stream) (ss : Streams) → AreSorted ss.entries → AreSorted (put id s ss).entries
 put_sorted id s ss h = subst (IsStrictlySortedBy nat_cmp) (sym (keys-set_value (is_at (nat_cmp id)) ss.entries s)) h
@@ -252,14 +247,10 @@ module _ (once : CallsNumberOnce) where
       (record { sent = stays_same x.sender.outstanding; queue = goes_produced once now (offered x.left x.sender) x.queue x.told (some refl) })
       (fills_appended now t.made y)
 
-  some_offered : (a : Bool) (n : ℕ) → (a && nat_lt 0 n) ≡ true → 0 < n
-  some_offered true n e = grind (arith, nat_tests)
-  some_offered false n e = absurd (cc)
-
   fills_turned : (now : ℕ) (x : Filling (List ℕ)) → Fills x (turned now x).filling
   fills_turned now x =
       let n : ℕ = offered x.left x.sender in
-      fills_turned_if (may_send_new x.sender && nat_lt 0 n) now x (some_offered (may_send_new x.sender) n)
+      fills_turned_if (may_send_new x.sender && nat_lt 0 n) now x (second_some (may_send_new x.sender) n)
 
   fills_fill : (turns now : ℕ) (x : Filling (List ℕ)) → Fills x (fill turns now x)
   fills_fill zero now x = fills_same x

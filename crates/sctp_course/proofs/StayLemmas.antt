@@ -20,7 +20,7 @@ use Rattle.sctp_outstanding.specs.Losses.{Step, given_up, given_up_if, change_it
 use Rattle.sctp_outstanding.specs.Sack.{hear, heard_first, staying, reported_below}
 use Rattle.sctp_outstanding.specs.Resending.{Resent, size_in, allowed, again_of, fast_turn, queued_turn, turn_of, taken, step_at, resent_below, resend}
 use Rattle.sctp_tx.specs.Retransmission.{Sender}
-use Rattle.sctp_tx.specs.Resent.{timed_if, timed}
+use Rattle.sctp_tx.specs.Resent.{timed_if, timed, resent_fast, send_fast, resent_by}
 use Rattle.sctp_table.specs.Association.{Tcb}
 
 -- ---- items
@@ -260,3 +260,8 @@ lasts_same t = record { identity = refl; capabilities = refl; received = refl; s
 -- with another tracker, reassembly, sender, round trip and requests
 pub lasts_sent : (t : Tcb) (s : Sender) → Stays t.sender.outstanding s.outstanding → Lasts t (record t { sender = s })
 lasts_sent t s h = record { identity = refl; capabilities = refl; received = refl; sent = h; mode = refl }
+
+pub stays_fast : (now most : ℕ) (s : Sender) → Stays s.outstanding (send_fast now most s).outstanding
+stays_fast now most s =
+    let x = resent_fast most s in
+    stays_then s.outstanding x.outstanding (send_fast now most s).outstanding (stays_resent true most 0 s.outstanding) (stays_timed now x.chunks (resent_by s x))

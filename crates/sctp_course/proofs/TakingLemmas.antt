@@ -21,9 +21,6 @@ some_taken true v e = cc
 some_taken false true e = refl
 some_taken false false e = cc
 
-abbrev or_first : (a b : Bool) → Bool
-or_first a b = a || b
-
 new_by : (b : Bool) (tsn : ℕ) (f : FragmentTree) (r : Reassembly) → not b ≡ true → added_unless b tsn f r ≡ add tsn f r
 new_by true tsn f r e = cc
 new_by false tsn f r e = refl

@@ -11,7 +11,7 @@ use Rattle.sctp_outstanding.specs.Item.{Item, is_abandoned}
 use Rattle.sctp_outstanding.specs.Items.{Items, Discard}
 use Rattle.sctp_outstanding.specs.Losses.{Step, first_step, given_up, gives_up, loses, change_items, nack_item, nack_below, nack_all, given_up_if, expired_at, expire_below, expire_outstanding}
 use Rattle.sctp_outstanding.specs.Item as item
-use Rattle.sctp_outstanding.specs.Sack.{report, reports, leaving, staying, acked_by, reported_below, heard_first, hear}
+use Rattle.sctp_outstanding.specs.Sack.{report, reports, leaving, staying, reported_below, heard_first, hear}
 use Rattle.sctp_outstanding.specs.Sack as sack
 use Rattle.sctp_state.specs.Thresholds.{crosses}
 use Rattle.sctp_send_queue.specs.Queue.{Queued, Stream, Streams, Queue, stream, watched_amount, watched_total}

@@ -1,5 +1,5 @@
 -- What each act tells, and the frame up to the first end of an association.
-use Rattle.std.proofs.Common.{◌≡◌, ◌⊎◌, inl, inr, ◌+◌, true, List, [], ◌∷◌, ◌++◌, refl, sym, ap, ◌∙◌, append_assoc, append-nil, arith}
+use Rattle.std.proofs.Common.{◌≡◌, ◌⊎◌, inl, inr, true, List, [], ◌∷◌, ◌++◌, refl, sym, ap, ◌∙◌, append_assoc, append-nil, arith}
 use Rattle.std.specs.List.{list_all}
 use Rattle.std.proofs.lemmas.Bool.{and_parts}
 use Rattle.sctp_state.specs.Events.{Event, OnConnected, OnConnectionRestarted, OnClosed, OnAborted, OnIncomingStreamReset, OnStreamsResetPerformed, OnStreamsResetFailed, OnError, numbers_of}
@@ -12,6 +12,7 @@ use Rattle.sctp_table.specs.Laws.{Call, called, ending, endings}
 use Rattle.sctp_course.specs.Acts.{Making, calm, PacketAct, begins, adds_plain, emits, complains, counts, before_packets, after_packets, OpeningAct, connects, adds_init, answers_new, answers_waiting, answers_echoed, answers_again, echoes, adds_cookie, establishes, opens, restarts, opens_again, maintains, adds_cookie_ack, before_opening, after_opening, ClosingAct, closes, shuts, shuts_on, before_closing, after_closing, DataAct, takes_data, takes_idata, takes_forward, takes_iforward, before_data, after_data, SackAct, takes_sack, samples, counts_errors, point_of, before_sack, after_sack, SendingAct, asks, adds_ack, expires, adds_forward, forwards_later, asks_no_reset, asks_reset, adds_request, sends, sends_fast, before_sending, after_sending, TimeAct, advances, delay_ends, times_out, beats, times_init, times_cookie, times_request, wakes_request, before_time, after_time, CallAct, accepts, refuses, takes_message, sets_low_threshold, sets_priority, sets_max_message_size, before_call, after_call, ResetAct, prepares, defers, performs, processes, takes_response, adds_responses, before_reset, after_reset, HandoverAct, leaves, takes_up, before_handover, after_handover, InputAct, ends_packet, before_input, after_input, Keeps, HasNoEnd, KeepsUntilEnd}
 use Rattle.sctp_course.proofs.ToldLemmas.{is_light, TellsLightly, tells_same, tells_all, tells_nack_all, tells_expired, tells_sack, tells_threshold, tells_sent, tells_prepared, tells_refused}
 use Rattle.sctp_course.proofs.ActsLemmas.{keeps_call}
+use Rattle.sctp_table_laws.proofs.TellsLemmas.{endings_append}
 
 -- ---- acts that tell nothing of how the association stands
 
@@ -137,18 +138,14 @@ module _ {P : Type 0} {call : Call} where
 
 -- ---- no end so far
 
-pub endings_both : {P : Type 0} (es fs : List (Event P)) → endings (es ++ fs) ≡ endings es + endings fs
-endings_both [] fs = omega arith
-endings_both (e ∷ es) fs = omega (arith, endings_both es fs)
-
 module _ {P : Type 0} where
   -- none before either
   pub none_before : (a b : Making P) → Grows a b → HasNoEnd b → HasNoEnd a
-  none_before a b g h = omega (arith, ap endings g.behind, endings_both a.context.told.events g.events, h)
+  none_before a b g h = omega (arith, ap endings g.behind, endings_append a.context.told.events g.events, h)
 
   -- an end that is told is one
   pub no_end : (a b : Making P) (e : Event P) → b.context.told.events ≡ a.context.told.events ++ e ∷ [] → ending e ≡ 1 → HasNoEnd b → ⊥
-  no_end a b e is one h = omega (arith, ap endings is, endings_both a.context.told.events (e ∷ []), one, h)
+  no_end a b e is one h = omega (arith, ap endings is, endings_append a.context.told.events (e ∷ []), one, h)
 
   -- as long as there is none
   abbrev pub Until : (Making P → Making P → Type 0) → Making P → Making P → Type 0
@@ -179,27 +176,6 @@ module _ {P : Type 0} where
 pub until_end : {P : Type 0} (call : Call) {R : Making P → Making P → Type 0} → KeepsUntilEnd call R → (s : Endpoint P) → HasNoEnd (calm (called call s))
     → R (calm s) (calm (called call s))
 until_end call k s none = (keeps_call call (frame k) s).1 none
-
--- and what was told before stands
-grows_frame : {P : Type 0} (call : Call) → Keeps call (Grows {P = P})
-grows_frame call = record {
-  same = λ m. grows_same m m refl;
-  through = λ {a} {b} {c}. grows_through a b c;
-  packets = grows_packets;
-  opening = grows_opening;
-  closing = grows_closing;
-  data_acts = λ act. grows_light (before_data act) (after_data act) (light_data act);
-  acknowledging = λ act. grows_light (before_sack act) (after_sack act) (light_sack act);
-  sending = λ act. grows_light (before_sending act) (after_sending act) (light_sending act);
-  time = λ act. grows_light (before_time act) (after_time act) (light_time act);
-  calls = λ act. grows_light (before_call act) (after_call act) (light_call act);
-  resets = λ act. grows_light (before_reset act) (after_reset act) (light_reset act);
-  handover = grows_handover;
-  input = λ act. grows_light (before_input act) (after_input act) (light_input act);
-}
-
-pub grows_call : {P : Type 0} (call : Call) (s : Endpoint P) → Grows (calm s) (calm (called call s))
-grows_call call s = keeps_call call (grows_frame call) s
 
 -- ---- where an end is told, up to there
 
@@ -232,7 +208,7 @@ module _ {P : Type 0} {call : Call} {R : Making P → Making P → Type 0} (k : 
 
   -- an act that tells these, none of them an end
   still : (a b : Making P) (es : List (Event P)) → b.context.told.events ≡ a.context.told.events ++ es → endings es ≡ 0 → (HasNoEnd b → R a b) → First a b
-  still a b es e none f h = let n : HasNoEnd b = omega (arith, ap endings e, endings_both a.context.told.events es, none, h) in inl (n, f n)
+  still a b es e none f h = let n : HasNoEnd b = omega (arith, ap endings e, endings_append a.context.told.events es, none, h) in inl (n, f n)
 
   lightly : (a b : Making P) → Light a b → (HasNoEnd b → R a b) → First a b
   lightly a b l f = still a b l.events l.behind (light_ends l.events l.light) f
