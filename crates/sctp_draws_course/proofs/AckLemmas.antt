@@ -1,34 +1,34 @@
 -- An INIT ACK: its cookie is echoed by an end that waits for it; an end with a control block does nothing with it.
-use Rattle.std.proofs.Common.{◌≡◌, ◌≢◌, ℕ, ◌==◌, ◌^◌, ◌<◌, not, Bool, true, false, Option, Some, None, List, [], ◌∷◌, ◌++◌, map, All, ◌⊎◌, inl, inr, refl, sym, ap, subst, ◌∙◌, arith}
+use Rattle.std.proofs.Common.{◌≡◌, ℕ, true, false, Option, Some, None, List, [], ◌∷◌, map, All, inl, refl, sym, ap, subst, ◌∙◌}
 use Rattle.std.proofs.lemmas.Bool.{both_ways}
 use Rattle.std.proofs.lemmas.List.Elements.{All-nil, All-cons}
+use Rattle.std.proofs.lemmas.Option.{same_Some}
 use Rattle.rand_core.specs.Stream.{Stream, next_u64}
-use Rattle.sctp_wire.specs.Parameter.{ParameterTree, state_cookie}
-use Rattle.sctp_packet.specs.Chunk.{ChunkTree, InitTree, init_chunk, init_ack_chunk, cookie_echo_chunk}
+use Rattle.sctp_packet.specs.Chunk.{ChunkTree, InitTree, init_ack_chunk, cookie_echo_chunk}
 use Rattle.sctp_packet.specs.Grammar.{carried}
 use Rattle.sctp_state.specs.Options.{Options}
-use Rattle.sctp_capabilities.specs.Cookie.{Cookie, cookie_bytes}
+use Rattle.sctp_capabilities.specs.Cookie.{cookie_bytes}
 use Rattle.sctp_state.specs.Timers.{Timer}
 use Rattle.sctp_table.specs.Association.{State, Closed, CookieWait, Open, Context, Endpoint}
 use Rattle.sctp_table.specs.Shown.{Association}
-use Rattle.sctp_table.specs.Opening.{init_of, init_ack_of, agreed_by, cookie_for, cookie_in}
+use Rattle.sctp_table.specs.Opening.{init_ack_of, agreed_by, cookie_for, cookie_in}
 use Rattle.sctp_table.specs.Input.{my_tag, refusal, counts, taken_if}
 use Rattle.sctp_table.specs.Laws.{Call, Packet, called}
 use Rattle.sctp_table_laws.specs.Mapped.{Carried}
 use Rattle.sctp_course.specs.Acts.{is_opened}
 use Rattle.sctp_course.specs.Course.{Side, as_carried, as_heard, state_of}
 use Rattle.sctp_course.specs.Agreement.{Draw as Drawn}
-use Rattle.sctp_course.proofs.JoinLemmas.{Draw, view_of, init_by, IsInitAck, some_same}
+use Rattle.sctp_course.proofs.JoinLemmas.{init_by, IsInitAck}
 use Rattle.sctp_course.proofs.CourseLemmas.{seen}
 use Rattle.sctp_draws.specs.NamedChunks.{Names, flipped, named_init, named_chunks}
 use Rattle.sctp_draws.specs.Names.{named_state}
 use Rattle.sctp_draws.specs.NamedCookies.{cookie_named}
 use Rattle.sctp_draws.specs.Laws.{NumbersFitIn}
-use Rattle.sctp_draws.specs.NamedCalls.{EchoIsNamed, InitAckIsNamed, AreNamed, init_ack, EachCallIsNamed}
+use Rattle.sctp_draws.specs.NamedCalls.{EchoIsNamed, InitAckIsNamed, init_ack, EachCallIsNamed}
 use Rattle.sctp_draws.proofs.CookieLemmas.{cookies_named}
 use Rattle.sctp_draws_course.specs.Pairing.{far, cookie_under, names, Knows}
 use Rattle.sctp_draws_course.proofs.NamesLemmas.{same_tie, peer_in, names_in, TagsAre}
-use Rattle.sctp_draws_course.proofs.TwinLemmas.{HoldsOne, IsTaken, Stand, Twin, IsNamedBy}
+use Rattle.sctp_draws_course.proofs.TwinLemmas.{IsTaken, Stand, Twin, IsNamedBy}
 use Rattle.sctp_draws_course.proofs.ChunkLemmas.{init_ack_heard}
 use Rattle.sctp_draws_course.proofs.GuideLemmas.{Guides, tags_after}
 use Rattle.sctp_draws_course.proofs.StepLemmas.{hears_init, Named}
@@ -152,7 +152,7 @@ stand_tags (CookieWait tag first t1) u f h = cc
 stand_tags (Open phase t) Closed f h = let none = f (held_by t) refl in cc
 stand_tags (Open phase t) (CookieWait tag first t1) f h = let none = f (held_by t) refl in cc
 stand_tags (Open phase t) (Open next v) f h =
-    let same : held_by v ≡ held_by t = some_same (held_by v) (held_by t) (f (held_by t) refl) in
+    let same : held_by v ≡ held_by t = same_Some (held_by v) (held_by t) (f (held_by t) refl) in
     (ap (λ (a : Association). a.my_tag) same, ap (λ (a : Association). a.peer_tag) same)
 
 does_nothing : (n : Names) (i : InitTree) (s : State) (w v : Stream) → is_opened s ≡ true → InitAckIsNamed n i s w v

@@ -1,18 +1,16 @@
 -- A call of the user, or a moment, on an end and on its image.
-use Rattle.std.proofs.Common.{◌≡◌, ◌≢◌, ℕ, Bool, true, false, Option, Some, None, List, [], ◌∷◌, ◌⊎◌, inl, inr, refl, sym, ap, subst, ◌∙◌}
+use Rattle.std.proofs.Common.{◌≡◌, ℕ, true, false, List, [], inl, refl, sym, ap, subst, ◌∙◌}
 use Rattle.std.proofs.lemmas.Bool.{both_ways}
 use Rattle.rand_core.specs.Stream.{Stream}
-use Rattle.sctp_table.specs.Association.{State, Closed, CookieWait, Open, Endpoint}
+use Rattle.sctp_table.specs.Association.{State, Closed, CookieWait, Open}
 use Rattle.sctp_table.specs.Opening.{connect_in}
 use Rattle.sctp_table.specs.Input.{my_tag}
 use Rattle.sctp_table.specs.Laws.{Call, Connect, Close, Shutdown, Send, SendMany, ResetStreams, TakeMessage, SetLowThreshold, SetPriority, SetMaxMessageSize, Advance, HandOver, Restore, Packet, NoPacket, called}
-use Rattle.sctp_table_laws.specs.Mapped.{Carried}
 use Rattle.sctp_course.specs.Course.{Side, as_carried, MayCall, state_of}
 use Rattle.sctp_course.specs.Agreement.{Draw, Has}
 use Rattle.sctp_draws.specs.NamedChunks.{Names}
 use Rattle.sctp_draws.specs.Names.{named_state}
 use Rattle.sctp_draws.specs.Laws.{DrawsTwo}
-use Rattle.sctp_draws.specs.Images.{image}
 use Rattle.sctp_draws.specs.NamedCalls.{named_call, CallIsNamed, EachCallIsNamed}
 use Rattle.sctp_draws_course.specs.Pairing.{names, Knows}
 use Rattle.sctp_draws_course.proofs.NamesLemmas.{same_tie, peer_in, names_in, TagsAre, are_names}

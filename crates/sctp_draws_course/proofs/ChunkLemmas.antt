@@ -1,11 +1,11 @@
 -- Chunks under the names of their sender are chunks that the reader hears under its own, where these are of the same two tags; and
 -- chunks without numbers are the same under all names.
-use Rattle.std.proofs.Common.{◌≡◌, ℕ, ◌&&◌, not, Bool, true, false, Option, Some, None, List, [], ◌∷◌, ◌++◌, length, map, inl, inr, refl, sym, ap, ◌∙◌}
+use Rattle.std.proofs.Common.{◌≡◌, ℕ, ◌&&◌, not, Bool, true, false, List, [], ◌∷◌, ◌++◌, map, refl, sym, ap, ◌∙◌}
 use Rattle.std.specs.List.{list_all}
 use Rattle.std.proofs.lemmas.Bool.{and_parts}
 use Rattle.std.proofs.lemmas.List.{map-append}
 use Rattle.sctp_wire.specs.Parameter.{ParameterTree, state_cookie}
-use Rattle.sctp_packet.specs.Chunk.{ChunkTree, FragmentTree, InitTree, data_chunk, idata_chunk, init_chunk, init_ack_chunk, sack_chunk, heartbeat_request_chunk, heartbeat_ack_chunk, abort_chunk, shutdown_chunk, shutdown_ack_chunk, error_chunk, cookie_echo_chunk, cookie_ack_chunk, shutdown_complete_chunk, re_config_chunk, forward_tsn_chunk, i_forward_tsn_chunk, unknown_chunk}
+use Rattle.sctp_packet.specs.Chunk.{ChunkTree, InitTree, data_chunk, idata_chunk, init_chunk, init_ack_chunk, sack_chunk, heartbeat_request_chunk, heartbeat_ack_chunk, abort_chunk, shutdown_chunk, shutdown_ack_chunk, error_chunk, cookie_echo_chunk, cookie_ack_chunk, shutdown_complete_chunk, re_config_chunk, forward_tsn_chunk, i_forward_tsn_chunk, unknown_chunk}
 use Rattle.sctp_packet.specs.Grammar.{carried}
 use Rattle.sctp_state.specs.Options.{Options}
 use Rattle.sctp_capabilities.specs.Capabilities.{announced}
@@ -52,9 +52,6 @@ abbrev pub named_with : (tag : ℕ → ℕ) (own peer : ℕ) (cookie : List ℕ 
 named_with tag own peer cookie tie cookie_tie = record { tag = tag; tie = tie; cookie_tie = cookie_tie; own = own; peer = peer; cookie = cookie }
 
 module _ (tag : ℕ → ℕ) (own peer : ℕ) (cookie : List ℕ → List ℕ) (t c u d : ℕ → ℕ) where
-  parameter_ties : (p : ParameterTree) → named_parameter (named_with tag own peer cookie t c) p ≡ named_parameter (named_with tag own peer cookie u d) p
-  parameter_ties p = refl
-
   chunk_ties : (k : ChunkTree) → named_chunk (named_with tag own peer cookie t c) k ≡ named_chunk (named_with tag own peer cookie u d) k
   chunk_ties k = refl
 

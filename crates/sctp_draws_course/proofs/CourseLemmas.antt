@@ -1,26 +1,25 @@
 -- Along two courses of the same turns: both ends are twins until an association first ends, and alike after the turn that ends it.
-use Rattle.std.proofs.Common.{◌≡◌, ℕ, not, Bool, true, false, Option, Some, None, List, [], ◌∷◌, ◌++◌, All, ◌⊎◌, inl, inr, refl, sym, ap, subst, ◌∙◌}
-use Rattle.std.specs.Prelude.{⊤}
-use Rattle.std.proofs.lemmas.List.Elements.{All-nil}
+use Rattle.std.proofs.Common.{◌≡◌, Bool, true, false, List, [], ◌∷◌, ◌++◌, All, inl, inr, refl, sym, subst}
 use Rattle.rand_core.specs.Stream.{Stream}
 use Rattle.sctp_state.specs.Options.{Options}
-use Rattle.sctp_table.specs.Association.{State}
 use Rattle.sctp_table.specs.Laws.{endings}
 use Rattle.sctp_table_laws.specs.Mapped.{Carried}
 use Rattle.sctp_course.specs.Course.{Side, Pair, emitted, Turn, turned, goes, run, MayTurn, side_of, FollowsTheRules, HasNotEnded, AreGiven, start, state_of, new_side}
 use Rattle.sctp_course.specs.Agreement.{Draw as Drawn, Has}
-use Rattle.sctp_course.proofs.CourseLemmas.{Halves, swapped, before_run}
+use Rattle.sctp_course.proofs.CourseLemmas.{Halves, swapped, before_run, follows_front}
 use Rattle.sctp_course.proofs.HandingLemmas.{first_halves}
+use Rattle.sctp_course.proofs.AgreeTurnsLemmas.{has_front}
+use Rattle.sctp_course.proofs.AgreeCookieLemmas.{has_behind}
 use Rattle.sctp_draws.specs.Laws.{NumbersFitIn}
 use Rattle.sctp_draws.specs.NamedCalls.{EachCallIsNamed}
-use Rattle.sctp_draws_course.specs.Pairing.{drawn_at, NoTagTwice, pairs_of, pairs, Knows}
-use Rattle.sctp_draws_course.specs.Alike.{AreAlike, ArePairsAlike, gone_by, ActsAlike, SameTurn, SameTurns, TurnIsAlike, CoursesAreAlike}
-use Rattle.sctp_draws_course.proofs.PairingLemmas.{pairs_know, has_left, has_right}
+use Rattle.sctp_draws_course.specs.Pairing.{drawn_at, pairs_of, pairs, Knows}
+use Rattle.sctp_draws_course.specs.Alike.{AreAlike, gone_by, ActsAlike, SameTurn, SameTurns, TurnIsAlike, CoursesAreAlike}
+use Rattle.sctp_draws_course.proofs.PairingLemmas.{pairs_know}
 use Rattle.sctp_draws_course.proofs.NamesLemmas.{same_tie}
 use Rattle.sctp_draws_course.proofs.TwinLemmas.{Stand, Twin, twins_on, are_alike}
 use Rattle.sctp_draws_course.specs.Kinds.{IsKind, AreOfAKind, KindsAlong}
 use Rattle.sctp_draws_course.proofs.TurnLemmas.{EndsTellOwn, LateInitsAreNamed, Drew, Goes, turns_so, turn_alike, turn_twin, turn_stands, turn_halves}
-use Rattle.sctp_draws_course.proofs.WholeCourseLemmas.{along_of_a_kind, front_follows}
+use Rattle.sctp_draws_course.proofs.WholeCourseLemmas.{along_of_a_kind}
 use Rattle.sctp_draws_course.proofs.StaysLemmas.{turning_stays, turning_stayed, idle_stays, idle_stayed}
 
 -- ---- one end beside the other
@@ -148,7 +147,7 @@ module _ (ps : List (Drawn × Drawn)) (k : Knows ps) (law : EachCallIsNamed) (la
         → TurnIsAlike e f (run es w) (run fs v)
     along [] [] e f w v same follows none kinds among h =
         last_by e.0 f.0 e.1 f.1 w v same.0 h kinds same.1 follows.0
-        (λ d c m. among d c (has_left (d, c) (pairs_of (drawn_at e.0 e.1 w) (drawn_at f.0 f.1 v)) [] m))
+        (λ d c m. among d c (has_front (d, c) (pairs_of (drawn_at e.0 e.1 w) (drawn_at f.0 f.1 v)) [] m))
     along [] (g ∷ fs) e f w v same follows none kinds among h = absurd (no_more fs f same.2)
     along (g ∷ es) [] e f w v same follows none kinds among h = absurd (none_left es e same.2)
     along (g ∷ es) (c ∷ fs) e f w v same follows none kinds among h =
@@ -156,8 +155,8 @@ module _ (ps : List (Drawn × Drawn)) (k : Knows ps) (law : EachCallIsNamed) (la
         let v1 : Pair = goes c.0 c.1 v in
         let now : List (Drawn × Drawn) = pairs_of (drawn_at g.0 g.1 w) (drawn_at c.0 c.1 v) in
         let rest : List (Drawn × Drawn) = pairs (es ++ e ∷ []) (fs ++ f ∷ []) w1 v1 in
-        along es fs e f w1 v1 same.2 follows.1 none kinds.1 (λ d b m. among d b (has_right (d, b) now rest m))
-        (goes_by g.0 c.0 g.1 c.1 w v same.0 h kinds.0 same.1 follows.0 (λ d b m. among d b (has_left (d, b) now rest m)) (before_run es w1 none))
+        along es fs e f w1 v1 same.2 follows.1 none kinds.1 (λ d b m. among d b (has_behind (d, b) now rest m))
+        (goes_by g.0 c.0 g.1 c.1 w v same.0 h kinds.0 same.1 follows.0 (λ d b m. among d b (has_front (d, b) now rest m)) (before_run es w1 none))
 
 -- two new ends
 first_twin : (ps : List (Drawn × Drawn)) (o q : Options) (w v s : Stream) → Twin ps (new_side o w) (new_side q s) (new_side o v)
@@ -170,7 +169,7 @@ courses_alike law tells late a b words_a words_b others_a others_b es fs e f giv
     let v : Pair = start a b others_a others_b in
     let ps : List (Drawn × Drawn) = pairs (es ++ e ∷ []) (fs ++ f ∷ []) w v in
     let k : Knows ps = pairs_know (es ++ e ∷ []) (fs ++ f ∷ []) w v once once_too in
-    let kinds : KindsAlong es w = along_of_a_kind a b words_a words_b es given_a given_b (front_follows es (e ∷ []) w follows) none in
+    let kinds : KindsAlong es w = along_of_a_kind a b words_a words_b es given_a given_b (follows_front es (e ∷ []) w follows) none in
     along ps k law (late ps k) tells a b given_a given_b es fs e f w v same follows none kinds (λ d c m. m)
     (record {
       halves = first_halves a b words_a words_b;

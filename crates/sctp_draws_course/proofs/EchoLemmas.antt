@@ -1,73 +1,47 @@
 -- A COOKIE ECHO, with what stands behind it: it brings back the cookie of the association that its sender holds.
-use Rattle.std.proofs.Common.{◌≡◌, ◌≢◌, ℕ, ◌==◌, ◌^◌, ◌<◌, ◌&&◌, not, Bool, true, false, Option, Some, None, Result, Ok, Err, List, [], ◌∷◌, map, All, ◌⊎◌, inl, inr, refl, sym, ap, subst, ◌∙◌, arith}
+use Rattle.std.proofs.Common.{◌≡◌, ℕ, ◌==◌, ◌^◌, ◌<◌, not, Bool, true, false, Some, None, Ok, List, [], ◌∷◌, map, All, inl, refl, sym, ap, subst, ◌∙◌, arith}
 use Rattle.std.specs.List.{list_all}
 use Rattle.std.proofs.lemmas.Bool.{both_ways, eq-eqb}
-use Rattle.std.proofs.lemmas.Bool.Decides.{nat_tests}
-use Rattle.std.proofs.lemmas.List.Elements.{All-nil, All-cons, All-head, All-tail, All-weaker}
+use Rattle.std.proofs.lemmas.List.Elements.{All-cons, All-weaker}
+use Rattle.std.proofs.lemmas.Option.{same_Some}
 use Rattle.sctp_serial.specs.Unwrapped.{words}
-use Rattle.rand_core.specs.Stream.{Stream, next_u64}
-use Rattle.sctp_packet.specs.Chunk.{ChunkTree, InitTree, init_chunk, init_ack_chunk, cookie_echo_chunk}
+use Rattle.rand_core.specs.Stream.{next_u64}
+use Rattle.sctp_packet.specs.Chunk.{ChunkTree, init_ack_chunk, cookie_echo_chunk}
 use Rattle.sctp_packet.specs.Grammar.{carried}
-use Rattle.sctp_capabilities.specs.declared.state_cookie.StateCookieError.{StateCookieError}
 use Rattle.sctp_state.specs.Options.{Options}
-use Rattle.sctp_capabilities.specs.Cookie.{Cookie, CapabilitiesFit, CookieFits, cookie_bytes, read_cookie}
-use Rattle.sctp_capabilities.proofs.CapabilitiesLemmas.{told_with-options}
-use Rattle.sctp_capabilities.proofs.CookieLemmas.{both_tags, read_cookie-bytes}
+use Rattle.sctp_capabilities.specs.Cookie.{Cookie, read_cookie}
 use Rattle.sctp_table.specs.Association.{Phase, Tcb, Identity, State, Closed, CookieWait, Open, Endpoint}
-use Rattle.sctp_table.specs.Shown.{Association, association_in}
-use Rattle.sctp_table.specs.Opening.{Verdict, MaintainExisting, by_tags, compared, judged}
+use Rattle.sctp_table.specs.Shown.{Association}
+use Rattle.sctp_table.specs.Opening.{by_tags, compared, judged}
 use Rattle.sctp_table.specs.Input.{my_tag, refusal}
 use Rattle.sctp_table.specs.Laws.{Call, Packet, called}
 use Rattle.sctp_table_laws.specs.Mapped.{Carried}
-use Rattle.sctp_course.specs.Acts.{IsHeard, IsEchoed}
+use Rattle.sctp_course.specs.Acts.{IsEchoed}
 use Rattle.sctp_course.specs.Course.{Side, AreGiven, as_carried, as_heard, state_of}
 use Rattle.sctp_course.specs.Agreement.{Draw as Drawn}
-use Rattle.sctp_course.proofs.JoinLemmas.{Draw, Both, IsDraw, View, view_of, cookie_by, IsEcho, Says, Faces, some_same}
-use Rattle.sctp_course.proofs.CourseLemmas.{SaysAll, seen}
-use Rattle.sctp_draws.specs.NamedChunks.{Names, flipped, named_chunks}
+use Rattle.sctp_course.proofs.JoinLemmas.{Draw, Both, IsDraw, view_of, cookie_by, IsEcho}
+use Rattle.sctp_course.proofs.CourseLemmas.{seen}
+use Rattle.sctp_course.proofs.JoinKeepsLemmas.{read_back, cookie_fits, eq_test}
+use Rattle.sctp_draws.specs.NamedChunks.{Names}
 use Rattle.sctp_draws.specs.Names.{named_state}
 use Rattle.sctp_draws.specs.Laws.{NumbersFitIn, TiesTell, is_flowing}
-use Rattle.sctp_draws.specs.NamedCalls.{DrawsTie, read_under, is_new, CookieIsNamed, AreNamed, cookie_echo, EachCallIsNamed}
+use Rattle.sctp_draws.specs.NamedCalls.{read_under, is_new, CookieIsNamed, cookie_echo, EachCallIsNamed}
 use Rattle.sctp_draws_course.specs.Pairing.{far, names, Knows}
-use Rattle.sctp_draws_course.proofs.NamesLemmas.{same_tie, peer_in, names_in, TagsAre, state_by, IsOwn, Made, reads}
-use Rattle.sctp_draws_course.proofs.TwinLemmas.{Holds, HoldsOne, IsEchoing, Marked, Twin, IsNamedBy}
+use Rattle.sctp_draws_course.proofs.NamesLemmas.{TagsAre, state_by, IsOwn, Made, reads}
+use Rattle.sctp_draws_course.proofs.TwinLemmas.{Holds, IsEchoing, Twin, IsNamedBy}
 use Rattle.sctp_draws_course.proofs.ChunkLemmas.{chunks_heard, all_flow_carried}
 use Rattle.sctp_draws_course.proofs.GuideLemmas.{Guides, tags_after}
 use Rattle.sctp_draws_course.proofs.StepLemmas.{hears_init, Named}
 use Rattle.sctp_draws_course.proofs.HeardLemmas.{all_heard, taken_too}
-use Rattle.sctp_draws_course.proofs.FlowLemmas.{faced_tags, held_by, all_true}
+use Rattle.sctp_draws_course.proofs.FlowLemmas.{held_by, all_true}
 
 -- ---- the cookie
-
-pub cookie_fits : (o : Options) (d e : Draw) → AreGiven o → IsDraw d → IsDraw e → CookieFits (cookie_by o d e)
-cookie_fits o d e fine fd fe = record {
-  peer_tag = fd.tag;
-  my_tag = fe.tag;
-  peer_initial_tsn = fd.first;
-  my_initial_tsn = fe.first;
-  a_rwnd = omega (arith, fine.valid.sizes.receiver_window);
-  tie_tag = omega arith;
-  peer_capabilities = subst CapabilitiesFit (sym (told_with-options o.zero_checksum_method o))
-      (record { zero_checksum_method = fine.method; incoming = fine.outgoing; outgoing = fine.incoming });
-}
 
 pub cookie_made : (o : Options) (d e : Draw) → AreGiven o → IsDraw d → IsDraw e → (ps : List (Drawn × Drawn)) (k : Knows ps) (mine peer : ℕ) (tie cookie_tie : ℕ → ℕ)
     → Made ps k mine peer tie cookie_tie (cookie_by o d e)
 cookie_made o d e fine fd fe ps k mine peer tie cookie_tie = record { fits = cookie_fits o d e fine fd fe; some_peer = fd.some; some_own = fe.some }
 
--- it is read as it was made
-read_back : (o : Options) (d e : Draw) (c : List ℕ) (k : Cookie) → AreGiven o → IsDraw d → IsDraw e → c ≡ cookie_bytes (cookie_by o d e)
-    → read_cookie c ≡ Ok k → k ≡ cookie_by o d e
-read_back o d e c k fine fd fe is reads =
-    let made : Cookie = cookie_by o d e in
-    let same : Ok k ≡ Ok made =
-    sym reads ∙ (ap read_cookie is ∙ read_cookie-bytes made (cookie_fits o d e fine fd fe) (both_tags made fd.some fe.some)) in
-    ap (λ (r : Result Cookie StateCookieError). elim r [ Ok x ↦ x | Err fault ↦ k ]) same
-
 -- ---- no association takes the place of another
-
-no_test : (a b : ℕ) → a ≡ b → not (a == b) ≡ false
-no_test a b e = grind (arith, nat_tests, e)
 
 kept_by : (a b x y : Bool) → a ≡ false → b ≡ false → is_new (by_tags a b x y) ≡ false
 kept_by false false x y e f = refl
@@ -76,7 +50,7 @@ kept_by false true x y e f = cc
 
 kept_association : (tag : ℕ) (i : Identity) (k : Cookie) → tag ≡ i.my_tag → k.peer_tag ≡ i.peer_tag → is_new (compared tag i k) ≡ false
 kept_association tag i k e f =
-    kept_by (not (tag == i.my_tag)) (not (k.peer_tag == i.peer_tag)) (k.tie_tag == i.tie) (k.tie_tag == 0) (no_test tag i.my_tag e) (no_test k.peer_tag i.peer_tag f)
+    kept_by (not (tag == i.my_tag)) (not (k.peer_tag == i.peer_tag)) (k.tie_tag == i.tie) (k.tie_tag == 0) (eq_test tag i.my_tag e) (eq_test k.peer_tag i.peer_tag f)
 
 -- the tie that is drawn where a control block is made; else ties are as they were
 abbrev pub pick : State → (ℕ → ℕ) → ℕ → ℕ → ℕ
@@ -101,8 +75,8 @@ both_tags_held : (s : State) (mine peer : ℕ) (b : Both) → Holds s mine peer 
 both_tags_held Closed mine peer b h e = cc
 both_tags_held (CookieWait tag first t1) mine peer b h e = cc
 both_tags_held (Open phase t) mine peer b h e =
-    let same : held_by t ≡ h.association = some_same (held_by t) h.association h.held in
-    let view : _ ≡ b = some_same (record {
+    let same : held_by t ≡ h.association = same_Some (held_by t) h.association h.held in
+    let view : _ ≡ b = same_Some (record {
       mine = record { tag = t.identity.my_tag; first = t.identity.my_first };
       peer = record { tag = t.identity.peer_tag; first = t.identity.peer_first };
     }) b e in (

@@ -1,8 +1,6 @@
 -- Each fragment that a packet takes has a payload.
-use Rattle.std.proofs.Common.{◌≡◌, ℕ, zero, suc, ◌<◌, ◌==◌, ◌&&◌, nat_lt, Bool, true, false, cond, Option, Some, None, List, [], ◌∷◌, length, not, ◌≤◌, inr, refl, subst, arith}
-use Rattle.std.proofs.lemmas.Bool.Decides.{nat_tests}
+use Rattle.std.proofs.Common.{◌≡◌, ℕ, zero, suc, ◌<◌, ◌==◌, ◌&&◌, nat_lt, Bool, true, false, cond, Option, Some, None, List, [], ◌∷◌, length, not, ◌≤◌, inr, refl, subst}
 use Rattle.sctp_chunk.specs.declared.sack.GapAckBlock.{GapAckBlock}
-use Rattle.sctp_packet.specs.Chunk.{FragmentTree}
 use Rattle.sctp_packet.specs.Grammar.{Each}
 use Rattle.sctp_state.specs.Events.{Told}
 use Rattle.sctp_outstanding.specs.Items.{Discard}
@@ -21,6 +19,7 @@ use Rattle.sctp_table_laws.specs.Mapped.{Carried, Mapping, map_told}
 use Rattle.sctp_table_laws.proofs.ToldMapsLemmas.{map_fragments, maps_fragments_sent}
 use Rattle.sctp_table_laws.proofs.HeardLemmas.{each_push}
 use Rattle.sctp_draws_course.proofs.FilledItemsLemmas.{IsFilled, AreFilled, expired_filled, hear_filled, HasPayload, ResentIsFilled, resend_filled}
+use Rattle.sctp_rules.proofs.CommonLemmas.{not_zero, second_some}
 
 abbrev pub SenderIsFilled : Sender → Type 0
 SenderIsFilled s = AreFilled s.outstanding.items
@@ -58,13 +57,10 @@ abbrev IsMade : Option Produced → Type 0
 IsMade None = Unit {0}
 IsMade (Some p) = (length p.fragment.payload == 0) ≡ false
 
-some_bytes : (n : ℕ) → 0 < n → (n == 0) ≡ false
-some_bytes n h = grind (arith, nat_tests, h)
-
 is_made : (size : ℕ) (o : Option Produced)
     → ((p : Produced) → o ≡ Some p → (0 < length p.fragment.payload) × (length p.fragment.payload ≤ size)) → IsMade o
 is_made size None f = tt
-is_made size (Some p) f = some_bytes (length p.fragment.payload) (f p refl).0
+is_made size (Some p) f = not_zero (length p.fragment.payload) (f p refl).0
 
 discards_rest : (ds : List Discard) (q : Queue) (t : Told (List ℕ)) → HasRests q → HasRests (discard_all ds q t).queue
 discards_rest [] q t h = h
@@ -90,14 +86,10 @@ turned_if_filled true now x some h =
     (record { sender = h.sender; queue = calls_leave_rests.produced now n x.queue x.told h.queue; chunks = h.chunks })
 turned_if_filled false now x some h = h
 
-some_offered : (a : Bool) (n : ℕ) → (a && nat_lt 0 n) ≡ true → 0 < n
-some_offered true n e = grind (arith, nat_tests)
-some_offered false n e = absurd (cc)
-
 turned_filled : (now : ℕ) (x : Filling (List ℕ)) → FillingIsFilled x → FillingIsFilled (turned now x).filling
 turned_filled now x h =
     let n : ℕ = offered x.left x.sender in
-    turned_if_filled (may_send_new x.sender && nat_lt 0 n) now x (some_offered (may_send_new x.sender) n) h
+    turned_if_filled (may_send_new x.sender && nat_lt 0 n) now x (second_some (may_send_new x.sender) n) h
 
 filled_if : (b : Bool) (x y : Filling (List ℕ)) → FillingIsFilled x → FillingIsFilled y → FillingIsFilled (cond b x y)
 filled_if true x y h k = h

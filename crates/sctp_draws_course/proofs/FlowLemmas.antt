@@ -1,29 +1,28 @@
 -- A packet that opens no association is heard under the names of its sender, flipped; where it holds no numbers, under any.
-use Rattle.std.proofs.Common.{◌≡◌, ◌≢◌, ℕ, ◌&&◌, not, Bool, true, false, Option, Some, None, List, [], ◌∷◌, map, All, ◌⊎◌, inl, inr, refl, sym, ap, subst, ◌∙◌}
+use Rattle.std.proofs.Common.{◌≡◌, ℕ, Bool, true, false, None, List, [], ◌∷◌, map, All, ◌⊎◌, inl, inr, refl, sym, ap, ◌∙◌}
 use Rattle.std.specs.List.{list_all}
 use Rattle.std.proofs.lemmas.Bool.{both_ways, and_parts, and_from}
 use Rattle.std.proofs.lemmas.List.Elements.{All-nil, All-cons, All-head, All-tail}
+use Rattle.std.proofs.lemmas.Option.{same_Some}
 use Rattle.sctp_wire.specs.Parameter.{ParameterTree, state_cookie}
-use Rattle.sctp_packet.specs.Chunk.{ChunkTree, InitTree, data_chunk, idata_chunk, init_chunk, init_ack_chunk, sack_chunk, heartbeat_request_chunk, heartbeat_ack_chunk, abort_chunk, shutdown_chunk, shutdown_ack_chunk, error_chunk, cookie_echo_chunk, cookie_ack_chunk, shutdown_complete_chunk, re_config_chunk, forward_tsn_chunk, i_forward_tsn_chunk, unknown_chunk}
+use Rattle.sctp_packet.specs.Chunk.{ChunkTree, data_chunk, idata_chunk, init_chunk, init_ack_chunk, sack_chunk, heartbeat_request_chunk, heartbeat_ack_chunk, abort_chunk, shutdown_chunk, shutdown_ack_chunk, error_chunk, cookie_echo_chunk, cookie_ack_chunk, shutdown_complete_chunk, re_config_chunk, forward_tsn_chunk, i_forward_tsn_chunk, unknown_chunk}
 use Rattle.sctp_packet.specs.Grammar.{carried}
-use Rattle.sctp_capabilities.specs.Cookie.{Cookie}
-use Rattle.sctp_table.specs.Association.{Phase, Tcb, State, Closed, CookieWait, Open, Endpoint}
-use Rattle.sctp_table.specs.Shown.{Association, association_in}
+use Rattle.sctp_table.specs.Association.{Tcb, State, Closed, CookieWait, Open, Endpoint}
+use Rattle.sctp_table.specs.Shown.{Association}
 use Rattle.sctp_table.specs.Input.{my_tag, refusal}
 use Rattle.sctp_table.specs.Laws.{Call, Packet, called}
 use Rattle.sctp_table_laws.specs.Mapped.{Carried}
-use Rattle.sctp_course.specs.Acts.{IsHeard, IsEchoed}
 use Rattle.sctp_course.specs.Course.{Side, as_carried, as_heard, state_of}
 use Rattle.sctp_course.specs.Agreement.{Draw as Drawn}
-use Rattle.sctp_course.proofs.JoinLemmas.{Draw, Both, View, view_of, Faces, some_same}
+use Rattle.sctp_course.proofs.JoinLemmas.{Draw, view_of, Faces}
 use Rattle.sctp_draws.specs.NamedChunks.{Names, flipped, named_chunk, named_chunks, named_parameter}
 use Rattle.sctp_draws.specs.Names.{named_state}
 use Rattle.sctp_draws.specs.Laws.{NumbersFitIn, number_fits, is_flowing}
-use Rattle.sctp_draws.specs.NamedCalls.{AreNamed, flow, EachCallIsNamed}
+use Rattle.sctp_draws.specs.NamedCalls.{flow, EachCallIsNamed}
 use Rattle.sctp_draws.specs.Renamed.{renamed}
 use Rattle.sctp_draws_course.specs.Pairing.{tags_of, names, Knows}
 use Rattle.sctp_draws_course.proofs.NamesLemmas.{same_tie, peer_in, names_in, TagsAre, state_by}
-use Rattle.sctp_draws_course.proofs.TwinLemmas.{Holds, HoldsOne, has_numbers, Marked, Twin, IsNamedBy}
+use Rattle.sctp_draws_course.proofs.TwinLemmas.{Holds, Marked, Twin, IsNamedBy}
 use Rattle.sctp_draws_course.proofs.ChunkLemmas.{named_with, is_bare, chunks_heard, chunks_bare, all_flow_carried}
 use Rattle.sctp_draws_course.proofs.GuideLemmas.{Guides, tags_after}
 use Rattle.sctp_draws_course.proofs.StepLemmas.{first_is_init, hears_init, Named}
@@ -52,10 +51,10 @@ faced_tags s Closed mine peer h f g = let none = h.held in cc
 faced_tags s (CookieWait tag first t1) mine peer h f g = let none = h.held in cc
 faced_tags Closed (Open phase t) mine peer h f g = tt
 faced_tags (CookieWait tag first t1) (Open phase t) mine peer h f g =
-    let same : held_by t ≡ h.association = some_same (held_by t) h.association h.held in
+    let same : held_by t ≡ h.association = same_Some (held_by t) h.association h.held in
     ap (λ (d : Draw). d.tag) f ∙ (ap (λ (a : Association). a.peer_tag) same ∙ h.other)
 faced_tags (Open next u) (Open phase t) mine peer h f g =
-    let same : held_by t ≡ h.association = some_same (held_by t) h.association h.held in (
+    let same : held_by t ≡ h.association = same_Some (held_by t) h.association h.held in (
       ap (λ (d : Draw). d.tag) f ∙ (ap (λ (a : Association). a.peer_tag) same ∙ h.other),
       sym (ap (λ (d : Draw). d.tag) g) ∙ (ap (λ (a : Association). a.my_tag) same ∙ h.own),
     )

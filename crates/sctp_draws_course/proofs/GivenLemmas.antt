@@ -1,33 +1,29 @@
 -- A packet of the other end, given to an end and its image to the image: whatever it is, both do the same under the names of one call.
-use Rattle.std.proofs.Common.{◌≡◌, ◌≢◌, ℕ, Bool, true, false, Option, Some, None, is_some, List, [], ◌∷◌, ◌++◌, map, All, ◌⊎◌, inl, inr, refl, sym, ap, subst, ◌∙◌}
-use Rattle.std.specs.List.{list_all}
+use Rattle.std.proofs.Common.{◌≡◌, ℕ, true, false, Option, Some, None, List, [], ◌∷◌, map, All, ◌⊎◌, inl, inr, refl, sym, ap, subst, ◌∙◌}
 use Rattle.std.proofs.lemmas.List.Elements.{All-head}
 use Rattle.rand_core.specs.Stream.{Stream}
 use Rattle.sctp_packet.specs.Chunk.{ChunkTree, InitTree, init_chunk, init_ack_chunk, cookie_echo_chunk}
 use Rattle.sctp_packet.specs.Grammar.{carried}
 use Rattle.sctp_state.specs.Options.{Options}
-use Rattle.sctp_state.specs.Timers.{Timer}
 use Rattle.sctp_table.specs.Association.{Tcb, Phase, CookieEchoed, Established, ShutdownPending, ShutdownSent, ShutdownReceived, ShutdownAckSent, State, Closed, CookieWait, Open, Context, Endpoint}
-use Rattle.sctp_table.specs.Shown.{association_in}
 use Rattle.sctp_table.specs.Sending.{is_alone}
 use Rattle.sctp_table.specs.Input.{refusal, counts, on_standing, repeats_if, has_data}
 use Rattle.sctp_table.specs.Laws.{Call, Packet, called}
 use Rattle.sctp_table_laws.specs.Mapped.{Carried}
 use Rattle.sctp_course.specs.Acts.{is_opened}
-use Rattle.sctp_course.specs.Course.{Side, AreGiven, as_carried, as_heard, state_of}
+use Rattle.sctp_course.specs.Course.{Side, AreGiven, as_heard, state_of}
 use Rattle.sctp_course.specs.Agreement.{Draw as Drawn, Has, drawn_hearing, drawn_taking, drawn_given}
-use Rattle.sctp_course.proofs.JoinLemmas.{Draw, IsDraw, view_of, init_by, IsInit, IsInitAck, IsEcho, Says, Drawn as IsDrawn, Faces}
+use Rattle.sctp_course.proofs.JoinLemmas.{Draw, IsDraw, view_of, IsInit, IsInitAck, IsEcho, Says, Drawn as IsDrawn, Faces}
 use Rattle.sctp_course.proofs.CourseLemmas.{SaysAll, seen, Halves}
 use Rattle.sctp_draws.specs.NamedChunks.{Names, named_init, named_chunks}
 use Rattle.sctp_draws.specs.Names.{named_state}
-use Rattle.sctp_draws.specs.Laws.{NumbersFitIn, is_flowing}
-use Rattle.sctp_draws.specs.Images.{named_carried}
+use Rattle.sctp_draws.specs.Laws.{NumbersFitIn}
 use Rattle.sctp_draws.specs.NamedCalls.{EachCallIsNamed}
 use Rattle.sctp_draws_course.specs.Pairing.{names, pairs_of, Knows}
 use Rattle.sctp_draws_course.specs.Kinds.{IsKind, an_init, an_answer, an_echo, a_flow}
-use Rattle.sctp_draws_course.proofs.NamesLemmas.{names_in, TagsAre}
-use Rattle.sctp_draws_course.proofs.TwinLemmas.{Holds, HoldsOne, IsTaken, Marked, Twin, IsNamedBy}
-use Rattle.sctp_draws_course.proofs.StepLemmas.{two_of, Named, Refused, Outcome}
+use Rattle.sctp_draws_course.proofs.NamesLemmas.{names_in}
+use Rattle.sctp_draws_course.proofs.TwinLemmas.{HoldsOne, IsTaken, Marked, Twin, IsNamedBy}
+use Rattle.sctp_draws_course.proofs.StepLemmas.{two_of, Named, Outcome}
 use Rattle.sctp_draws_course.proofs.HeardLemmas.{refused_too, refused_as_well}
 use Rattle.sctp_draws_course.proofs.FlowLemmas.{faced_tags, flow_named}
 use Rattle.sctp_draws_course.proofs.EchoLemmas.{echo_named}

@@ -1,12 +1,12 @@
 -- Which tags an end has after a call: those that it had, or those of what the call brings.
-use Rattle.std.proofs.Common.{◌≡◌, ℕ, Bool, true, false, Option, Some, None, List, [], ◌∷◌, ◌++◌, All, refl, sym, ap, subst, ◌∙◌}
-use Rattle.sctp_packet.specs.Chunk.{ChunkTree, InitTree, init_ack_chunk}
+use Rattle.std.proofs.Common.{◌≡◌, ℕ}
+use Rattle.sctp_packet.specs.Chunk.{InitTree, init_ack_chunk}
 use Rattle.sctp_capabilities.specs.Cookie.{Cookie}
 use Rattle.sctp_state.specs.Handover.{HandoverState}
-use Rattle.sctp_table.specs.Association.{State, Closed, CookieWait, Open, Endpoint}
+use Rattle.sctp_table.specs.Association.{Endpoint}
 use Rattle.sctp_table.specs.Laws.{Call, Connect, Restore, called}
 use Rattle.sctp_table_laws.specs.Mapped.{Carried}
-use Rattle.sctp_course.specs.Acts.{Making, PacketAct, begins, adds_plain, emits, complains, counts, before_packets, after_packets, OpeningAct, connects, adds_init, answers_new, answers_waiting, answers_echoed, answers_again, echoes, adds_cookie, establishes, opens, restarts, opens_again, maintains, adds_cookie_ack, before_opening, after_opening, ClosingAct, closes, shuts, shuts_on, before_closing, after_closing, DataAct, takes_data, takes_idata, takes_forward, takes_iforward, before_data, after_data, SackAct, takes_sack, samples, counts_errors, before_sack, after_sack, SendingAct, asks, adds_ack, expires, adds_forward, forwards_later, asks_no_reset, asks_reset, adds_request, sends, sends_fast, before_sending, after_sending, TimeAct, advances, delay_ends, times_out, beats, times_init, times_cookie, times_request, wakes_request, before_time, after_time, CallAct, accepts, refuses, takes_message, sets_low_threshold, sets_priority, sets_max_message_size, before_call, after_call, ResetAct, prepares, defers, performs, processes, takes_response, adds_responses, before_reset, after_reset, HandoverAct, leaves, takes_up, before_handover, after_handover, InputAct, ends_packet, before_input, after_input, calm, is_opened, IsHeard, IsEchoed, Keeps}
+use Rattle.sctp_course.specs.Acts.{Making, PacketAct, begins, adds_plain, emits, complains, counts, before_packets, after_packets, OpeningAct, connects, adds_init, answers_new, answers_waiting, answers_echoed, answers_again, echoes, adds_cookie, establishes, opens, restarts, opens_again, maintains, adds_cookie_ack, before_opening, after_opening, ClosingAct, closes, shuts, shuts_on, before_closing, after_closing, DataAct, takes_data, takes_idata, takes_forward, takes_iforward, before_data, after_data, SackAct, takes_sack, samples, counts_errors, before_sack, after_sack, SendingAct, asks, adds_ack, expires, adds_forward, forwards_later, asks_no_reset, asks_reset, adds_request, sends, sends_fast, before_sending, after_sending, TimeAct, advances, delay_ends, times_out, beats, times_init, times_cookie, times_request, wakes_request, before_time, after_time, CallAct, accepts, refuses, takes_message, sets_low_threshold, sets_priority, sets_max_message_size, before_call, after_call, ResetAct, prepares, defers, performs, processes, takes_response, adds_responses, before_reset, after_reset, HandoverAct, leaves, takes_up, before_handover, after_handover, InputAct, ends_packet, before_input, after_input, IsHeard, IsEchoed, Keeps}
 use Rattle.sctp_course.proofs.ActsLemmas.{keeps_call}
 use Rattle.sctp_draws_course.proofs.NamesLemmas.{TagsAre}
 

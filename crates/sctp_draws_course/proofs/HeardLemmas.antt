@@ -1,12 +1,9 @@
 -- A packet that was given to an end, and its image that was given to the image of the end.
-use Rattle.std.proofs.Common.{◌≡◌, ◌≢◌, ℕ, ◌==◌, ◌^◌, ◌<◌, ◌||◌, not, Bool, true, false, Option, Some, None, is_some, codes, List, [], ◌∷◌, ◌++◌, map, All, ◌⊎◌, inl, inr, refl, sym, ap, subst, ◌∙◌}
-use Rattle.std.specs.List.{list_all}
-use Rattle.std.proofs.lemmas.List.Elements.{All-nil, All-cons, All-head, All-tail}
-use Rattle.rand_core.specs.Stream.{Stream}
+use Rattle.std.proofs.Common.{◌≡◌, ℕ, ◌==◌, ◌||◌, Bool, true, false, Option, Some, None, is_some, codes, List, [], map, All, refl, ap, subst, ◌∙◌}
 use Rattle.sctp_packet.specs.Chunk.{ChunkTree}
 use Rattle.sctp_packet.specs.Grammar.{carried}
 use Rattle.sctp_packet.specs.Packet.{PacketTree}
-use Rattle.sctp_table.specs.Association.{Phase, CookieEchoed, Established, ShutdownPending, ShutdownSent, ShutdownReceived, ShutdownAckSent, State, Closed, CookieWait, Open, Context, Standing, Endpoint}
+use Rattle.sctp_table.specs.Association.{CookieEchoed, Established, ShutdownPending, ShutdownSent, ShutdownReceived, ShutdownAckSent, State, Closed, CookieWait, Open, Endpoint}
 use Rattle.sctp_table.specs.Opening.{complains}
 use Rattle.sctp_table.specs.Input.{my_tag, has_tag_in, abort_flag, complete_flag, has_shutdown_ack, begins_with_cookie, is_single_init, is_early, unless, plain_refusal, refusal_by, refusal, counts, taken_if}
 use Rattle.sctp_table.specs.Laws.{Call, Packet, called}
@@ -15,14 +12,15 @@ use Rattle.sctp_course.specs.Acts.{IsHeard}
 use Rattle.sctp_course.specs.Course.{Side, as_carried, as_heard, state_of}
 use Rattle.sctp_course.specs.Agreement.{Draw}
 use Rattle.sctp_course.proofs.AddedLemmas.{all_at}
-use Rattle.sctp_draws.specs.NamedChunks.{Names, AreNames, flipped, named_chunks}
+use Rattle.sctp_draws.specs.NamedChunks.{Names, flipped, named_chunks}
 use Rattle.sctp_draws.specs.Names.{named_state}
 use Rattle.sctp_draws.specs.Laws.{NumbersFitIn}
-use Rattle.sctp_draws.specs.NamedCalls.{AreNamed, named_heard, named_call, EachCallIsNamed}
+use Rattle.sctp_draws.specs.NamedCalls.{AreNamed, EachCallIsNamed}
 use Rattle.sctp_draws.specs.Images.{named_carried, image}
 use Rattle.sctp_draws.proofs.TagLemmas.{refused_named}
+use Rattle.sctp_draws.proofs.TakenLemmas.{none_of}
 use Rattle.sctp_draws_course.specs.Pairing.{names, Knows}
-use Rattle.sctp_draws_course.proofs.NamesLemmas.{same_tie, names_in, are_names}
+use Rattle.sctp_draws_course.proofs.NamesLemmas.{names_in, are_names}
 use Rattle.sctp_draws_course.proofs.ImageLemmas.{mirrored}
 use Rattle.sctp_draws_course.proofs.ChunkLemmas.{all_carried_named}
 use Rattle.sctp_draws_course.proofs.BlankLemmas.{on_chunks}
@@ -38,10 +36,6 @@ all_heard Q p all tag c h =
     let same : p ≡ h.packet = ap (λ (k : Call). packet_of k p) h.given in
     let there : All Q h.packet.chunks = subst (λ (z : PacketTree). All Q z.chunks) same all in
     all_at Q h.among.before h.among.behind c (subst (All Q) h.among.split there)
-
-pub all_carried : (Q : ChunkTree → Type 0) → ((c : ChunkTree) → Q c → Q (carried c)) → (cs : List ChunkTree) → All Q cs → All Q (map carried cs)
-all_carried Q f [] h = All-nil Q
-all_carried Q f (c ∷ cs) h = All-cons Q (carried c) (map carried cs) (f c (All-head Q c cs h)) (all_carried Q f cs (All-tail Q c cs h))
 
 -- ---- refused by one, refused by the other
 
@@ -145,10 +139,6 @@ module _ (ps : List (Draw × Draw)) (k : Knows ps) (x z : Side) (p q : Carried) 
         is = refused_end tag heard x.end text is;
         so = second_is ∙ refused_end (m.tag tag) heard_too z.end there.text there.is;
       }
-
-  none_of : (a : Option (List ℕ)) → is_some a ≡ false → a ≡ None
-  none_of None h = refl
-  none_of (Some text) h = cc
 
   -- and what the one takes, the other takes
   pub refused_as_well : refusal tag heard (state_of x) ≡ None → refusal q.header.verification_tag (map carried q.chunks) (state_of z) ≡ None

@@ -1,21 +1,18 @@
 -- The second end is the image of the first one between turns; so it is after each call, under the same names.
-use Rattle.std.proofs.Common.{◌≡◌, ℕ, ◌||◌, ◌==◌, Bool, true, false, Option, Some, None, List, [], ◌∷◌, ◌++◌, map, ◌⊎◌, inl, inr, refl, sym, ap, subst, ◌∙◌}
-use Rattle.std.specs.Prelude.{⊤, option_map}
-use Rattle.rand_core.specs.Stream.{Stream}
+use Rattle.std.proofs.Common.{◌≡◌, ℕ, Bool, List, [], ◌∷◌, ◌++◌, map, refl, sym, ap, subst, ◌∙◌}
 use Rattle.sctp_state.specs.declared.api.ErrorKind.TheVariants.{ParseFailed}
-use Rattle.sctp_state.specs.Events.{Event, SendPacket, OnError, OnAborted, GivenUp}
-use Rattle.sctp_table.specs.Association.{State, Closed, CookieWait, Open, Context, Standing, Endpoint, Packing}
-use Rattle.sctp_table.specs.Shown.{Association, association_in}
+use Rattle.sctp_state.specs.Events.{Event, SendPacket, OnError, OnAborted}
+use Rattle.sctp_table.specs.Association.{State, Context, Standing, Endpoint, Packing}
 use Rattle.sctp_table.specs.Opening.{complains}
 use Rattle.sctp_table.specs.Input.{counts, counted}
 use Rattle.sctp_table.specs.Laws.{Call, called}
 use Rattle.sctp_table_laws.specs.Mapped.{Carried, map_event, map_context}
 use Rattle.sctp_course.specs.Course.{Side, took, state_of}
-use Rattle.sctp_draws.specs.NamedChunks.{Names, AreNames, moved}
+use Rattle.sctp_draws.specs.NamedChunks.{Names, AreNames}
 use Rattle.sctp_draws.specs.Names.{named_state, plain, with_words}
 use Rattle.sctp_draws.specs.NamedCalls.{named_call, CallIsNamed, EachCallIsNamed}
 use Rattle.sctp_draws.specs.Images.{as_carried, named_carried, as_named, image}
-use Rattle.sctp_draws_course.specs.Alike.{IsImage, IsAlike, AreTold, AreAlike}
+use Rattle.sctp_draws_course.specs.Alike.{IsAlike, AreTold, AreAlike}
 
 abbrev pub standing : State → Context Carried → Standing Carried
 standing s c = record { state = s; context = c }

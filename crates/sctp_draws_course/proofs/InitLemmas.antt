@@ -1,39 +1,37 @@
 -- An INIT: it is answered with the own draw, or with one that is drawn for it.
-use Rattle.std.proofs.Common.{◌≡◌, ◌≢◌, ℕ, ◌==◌, ◌^◌, ◌<◌, not, Bool, true, false, Option, Some, None, List, [], ◌∷◌, ◌++◌, map, All, ◌⊎◌, inl, inr, refl, sym, ap, subst, ◌∙◌, arith}
+use Rattle.std.proofs.Common.{◌≡◌, ℕ, Bool, true, false, Option, None, List, [], ◌∷◌, map, All, inl, refl, sym, ap, subst, ◌∙◌}
 use Rattle.std.proofs.lemmas.Bool.{both_ways}
 use Rattle.std.proofs.lemmas.List.Elements.{All-nil, All-cons}
-use Rattle.rand_core.specs.Stream.{Stream, next_u32, next_u64}
+use Rattle.rand_core.specs.Stream.{Stream}
 use Rattle.sctp_packet.specs.Chunk.{ChunkTree, InitTree, init_chunk, init_ack_chunk, cookie_echo_chunk}
 use Rattle.sctp_packet.specs.Grammar.{carried}
 use Rattle.sctp_state.specs.Options.{Options}
-use Rattle.sctp_capabilities.specs.Capabilities.{announced}
-use Rattle.sctp_capabilities.specs.Cookie.{Cookie}
 use Rattle.sctp_state.specs.Timers.{Timer}
-use Rattle.sctp_table.specs.Association.{Tcb, Phase, CookieEchoed, Established, ShutdownPending, ShutdownSent, ShutdownReceived, ShutdownAckSent, State, Closed, CookieWait, Open, Context, Endpoint, where_open}
+use Rattle.sctp_table.specs.Association.{Tcb, Phase, CookieEchoed, Established, ShutdownPending, ShutdownSent, ShutdownReceived, ShutdownAckSent, State, Closed, CookieWait, Open, Context, Endpoint}
 use Rattle.sctp_table.specs.Opening.{tsn_from, tag_from, word, drew_word, cookie_for}
-use Rattle.sctp_table.specs.Input.{refusal, counts, taken_if, handled, on_standing, hear_all, ended_if, ended}
+use Rattle.sctp_table.specs.Input.{refusal, counts, taken_if, handled, ended_if}
 use Rattle.sctp_table.specs.Laws.{Call, Packet, called, is_closed}
 use Rattle.sctp_table_laws.specs.Mapped.{Carried}
 use Rattle.sctp_course.specs.Course.{Side, AreGiven, as_carried, as_heard, state_of}
 use Rattle.sctp_course.specs.Agreement.{Draw as Drawn, Has}
-use Rattle.sctp_course.proofs.JoinLemmas.{Draw, IsDraw, drawn_is, view_of, init_by, cookie_by, IsInit, Drawn as IsDrawn, Faces}
+use Rattle.sctp_course.proofs.JoinLemmas.{Draw, IsDraw, drawn_is, init_by, cookie_by, IsInit}
 use Rattle.sctp_course.proofs.CourseLemmas.{seen}
 use Rattle.sctp_draws.specs.NamedChunks.{Names, flipped, named_init, named_chunks}
 use Rattle.sctp_draws.specs.Names.{named_state}
-use Rattle.sctp_draws.specs.Laws.{NumbersFitIn, Makes, DrawsTwo}
-use Rattle.sctp_draws.specs.NamedCalls.{KnowsAnswer, InitIsNamed, AreNamed, init, EachCallIsNamed}
+use Rattle.sctp_draws.specs.Laws.{NumbersFitIn, Makes}
+use Rattle.sctp_draws.specs.NamedCalls.{KnowsAnswer, InitIsNamed, init, EachCallIsNamed}
 use Rattle.sctp_draws_course.specs.Pairing.{far, names, Knows}
-use Rattle.sctp_draws_course.proofs.NamesLemmas.{same_tie, names_in, TagsAre, state_by, makes}
-use Rattle.sctp_draws_course.proofs.TwinLemmas.{HoldsOne, Twin, IsNamedBy}
+use Rattle.sctp_draws_course.proofs.NamesLemmas.{same_tie, TagsAre, state_by, makes}
+use Rattle.sctp_draws_course.proofs.TwinLemmas.{Twin, IsNamedBy}
 use Rattle.sctp_draws_course.proofs.ChunkLemmas.{init_heard}
 use Rattle.sctp_draws_course.proofs.GuideLemmas.{Guides, tags_after}
-use Rattle.sctp_draws_course.proofs.StepLemmas.{drawn_tag, two_of, hears_init, Named}
+use Rattle.sctp_draws_course.proofs.StepLemmas.{drawn_tag, two_of, Named}
 use Rattle.sctp_draws_course.proofs.HeardLemmas.{all_heard, taken_too}
 use Rattle.sctp_draws_course.proofs.EchoLemmas.{cookie_made}
 
 -- ---- an end that hears an INIT alone keeps its state
 
-ended_stays : (b : Bool) (phase : Phase) (t : Tcb) (c : Context Carried) → is_closed (ended_if b phase t c).state ≡ false
+pub ended_stays : (b : Bool) (phase : Phase) (t : Tcb) (c : Context Carried) → is_closed (ended_if b phase t c).state ≡ false
 ended_stays true phase t c = refl
 ended_stays false phase t c = refl
 
@@ -58,9 +56,6 @@ IsThat (init_chunk i) = Unit {0}
 IsThat (init_ack_chunk i) = ⊥
 IsThat (cookie_echo_chunk c) = ⊥
 IsThat chunk = Unit {0}
-
-not_closed : (b : Bool) → b ≡ false → b ≡ true → ⊥
-not_closed b e f = cc
 
 module _ (ps : List (Drawn × Drawn)) (k : Knows ps) (law : EachCallIsNamed) (o q : Options) (given : AreGiven q) (x y z : Side) (t : Twin ps x y z) (p r : Carried)
     (checksum other : ℕ) (packing : x.end.standing.context.pack ≡ as_carried) (quiet : x.end.standing.context.told.events ≡ []) (i : InitTree)
@@ -144,7 +139,7 @@ module _ (ps : List (Drawn × Drawn)) (k : Knows ps) (law : EachCallIsNamed) (o 
       where
         drew_before : is_closed (called call x.end).standing.state ≡ true → (b : Bool) → is_closed (state_of x) ≡ b → drawn_tag x.end ≡ own.tag
         drew_before closed true e = drew e
-        drew_before closed false e = absurd (not_closed (is_closed (called call x.end).standing.state) (stays_open e) closed)
+        drew_before closed false e = absurd (both_ways (is_closed (called call x.end).standing.state) (stays_open e) closed)
 
   -- ---- by what the end is
 
@@ -169,7 +164,7 @@ module _ (ps : List (Drawn × Drawn)) (k : Knows ps) (law : EachCallIsNamed) (o 
       let tags : TagsAre own.tag i.initiate_tag (state_of x) = subst (TagsAre own.tag i.initiate_tag) (sym is) refl in
       init_named own own_is tags
       (subst (λ (s : State). InitIsNamed (names ps own.tag i.initiate_tag t.tie same_tie) i s x.end.words z.end.words) (sym is) (answer_known own own_is tags))
-      (λ closed. absurd (not_closed (is_closed (state_of x)) (ap is_closed is) closed))
+      (λ closed. absurd (both_ways (is_closed (state_of x)) (ap is_closed is) closed))
 
   pub echoing_named : (t1 : Timer) (cookie : List ℕ) (u : Tcb) → state_of x ≡ Open (CookieEchoed t1 cookie) u
       → IsDraw (record { tag = u.identity.my_tag; first = u.identity.my_first }) → u.identity.peer_tag ≡ i.initiate_tag → Named ps x z (state_of y) call f
@@ -178,4 +173,4 @@ module _ (ps : List (Drawn × Drawn)) (k : Knows ps) (law : EachCallIsNamed) (o 
       let tags : TagsAre own.tag i.initiate_tag (state_of x) = subst (TagsAre own.tag i.initiate_tag) (sym is) (refl, peer) in
       init_named own own_is tags
       (subst (λ (s : State). InitIsNamed (names ps own.tag i.initiate_tag t.tie same_tie) i s x.end.words z.end.words) (sym is) (answer_known own own_is tags))
-      (λ closed. absurd (not_closed (is_closed (state_of x)) (ap is_closed is) closed))
+      (λ closed. absurd (both_ways (is_closed (state_of x)) (ap is_closed is) closed))

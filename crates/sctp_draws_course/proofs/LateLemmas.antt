@@ -1,61 +1,49 @@
 -- An INIT that comes to an end with an established association: it is answered with a tag drawn for it and the association's tie.
-use Rattle.std.proofs.Common.{◌≡◌, ◌≢◌, ℕ, ◌+◌, ◌%◌, ◌/◌, ◌^◌, ◌<◌, not, Bool, true, false, Option, Some, None, List, [], ◌∷◌, ◌++◌, map, All, ◌⊎◌, inl, inr, refl, sym, ap, subst, ◌∙◌, arith}
+use Rattle.std.proofs.Common.{◌≡◌, ◌≢◌, ℕ, ◌%◌, ◌^◌, ◌<◌, not, Bool, true, false, Option, Some, None, List, [], ◌∷◌, map, All, inr, refl, sym, ap, subst, ◌∙◌, arith}
 use Rattle.std.proofs.lemmas.Bool.{both_ways}
 use Rattle.std.proofs.lemmas.List.Elements.{All-nil, All-cons, All-head}
-use Rattle.rand_core.specs.Stream.{Stream, next_u32}
+use Rattle.rand_core.specs.Stream.{Stream}
 use Rattle.sctp_serial.specs.Unwrapped.{words}
-use Rattle.sctp_wire.specs.Fields.{be64}
 use Rattle.sctp_packet.specs.Chunk.{ChunkTree, InitTree, init_chunk, init_ack_chunk, cookie_echo_chunk}
 use Rattle.sctp_packet.specs.Grammar.{carried}
-use Rattle.sctp_state.specs.Options.{Options}
 use Rattle.sctp_capabilities.specs.Cookie.{Cookie, CookieFits, cookie_bytes}
-use Rattle.sctp_outstanding.specs.Items.{next_number}
-use Rattle.sctp_table.specs.Association.{Tcb, Phase, CookieEchoed, Established, ShutdownPending, ShutdownSent, ShutdownReceived, ShutdownAckSent, State, Closed, CookieWait, Open, Context, Endpoint}
+use Rattle.sctp_table.specs.Association.{Tcb, Phase, CookieEchoed, Established, ShutdownPending, ShutdownSent, ShutdownReceived, ShutdownAckSent, State, Open, Context, Endpoint}
 use Rattle.sctp_table.specs.Sending.{is_alone}
 use Rattle.sctp_table.specs.Opening.{tag_from, word, next_first, cookie_for}
 use Rattle.sctp_table.specs.Input.{my_tag, refusal, counts, taken_if, handled, on_standing, repeats_if, has_data, ended_if}
 use Rattle.sctp_table.specs.Laws.{Call, Packet, called, is_closed}
 use Rattle.sctp_table_laws.specs.Mapped.{Carried}
-use Rattle.sctp_course.specs.Course.{Side, AreGiven, as_carried, as_heard, state_of}
+use Rattle.sctp_course.specs.Course.{Side, as_heard, state_of}
 use Rattle.sctp_course.specs.Agreement.{Draw as Drawn, Has, drawn_hearing, drawn_taking, drawn_given}
-use Rattle.sctp_course.proofs.JoinLemmas.{Draw, IsDraw, view_of, init_by, cookie_by, IsInit, Says, Drawn as IsDrawn, Faces}
-use Rattle.sctp_course.proofs.CourseLemmas.{SaysAll, seen, Halves}
+use Rattle.sctp_course.proofs.JoinLemmas.{Draw, IsDraw, view_of, init_by, cookie_by, IsInit, Says}
+use Rattle.sctp_course.proofs.CourseLemmas.{seen}
+use Rattle.sctp_course.proofs.NegotiatedLemmas.{be64_wraps}
+use Rattle.sctp_course.proofs.JoinKeepsLemmas.{cookie_fits}
 use Rattle.sctp_draws.specs.NamedChunks.{Names, flipped, moved, named_init, named_chunks}
-use Rattle.sctp_draws.specs.Names.{named_state, named_tcb, named_cookie}
+use Rattle.sctp_draws.specs.Names.{named_state, named_tcb}
 use Rattle.sctp_draws.specs.Laws.{Makes}
-use Rattle.sctp_draws.specs.NamedCalls.{KnowsAnswer, AnswersAgain, InitIsNamedOpen, InitIsNamed, AreNamed, init, EachCallIsNamed}
-use Rattle.sctp_draws.proofs.MovedLemmas.{sum_moved}
-use Rattle.sctp_draws_course.specs.Pairing.{distance, far, names, pairs_of, Knows}
+use Rattle.sctp_draws.specs.NamedCalls.{AnswersAgain, InitIsNamedOpen, InitIsNamed, init, EachCallIsNamed}
+use Rattle.sctp_draws.proofs.ComingLemmas.{next_first_named}
+use Rattle.sctp_draws_course.specs.Pairing.{distance, far, names, Knows}
 use Rattle.sctp_draws_course.proofs.PairingLemmas.{far_below, moved_distance}
 use Rattle.sctp_draws_course.proofs.NamesLemmas.{same_tie, names_in, TagsAre, state_by, makes}
-use Rattle.sctp_draws_course.proofs.TwinLemmas.{HoldsOne, Marked, Twin, IsNamedBy}
+use Rattle.sctp_draws_course.proofs.TwinLemmas.{Marked}
 use Rattle.sctp_draws_course.proofs.ChunkLemmas.{init_heard}
 use Rattle.sctp_draws_course.proofs.GuideLemmas.{Guides, tags_after}
-use Rattle.sctp_draws_course.proofs.StepLemmas.{hears_init, is_past, IsLate, Named}
+use Rattle.sctp_draws_course.proofs.StepLemmas.{hears_init, is_past, one_held}
 use Rattle.sctp_draws_course.proofs.HeardLemmas.{all_heard, refused_as_well, taken_too}
-use Rattle.sctp_draws_course.proofs.EchoLemmas.{cookie_fits}
-use Rattle.sctp_draws_course.proofs.InitLemmas.{IsThat, at_state}
+use Rattle.sctp_draws_course.proofs.InitLemmas.{IsThat, at_state, ended_stays}
 use Rattle.sctp_draws_course.proofs.GivenLemmas.{two_paired, draw_is, peer_at}
 use Rattle.sctp_draws_course.proofs.TurnLemmas.{LateInitsAreNamed}
 
 -- ---- the cookie with a tie of any size
-
-eight : (a b c d e f g h p q r s t u v w : ℕ) → a ≡ p → b ≡ q → c ≡ r → d ≡ s → e ≡ t → f ≡ u → g ≡ v → h ≡ w
-    → a ∷ b ∷ c ∷ d ∷ e ∷ f ∷ g ∷ h ∷ [] ≡ p ∷ q ∷ r ∷ s ∷ t ∷ u ∷ v ∷ w ∷ []
-eight a b c d e f g h p q r s t u v w e0 e1 e2 e3 e4 e5 e6 e7 = rw (e0, e1, e2, e3, e4, e5, e6, e7) refl
-
--- 64 bits of it are written
-be64_low : (n : ℕ) → be64 (n % 2 ^ 64) ≡ be64 n
-unfolding be64
-be64_low n =
-    eight _ _ _ _ _ _ _ _ _ _ _ _ _ _ _ _ (omega arith) (omega arith) (omega arith) (omega arith) (omega arith) (omega arith) (omega arith) (omega arith)
 
 abbrev low_tie : Cookie → Cookie
 low_tie c = record c { tie_tag = c.tie_tag % 2 ^ 64 }
 
 same_bytes : (c : Cookie) → cookie_bytes (low_tie c) ≡ cookie_bytes c
 unfolding cookie_bytes
-same_bytes c = rw (be64_low c.tie_tag) refl
+same_bytes c = rw (be64_wraps c.tie_tag) refl
 
 with_tie : (c : Cookie) (tie : ℕ) → tie < 2 ^ 64 → CookieFits c → CookieFits (record c { tie_tag = tie })
 with_tie c tie small f = record {
@@ -69,12 +57,6 @@ with_tie c tie small f = record {
 }
 
 -- ---- the first TSN of an association in this one's place
-
-next_first_named : (n : Names) (t : Tcb) → next_first (named_tcb n t) ≡ moved n.own (next_first t)
-next_first_named n t =
-    let first : ℕ = t.sender.outstanding.first in
-    let count : ℕ = next_number t.sender.outstanding.items in
-    ap (λ (k : ℕ). (k + 1000000) % 2 ^ 32) (sum_moved words first count n.own) ∙ sum_moved words ((first + count) % words) 1000000 n.own
 
 -- ---- it keeps its state, and no cookie is kept
 
@@ -91,18 +73,14 @@ init_leaves_past tag i (ShutdownSent t2) t c w h = ended_past _ _ _ _
 init_leaves_past tag i ShutdownReceived t c w h = ended_past _ _ _ _
 init_leaves_past tag i (ShutdownAckSent t2) t c w h = ended_past _ _ _ _
 
-ended_open : (b : Bool) (phase : Phase) (t : Tcb) (c : Context Carried) → is_closed (ended_if b phase t c).state ≡ false
-ended_open true phase t c = refl
-ended_open false phase t c = refl
-
 init_leaves_open : (tag : ℕ) (i : InitTree) (phase : Phase) (t : Tcb) (c : Context Carried) (w : Stream) → is_alone phase ≡ false
     → is_closed (handled tag (init_chunk i ∷ []) (at_state (Open phase t) c w)).standing.state ≡ false
 init_leaves_open tag i (CookieEchoed t1 cookie) t c w h = cc
-init_leaves_open tag i Established t c w h = ended_open _ _ _ _
-init_leaves_open tag i ShutdownPending t c w h = ended_open _ _ _ _
-init_leaves_open tag i (ShutdownSent t2) t c w h = ended_open _ _ _ _
-init_leaves_open tag i ShutdownReceived t c w h = ended_open _ _ _ _
-init_leaves_open tag i (ShutdownAckSent t2) t c w h = ended_open _ _ _ _
+init_leaves_open tag i Established t c w h = ended_stays _ _ _ _
+init_leaves_open tag i ShutdownPending t c w h = ended_stays _ _ _ _
+init_leaves_open tag i (ShutdownSent t2) t c w h = ended_stays _ _ _ _
+init_leaves_open tag i ShutdownReceived t c w h = ended_stays _ _ _ _
+init_leaves_open tag i (ShutdownAckSent t2) t c w h = ended_stays _ _ _ _
 
 -- the same under one tie
 late_state : (ps : List (Drawn × Drawn)) (mine peer : ℕ) (tie : ℕ → ℕ) (phase : Phase) (u : Tcb) → is_alone phase ≡ false
@@ -169,11 +147,6 @@ open_is n i (ShutdownAckSent t2) u w v h f = tt
 opened_late : (s u : State) (phase : Phase) (t : Tcb) → s ≡ Open phase t → is_alone phase ≡ false → ((view_of s).is_late ≡ true → (view_of u).is_opened ≡ true)
     → (view_of u).is_opened ≡ true
 opened_late s u phase t is late f = f (ap (λ (z : State). (view_of z).is_late) is ∙ ap not late)
-
-holds_one : (s : State) → (view_of s).is_opened ≡ true → HoldsOne s
-holds_one Closed h = cc
-holds_one (CookieWait tag first t1) h = cc
-holds_one (Open phase t) h = record { association = _; held = refl }
 
 module _ (ps : List (Drawn × Drawn)) (k : Knows ps) (law : EachCallIsNamed) where
   pub late_named : LateInitsAreNamed ps
@@ -260,7 +233,7 @@ module _ (ps : List (Drawn × Drawn)) (k : Knows ps) (law : EachCallIsNamed) whe
         tags = λ stand. tags_after call own peer guides x.end tags;
         ties = inr (record {
           hears = ap (λ (cs : List ChunkTree). hears_init (Packet (record (as_heard p checksum) { chunks = cs }))) heard;
-          held = holds_one (state_of y) (opened_late s (state_of y) phase u is late h.own.stands.late);
+          held = one_held (state_of y) (opened_late s (state_of y) phase u is late h.own.stands.late);
           past = after is_past ∙ init_leaves_past tag i phase u e.standing.context e.words late;
         });
         drew = λ hears closed.

@@ -1,10 +1,10 @@
 -- Names by what was drawn: they are names, and know the cookies that ends make.
-use Rattle.std.proofs.Common.{◌≡◌, ◌≢◌, ℕ, ◌^◌, ◌<◌, ◌==◌, Bool, true, false, Result, Ok, Err, List, inl, inr, refl, sym, ap, ◌∙◌, arith}
+use Rattle.std.proofs.Common.{◌≡◌, ◌≢◌, ℕ, ◌^◌, ◌<◌, true, Result, Ok, List, refl, sym, ap, ◌∙◌, arith}
 use Rattle.std.proofs.lemmas.Bool.{eq-eqb, eqb-true}
 use Rattle.sctp_capabilities.specs.declared.state_cookie.StateCookieError.{StateCookieError}
 use Rattle.sctp_capabilities.specs.Cookie.{Cookie, CookieFits, has_tags, cookie_bytes, read_cookie}
 use Rattle.sctp_capabilities.proofs.CookieLemmas.{both_tags, read_cookie-bytes}
-use Rattle.sctp_table.specs.Association.{Tcb, Phase, State, Closed, CookieWait, Open}
+use Rattle.sctp_table.specs.Association.{State, Closed, CookieWait, Open}
 use Rattle.sctp_table.specs.Input.{my_tag}
 use Rattle.sctp_course.specs.Agreement.{Draw}
 use Rattle.sctp_draws.specs.NamedChunks.{Names, AreNames, moved}

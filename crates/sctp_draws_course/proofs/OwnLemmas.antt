@@ -1,16 +1,15 @@
 -- What a call tells, by acts: numbers are told by an end that has a control block, an INIT ACK where an INIT is heard, and then a
 -- cookie by an end that keeps it.
-use Rattle.std.proofs.Common.{◌≡◌, ℕ, not, Bool, true, false, Option, Some, None, List, [], ◌∷◌, ◌++◌, map, All, refl, sym, ap, subst, ◌∙◌, append_assoc}
-use Rattle.std.specs.Prelude.{⊤}
+use Rattle.std.proofs.Common.{◌≡◌, ℕ, not, Bool, true, false, List, [], ◌∷◌, ◌++◌, map, All, refl, sym, ap, subst, ◌∙◌, append_assoc}
 use Rattle.std.specs.List.{list_all}
 use Rattle.std.proofs.lemmas.Bool.{both_ways, and_parts}
-use Rattle.std.proofs.lemmas.List.Elements.{All-nil, All-cons, All-head, All-tail, All-weaker}
-use Rattle.sctp_packet.specs.Chunk.{ChunkTree, FragmentTree, InitTree, data_chunk, idata_chunk, init_chunk, init_ack_chunk, sack_chunk, heartbeat_request_chunk, heartbeat_ack_chunk, abort_chunk, shutdown_chunk, shutdown_ack_chunk, error_chunk, cookie_echo_chunk, cookie_ack_chunk, shutdown_complete_chunk, re_config_chunk, forward_tsn_chunk, i_forward_tsn_chunk, unknown_chunk}
+use Rattle.std.proofs.lemmas.List.Elements.{All-nil, All-cons, All-weaker}
+use Rattle.sctp_packet.specs.Chunk.{ChunkTree, FragmentTree, InitTree, data_chunk, idata_chunk, init_chunk, init_ack_chunk, sack_chunk, cookie_echo_chunk, cookie_ack_chunk, re_config_chunk, forward_tsn_chunk, i_forward_tsn_chunk}
 use Rattle.sctp_state.specs.Events.{Event, SendPacket, OnConnected, OnConnectionRestarted, OnError, OnClosed, OnStreamsResetPerformed, OnStreamsResetFailed}
 use Rattle.sctp_state.specs.Events as events
 use Rattle.sctp_state.specs.Options.{Options}
 use Rattle.sctp_state.specs.Handover.{HandoverState}
-use Rattle.sctp_table.specs.Association.{Tcb, Phase, CookieEchoed, Established, ShutdownPending, ShutdownSent, ShutdownReceived, ShutdownAckSent, State, Closed, CookieWait, Open, Context, Endpoint, Packing}
+use Rattle.sctp_table.specs.Association.{Tcb, Phase, CookieEchoed, Established, ShutdownPending, State, Closed, CookieWait, Open, Context, Endpoint, Packing}
 use Rattle.sctp_table.specs.Packets.{Packet, add, add_all, header_to}
 use Rattle.sctp_table.specs.Requests.{Outcome, Unsettled, Done, Denied, outcome}
 use Rattle.sctp_table.specs.Resets.{on_outcome}
@@ -20,7 +19,7 @@ use Rattle.sctp_table_laws.specs.Mapped.{Carried}
 use Rattle.sctp_tx.specs.Resent.{resent_fast}
 use Rattle.sctp_tx.specs.ForwardPoints.{forward_chunk, chunk_if}
 use Rattle.sctp_tx.specs.Retransmission.{Sender}
-use Rattle.sctp_course.specs.Acts.{Making, PacketAct, begins, adds_plain, emits, complains, counts, before_packets, after_packets, OpeningAct, connects, adds_init, answers_new, answers_waiting, answers_echoed, answers_again, echoes, adds_cookie, establishes, opens, restarts, opens_again, maintains, adds_cookie_ack, before_opening, after_opening, ClosingAct, closes, shuts, shuts_on, before_closing, after_closing, DataAct, takes_data, takes_idata, takes_forward, takes_iforward, before_data, after_data, SackAct, takes_sack, samples, counts_errors, before_sack, after_sack, SendingAct, asks, adds_ack, expires, adds_forward, forwards_later, asks_no_reset, asks_reset, adds_request, sends, sends_fast, before_sending, after_sending, TimeAct, advances, delay_ends, times_out, beats, times_init, times_cookie, times_request, wakes_request, before_time, after_time, CallAct, accepts, refuses, takes_message, sets_low_threshold, sets_priority, sets_max_message_size, before_call, after_call, ResetAct, prepares, defers, performs, processes, takes_response, adds_responses, before_reset, after_reset, HandoverAct, leaves, takes_up, before_handover, after_handover, InputAct, ends_packet, before_input, after_input, calm, is_opened, is_plain, IsHeard, IsEchoed, fragments_of, in_open, HasNoEnd, KeepsUntilEnd}
+use Rattle.sctp_course.specs.Acts.{Making, PacketAct, begins, adds_plain, emits, complains, counts, before_packets, after_packets, OpeningAct, connects, adds_init, answers_new, answers_waiting, answers_echoed, answers_again, echoes, adds_cookie, establishes, opens, restarts, opens_again, maintains, adds_cookie_ack, before_opening, after_opening, ClosingAct, closes, shuts, shuts_on, before_closing, after_closing, DataAct, takes_data, takes_idata, takes_forward, takes_iforward, before_data, after_data, SackAct, takes_sack, samples, counts_errors, before_sack, after_sack, SendingAct, asks, adds_ack, expires, adds_forward, forwards_later, asks_no_reset, asks_reset, adds_request, sends, sends_fast, before_sending, after_sending, TimeAct, advances, delay_ends, times_out, beats, times_init, times_cookie, times_request, wakes_request, before_time, after_time, CallAct, accepts, refuses, takes_message, sets_low_threshold, sets_priority, sets_max_message_size, before_call, after_call, ResetAct, prepares, defers, performs, processes, takes_response, adds_responses, before_reset, after_reset, HandoverAct, leaves, takes_up, before_handover, after_handover, InputAct, ends_packet, before_input, after_input, calm, is_opened, is_plain, IsHeard, fragments_of, HasNoEnd, KeepsUntilEnd}
 use Rattle.sctp_course.specs.Course.{as_carried}
 use Rattle.sctp_course.proofs.AddedLemmas.{holds_added, holds_all_added}
 use Rattle.sctp_course.proofs.ToldLemmas.{is_light, TellsLightly}
@@ -79,12 +78,6 @@ module _ (call : Call) where
 
   init_may : (s : State) (i : InitTree) → May call s (init_chunk i)
   init_may s i = λ e. cc
-
-  -- in an open state, what holds numbers
-  load_may : (phase : Phase) (t : Tcb) (c : ChunkTree) → has_numbers c ≡ true → May call (Open phase t) c
-  load_may phase t (init_ack_chunk i) h = cc
-  load_may phase t (cookie_echo_chunk cookie) h = cc
-  load_may phase t c h = λ e. refl
 
   data_may_by : (phase : Phase) (t : Tcb) (is_interleaved is_immediate : Bool) (c : ℕ × FragmentTree) → May call (Open phase t) (data_chunk_of is_interleaved is_immediate c)
   data_may_by phase t true is_immediate c = λ e. refl

@@ -1,5 +1,5 @@
 -- What both courses drew, pair by pair, and what the names know of it.
-use Rattle.std.proofs.Common.{◌≡◌, ◌≢◌, ℕ, ◌+◌, ◌-◌, ◌%◌, ◌^◌, ◌<◌, ◌==◌, Bool, true, false, cond, Option, Some, None, List, [], ◌∷◌, ◌++◌, slice_get, ◌⊎◌, inl, inr, refl, sym, ap, subst, ◌∙◌, arith}
+use Rattle.std.proofs.Common.{◌≡◌, ◌≢◌, ℕ, ◌^◌, ◌<◌, ◌==◌, Bool, true, false, cond, Option, Some, None, List, [], ◌∷◌, ◌++◌, slice_get, ◌⊎◌, inl, inr, refl, sym, ap, subst, ◌∙◌, arith}
 use Rattle.std.proofs.lemmas.Bool.{eq-eqb, ne_eqb}
 use Rattle.sctp_packet.specs.Chunk.{ChunkTree, init_chunk}
 use Rattle.sctp_packet.specs.Packet.{PacketTree}
@@ -10,30 +10,19 @@ use Rattle.sctp_table_laws.specs.Mapped.{Carried}
 use Rattle.sctp_course.specs.Course.{Side, Pair, emitted, as_heard, Turn, Calls, Gives, Refuses, goes, state_of}
 use Rattle.sctp_course.specs.Agreement.{Draw, Has, two_drawn, one_drawn, drawn_open, drawn_for_init, drawn_for, drawn_to_connect, drawn_behind, drawn_hearing, drawn_taking, drawn_given, drawn_in, AreDistinct}
 use Rattle.sctp_course.proofs.AgreeLemmas.{FitsDraw}
+use Rattle.sctp_course.proofs.AgreeCookieLemmas.{has_behind}
+use Rattle.sctp_course.proofs.AgreePacketLemmas.{distinct_behind}
 use Rattle.sctp_draws.specs.NamedChunks.{moved}
-use Rattle.sctp_draws.specs.Renamed.{swapped, renamed, DiffersFrom, AreApart, IsPaired, Renames}
+use Rattle.sctp_draws.specs.Renamed.{renamed, DiffersFrom, AreApart, IsPaired, Renames}
 use Rattle.sctp_draws.proofs.RenamedLemmas.{renames}
 use Rattle.sctp_draws_course.specs.Pairing.{drawn_at, drawn, NoTagTwice, pairs_of, pairs, tags_of, distance, far, Knows}
 
 -- ---- members
 
-pub has_left : {A : Type 0} (x : A) (xs ys : List A) → Has x xs → Has x (xs ++ ys)
-has_left x [] ys h = absurd h
-has_left x (y ∷ xs) ys (inl e) = inl e
-has_left x (y ∷ xs) ys (inr h) = inr (has_left x xs ys h)
-
-pub has_right : {A : Type 0} (x : A) (xs ys : List A) → Has x ys → Has x (xs ++ ys)
-has_right x [] ys h = h
-has_right x (y ∷ xs) ys h = inr (has_right x xs ys h)
-
 pub has_either : {A : Type 0} (x : A) (xs ys : List A) → Has x (xs ++ ys) → Has x xs ⊎ Has x ys
 has_either x [] ys h = inr h
 has_either x (y ∷ xs) ys (inl e) = inl (inl e)
 has_either x (y ∷ xs) ys (inr h) = elim (has_either x xs ys h) [ inl k ↦ inl (inr k) | inr k ↦ inr k ]
-
-distinct_behind : (xs ys : List Draw) → AreDistinct (xs ++ ys) → AreDistinct ys
-distinct_behind [] ys h = h
-distinct_behind (d ∷ xs) ys h = distinct_behind xs ys h.1
 
 -- ---- draws are tags above 0 and numbers of 32 bits
 
@@ -119,8 +108,8 @@ abbrev Within : Pairs → (xs ys : List Draw) → Type 0
 Within ps xs ys = (d e : Draw) → Has (d, e) ps → Has d xs × Has e ys
 
 within_pairs : (ds es : List Draw) (ps : Pairs) (xs ys : List Draw) → Within ps xs ys → Within (pairs_of ds es ++ ps) (ds ++ xs) (es ++ ys)
-within_pairs [] es ps xs ys w d e h = let r : Has d xs × Has e ys = w d e h in (r.0, has_right e es ys r.1)
-within_pairs (a ∷ ds) [] ps xs ys w d e h = let r : Has d xs × Has e ys = w d e h in (has_right d (a ∷ ds) xs r.0, r.1)
+within_pairs [] es ps xs ys w d e h = let r : Has d xs × Has e ys = w d e h in (r.0, has_behind e es ys r.1)
+within_pairs (a ∷ ds) [] ps xs ys w d e h = let r : Has d xs × Has e ys = w d e h in (has_behind d (a ∷ ds) xs r.0, r.1)
 within_pairs (a ∷ ds) (b ∷ es) ps xs ys w d e (inl is) = (inl (ap (λ (z : Draw × Draw). z.0) is), inl (ap (λ (z : Draw × Draw). z.1) is))
 within_pairs (a ∷ ds) (b ∷ es) ps xs ys w d e (inr h) =
     let r : Has d (ds ++ xs) × Has e (es ++ ys) = within_pairs ds es ps xs ys w d e h in (inr r.0, inr r.1)

@@ -1,11 +1,11 @@
 -- A packet without a checksum is let through in one course where its image is in the other.
-use Rattle.std.proofs.Common.{◌≡◌, ℕ, ◌==◌, Bool, true, false, List, [], ◌∷◌, All, sym, ap, subst, ◌∙◌}
+use Rattle.std.proofs.Common.{◌≡◌, ◌==◌, List, [], ◌∷◌, All, sym, ap, subst, ◌∙◌}
 use Rattle.std.proofs.lemmas.List.Elements.{All-nil, All-cons, All-head, All-tail}
 use Rattle.sctp_state.specs.Events.{Event, SendPacket, OnError, OnAborted}
 use Rattle.sctp_table.specs.Association.{Context}
 use Rattle.sctp_table_laws.specs.Mapped.{Carried}
-use Rattle.sctp_course.specs.Course.{Side, Pair, packets_in}
-use Rattle.sctp_draws_course.specs.Alike.{IsImage, AreTold, AreAlike, ArePairsAlike, PassesAt, ArePassed, ImagesPass}
+use Rattle.sctp_course.specs.Course.{Side, packets_in}
+use Rattle.sctp_draws_course.specs.Alike.{IsImage, AreTold, PassesAt, ImagesPass}
 
 module _ (y z : Side) (same : z.end.standing.context ≡ y.end.standing.context) where
   passes : (p q : Carried) → IsImage p q → PassesAt y p → PassesAt z q

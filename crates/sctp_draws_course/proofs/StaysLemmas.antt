@@ -1,20 +1,18 @@
 -- An association stays in one course where it stays in the other.
-use Rattle.std.proofs.Common.{◌≡◌, ℕ, Bool, true, false, Option, Some, None, List, ◌⊎◌, inl, inr, refl, sym, ap, subst, ◌∙◌}
+use Rattle.std.proofs.Common.{◌≡◌, Option, Some, None, List, inl, inr, refl, sym, ap, subst, ◌∙◌}
 use Rattle.std.specs.Prelude.{option_map}
 use Rattle.sctp_table.specs.Association.{State, Closed, CookieWait, Open, Standing, Endpoint}
 use Rattle.sctp_table.specs.Shown.{Association, association_in}
-use Rattle.sctp_table.specs.Opening.{complains}
-use Rattle.sctp_table.specs.Input.{counts}
 use Rattle.sctp_table.specs.Laws.{Call, called}
 use Rattle.sctp_table_laws.specs.Mapped.{Carried}
 use Rattle.sctp_state.specs.Events.{GivenUp}
-use Rattle.sctp_course.specs.Course.{Side, took, state_of}
+use Rattle.sctp_course.specs.Course.{Side, state_of}
 use Rattle.sctp_course.specs.Agreement.{Draw as Drawn}
 use Rattle.sctp_draws.specs.NamedChunks.{Names, moved}
 use Rattle.sctp_draws.specs.Names.{named_state}
 use Rattle.sctp_draws_course.specs.Pairing.{names}
 use Rattle.sctp_draws_course.proofs.TwinLemmas.{Stand}
-use Rattle.sctp_draws_course.proofs.StepLemmas.{Named, Refused, Outcome}
+use Rattle.sctp_draws_course.proofs.StepLemmas.{Outcome}
 use Rattle.sctp_draws_course.proofs.TurnLemmas.{Turning, Idle}
 
 abbrev named_association : Names → Association → Association

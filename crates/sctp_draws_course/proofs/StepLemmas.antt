@@ -1,14 +1,14 @@
 -- One call on an end and on its image: what it tells is under the names of the call, and both go on as twins.
-use Rattle.std.proofs.Common.{◌≡◌, ◌≢◌, ℕ, ◌==◌, not, Bool, true, false, Option, Some, None, List, [], ◌∷◌, ◌++◌, All, ◌⊎◌, inl, inr, refl, sym, ap, subst, ◌∙◌}
+use Rattle.std.proofs.Common.{◌≡◌, ℕ, not, Bool, true, false, Some, None, List, [], ◌∷◌, ◌++◌, All, ◌⊎◌, inl, inr, refl, sym, ap, subst, ◌∙◌}
 use Rattle.std.specs.Prelude.{⊤}
 use Rattle.std.proofs.lemmas.Bool.{both_ways}
 use Rattle.std.proofs.lemmas.List.Elements.{All-nil, All-cons, All-head, All-tail}
-use Rattle.sctp_packet.specs.Chunk.{ChunkTree, InitTree, data_chunk, idata_chunk, init_chunk, init_ack_chunk, sack_chunk, heartbeat_request_chunk, heartbeat_ack_chunk, abort_chunk, shutdown_chunk, shutdown_ack_chunk, error_chunk, cookie_echo_chunk, cookie_ack_chunk, shutdown_complete_chunk, re_config_chunk, forward_tsn_chunk, i_forward_tsn_chunk, unknown_chunk}
+use Rattle.std.proofs.lemmas.Option.{same_Some}
+use Rattle.sctp_packet.specs.Chunk.{ChunkTree, InitTree, init_chunk, init_ack_chunk, cookie_echo_chunk}
 use Rattle.sctp_state.specs.Options.{Options}
 use Rattle.sctp_state.specs.declared.api.ErrorKind.TheVariants.{ParseFailed}
 use Rattle.sctp_state.specs.Events.{Event, SendPacket, OnError}
-use Rattle.sctp_table.specs.Association.{Phase, CookieEchoed, Established, ShutdownPending, ShutdownSent, ShutdownReceived, ShutdownAckSent, State, Closed, CookieWait, Open, Context, Standing, Endpoint}
-use Rattle.sctp_table.specs.Shown.{association_in}
+use Rattle.sctp_table.specs.Association.{CookieEchoed, Established, ShutdownPending, ShutdownSent, ShutdownReceived, ShutdownAckSent, State, Closed, CookieWait, Open, Context, Standing, Endpoint}
 use Rattle.sctp_table.specs.Sending.{is_alone}
 use Rattle.sctp_table.specs.Opening.{tsn_from, tag_from, word, drew_word, complains}
 use Rattle.sctp_table.specs.Input.{counts, counted}
@@ -17,9 +17,8 @@ use Rattle.sctp_table_laws.specs.Mapped.{Carried}
 use Rattle.sctp_course.specs.Acts.{is_opened}
 use Rattle.sctp_course.specs.Course.{Side, packets_in, took, state_of}
 use Rattle.sctp_course.specs.Agreement.{Draw as Drawn}
-use Rattle.sctp_course.proofs.JoinLemmas.{Draw, Both, View, view_of, init_by, IsInit, IsInitAck, IsEcho, Says, some_same}
-use Rattle.sctp_course.proofs.CourseLemmas.{SaysAll, seen}
-use Rattle.sctp_draws.specs.NamedChunks.{Names}
+use Rattle.sctp_course.proofs.JoinLemmas.{Draw, Both, view_of, IsInitAck, Says}
+use Rattle.sctp_course.proofs.CourseLemmas.{SaysAll}
 use Rattle.sctp_draws.specs.Names.{named_state}
 use Rattle.sctp_draws.specs.Images.{as_carried, image}
 use Rattle.sctp_draws_course.specs.Pairing.{names, Knows}
@@ -94,7 +93,7 @@ all_by A B C f (c ∷ cs) h k =
 
 -- ---- reading the state
 
-one_held : (s : State) → (view_of s).is_opened ≡ true → HoldsOne s
+pub one_held : (s : State) → (view_of s).is_opened ≡ true → HoldsOne s
 one_held Closed e = cc
 one_held (CookieWait tag first t1) e = cc
 one_held (Open phase t) e = record { association = _; held = refl }
@@ -102,9 +101,9 @@ one_held (Open phase t) e = record { association = _; held = refl }
 own_tag : (s : State) (mine peer : ℕ) (d : Draw) → (view_of s).mine ≡ Some d → TagsAre mine peer s → d.tag ≡ mine
 own_tag Closed mine peer d e h = cc
 own_tag (CookieWait tag first t1) mine peer d e h =
-    sym (ap (λ (x : Draw). x.tag) (some_same (record { tag = tag; first = first }) d e)) ∙ h
+    sym (ap (λ (x : Draw). x.tag) (same_Some (record { tag = tag; first = first }) d e)) ∙ h
 own_tag (Open phase t) mine peer d e h =
-    sym (ap (λ (x : Draw). x.tag) (some_same (record { tag = t.identity.my_tag; first = t.identity.my_first }) d e)) ∙ h.0
+    sym (ap (λ (x : Draw). x.tag) (same_Some (record { tag = t.identity.my_tag; first = t.identity.my_first }) d e)) ∙ h.0
 
 none_closed : (s : State) → (view_of s).mine ≡ None → is_closed s ≡ true
 none_closed Closed e = refl

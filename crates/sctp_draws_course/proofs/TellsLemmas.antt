@@ -1,6 +1,5 @@
 -- What each call tells, of packets of each kind.
-use Rattle.std.proofs.Common.{◌≡◌, ℕ, not, Bool, true, false, Option, Some, None, List, [], ◌∷◌, ◌++◌, All, refl, sym, ap, subst, ◌∙◌}
-use Rattle.std.specs.Prelude.{⊤}
+use Rattle.std.proofs.Common.{◌≡◌, ℕ, not, Bool, true, false, Option, Some, None, List, [], ◌∷◌, All, refl, sym, ap, subst, ◌∙◌}
 use Rattle.std.specs.List.{list_all}
 use Rattle.std.proofs.lemmas.Bool.{both_ways}
 use Rattle.std.proofs.lemmas.List.Elements.{All-nil, All-cons, All-head, All-weaker}
@@ -8,21 +7,20 @@ use Rattle.rand_core.specs.Stream.{Stream}
 use Rattle.sctp_packet.specs.Chunk.{ChunkTree, InitTree, init_chunk, init_ack_chunk, cookie_echo_chunk, cookie_ack_chunk}
 use Rattle.sctp_packet.specs.Packet.{PacketTree, HeaderTree}
 use Rattle.sctp_capabilities.specs.Capabilities.{zero_checksum_enabled}
-use Rattle.sctp_state.specs.Events.{Event, SendPacket, OnError}
+use Rattle.sctp_state.specs.Events.{SendPacket, OnError}
 use Rattle.sctp_state.specs.declared.api.ErrorKind.TheVariants.{ParseFailed}
-use Rattle.sctp_table.specs.Association.{Tcb, Phase, CookieEchoed, Established, ShutdownPending, ShutdownSent, ShutdownReceived, ShutdownAckSent, State, Closed, CookieWait, Open, Context, Endpoint, Packing}
-use Rattle.sctp_table.specs.Packets.{Packet, fits, added_if, emit_if, has_chunks, packet_to, header_to}
-use Rattle.sctp_table.specs.Opening.{tag_from, tsn_from, word, drew_word, init_ack_of, agreed_by, answer, complains}
-use Rattle.sctp_table.specs.Input.{refusal, counts, taken_if, handled, ended_if}
+use Rattle.sctp_table.specs.Association.{CookieEchoed, Established, ShutdownPending, ShutdownSent, ShutdownReceived, ShutdownAckSent, State, Closed, CookieWait, Open, Context, Endpoint, Packing}
+use Rattle.sctp_table.specs.Packets.{fits, added_if, emit_if, has_chunks, packet_to, header_to}
+use Rattle.sctp_table.specs.Opening.{tag_from, tsn_from, word, drew_word, init_ack_of, agreed_by}
+use Rattle.sctp_table.specs.Input.{refusal, counts, taken_if, handled}
 use Rattle.sctp_table.specs.Laws.{Call, Restore, Packet as Given, called, endings, is_closed}
 use Rattle.sctp_table_laws.specs.Mapped.{Carried}
-use Rattle.sctp_course.specs.Acts.{is_opened, IsHeard}
 use Rattle.sctp_course.specs.Course.{as_carried}
 use Rattle.sctp_draws.specs.Laws.{is_flowing}
-use Rattle.sctp_draws_course.proofs.StepLemmas.{first_is_init, hears_init, drawn_tag, is_past, IsOwnIn, EachChunk, TellsOwn}
+use Rattle.sctp_draws_course.proofs.StepLemmas.{first_is_init, hears_init, IsOwnIn, EachChunk, TellsOwn}
 use Rattle.sctp_draws_course.proofs.HeardLemmas.{all_heard}
 use Rattle.sctp_draws_course.proofs.FlowLemmas.{all_true}
-use Rattle.sctp_draws_course.proofs.InitLemmas.{at_state}
+use Rattle.sctp_draws_course.proofs.InitLemmas.{at_state, ended_stays}
 use Rattle.sctp_draws_course.specs.Kinds.{IsKind, an_init, an_answer, an_echo, a_flow}
 use Rattle.sctp_draws_course.proofs.OwnLemmas.{Hears, May, each_both, each_weaker, tells_may}
 use Rattle.sctp_draws_course.proofs.TurnLemmas.{HearsKind, EndsTellOwn}
@@ -97,10 +95,6 @@ module _ (c : Call) (e : Endpoint Carried) (packing : e.standing.context.pack �
       each_weaker (May c s) (IsOwnIn c e s) (own_of c e s f) (called c e).standing.context.told.events (tells_may c h e packing quiet none)
 
 -- ---- an INIT alone
-
-ended_stays : (b : Bool) (phase : Phase) (t : Tcb) (c : Context Carried) → is_closed (ended_if b phase t c).state ≡ false
-ended_stays true phase t c = refl
-ended_stays false phase t c = refl
 
 -- an end that isn't closed isn't closed by it
 init_leaves : (tag : ℕ) (i : InitTree) (s : State) (c : Context Carried) (w : Stream) → is_closed s ≡ false

@@ -1,27 +1,23 @@
 -- One turn of both courses: the ends that act are alike after it, and twins where no association ends.
-use Rattle.std.proofs.Common.{◌≡◌, ◌≢◌, ℕ, ◌==◌, ◌||◌, ◌≤◌, Bool, true, false, Option, Some, None, List, [], ◌∷◌, ◌++◌, map, slice_get, All, ◌⊎◌, inl, inr, refl, sym, ap, subst, ◌∙◌, arith}
+use Rattle.std.proofs.Common.{◌≡◌, ℕ, ◌==◌, ◌||◌, ◌≤◌, Bool, false, Option, Some, None, List, [], ◌∷◌, ◌++◌, map, slice_get, All, ◌⊎◌, inl, inr, refl, sym, ap, subst, ◌∙◌, arith}
 use Rattle.std.specs.Prelude.{⊤}
-use Rattle.std.proofs.lemmas.List.Elements.{All-nil}
-use Rattle.sctp_packet.specs.Chunk.{ChunkTree, InitTree, init_chunk, init_ack_chunk, cookie_echo_chunk}
+use Rattle.sctp_packet.specs.Chunk.{ChunkTree, InitTree, init_chunk}
 use Rattle.sctp_packet.specs.Grammar.{carried}
-use Rattle.sctp_packet.specs.Packet.{PacketTree}
 use Rattle.sctp_state.specs.Options.{Options}
-use Rattle.sctp_state.specs.Events.{Event, GivenUp}
+use Rattle.sctp_state.specs.Events.{GivenUp}
 use Rattle.sctp_table.specs.Association.{Tcb, Phase, State, Closed, CookieWait, Open, Endpoint}
 use Rattle.sctp_table.specs.Sending.{is_alone}
 use Rattle.sctp_table.specs.Input.{refusal}
-use Rattle.sctp_table.specs.Laws.{Call, Connect, Close, Shutdown, Send, SendMany, ResetStreams, TakeMessage, SetLowThreshold, SetPriority, SetMaxMessageSize, Advance, HandOver, Restore, Packet, NoPacket, called, endings}
+use Rattle.sctp_table.specs.Laws.{Call, Connect, Restore, Packet, called, endings}
 use Rattle.sctp_table_laws.specs.Mapped.{Carried}
 use Rattle.sctp_table_laws.proofs.LawsLemmas.{stays_within}
-use Rattle.sctp_course.specs.Course.{Side, emitted, packets_in, Turn, Calls, Gives, Refuses, as_carried, took, as_heard, given, turned, MayCall, MayTurn, AreGiven, state_of}
+use Rattle.sctp_course.specs.Course.{Side, emitted, Turn, Calls, Gives, Refuses, as_carried, took, as_heard, given, turned, MayCall, MayTurn, AreGiven, state_of}
 use Rattle.sctp_course.specs.Agreement.{Draw as Drawn, Has, drawn_to_connect, drawn_given, drawn_in}
-use Rattle.sctp_course.proofs.UntilLemmas.{endings_both}
 use Rattle.sctp_course.proofs.AddedLemmas.{all_get}
 use Rattle.sctp_course.proofs.CourseLemmas.{SaysAll, seen, Half, Halves, none_of, turns}
 use Rattle.sctp_course.proofs.HandingLemmas.{hands}
 use Rattle.sctp_draws.specs.NamedChunks.{Names, AreNames}
 use Rattle.sctp_draws.specs.Names.{named_state}
-use Rattle.sctp_draws.specs.Images.{named_carried}
 use Rattle.sctp_draws.specs.Laws.{NumbersFitIn}
 use Rattle.sctp_draws.specs.NamedCalls.{EachCallIsNamed}
 use Rattle.sctp_draws_course.specs.Pairing.{names, pairs_of, Knows}
@@ -30,7 +26,7 @@ use Rattle.sctp_draws_course.proofs.NamesLemmas.{names_in, are_names}
 use Rattle.sctp_draws_course.proofs.ImageLemmas.{alike_after, gone_after}
 use Rattle.sctp_draws_course.proofs.TwinLemmas.{Stand, Twin, IsNamedBy, Found, twin_found, twin_none, packets_twin, are_alike}
 use Rattle.sctp_draws_course.proofs.ChunkLemmas.{all_flow_carried}
-use Rattle.sctp_draws_course.proofs.StepLemmas.{two_of, hears_init, TellsOwn, Named, Outcome, mirrors, twin_after}
+use Rattle.sctp_draws_course.proofs.StepLemmas.{two_of, TellsOwn, Named, Outcome, mirrors, twin_after}
 use Rattle.sctp_draws_course.proofs.CallLemmas.{call_named}
 use Rattle.sctp_draws_course.specs.Kinds.{IsKind, an_init, an_answer, an_echo, a_flow}
 use Rattle.sctp_draws_course.proofs.GivenLemmas.{given_outcome}

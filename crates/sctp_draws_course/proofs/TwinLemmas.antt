@@ -1,20 +1,19 @@
 -- What holds between turns of both ends in both courses: the second is under the names of its draws, and so is each packet that it
 -- told, under the names of whoever sent it.
-use Rattle.std.proofs.Common.{◌≡◌, ◌≢◌, ℕ, zero, suc, ◌==◌, not, Bool, true, false, Option, Some, None, List, [], ◌∷◌, ◌++◌, map, slice_get, All, ◌⊎◌, inl, inr, refl, sym, ap, subst, ◌∙◌}
+use Rattle.std.proofs.Common.{◌≡◌, ℕ, zero, suc, Bool, true, false, Some, None, List, [], ◌∷◌, ◌++◌, slice_get, All, ◌⊎◌, inl, inr, refl, sym, subst}
 use Rattle.std.specs.Prelude.{⊤}
 use Rattle.std.proofs.lemmas.List.Elements.{All-weaker}
-use Rattle.sctp_packet.specs.Chunk.{ChunkTree, InitTree, data_chunk, idata_chunk, init_chunk, init_ack_chunk, sack_chunk, heartbeat_request_chunk, heartbeat_ack_chunk, abort_chunk, shutdown_chunk, shutdown_ack_chunk, error_chunk, cookie_echo_chunk, cookie_ack_chunk, shutdown_complete_chunk, re_config_chunk, forward_tsn_chunk, i_forward_tsn_chunk, unknown_chunk}
+use Rattle.sctp_packet.specs.Chunk.{ChunkTree, InitTree, data_chunk, idata_chunk, init_chunk, init_ack_chunk, sack_chunk, cookie_echo_chunk, re_config_chunk, forward_tsn_chunk, i_forward_tsn_chunk}
 use Rattle.sctp_state.specs.Events.{Event, SendPacket, OnError, OnAborted}
 use Rattle.sctp_table.specs.Association.{State}
 use Rattle.sctp_table.specs.Shown.{Association, association_in}
-use Rattle.sctp_table_laws.specs.Mapped.{Carried, map_event}
+use Rattle.sctp_table_laws.specs.Mapped.{Carried}
 use Rattle.sctp_course.specs.Course.{Side, packets_in, state_of}
 use Rattle.sctp_course.specs.Agreement.{Draw}
-use Rattle.sctp_draws.specs.NamedChunks.{Names, AreNames}
 use Rattle.sctp_draws.specs.Names.{named_state}
 use Rattle.sctp_draws.specs.Images.{named_carried}
 use Rattle.sctp_draws_course.specs.Pairing.{names, Knows}
-use Rattle.sctp_draws_course.specs.Alike.{IsImage, IsAlike, AreTold, AreAlike}
+use Rattle.sctp_draws_course.specs.Alike.{IsAlike, AreTold, AreAlike}
 use Rattle.sctp_draws_course.proofs.NamesLemmas.{same_tie, names_in, are_names}
 use Rattle.sctp_draws_course.proofs.ImageLemmas.{told_under}
 

@@ -1,9 +1,8 @@
 -- Each act keeps an end whole: what it has to send has a payload, its request numbers are of 32 bits, and packets without a checksum go to an end
 -- with a method.
-use Rattle.std.proofs.Common.{◌≡◌, ℕ, ◌<◌, ◌==◌, Bool, true, false, Option, Some, None, List, [], ◌∷◌, ◌++◌, length, nat_lt, All, refl, sym, ap, subst, ◌∙◌, append-nil, arith}
+use Rattle.std.proofs.Common.{◌≡◌, ℕ, ◌<◌, ◌==◌, Bool, true, false, None, List, [], ◌∷◌, ◌++◌, length, nat_lt, All, refl, sym, ap, subst, ◌∙◌, append-nil}
 use Rattle.std.specs.List.{list_all}
 use Rattle.std.proofs.lemmas.Bool.{and_parts, both_ways, ltb-true}
-use Rattle.std.proofs.lemmas.Bool.Decides.{nat_tests}
 use Rattle.std.proofs.lemmas.List.Elements.{All-push}
 use Rattle.std.proofs.lemmas.List.Folds.{list_all-append}
 use Rattle.sctp_serial.specs.Messages.{Message}
@@ -29,7 +28,7 @@ use Rattle.sctp_table.specs.Requests.{Requests, Outcome, Unsettled, Done, Denied
 use Rattle.sctp_table.specs.Resets.{on_outcome}
 use Rattle.sctp_table.specs.Sending.{selective_ack, data_chunks, fast_most, is_small}
 use Rattle.sctp_table.specs.Opening.{init_of, init_ack_of, next_first, agreed_by}
-use Rattle.sctp_table.specs.Calls.{shown_state, is_shutting_down, is_queue_full, refusal, refusal_by, queued, accepted}
+use Rattle.sctp_table.specs.Calls.{shown_state, is_shutting_down, is_queue_full, refusal, queued, accepted}
 use Rattle.sctp_table.specs.Laws.{Call}
 use Rattle.sctp_table_laws.specs.Mapped.{Carried}
 use Rattle.sctp_course.specs.Acts.{Making, drawn_tag, drawn_first, drawn_tag_alone, PacketAct, begins, adds_plain, emits, complains, counts, before_packets, after_packets, OpeningAct, connects, adds_init, answers_new, answers_waiting, answers_echoed, answers_again, echoes, adds_cookie, establishes, opens, restarts, opens_again, maintains, adds_cookie_ack, before_opening, after_opening, ClosingAct, closes, shuts, shuts_on, before_closing, after_closing, DataAct, takes_data, takes_idata, takes_forward, takes_iforward, before_data, after_data, SackAct, takes_sack, samples, counts_errors, before_sack, after_sack, SendingAct, asks, adds_ack, expires, adds_forward, forwards_later, asks_no_reset, asks_reset, adds_request, sends, sends_fast, before_sending, after_sending, TimeAct, advances, delay_ends, times_out, beats, times_init, times_cookie, times_request, wakes_request, before_time, after_time, CallAct, accepts, refuses, takes_message, sets_low_threshold, sets_priority, sets_max_message_size, before_call, after_call, ResetAct, prepares, defers, performs, processes, takes_response, adds_responses, before_reset, after_reset, HandoverAct, leaves, takes_up, before_handover, after_handover, InputAct, ends_packet, before_input, after_input, point_of, IsHeard, IsAsked, HasRequest, for_outgoing, for_incoming, IsSummedSo, always, as_held, as_asked, as_before, fragments_of, HasNoEnd, KeepsUntilEnd}
@@ -40,6 +39,7 @@ use Rattle.sctp_course.proofs.JoinLemmas.{view_of, IsInit, Can}
 use Rattle.sctp_course.proofs.JoinActsLemmas.{packets_both, light_packets, Setting, InvAt}
 use Rattle.sctp_course.proofs.JoinKeepsLemmas.{Rules, init_said, same_verdict, no_restart, no_again}
 use Rattle.sctp_course.proofs.JoinFrameLemmas.{joins}
+use Rattle.sctp_course.proofs.AskedKeepsLemmas.{some_payload, has_bytes}
 use Rattle.sctp_draws.specs.Laws.{NumberFits, NumbersFit, NumbersFitIn, number_fits}
 use Rattle.sctp_draws.proofs.NumberLemmas.{next_fits, answered_in_fits}
 use Rattle.sctp_draws_course.specs.Kinds.{IsKind}
@@ -106,13 +106,6 @@ module _ (method : ℕ) where
   whole_added_all s q es cs p e h = (h.0, h.1, added_all_whole cs p h.2 e, subst (Passes method) (sym (added_all_summed cs p)) h.3, h.4)
 
 -- ---- a message that is accepted
-
-some_payload : (a b c d : Bool) (len limit : ℕ) → refusal_by a b c d len limit ≡ None → a ≡ false
-some_payload true b c d len limit e = absurd (cc)
-some_payload false b c d len limit e = refl
-
-has_bytes : (n : ℕ) → (n == 0) ≡ false → nat_lt 0 n ≡ true
-has_bytes n e = grind (arith, nat_tests)
 
 accepted_rests : (m : Message) (o : SendOptions) (s : State) (c : Context Carried) → refusal m (shown_state s) c ≡ None → HasRests c.queue
     → HasRests (accepted m o c).queue

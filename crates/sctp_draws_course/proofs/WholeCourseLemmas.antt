@@ -21,15 +21,15 @@ use Rattle.sctp_course.specs.Acts.{calm, IsHeard}
 use Rattle.sctp_course.specs.Course.{Side, Pair, new_side, packets_in, emitted, Turn, Calls, Gives, Refuses, took, as_heard, given, foreign_if, turned, goes, run, MayCall, MayTurn, side_of, FollowsTheRules, HasNotEnded, AreGiven, start, state_of}
 use Rattle.sctp_course.proofs.UntilLemmas.{until_end}
 use Rattle.sctp_course.proofs.AddedLemmas.{all_get}
-use Rattle.sctp_course.proofs.JoinActsLemmas.{packets_both, Setting, InvAt}
-use Rattle.sctp_course.proofs.CourseLemmas.{Half, setting, begins, rules_call, rules_given, Halves, swapped, none_of, before_run, goes_joined}
+use Rattle.sctp_course.proofs.JoinActsLemmas.{packets_both, Setting}
+use Rattle.sctp_course.proofs.CourseLemmas.{setting, begins, rules_call, rules_given, Halves, swapped, none_of, before_run, goes_joined}
 use Rattle.sctp_course.proofs.HandingLemmas.{first_halves}
 use Rattle.sctp_send_queue.proofs.RestLemmas.{calls_leave_rests}
-use Rattle.sctp_draws_course.specs.Alike.{PassesAt, ArePassed, PacketsPass}
+use Rattle.sctp_draws_course.specs.Alike.{PassesAt, PacketsPass}
 use Rattle.sctp_draws_course.specs.Kinds.{IsKind, AreOfAKind, KindsAlong, PacketsAreOfAKind}
 use Rattle.sctp_draws_course.proofs.TurnLemmas.{kind_heard}
 use Rattle.sctp_draws_course.proofs.WholeLemmas.{is_whole, kind_whole}
-use Rattle.sctp_draws_course.proofs.WholeActsLemmas.{StateIsWhole, numbers_in, IsSaid, IsWhole, wholes, WholeAt}
+use Rattle.sctp_draws_course.proofs.WholeActsLemmas.{StateIsWhole, numbers_in, IsSaid, IsWhole, wholes}
 
 -- ---- between turns
 
@@ -38,10 +38,6 @@ pub record SideIsWhole (method : ℕ) (x : Side) : Type 0 where
   pub state : StateIsWhole (state_of x)
   pub queue : HasRests x.end.standing.context.queue
   pub said : All (IsSaid method) (packets_in x.told)
-
--- an INIT may have been given to it
-asked_whole : (method : ℕ) (x : Side) (asked : Bool) → SideIsWhole method x → SideIsWhole method (record x { is_asked = asked })
-asked_whole method x asked h = record { state = h.state; queue = h.queue; said = h.said }
 
 abbrev packet_of : Call → PacketTree → PacketTree
 packet_of (Packet p) q = p
@@ -208,7 +204,3 @@ packets_pass a b words_a words_b es own other follows none =
     }
 
 -- ---- without the kinds
-
-pub front_follows : (es more : List (Bool × Turn)) (w : Pair) → FollowsTheRules (es ++ more) w → FollowsTheRules es w
-front_follows [] more w h = tt
-front_follows (e ∷ es) more w h = (h.0, front_follows es more (goes e.0 e.1 w) h.1)

@@ -1,8 +1,8 @@
 -- Chunks whose numbers and payloads are as they have to be, packets that are put together of them, and which packets go without a checksum.
-use Rattle.std.proofs.Common.{◌≡◌, ℕ, ◌+◌, ◌%◌, ◌<◌, ◌==◌, ◌&&◌, ◌||◌, not, nat_lt, cond, Bool, true, false, Option, Some, None, option_map, List, [], ◌∷◌, ◌++◌, map, length, refl, sym, ap, subst, ◌∙◌, arith}
+use Rattle.std.proofs.Common.{◌≡◌, ℕ, ◌<◌, ◌==◌, ◌&&◌, ◌||◌, not, nat_lt, cond, Bool, true, false, Option, Some, None, option_map, List, [], ◌∷◌, map, length, refl, sym, ap, ◌∙◌, arith}
 use Rattle.std.specs.Prelude.{All}
 use Rattle.std.specs.List.{list_all}
-use Rattle.std.proofs.lemmas.Bool.{and_parts, lt-ltb, ltb-true}
+use Rattle.std.proofs.lemmas.Bool.{and_parts, lt-ltb, and_from, not-false}
 use Rattle.std.proofs.lemmas.Bool.Decides.{nat_tests}
 use Rattle.std.proofs.lemmas.List.Folds.{list_all-append}
 use Rattle.std.proofs.lemmas.List.Elements.{All-head, All-tail}
@@ -12,7 +12,7 @@ use Rattle.sctp_wire.specs.Parameter.{ParameterTree, reset_response}
 use Rattle.sctp_packet.specs.Chunk.{ChunkTree, FragmentTree, data_chunk, idata_chunk, init_chunk, init_ack_chunk, cookie_echo_chunk, re_config_chunk}
 use Rattle.sctp_packet.specs.Grammar.{Each}
 use Rattle.sctp_state.specs.Options.{Options}
-use Rattle.sctp_capabilities.specs.Capabilities.{Capabilities, same_method, agreed, zero_checksum_enabled}
+use Rattle.sctp_capabilities.specs.Capabilities.{Capabilities, agreed, zero_checksum_enabled}
 use Rattle.sctp_send_queue.specs.Queue.{Queue}
 use Rattle.sctp_send_queue.specs.InOrder.{HasRests}
 use Rattle.sctp_send_queue.proofs.RestLemmas.{calls_leave_rests}
@@ -24,7 +24,7 @@ use Rattle.sctp_table.specs.Requests.{Request, Requests, requests, request_chunk
 use Rattle.sctp_table.specs.Sending.{data_chunk_of, data_chunks}
 use Rattle.sctp_table.specs.Opening.{queue_if, other_mode, queue_for, queue_anew}
 use Rattle.sctp_table.specs.Laws.{Call}
-use Rattle.sctp_course.specs.Acts.{is_plain, goes_along, goes_first, takes_more, IsBundled, an_init_alone, an_init_ack_alone, all_along, HasRequest, Answers}
+use Rattle.sctp_course.specs.Acts.{is_plain, goes_along, takes_more, IsBundled, an_init_alone, an_init_ack_alone, all_along, HasRequest, Answers}
 use Rattle.sctp_draws.specs.Laws.{NumberFits, NumbersFit, number_fits, is_flowing}
 use Rattle.sctp_draws.proofs.NumberLemmas.{next_fits}
 use Rattle.sctp_draws_course.specs.Kinds.{IsKind, an_init, an_answer, an_echo, a_flow}
@@ -45,9 +45,6 @@ plain_whole (idata_chunk tsn is_immediate f) e = cc
 plain_whole (re_config_chunk parameters) e = cc
 plain_whole c e = refl
 
-pub both_true : (a b : Bool) → a ≡ true → b ≡ true → (a && b) ≡ true
-both_true a b e f = ap (λ (x : Bool). x && b) e ∙ f
-
 whole_flows : (c : ChunkTree) → goes_along c ≡ true → is_whole c ≡ true → is_flowing c ≡ true
 whole_flows (init_chunk i) e w = cc
 whole_flows (init_ack_chunk i) e w = cc
@@ -62,7 +59,7 @@ all_flow [] e w = refl
 all_flow (c ∷ cs) e w =
     let a = and_parts (goes_along c) (list_all goes_along cs) e in
     let b = and_parts (is_whole c) (list_all is_whole cs) w in
-    both_true (is_flowing c) (list_all is_flowing cs) (whole_flows c a.0 b.0) (all_flow cs a.1 b.1)
+    and_from (is_flowing c) (list_all is_flowing cs) (whole_flows c a.0 b.0) (all_flow cs a.1 b.1)
 
 kind_of_others : (cs : List ChunkTree) → takes_more cs ≡ true → list_all is_whole cs ≡ true → IsKind cs
 kind_of_others [] e w = a_flow refl
@@ -87,7 +84,7 @@ flows_whole_all : (cs : List ChunkTree) → list_all is_flowing cs ≡ true → 
 flows_whole_all [] e = refl
 flows_whole_all (c ∷ cs) e =
     let a = and_parts (is_flowing c) (list_all is_flowing cs) e in
-    both_true (is_whole c) (list_all is_whole cs) (flows_whole c a.0) (flows_whole_all cs a.1)
+    and_from (is_whole c) (list_all is_whole cs) (flows_whole c a.0) (flows_whole_all cs a.1)
 
 pub kind_whole : (cs : List ChunkTree) → IsKind cs → list_all is_whole cs ≡ true
 kind_whole cs (an_init i e) = ap (list_all is_whole) e
@@ -100,7 +97,7 @@ kind_whole cs (a_flow flows) = flows_whole_all cs flows
 added_if_whole : (b : Bool) (c : ChunkTree) (p : Packet) → list_all is_whole p.chunks ≡ true → is_whole c ≡ true → list_all is_whole (added_if b c p).chunks ≡ true
 added_if_whole true c p h e =
     list_all-append is_whole p.chunks (c ∷ [])
-    ∙ both_true (list_all is_whole p.chunks) (is_whole c && true) h (both_true (is_whole c) true e refl)
+    ∙ and_from (list_all is_whole p.chunks) (is_whole c && true) h (and_from (is_whole c) true e refl)
 added_if_whole false c p h e = h
 
 pub added_whole : (c : ChunkTree) (p : Packet) → list_all is_whole p.chunks ≡ true → is_whole c ≡ true → list_all is_whole (add c p).chunks ≡ true
@@ -129,9 +126,9 @@ data_whole : (is_interleaved is_immediate : Bool) (cs : List (ℕ × FragmentTre
     → list_all is_whole (map (data_chunk_of is_interleaved is_immediate) cs) ≡ true
 data_whole is_interleaved is_immediate [] h = refl
 data_whole true is_immediate (c ∷ cs) h =
-    both_true (not (length c.1.payload == 0)) (list_all is_whole (map (data_chunk_of true is_immediate) cs)) (ap not h.0) (data_whole true is_immediate cs h.1)
+    and_from (not (length c.1.payload == 0)) (list_all is_whole (map (data_chunk_of true is_immediate) cs)) (ap not h.0) (data_whole true is_immediate cs h.1)
 data_whole false is_immediate (c ∷ cs) h =
-    both_true (not (length c.1.payload == 0)) (list_all is_whole (map (data_chunk_of false is_immediate) cs)) (ap not h.0) (data_whole false is_immediate cs h.1)
+    and_from (not (length c.1.payload == 0)) (list_all is_whole (map (data_chunk_of false is_immediate) cs)) (ap not h.0) (data_whole false is_immediate cs h.1)
 
 pub data_chunks_whole : (t : Tcb) (is_immediate : Bool) (cs : List (ℕ × FragmentTree)) → Each HasPayload cs → list_all is_whole (data_chunks t is_immediate cs) ≡ true
 data_chunks_whole t is_immediate cs h = data_whole t.capabilities.message_interleaving is_immediate cs h
@@ -141,7 +138,7 @@ forward_whole true s = refl
 forward_whole false s = refl
 
 pub request_whole : (r : Request) → r.number < words → is_whole (request_chunk r) ≡ true
-request_whole r h = both_true (nat_lt r.number words) true (lt-ltb r.number words h) refl
+request_whole r h = and_from (nat_lt r.number words) true (lt-ltb r.number words h) refl
 
 -- an answer has the number of a request that was heard
 response_fits : (call : Call) → ((number : ℕ) → HasRequest call number → number < words) → (r : Requests) (p : ParameterTree) → Answers call r p → number_fits p ≡ true
@@ -152,7 +149,7 @@ pub responses_whole : (call : Call) → ((number : ℕ) → HasRequest call numb
     → list_all number_fits ps ≡ true
 responses_whole call f r [] h = refl
 responses_whole call f r (p ∷ ps) h =
-    both_true (number_fits p) (list_all number_fits ps) (response_fits call f r p (All-head (Answers call r) p ps h))
+    and_from (number_fits p) (list_all number_fits ps) (response_fits call f r p (All-head (Answers call r) p ps h))
     (responses_whole call f r ps (All-tail (Answers call r) p ps h))
 
 -- ---- request numbers
@@ -200,13 +197,9 @@ method_by : (a b : ℕ) (t : Bool) → (a == b) ≡ t → not (cond t a 0 == 0) 
 method_by a b true e h = grind (arith, nat_tests, e, h)
 method_by a b false e h = cc
 
-not_false : (b : Bool) → not b ≡ false → b ≡ true
-not_false true e = refl
-not_false false e = cc
-
 -- Where packets go without a checksum by what was agreed, the other end has a method.
 pub agreed_method : (own other : Options) (can : Capabilities) → can ≡ agreed own other → not (zero_checksum_enabled can) ≡ false
     → (other.zero_checksum_method == 0) ≡ false
 agreed_method own other can is none =
     method_by own.zero_checksum_method other.zero_checksum_method (own.zero_checksum_method == other.zero_checksum_method) refl
-    (sym (ap zero_checksum_enabled is) ∙ not_false (zero_checksum_enabled can) none)
+    (sym (ap zero_checksum_enabled is) ∙ not-false (zero_checksum_enabled can) none)

@@ -1,9 +1,9 @@
 -- Two courses of the same turns, by the same options: until an association first ends they are alike, whatever words were drawn.
-use Rattle.std.specs.Prelude.{◌≡◌, ℕ, ◌==◌, not, Bool, true, false, Option, Some, None, List, [], ◌∷◌, ◌++◌, slice_get, All, ⊤}
+use Rattle.std.specs.Prelude.{◌≡◌, ℕ, ◌==◌, not, Bool, false, Option, Some, None, List, [], ◌∷◌, ◌++◌, slice_get, All, ⊤}
 use Rattle.rand_core.specs.Stream.{Stream}
 use Rattle.sctp_state.specs.Events.{Event, SendPacket, OnError, OnAborted, GivenUp}
 use Rattle.sctp_state.specs.Options.{Options}
-use Rattle.sctp_table.specs.Laws.{Call, Packet, called, endings}
+use Rattle.sctp_table.specs.Laws.{Packet, called, endings}
 use Rattle.sctp_table.specs.Shown.{association_in}
 use Rattle.sctp_table_laws.specs.Mapped.{Carried}
 use Rattle.sctp_course.specs.Course.{Side, Pair, emitted, Turn, Calls, Gives, Refuses, as_heard, turned, goes, run, side_of, FollowsTheRules, HasNotEnded, AreGiven, start, state_of}
