@@ -2,13 +2,13 @@
 use Rattle.std.proofs.Common.{◌≡◌, ◌≢◌, ℕ, suc, ◌+◌, ◌-◌, ◌^◌, ◌<◌, ◌≤◌, Bool, true, false, ◌⊎◌, inl, inr, Option, Some, List, length, slice_get, ap, sym, ◌∙◌, arith}
 use Rattle.std.specs.Prelude.{not}
 use Rattle.std.proofs.lemmas.Bool.{cases_eq, cases_lt, eqb-true, eq-eqb, ne_eqb}
+use Rattle.std.proofs.lemmas.Option.{slice_get_within}
 use Rattle.sctp_serial.specs.Unwrapped.{origin, words, wire}
 use Rattle.sctp_rx.specs.ReassemblyQueue.{Deferred}
 use Rattle.sctp_send_queue.specs.Queue.{Queue}
 use Rattle.sctp_table.specs.Requests.{Request, Requests, Outcome, Unsettled, Done, outcome, outcome_by, outcome_if, performed, in_progress, is_final, is_success, after, is_last, is_next}
 use Rattle.sctp_rules.proofs.ToolsLemmas.{not_both}
 use Rattle.sctp_delivery.specs.Asks.{Ask, number_of, SaysDone, IsAsking, IsCurrent, IsAnswering}
-use Rattle.sctp_delivery.proofs.AsksLemmas.{get_below}
 
 -- fewer than 2^32 have numbers of their own
 pub number_once : (first i j : ℕ) → i < 2 ^ 32 → j < 2 ^ 32 → number_of first i ≡ number_of first j → i ≡ j
@@ -88,7 +88,7 @@ module _ (first done : ℕ) (asks : List Ask) (r : Requests) (deferred : Option 
   next_is_ask h = elim answering [
     | inl p ↦ same_as done below (eqb-true number (after r.last) h ∙ (ap after p.last ∙ number_before first done))
     | inr d ↦
-        let l = get_below asks done d.ask d.there in
+        let l = slice_get_within asks done d.ask d.there in
         let e = same_as (suc done) (omega (arith, l)) (eqb-true number (after r.last) h ∙ (ap after d.last ∙ number_after first done)) in
         absurd (omega (arith, e, there, order))
   ]
@@ -110,7 +110,7 @@ module _ (first done : ℕ) (asks : List Ask) (r : Requests) (deferred : Option 
         let e = less (suc at) done (omega (arith, c)) b in
         (c, omega (arith, e, below))
     | inr d ↦
-        let l = get_below asks done d.ask d.there in
+        let l = slice_get_within asks done d.ask d.there in
         let a : at ≢ done = λ e. not_both (eq-eqb number r.last (ap (number_of first) e ∙ sym d.last)) not_last in
         let c = less at done (omega (arith, there, order)) a in
         (c, omega (arith, c, l))

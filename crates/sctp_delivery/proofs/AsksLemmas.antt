@@ -2,6 +2,7 @@
 use Rattle.std.proofs.Common.{◌≡◌, ℕ, zero, suc, ◌+◌, ◌<◌, ◌≤◌, Bool, true, false, cond, ◌⊎◌, inl, inr, Option, Some, None, List, [], ◌∷◌, ◌++◌, length, map, slice_get, refl, ap, sym, ◌∙◌, subst, arith}
 use Rattle.std.specs.Prelude.{◌||◌, ◌==◌}
 use Rattle.std.proofs.lemmas.Bool.{eqb-true, eq-eqb}
+use Rattle.std.proofs.lemmas.Option.{slice_get_within}
 use Rattle.sctp_wire.specs.Parameter.{ParameterTree, outgoing_reset_request, incoming_reset_request, reset_response}
 use Rattle.sctp_rules.specs.State.{Message, IsAmong, has, count, put}
 use Rattle.sctp_rules.specs.Rules.{Event, IsAllowed}
@@ -9,14 +10,10 @@ use Rattle.sctp_rules.specs.Kept.{Kept}
 use Rattle.sctp_rules.specs.Resets as rules
 use Rattle.sctp_rules.specs.Resets.{Epochs, ResetEvent, transfers, reset_stream, send_request, perform, commit, goes, go_all}
 use Rattle.sctp_rules.proofs.StepLemmas.{later}
+use Rattle.sctp_rules.proofs.CommonLemmas.{get_front}
 use Rattle.sctp_delivery.specs.Asks.{Ask, named_in, request_for, IsAsk, AreAsked, SaysOutgoing, SaysIncoming}
 
 -- ---- lists
-
-pub get_front : {X : Type 0} (xs ys : List X) (n : ℕ) (x : X) → slice_get xs n ≡ Some x → slice_get (xs ++ ys) n ≡ Some x
-get_front [] ys n x e = cc
-get_front (y ∷ xs) ys zero x e = e
-get_front (y ∷ xs) ys (suc n) x e = get_front xs ys n x e
 
 -- with one more behind
 get_added : {X : Type 0} (xs : List X) (y x : X) (n : ℕ) → slice_get (xs ++ y ∷ []) n ≡ Some x → (slice_get xs n ≡ Some x) ⊎ ((n ≡ length xs) × (x ≡ y))
@@ -24,11 +21,6 @@ get_added [] y x zero e = inr (refl, cc)
 get_added [] y x (suc n) e = cc
 get_added (z ∷ xs) y x zero e = inl e
 get_added (z ∷ xs) y x (suc n) e = elim (get_added xs y x n e) [ inl a ↦ inl a | inr b ↦ inr (ap suc b.0, b.1) ]
-
-pub get_below : {X : Type 0} (xs : List X) (n : ℕ) (x : X) → slice_get xs n ≡ Some x → n < length xs
-get_below [] n x e = cc
-get_below (y ∷ xs) zero x e = omega arith
-get_below (y ∷ xs) (suc n) x e = let l = get_below xs n x e in omega (arith, l)
 
 length_more : {X : Type 0} (xs : List X) (y : X) → length (xs ++ y ∷ []) ≡ suc (length xs)
 length_more [] y = refl
@@ -155,7 +147,7 @@ module _ (message : ℕ → Message) (mixed : Bool) (x : Epochs) (asks : List As
             record { some = f.some; distinct = f.distinct; within = subst (λ t. b.upto ≤ count t.sender) (sym z.transfer) f.within };
         sent = λ j b g s h. elim (get_added asks a b j g) [
           | inl i ↦
-              let l = get_below asks j b i in
+              let l = slice_get_within asks j b i in
               subst (λ (n : ℕ). IsAmong (record { stream = s; upto = b.upto; epoch = suc n }) y.requests) (sym (named_front s j asks (a ∷ []) (omega (arith, l)))) (z.old (request_for s j b.upto asks) (are.sent j b i s h))
           | inr e ↦
               let named : has s a.streams ≡ true = subst (λ (c : Ask). has s c.streams ≡ true) e.1 h in
@@ -215,7 +207,7 @@ module _ (message : ℕ → Message) (mixed : Bool) (asks : List Ask) (j : ℕ) 
   ask_is_performed x answered are =
       let p = performed_along a.streams x in
       let y : Epochs = go_all message mixed x (performs_of a.streams) in
-      let below = get_below asks j a there in
+      let below = slice_get_within asks j a there in
       let order = are.order in
       let lo = order.0 in
       record {

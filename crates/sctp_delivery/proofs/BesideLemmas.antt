@@ -11,13 +11,13 @@ use Rattle.sctp_rules.specs.Rules.{Event, accept, begin, number, close, give_up,
 use Rattle.sctp_rules.specs.Resets.{Request, Epochs, ResetEvent, transfers, reset_stream, send_request, perform, commit, MayReset, goes, MayAll, go_all}
 use Rattle.sctp_rules.specs.Based.{InEpochs}
 use Rattle.sctp_rules.proofs.BasedLemmas.{keeps_epochs}
+use Rattle.sctp_rules.proofs.CommonLemmas.{get_front}
 use Rattle.sctp_tx_rules.specs.Following.{NoneIsReset, IsOthers}
 use Rattle.sctp_tx_rules.proofs.WholeLemmas.{shown_again}
 use Rattle.sctp_tx_rules.proofs.FollowLemmas.{others_follow}
 use Rattle.sctp_table.specs.Association.{State, Closed, CookieWait, Open}
 use Rattle.sctp_table.specs.Requests.{Requests}
 use Rattle.sctp_delivery.specs.Asks.{Ask, IsAsking, IsAnswering}
-use Rattle.sctp_delivery.proofs.AsksLemmas.{get_front}
 use Rattle.sctp_delivery.proofs.ClaimLemmas.{Direction, transfer_of, goes_in, IsKept, GoesOn, AsksStay, IsWaiting, SendsIn, IsFresh, ReceivesIn}
 use Rattle.sctp_delivery.proofs.ReceiverToolLemmas.{SameSender, sender_stays, waits_still}
 use Rattle.sctp_delivery.proofs.LeavesLemmas.{Leaves, by_transfer, by_commit, by_request}

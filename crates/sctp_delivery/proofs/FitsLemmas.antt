@@ -9,7 +9,7 @@ use Rattle.sctp_serial.specs.Messages as messages
 use Rattle.sctp_state.specs.Options.{defaults}
 use Rattle.sctp_rx_rules.specs.View.{ready_of}
 use Rattle.sctp_rules.specs.State.{Message, ReadyMessage, Transfer}
-use Rattle.sctp_rules.specs.Claims.{ready_message, Claims}
+use Rattle.sctp_rules.specs.Claims.{ready_message}
 use Rattle.sctp_rules.specs.Claims as rules
 use Rattle.sctp_rules.specs.Kept.{Kept}
 use Rattle.sctp_rules.proofs.ClaimsLemmas.{claimed}

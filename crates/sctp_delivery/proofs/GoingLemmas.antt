@@ -27,9 +27,10 @@ use Rattle.sctp_table.specs.Sending.{send_in}
 use Rattle.sctp_table.specs.Resets.{reset_refusal, reset_if}
 use Rattle.sctp_table_laws.specs.Mapped.{Carried}
 use Rattle.sctp_table_laws.proofs.LawsLemmas.{tells_endings}
+use Rattle.sctp_table_laws.proofs.TellsLemmas.{endings_append}
 use Rattle.sctp_course.specs.Acts.{Making, calm, end_of, HasNoEnd, KeepsUntilEnd}
 use Rattle.sctp_course.specs.Course.{Side, packets_in, emitted, Turn, Calls, Gives, Refuses, as_heard, given, foreign_if, turned, MayCall, MayTurn, AreGiven, state_of}
-use Rattle.sctp_course.proofs.UntilLemmas.{endings_both, until_first_end}
+use Rattle.sctp_course.proofs.UntilLemmas.{until_first_end}
 use Rattle.sctp_course.proofs.JoinActsLemmas.{Setting, InvAt}
 use Rattle.sctp_course.proofs.JoinKeepsLemmas.{Rules}
 use Rattle.sctp_course.proofs.CourseLemmas.{setting, begins, rules_call, rules_given, Halves, none_of}
@@ -497,7 +498,7 @@ module _ (message : ℕ → Message) (lifecycle : ℕ → Option ℕ) (mixed : B
           → IsUntil early (accepted_in t s)
       whole t may timely are few is quiet =
           let told : (turned t s r).told ≡ s.told ++ (told_by t s r).events = told_turned t s r in
-          let both = endings_both s.told (told_by t s r).events in
+          let both = endings_append s.told (told_by t s r).events in
           let sum = ap (λ (es : List (Event Carried)). endings es) told in
           record {
             side = turned t s r;

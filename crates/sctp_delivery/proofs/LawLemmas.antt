@@ -18,7 +18,7 @@ use Rattle.sctp_table.specs.Laws.{NoPacket, endings}
 use Rattle.sctp_course.specs.Course.{side_of, Pair, Turn, goes, run, MayTurn, FollowsTheRules, HasNotEnded, AreGiven, new_side}
 use Rattle.sctp_course.specs.Course as course
 use Rattle.sctp_course.specs.Handing.{readied}
-use Rattle.sctp_course.proofs.CourseLemmas.{run_joined}
+use Rattle.sctp_course.proofs.CourseLemmas.{run_joined, follows_front}
 use Rattle.sctp_course.proofs.HandingLemmas.{first_halves, nothing_ready}
 use Rattle.sctp_delivery.specs.Accepted.{Offer, accepted_in, accepted_at, accepted}
 use Rattle.sctp_delivery.specs.Windows.{Stamp, Stamps, no_stamps, stamps_after, AreWithin, KeepsWindows, KeepsLimits}
@@ -183,10 +183,6 @@ refused_none a b words_a words_b turns own other follows none bounds from_a =
     (short_along a b words_a words_b turns own other bounds.limits from_a)
 
 -- ---- and at one more turn
-
-pub follows_front : (es fs : List (Bool × Turn)) (w : Pair) → FollowsTheRules (es ++ fs) w → FollowsTheRules es w
-follows_front [] fs w h = tt
-follows_front (e ∷ es) fs w h = (h.0, follows_front es fs (goes e.0 e.1 w) h.1)
 
 follows_last : (es : List (Bool × Turn)) (e : Bool × Turn) (w : Pair) → FollowsTheRules (es ++ e ∷ []) w → MayTurn e.1 (side_of e.0 (run es w))
 follows_last [] e w h = h.0

@@ -28,7 +28,7 @@ use Rattle.sctp_delivery.specs.Windows.{queue_of}
 use Rattle.sctp_delivery.proofs.ClaimLemmas.{Direction, transfer_of, goes_out, first_out, first_in, SaysIn, AreSo, SendsIn, SenderClaim, ReceiverClaim, HearsSacks, HearsData, SenderGoes, SenderPremises, ReceiverGoes, ReceiverPremises}
 use Rattle.sctp_delivery.proofs.FrameLemmas.{Joined, KeepsJoined}
 use Rattle.sctp_delivery.proofs.FrameLemmas as frames
-use Rattle.sctp_delivery.proofs.ResetEventsLemmas.{resets_in, performed_counts, performed_names, failed_still, told_counts}
+use Rattle.sctp_delivery.proofs.ResetEventsLemmas.{resets_in, performed_counts, performed_names, failed_still, told_same}
 use Rattle.sctp_delivery.proofs.SenderToolLemmas.{goes_none, reports_none, SaysAll, SaysPackets}
 use Rattle.sctp_delivery.proofs.DirectionLemmas.{IsSilent}
 use Rattle.sctp_delivery.proofs.PremisesLemmas.{AsksSoon}
@@ -135,11 +135,8 @@ told_so es x f none so = subst (λ (ns : List ℕ). AreSo (reopened ns (shut [] 
 answered_so : (n : ℕ) (es : List (Event Carried)) → TellsNoReset es → n ≡ n + performed_in es
 answered_so n es none = let c = none.counted in omega (arith, c)
 
-same_count : (k : ℕ) (es fs : List (Event Carried)) → resets_in fs ≡ resets_in es → resets_told k fs ≡ resets_told k es
-same_count k es fs same = sym (told_counts k fs) ∙ (ap (λ (gs : List (Event Carried)). resets_told k gs) same ∙ told_counts k es)
-
 performed_so : (k a b : ℕ) (es fs : List (Event Carried)) → resets_in fs ≡ resets_in es → a ≡ b + resets_told k es → a ≡ b + resets_told k fs
-performed_so k a b es fs same e = let c = same_count k es fs same in omega (arith, c, e)
+performed_so k a b es fs same e = let c = told_same k es fs same in omega (arith, c, e)
 
 -- the ask that waits is the same
 near_then : (message : ℕ → Message) (mixed : Bool) (n : ℕ) (x mid : Direction) → Offers message mixed n x mid → AsksSoon x → AsksSoon mid

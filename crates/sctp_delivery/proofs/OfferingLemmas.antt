@@ -1,5 +1,5 @@
 -- Messages that an end accepts take the next places, one after the other; then fragments go out.
-use Rattle.std.proofs.Common.{◌≡◌, ℕ, ◌+◌, ◌==◌, ◌^◌, ◌<◌, not, Bool, true, false, inl, inr, Option, Some, None, List, [], ◌∷◌, ◌++◌, length, refl, sym, ap, subst, ◌∙◌, append-nil, length-append, arith}
+use Rattle.std.proofs.Common.{◌≡◌, ℕ, ◌+◌, ◌==◌, ◌^◌, ◌<◌, not, Bool, false, inl, inr, Option, Some, None, List, [], ◌∷◌, ◌++◌, length, refl, sym, ap, subst, ◌∙◌, append-nil, length-append, arith}
 use Rattle.std.specs.Prelude.{unwrap_or}
 use Rattle.std.proofs.lemmas.Bool.Decides.{nat_tests}
 use Rattle.std.proofs.lemmas.Bool.{cases_lt, true≢false}
@@ -22,11 +22,12 @@ use Rattle.sctp_tx_rules.proofs.AcceptLemmas.{accept_row}
 use Rattle.sctp_tx_rules.proofs.AskedLemmas.{calls_keep_asked}
 use Rattle.sctp_tx_rules.proofs.FollowLemmas.{beginning_follows, accepting_follows}
 use Rattle.sctp_table.specs.Association.{State, Closed, CookieWait, Open, Context}
-use Rattle.sctp_table.specs.Calls.{shown_state, refusal_by, refusal, queued, offer, offer_all}
+use Rattle.sctp_table.specs.Calls.{shown_state, refusal, queued, offer, offer_all}
 use Rattle.sctp_table.specs.Calls as calls
 use Rattle.sctp_table_laws.specs.Mapped.{Carried}
 use Rattle.sctp_course.specs.Course.{packets_in}
 use Rattle.sctp_course.proofs.ToldLemmas.{tells_refused, quiet_refused}
+use Rattle.sctp_course.proofs.AskedKeepsLemmas.{some_payload}
 use Rattle.sctp_delivery.specs.Accepted.{Offer, unless_refused, accepted_of}
 use Rattle.sctp_delivery.proofs.AsksLemmas.{asks_stay}
 use Rattle.sctp_delivery.proofs.ClaimLemmas.{Direction, transfer_of, IsKept, IsWaiting, SendsIn}
@@ -46,10 +47,6 @@ offered_resets : (r : Option SendError) (m : messages.Message) (how : SendOption
     → resets_in (calls.offered r m how c).told.events ≡ resets_in c.told.events
 offered_resets None m how c = refl
 offered_resets (Some e) m how c = resets_refused e how.lifecycle_id c.told
-
-offered_gone : (r : Option SendError) (m : messages.Message) (how : SendOptions) (c : Context Carried) → recorded (calls.offered r m how c).told ≡ recorded c.told
-offered_gone None m how c = refl
-offered_gone (Some e) m how c = refl
 
 pub offers_packets : (ms : List messages.Message) (how : SendOptions) (shown : SocketState) (c : Context Carried)
     → packets_in (offer_all ms how shown c).told.events ≡ packets_in c.told.events
@@ -91,10 +88,6 @@ module _ (message : ℕ → Message) (lifecycle : ℕ → Option ℕ) (p now : �
       ∙ (ap (λ (z : Message). queued_as p z how.lifecycle_id expires limit) (sym is) ∙ ap (λ (z : Option ℕ). queued_as p (message p) z expires limit) (sym id)))
 
 -- ---- one more place
-
-none_refused : (is_empty is_large is_late is_full : Bool) (len limit : ℕ) → refusal_by is_empty is_large is_late is_full len limit ≡ None → is_empty ≡ false
-none_refused true is_large is_late is_full len limit e = cc
-none_refused false is_large is_late is_full len limit e = refl
 
 not_empty : (n : ℕ) → (n == 0) ≡ false → 0 < n
 not_empty n e = grind (arith, nat_tests, e)
@@ -227,7 +220,7 @@ module _ (message : ℕ → Message) (lifecycle : ℕ → Option ℕ) (mixed : B
       some : 0 < length (message p).payload
       some =
           subst (λ (z : Message). 0 < length z.payload) (sym is)
-          (not_empty (length m.payload) (none_refused (length m.payload == 0) _ _ _ (length m.payload) c.options.max_message_size fine))
+          (not_empty (length m.payload) (some_payload (length m.payload == 0) _ _ _ (length m.payload) c.options.max_message_size fine))
 
       same : (calls.accepted m how c).queue
           ≡ added (stream_of message p) (offered message lifecycle p (expiry_of c.now how.lifetime) (unwrap_or how.max_retransmissions 65535)) c.queue

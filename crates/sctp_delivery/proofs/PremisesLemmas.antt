@@ -3,6 +3,7 @@ use Rattle.std.proofs.Common.{◌≡◌, ℕ, ◌+◌, ◌-◌, ◌^◌, ◌<◌
 use Rattle.std.specs.Prelude.{option_map}
 use Rattle.std.proofs.lemmas.Bool.{cases_lt}
 use Rattle.std.proofs.lemmas.List.Elements.{All-nil, All-cons, All-head, All-tail}
+use Rattle.std.proofs.lemmas.Option.{slice_get_within}
 use Rattle.sctp_serial.specs.Messages as messages
 use Rattle.sctp_packet.specs.Chunk.{ChunkTree}
 use Rattle.sctp_packet.specs.Grammar.{carried}
@@ -27,7 +28,6 @@ use Rattle.sctp_delivery.specs.Asks.{Ask, number_of}
 use Rattle.sctp_delivery.specs.StreamEpochs.{shut, reopened, performed_of, resets_told, failed_in}
 use Rattle.sctp_delivery.specs.Windows.{Stamp, IsWithin, queue_of}
 use Rattle.sctp_delivery.proofs.ClaimLemmas.{Direction, transfer_of, goes_out, goes_in, SaysOut, SaysIn, first_out, first_in, WasSaid, AreSo, SendsIn, SenderClaim, ReceiverClaim, HearsSacks, HearsData, SenderPremises, ReceiverPremises}
-use Rattle.sctp_delivery.proofs.AsksLemmas.{get_below}
 use Rattle.sctp_delivery.proofs.SenderToolLemmas.{goes_none, reports_none, IsNear}
 use Rattle.sctp_delivery.proofs.WithinLemmas.{numbered_is, Holds, within}
 use Rattle.sctp_delivery.proofs.FilledLemmas.{short_index}
@@ -119,7 +119,7 @@ module _ (message : ℕ → Message) (lifecycle : ℕ → Option ℕ) (mixed : B
   waits Closed q x a h there = absurd (none_there x a h.none_asked there)
   waits (CookieWait tag first t1) q x a h there = absurd (none_there x a h.none_asked there)
   waits (Open phase t) q x a h there = elim h.asks.current [
-    | inl n ↦ let l = get_below x.asks x.answered a there in let e = n.0 in absurd (omega (arith, l, e))
+    | inl n ↦ let l = slice_get_within x.asks x.answered a there in let e = n.0 in absurd (omega (arith, l, e))
     | inr c ↦
         ap (λ (o : Option Request). option_map (λ (r : Request). r.number) o) c.1.is
         ∙ (ap (λ (n : ℕ). Some n) c.1.says.number ∙ ap (λ (n : ℕ). Some (number_of n x.answered)) (sym h.first))

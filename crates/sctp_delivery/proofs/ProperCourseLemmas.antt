@@ -1,8 +1,8 @@
 -- Along each course in which no handover is taken up, records of messages given up are proper.
-use Rattle.std.proofs.Common.{◌≡◌, ℕ, ◌^◌, ◌<◌, ◌||◌, Bool, true, false, Option, Some, None, List, [], ◌∷◌, ◌++◌, length, map, slice_get, refl, sym, ap, subst, ◌∙◌, append_assoc, append-nil}
+use Rattle.std.proofs.Common.{◌≡◌, ℕ, ◌^◌, ◌<◌, Bool, true, false, Option, Some, None, List, [], ◌∷◌, ◌++◌, length, map, slice_get, refl, sym, ap, subst, ◌∙◌, append_assoc, append-nil}
 use Rattle.std.specs.List.{AllByRecursion, list_any}
 use Rattle.std.proofs.lemmas.List.{length-map, map-append}
-use Rattle.std.proofs.lemmas.Bool.{both_ways}
+use Rattle.std.proofs.lemmas.Bool.{both_ways, or_parts}
 use Rattle.rand_core.specs.Stream.{Stream}
 use Rattle.sctp_serial.specs.Messages.{Message}
 use Rattle.sctp_packet.specs.Packet.{PacketTree}
@@ -181,14 +181,6 @@ all_then : (all more : List Acceptance) (resets : List ℕ) (now : ℕ) (gs : Li
 all_then all more resets now [] h = tt
 all_then all more resets now (g ∷ gs) h = (proper_more resets all more now g h.0, all_then all more resets now gs h.1)
 
-left_false : (p q : Bool) → (p || q) ≡ false → p ≡ false
-left_false true q e = e
-left_false false q e = refl
-
-right_false : (p q : Bool) → (p || q) ≡ false → q ≡ false
-right_false true q e = cc
-right_false false q e = e
-
 run_proper : (x : Bool) (es : List (Bool × Turn)) (old : List Acceptance) (w : Pair) → RestoresNone es → length (old ++ acceptances x es w) < 2 ^ 32
     → Rests old (side_of x w) → AllByRecursion (IsProper (old ++ acceptances x es w)) (forgone x es w)
 run_proper x [] old w none few h = tt
@@ -201,10 +193,10 @@ run_proper x (e ∷ es) old w none few h =
     let short : length (all ++ more) < 2 ^ 32 = subst (λ (xs : List Acceptance). length xs < 2 ^ 32) (sym joins) few in
     let now : ℕ = clock (side_of x v) in
     let resets : List ℕ = reset_at x e.0 e.1 w in
-    let t : Turns all resets (side_of x v) (gone_at x e.0 e.1 w) = goes_on old x e.0 e.1 w (left_false (restores e.1) later none) (shorter all more short) h in
+    let t : Turns all resets (side_of x v) (gone_at x e.0 e.1 w) = goes_on old x e.0 e.1 w ((or_parts (restores e.1) later none).0) (shorter all more short) h in
     subst (λ (xs : List Acceptance). AllByRecursion (IsProper xs) (forgone x (e ∷ es) w)) joins
     (all_behind (IsProper (all ++ more)) (map (forgone_then now resets) (gone_at x e.0 e.1 w)) (forgone x es v) (all_then all more resets now (gone_at x e.0 e.1 w) t.proper)
-    (run_proper x es all v (right_false (restores e.1) later none) short t.rests))
+    (run_proper x es all v ((or_parts (restores e.1) later none).1) short t.rests))
 
 -- ---- the laws
 

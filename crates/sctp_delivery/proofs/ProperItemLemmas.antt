@@ -10,9 +10,7 @@ use Rattle.sctp_packet.specs.Chunk.{FragmentTree}
 use Rattle.sctp_state.specs.declared.api.GivenUpCause.{GivenUpCause}
 use Rattle.sctp_state.specs.declared.api.GivenUpCause.TheVariants.{Lifetime, Retransmissions}
 use Rattle.sctp_state.specs.Events.{GivenUp, Told}
-use Rattle.sctp_outstanding.specs.declared.item.ItemState.{ItemState}
-use Rattle.sctp_outstanding.specs.declared.item.ItemState.TheVariants.{InFlight, Missing, Queued, QueuedFast, Acked, GivenUp as Gone}
-use Rattle.sctp_outstanding.specs.Item.{Item, flies, lacks, is_gone, is_of, is_fast, is_lost, is_used_up, is_nacked, is_outstanding, should_be_retransmitted, has_expired, ack, uncover, nack, abandon, mark_as_retransmitted, miss_fast}
+use Rattle.sctp_outstanding.specs.Item.{Item, flies, lacks, is_gone, is_of, is_fast, is_lost, is_used_up, is_nacked, is_outstanding, should_be_retransmitted, has_expired, nack, abandon, mark_as_retransmitted, miss_fast}
 use Rattle.sctp_outstanding.specs.Item as item
 use Rattle.sctp_outstanding.specs.Items.{Items, change_at, lay_down, last_of}
 use Rattle.sctp_outstanding.specs.Losses.{placeholder, placeholders, abandon_message, Step, first_step, given_up, change_items, loses, gives_up, nack_item, nack_below, nack_all, expires, expired_of, option_bind, given_up_if, expire_below, expire_outstanding}
@@ -27,6 +25,7 @@ use Rattle.sctp_tx.specs.Resent.{resent, resent_fast, may_send_new, timed_if, se
 use Rattle.sctp_tx.specs.ForwardPoints.{expired}
 use Rattle.sctp_tx.specs.Sending.{Filling, offered, item_of, appended, Turned, turned_if, turned, fill, discard_all, without_discards, filled_with, send}
 use Rattle.sctp_tx_rules.proofs.ItemsLemmas.{acked_same, uncovered_same, resent_same, slowed_same, nacked_same}
+use Rattle.sctp_tx_rules.proofs.LossLemmas.{flies_lives, lacks_lives}
 use Rattle.sctp_delivery.proofs.ProperQueueLemmas.{Holds, Makes, Turns, all_behind, due_right, same_discards, holds_discards, produces}
 
 -- ---- tests
@@ -34,23 +33,6 @@ use Rattle.sctp_delivery.proofs.ProperQueueLemmas.{Holds, Makes, Turns, all_behi
 same_due : (now : ℕ) (o : Option ℕ) → queued.is_due now o ≡ item.is_due now o
 same_due now None = refl
 same_due now (Some moment) = refl
-
--- what flies, or lacks, isn't given up
-flies_stays : (s : ItemState) → flies s ≡ true → is_gone s ≡ false
-flies_stays InFlight e = refl
-flies_stays Missing e = refl
-flies_stays Queued e = refl
-flies_stays QueuedFast e = refl
-flies_stays Acked e = refl
-flies_stays Gone e = cc
-
-lacks_stays : (s : ItemState) → lacks s ≡ true → is_gone s ≡ false
-lacks_stays InFlight e = refl
-lacks_stays Missing e = refl
-lacks_stays Queued e = refl
-lacks_stays QueuedFast e = refl
-lacks_stays Acked e = refl
-lacks_stays Gone e = cc
 
 -- ---- what is known of an item stays known while it changes
 
@@ -183,7 +165,7 @@ module _ {P : Type 0} (Known : ℕ → ℕ → Option ℕ → ℕ → Type 0) (R
       let flown : flies i.state ≡ true = (and_parts (is_outstanding i) (is_lost at_once i) lost).0 in
       let spent : is_used_up i ≡ true = (and_parts x.items.is_partial (is_used_up i) (and_parts (loses at_once i) (x.items.is_partial && is_used_up i) e).1).1 in
       gives i.number (Retransmissions (i.sent - 1)) x
-      (used i.fragment.stream_id i.number i.limit (i.sent - 1) i.expires (s (flies_stays i.state flown)) (leb-true i.limit (i.sent - 1) spent)) h
+      (used i.fragment.stream_id i.number i.limit (i.sent - 1) i.expires (s (flies_lives i.state flown)) (leb-true i.limit (i.sent - 1) spent)) h
   nacks_item false at_once fast is_lossy k i x e s h =
       record { stay = changed Known (nack at_once fast) k x.items.kept (nack_stays Known at_once fast) h.stay; right = h.right }
 
@@ -206,7 +188,7 @@ module _ {P : Type 0} (Known : ℕ → ℕ → Option ℕ → ℕ → Type 0) (R
       let lost : lacks i.state ≡ true = (and_parts (is_nacked i) (has_expired now i) over).0 in
       let due : has_expired now i ≡ true = (and_parts (is_nacked i) (has_expired now i) over).1 in
       gives i.number Lifetime x
-      (due_right Known Right now late i.fragment.stream_id i.number i.limit i.expires (s (lacks_stays i.state lost)) (same_due now i.expires ∙ due)) h
+      (due_right Known Right now late i.fragment.stream_id i.number i.limit i.expires (s (lacks_lives i.state lost)) (same_due now i.expires ∙ due)) h
   expires_item false i x e s h = h
 
   expires_at : (o : Option Item) (k : ℕ) (x : Step P) → slice_get x.items.kept k ≡ o → Fares x

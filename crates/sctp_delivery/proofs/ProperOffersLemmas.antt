@@ -1,5 +1,5 @@
 -- What an end knows of its messages once it accepted more.
-use Rattle.std.proofs.Common.{◌≡◌, ℕ, zero, suc, ◌+◌, ◌^◌, ◌<◌, Option, Some, None, List, [], ◌∷◌, ◌++◌, length, map, slice_get, refl, sym, ap, subst, ◌∙◌, append_assoc, append-nil, arith}
+use Rattle.std.proofs.Common.{◌≡◌, ℕ, ◌+◌, ◌^◌, ◌<◌, Option, Some, None, List, [], ◌∷◌, ◌++◌, length, map, slice_get, refl, sym, ap, subst, ◌∙◌, append_assoc, append-nil, arith}
 use Rattle.std.specs.List.{AllByRecursion}
 use Rattle.std.proofs.lemmas.List.{length-append}
 use Rattle.sctp_serial.specs.Messages.{Message}
@@ -17,21 +17,13 @@ use Rattle.sctp_delivery.specs.Proper.{Acceptance, accepted_then}
 use Rattle.sctp_delivery.proofs.ProperQueueLemmas.{Waits, Stands, Holds, holds_added}
 use Rattle.sctp_delivery.proofs.ProperItemLemmas.{Stays}
 use Rattle.sctp_delivery.proofs.ProperActsLemmas.{Known, Sound, IsProperAt}
+use Rattle.sctp_rules.proofs.CommonLemmas.{get_front, get_last}
 
 -- ---- lists
 
 all_weaker : {X : Type 0} (Q R : X → Type 0) → ((x : X) → Q x → R x) → (xs : List X) → AllByRecursion Q xs → AllByRecursion R xs
 all_weaker Q R f [] h = tt
 all_weaker Q R f (x ∷ xs) h = (f x h.0, all_weaker Q R f xs h.1)
-
-get_more : {X : Type 0} (xs ys : List X) (n : ℕ) (x : X) → slice_get xs n ≡ Some x → slice_get (xs ++ ys) n ≡ Some x
-get_more [] ys n x e = cc
-get_more (y ∷ xs) ys zero x e = e
-get_more (y ∷ xs) ys (suc n) x e = get_more xs ys n x e
-
-get_last : {X : Type 0} (xs : List X) (x : X) → slice_get (xs ++ x ∷ []) (length xs) ≡ Some x
-get_last [] x = refl
-get_last (y ∷ xs) x = get_last xs x
 
 -- ---- more acceptances
 
@@ -40,7 +32,7 @@ module _ (resets : List ℕ) (old more : List Acceptance) where
   all = old ++ more
 
   known_more : (id n : ℕ) (o : Option ℕ) (limit : ℕ) → Known old id n o limit → Known all id n o limit
-  known_more id n o limit k = record { acceptance = k.acceptance; there = get_more old more n k.acceptance k.there; on = k.on; moment = k.moment; often = k.often }
+  known_more id n o limit k = record { acceptance = k.acceptance; there = get_front old more n k.acceptance k.there; on = k.on; moment = k.moment; often = k.often }
 
   waits_more : (id : ℕ) (m : Queued) → Waits (Known old) id m → Waits (Known all) id m
   waits_more id m k = known_more id m.number m.expires m.limit k
@@ -52,7 +44,7 @@ module _ (resets : List ℕ) (old more : List Acceptance) where
   stays_more i k e = known_more i.fragment.stream_id i.number i.expires i.limit (k e)
 
   pub proper_more : (now : ℕ) (g : GivenUp) → IsProperAt old resets now g → IsProperAt all resets now g
-  proper_more now g p = record { acceptance = p.acceptance; there = get_more old more g.number p.acceptance p.there; right = p.right }
+  proper_more now g p = record { acceptance = p.acceptance; there = get_front old more g.number p.acceptance p.there; right = p.right }
 
   holds_more : (q : Queue) → Holds (Known old) (length old) q → Holds (Known all) (length old) q
   holds_more q h = record { stand = all_weaker (Stands (Known old)) (Stands (Known all)) stands_more q.streams.entries h.stand; counts = h.counts }

@@ -1,6 +1,6 @@
 -- What a queue knows of each message that waits it knows for good; and of a message that is dropped, because it expired or its
 -- stream is to be reset, the record is right.
-use Rattle.std.proofs.Common.{◌≡◌, ℕ, zero, suc, ◌+◌, ◌==◌, ◌≤◌, not, Bool, true, false, cond, Less, Equal, Greater, Option, Some, None, List, [], ◌∷◌, ◌++◌, length, filter, refl, sym, ap, subst, ◌∙◌, arith}
+use Rattle.std.proofs.Common.{◌≡◌, ℕ, zero, suc, ◌+◌, ◌==◌, ◌≤◌, not, Bool, true, false, cond, Less, Equal, Greater, Option, Some, None, List, [], ◌∷◌, ◌++◌, length, filter, refl, sym, ap, subst, ◌∙◌}
 use Rattle.std.specs.Prelude.{⊤, is_some, unwrap_or, option_map}
 use Rattle.std.specs.List.{AllByRecursion}
 use Rattle.std.specs.Map.{lookup, set_value, keys_of}
@@ -8,7 +8,6 @@ use Rattle.std.specs.Ordering.{nat_cmp, match_ordering, is_eq}
 use Rattle.std.specs.declared.cmp.Ordering.{Ordering}
 use Rattle.std.specs.BTreeMap.{is_at, insert_entry}
 use Rattle.std.proofs.lemmas.Bool.{and_parts, leb-true}
-use Rattle.std.proofs.lemmas.Bool.Decides.{nat_tests}
 use Rattle.sctp_state.specs.declared.api.GivenUpCause.TheVariants.{Lifetime, Reset}
 use Rattle.sctp_state.specs.Events.{GivenUp, Told, give_up, tell_all, expiry}
 use Rattle.sctp_send_queue.specs.declared.send_queue.message.MessageNumbers.{MessageNumbers}
@@ -21,6 +20,7 @@ use Rattle.sctp_send_queue.specs.Restarted.{whole_front, restarted, restarted_on
 use Rattle.sctp_send_queue.specs.Resets.{is_partly, told_waiting, prepared, prepare_reset, after_step, stepped, each_stepped}
 use Rattle.sctp_outstanding.specs.Items.{Discard}
 use Rattle.sctp_tx.specs.Sending.{discard_all}
+use Rattle.sctp_rules.proofs.CommonLemmas.{same_at}
 
 -- ---- lists
 
@@ -32,10 +32,6 @@ all_behind Q (x ∷ xs) ys h k = (h.0, all_behind Q xs ys h.1 k)
 pub due_came : (now : ℕ) (o : Option ℕ) → is_due now o ≡ true → (moment : ℕ) × (o ≡ Some moment) × (moment ≤ now)
 due_came now None e = cc
 due_came now (Some moment) e = (moment, refl, leb-true moment now e)
-
--- a key that is found
-at_it : (id k : ℕ) → is_at (nat_cmp id) k ≡ true → id ≡ k
-at_it id k e = grind (arith, nat_tests)
 
 -- ---- of each message, by its stream and number, the moment from which it is expired, and how often it may be sent again
 
@@ -69,7 +65,7 @@ module _ (Known : ℕ → ℕ → Option ℕ → ℕ → Type 0) where
   set_stands id s (e ∷ es) f h = go (is_at (nat_cmp id) e.0) refl (set_stands id s es f h.1)
     where
       go : (b : Bool) → is_at (nat_cmp id) e.0 ≡ b → AllStand (set_value (is_at (nat_cmp id)) es s) → AllStand (cond b ((e.0, s) ∷ es) (e ∷ set_value (is_at (nat_cmp id)) es s))
-      go true at rest = (subst (λ (k : ℕ). AllWait k s.messages) (at_it id e.0 at) f, h.1)
+      go true at rest = (subst (λ (k : ℕ). AllWait k s.messages) (same_at id e.0 at) f, h.1)
       go false at rest = (h.0, rest)
 
   insert_stands : (id : ℕ) (s : Stream) (es : Entries) → AllWait id s.messages → AllStand es → AllStand (insert_entry nat_cmp es id s)
@@ -79,7 +75,7 @@ module _ (Known : ℕ → ℕ → Option ℕ → ℕ → Type 0) where
       go : (o : Ordering) → nat_cmp id e.0 ≡ o → AllStand (insert_entry nat_cmp es id s)
           → AllStand (match_ordering o ((id, s) ∷ e ∷ es) ((e.0, s) ∷ es) (e ∷ insert_entry nat_cmp es id s))
       go Less at rest = (f, h)
-      go Equal at rest = (subst (λ (k : ℕ). AllWait k s.messages) (at_it id e.0 (ap is_eq at)) f, h.1)
+      go Equal at rest = (subst (λ (k : ℕ). AllWait k s.messages) (same_at id e.0 (ap is_eq at)) f, h.1)
       go Greater at rest = (h.0, rest)
 
   abbrev MayStand : ℕ → Option Stream → Type 0
@@ -91,7 +87,7 @@ module _ (Known : ℕ → ℕ → Option ℕ → ℕ → Type 0) where
   found_stands id (e ∷ es) h = go (is_at (nat_cmp id) e.0) refl (found_stands id es h.1)
     where
       go : (b : Bool) → is_at (nat_cmp id) e.0 ≡ b → MayStand id (lookup (is_at (nat_cmp id)) es) → MayStand id (cond b (Some e.1) (lookup (is_at (nat_cmp id)) es))
-      go true at rest = subst (λ (k : ℕ). AllWait k e.1.messages) (sym (at_it id e.0 at)) h.0
+      go true at rest = subst (λ (k : ℕ). AllWait k e.1.messages) (sym (same_at id e.0 at)) h.0
       go false at rest = rest
 
   pub stream_stands : (id : ℕ) (ss : Streams) → AllStand ss.entries → AllWait id (stream id ss).messages

@@ -1,7 +1,8 @@
 -- What an end hears as receiver, in the middle of its turn: each fragment and each forward point has its number there, and each request
 -- is an ask.
-use Rattle.std.proofs.Common.{◌≡◌, ℕ, suc, ◌+◌, ◌^◌, ◌<◌, ◌≤◌, Bool, true, false, Option, Some, List, [], ◌∷◌, ◌++◌, length, slice_get, All, sym, ap, ◌∙◌, subst, arith}
-use Rattle.std.proofs.lemmas.List.Elements.{All-head, All-tail, All-weaker}
+use Rattle.std.proofs.Common.{◌≡◌, ℕ, suc, ◌+◌, ◌^◌, ◌<◌, ◌≤◌, Bool, true, false, Option, Some, List, length, slice_get, All, sym, ap, ◌∙◌, subst, arith}
+use Rattle.std.proofs.lemmas.List.Elements.{All-weaker}
+use Rattle.std.proofs.lemmas.Option.{slice_get_within}
 use Rattle.sctp_serial.specs.Messages as messages
 use Rattle.sctp_serial.specs.Unwrapped.{origin, words, wire}
 use Rattle.sctp_serial.specs.declared.api.StreamId.{StreamId}
@@ -26,9 +27,9 @@ use Rattle.sctp_table_laws.specs.Mapped.{Carried}
 use Rattle.sctp_course.specs.Acts.{Making, in_open, IsHeard, IsAsked, HasRequest, for_outgoing, for_incoming, AsksNoIncoming}
 use Rattle.sctp_course.proofs.JoinActsLemmas.{Setting, InvAt}
 use Rattle.sctp_course.proofs.JoinLemmas.{Draw, view_of, both_of, Faces}
+use Rattle.sctp_course.proofs.AddedLemmas.{all_at}
 use Rattle.sctp_delivery.specs.Asks.{Ask, number_of, last_tsn_of, SaysAsk, SaysOutgoing}
 use Rattle.sctp_delivery.proofs.ClaimLemmas.{Direction, transfer_of, IsKept, SaysData, SaysPoint, SaysOut, WasSaid, IsWaiting, SendsIn, IsReceiving, first_out, AreShort, ReceiverPremises}
-use Rattle.sctp_delivery.proofs.AsksLemmas.{get_below}
 use Rattle.sctp_delivery.proofs.ReceiverToolLemmas.{SameSender}
 use Rattle.sctp_delivery.proofs.ReadingLemmas.{DataSaid, PointSaid, data_was_said, idata_was_said, point_was_said, ipoint_was_said, parameters_were_said, number_is_read, last_is_read}
 
@@ -72,7 +73,7 @@ module _ (message : ℕ → Message) (lifecycle : ℕ → Option ℕ) (mixed : B
 
     no_ask : (n last_tsn : ℕ) (streams : List StreamId) → SaysAsk one most x.asks n last_tsn streams → ⊥
     no_ask n last_tsn streams h =
-        let l = get_below x.asks h.at h.ask h.there in
+        let l = slice_get_within x.asks h.at h.ask h.there in
         let none : length x.asks ≡ 0 = ap length waits.none_asked in
         omega (arith, l, none)
 
@@ -129,11 +130,6 @@ pub record RequestHeard (x : Direction) (d : DataTracker) (number last_tsn : ℕ
   pub within : ask.upto ≤ count (transfer_of x).sender
   pub tsn_is : last_tsn ≡ last_tsn_of d.first ask
   pub last_is : suc (tracker.number_of d last_tsn) ≡ origin + ask.upto
-
--- one of all
-all_among : {A : Type 0} (P : A → Type 0) (before behind : List A) (x : A) → All P (before ++ x ∷ behind) → P x
-all_among P [] behind x h = All-head P x behind h
-all_among P (y ∷ before) behind x h = all_among P before behind x (All-tail P y (before ++ x ∷ behind) h)
 
 -- the windows of what is sent, whose epochs and points stay
 module _ (message : ℕ → Message) (mixed : Bool) (x y : Epochs) (same : SameSender message mixed x y) (windows : EpochWindows message x) where
@@ -248,7 +244,7 @@ module _ (message : ℕ → Message) (lifecycle : ℕ → Option ℕ) (mixed : B
   parameter_here : (p : ParameterTree) → IsAsked call p → SaysOutgoing t.tracker.first most x.asks p
   parameter_here p asked =
       let all = parameters_were_said message mixed x t.tracker.first least most asked.parameters (heard_here asked.tag (re_config_chunk asked.parameters) asked.heard) in
-      all_among (SaysOutgoing t.tracker.first most x.asks) asked.among.before asked.among.behind p (subst (All (SaysOutgoing t.tracker.first most x.asks)) asked.among.split all)
+      all_at (SaysOutgoing t.tracker.first most x.asks) asked.among.before asked.among.behind p (subst (All (SaysOutgoing t.tracker.first most x.asks)) asked.among.split all)
 
   pub request_is_heard : (n response : ℕ) (last_tsn : Tsn) (streams : List StreamId) → IsAsked call (outgoing_reset_request n response last_tsn streams)
       → RequestHeard x t.tracker n last_tsn.0 streams
@@ -278,5 +274,5 @@ module _ (message : ℕ → Message) (lifecycle : ℕ → Option ℕ) (mixed : B
   pub has_ask : (n : ℕ) → HasRequest call n → (at : ℕ) × (at < length x.asks) × (n ≡ number_of t.tracker.first at)
   has_ask n (for_outgoing response last_tsn streams asked) =
       let s = request_is_heard n response last_tsn streams asked in
-      (s.at, get_below x.asks s.at s.ask s.there, s.number_is)
+      (s.at, slice_get_within x.asks s.at s.ask s.there, s.number_is)
   has_ask n (for_incoming streams asked) = absurd (none_incoming n streams asked)

@@ -1,10 +1,10 @@
 -- What an end hears of the other as sender is read as it was meant: fragments, forward points, and the last TSNs of requests.
-use Rattle.std.proofs.Common.{◌≡◌, ℕ, suc, ◌+◌, ◌-◌, ◌%◌, ◌^◌, ◌<◌, ◌≤◌, max, Bool, true, false, cond, inl, inr, List, [], ◌∷◌, map, All, leb, ltb, ◌||◌, refl, sym, ap, ◌∙◌, subst, arith}
+use Rattle.std.proofs.Common.{◌≡◌, ℕ, suc, ◌+◌, ◌-◌, ◌%◌, ◌^◌, ◌<◌, ◌≤◌, max, Bool, true, false, cond, inl, inr, List, [], ◌∷◌, map, All, leb, ◌||◌, refl, sym, ap, ◌∙◌, subst, arith}
 use Rattle.std.specs.Prelude.{not}
-use Rattle.std.proofs.lemmas.Bool.{cond-true, cond-false, cases_lt, lt-ltb, le-ltb}
+use Rattle.std.proofs.lemmas.Bool.{cond-true, cond-false, cases_lt}
 use Rattle.std.proofs.lemmas.Bool.Decides.{nat_tests}
 use Rattle.sctp_serial.specs.Messages as messages
-use Rattle.sctp_serial.specs.Unwrapped.{origin, words, halves, wire, nearest}
+use Rattle.sctp_serial.specs.Unwrapped.{origin, words, halves, wire}
 use Rattle.sctp_serial.specs.declared.types.StreamKey.TheVariants.{Ordered, Unordered}
 use Rattle.sctp_wire.specs.Parameter.{ParameterTree}
 use Rattle.sctp_packet.specs.Chunk.{ChunkTree, FragmentTree, data_chunk, idata_chunk, re_config_chunk, forward_tsn_chunk, i_forward_tsn_chunk}
@@ -21,7 +21,7 @@ use Rattle.sctp_rules.specs.State.{Message, Entry, ForwardPoint, Transfer, IsAmo
 use Rattle.sctp_rules.specs.Rules.{covers}
 use Rattle.sctp_rules.specs.Kept.{Kept}
 use Rattle.sctp_rules.specs.Points.{AreApart}
-use Rattle.sctp_rules.proofs.ToolsLemmas.{not_both}
+use Rattle.sctp_rules.proofs.ToolsLemmas.{not_both, among_covers}
 use Rattle.sctp_rules.proofs.WindowsLemmas.{front_window}
 use Rattle.sctp_tx_rules.specs.Shown.{tree_of}
 use Rattle.sctp_tx_rules.specs.Points.{skip_of, chunk_of}
@@ -29,8 +29,7 @@ use Rattle.sctp_rx_rules.specs.View.{was_seen}
 use Rattle.sctp_rx_rules.specs.Read.{Carries}
 use Rattle.sctp_rx_rules.specs.Receives.{Receives}
 use Rattle.sctp_rx_rules.specs.Near.{IsWritten, IsEntry, AreEntries, IsInWindow}
-use Rattle.sctp_rx_rules.proofs.NearNumberLemmas.{among_covers}
-use Rattle.sctp_rx_rules.proofs.NearTsnLemmas.{tracker_reads}
+use Rattle.sctp_rx_rules.proofs.NearTsnLemmas.{tracker_reads, words_near}
 use Rattle.sctp_delivery.specs.Asks.{SaysOutgoing}
 use Rattle.sctp_delivery.proofs.ClaimLemmas.{Direction, transfer_of, SaysData, SaysPoint, SaysOut, WasSaid, AreShort}
 
@@ -332,15 +331,6 @@ module _ (message : ℕ → Message) (mixed : Bool) (base : Bool → ℕ → ℕ
 
 -- ---- numbers as the tracker reads them
 
--- a number less than half its space away is read as it was meant, also the one before the first
-words_near : (first near n : ℕ) → near < n + 2 ^ 31 → n < near + 2 ^ 31 → 2 ^ 31 ≤ near → nearest words first near (wire words first n) ≡ n
-words_near first near n a b far =
-    let ahead = (wire (2 ^ 32) first n + 2 ^ 32 - wire (2 ^ 32) first near) % 2 ^ 32 in
-    elim (cases_lt ahead (2 ^ 31)) [
-      | inl p ↦ let e : near + ahead ≡ n = omega (arith, a, b, far, p) in cond-true (ltb ahead (2 ^ 31)) (near + ahead) ((near + ahead) - 2 ^ 32) (lt-ltb ahead (2 ^ 31) p) ∙ e
-      | inr p ↦ let e : (near + ahead) - 2 ^ 32 ≡ n = omega (arith, a, b, far, p) in cond-false (ltb ahead (2 ^ 31)) (near + ahead) ((near + ahead) - 2 ^ 32) (le-ltb ahead (2 ^ 31) p) ∙ e
-    ]
-
 -- the tracker reads the number that was written, in a packet that is not older than 2^30 fragments
 pub number_is_read : (message : ℕ → Message) (mixed : Bool) (base : Bool → ℕ → ℕ) (shift : ℕ) (x : Transfer) (handed : List messages.Message) (d : DataTracker) (r : Reassembly) (k least most tsn : ℕ)
     → Kept message mixed x → IsInWindow x → Receives message mixed base shift x handed d.tracker r → IsTracker d.tracker → k < count x.sender → least ≤ k
@@ -369,5 +359,5 @@ last_is_read message mixed base shift x handed d r upto most tsn kept window rec
     ] in
     let n : ℕ = origin + upto - 1 in
     let read : tracker.number_of d tsn ≡ n =
-    ap (λ (w : ℕ). tracker.number_of d w) tsn_is ∙ words_near d.first d.tracker.seen.front n (omega (arith, e, hi, near, young)) (omega (arith, e, ahead)) (omega (arith, e)) in
+    ap (λ (w : ℕ). tracker.number_of d w) tsn_is ∙ words_near d.first d.tracker.seen.front n (omega (arith, e, hi, near, young), omega (arith, e, ahead)) (omega (arith, e)) in
     omega (arith, read)

@@ -1,10 +1,10 @@
 -- What an end hears as sender, in the middle of its turn: a SACK has the number there that the receiver meant, and an answer that is final is
 -- to a request that was performed.
-use Rattle.std.proofs.Common.{◌≡◌, ℕ, ◌+◌, ◌-◌, ◌%◌, ◌^◌, ◌<◌, ◌≤◌, Bool, true, inl, inr, Option, Some, List, length, All, sym, ap, ◌∙◌, subst, arith, ltb}
-use Rattle.std.proofs.lemmas.Bool.{cases_lt, cond-true, cond-false, lt-ltb, le-ltb}
+use Rattle.std.proofs.Common.{◌≡◌, ℕ, ◌+◌, ◌-◌, ◌^◌, ◌<◌, ◌≤◌, Bool, true, inl, inr, Option, Some, List, length, All, sym, ap, ◌∙◌, subst, arith}
+use Rattle.std.proofs.lemmas.Bool.{cases_lt}
 use Rattle.sctp_serial.specs.Messages as messages
 use Rattle.sctp_serial.specs.declared.types.tsn.Tsn.{Tsn}
-use Rattle.sctp_serial.specs.Unwrapped.{origin, words, wire, nearest}
+use Rattle.sctp_serial.specs.Unwrapped.{origin, words, wire}
 use Rattle.sctp_wire.specs.Parameter.{ParameterTree, reset_response}
 use Rattle.sctp_packet.specs.Chunk.{ChunkTree, SackTree, sack_chunk, re_config_chunk}
 use Rattle.sctp_packet.specs.Grammar.{carried}
@@ -22,6 +22,7 @@ use Rattle.sctp_course.proofs.JoinActsLemmas.{Setting, InvAt}
 use Rattle.sctp_course.proofs.JoinLemmas.{Draw, view_of, own_draw, Faces}
 use Rattle.sctp_delivery.specs.Asks.{SaysDone, SaysIncoming}
 use Rattle.sctp_delivery.proofs.ClaimLemmas.{Direction, transfer_of, IsKept, SaysSack, SaysIn, WasSaid, IsFresh, IsSending, ReceivesIn, first_in, SenderPremises}
+use Rattle.sctp_rx_rules.proofs.NearTsnLemmas.{words_near}
 
 -- ---- the point of a SACK
 
@@ -36,21 +37,12 @@ sack_was_said first least most x k h = go h.said h.is h.says
         same e = cc
     go said e s = cc
 
--- a number less than half the space away is read as it was meant, also from just below `origin`
-words_near : (first near n : ℕ) → near < n + 2 ^ 31 → n < near + 2 ^ 31 → 2 ^ 31 ≤ near → nearest words first near (wire words first n) ≡ n
-words_near first near n a b far =
-    let ahead = (wire words first n + words - wire words first near) % words in
-    elim (cases_lt ahead (2 ^ 31)) [
-      | inl p ↦ let e : near + ahead ≡ n = omega (arith, a, b, far, p) in cond-true (ltb ahead (2 ^ 31)) (near + ahead) ((near + ahead) - words) (lt-ltb ahead (2 ^ 31) p) ∙ e
-      | inr p ↦ let e : (near + ahead) - words ≡ n = omega (arith, a, b, far, p) in cond-false (ltb ahead (2 ^ 31)) (near + ahead) ((near + ahead) - words) (le-ltb ahead (2 ^ 31) p) ∙ e
-    ]
-
 -- what has left is less than half the space from the point c
 sack_number : (d : Outstanding) (acknowledged c tsn : ℕ) → d.items.acked + 1 ≡ origin + acknowledged → tsn ≡ wire words d.first (origin + c - 1)
     → acknowledged < c + 2 ^ 31 → c < acknowledged + 2 ^ 31 → number_of d tsn + 1 ≡ origin + c
 sack_number d acknowledged c tsn point tsn_is a b =
     let n : ℕ = origin + c - 1 in
-    let read : number_of d tsn ≡ n = ap (λ (w : ℕ). number_of d w) tsn_is ∙ words_near d.first d.items.acked n (omega (arith, point, a)) (omega (arith, point, b)) (omega (arith, point)) in
+    let read : number_of d tsn ≡ n = ap (λ (w : ℕ). number_of d w) tsn_is ∙ words_near d.first d.items.acked n (omega (arith, point, a), omega (arith, point, b)) (omega (arith, point)) in
     let more : number_of d tsn + 1 ≡ n + 1 = ap (λ (z : ℕ). z + 1) read in
     more ∙ (let e : n + 1 ≡ origin + c = omega arith in e)
 

@@ -33,10 +33,10 @@ use Rattle.sctp_delivery.proofs.FrameLemmas.{Lasts, GoesOnShut}
 use Rattle.sctp_delivery.proofs.ReadingDataLemmas.{windows_stay, few_stay, data_is_heard, idata_is_heard, point_is_heard, ipoint_is_heard}
 use Rattle.sctp_delivery.proofs.TrackerStaysLemmas.{tracker_new, tracker_told}
 use Rattle.sctp_delivery.proofs.ReceiverToolLemmas.{SameSender, sender_stays, no_chunks_said, no_packets_said}
-use Rattle.sctp_delivery.proofs.ResetEventsLemmas.{resets_in, none_behind}
+use Rattle.sctp_delivery.proofs.ResetEventsLemmas.{resets_in, none_behind, told_same}
 use Rattle.sctp_delivery.proofs.ReceiverDataLemmas.{Leads, taken_leads, passed_leads}
 use Rattle.sctp_delivery.proofs.ReceiverSackLemmas.{sack_made}
-use Rattle.sctp_delivery.proofs.ReceiverStepLemmas.{plain_says, told_same, acknowledging_changes, step_claims, stays_by, goes_through, goes_same, goes_led, goes_adding, goes_begun, goes_emitted}
+use Rattle.sctp_delivery.proofs.ReceiverStepLemmas.{plain_says, acknowledging_changes, step_claims, stays_by, goes_through, goes_same, goes_led, goes_adding, goes_begun, goes_emitted}
 
 -- an event that is no packet
 pub one_more : (es : List (events.Event Carried)) (e : events.Event Carried) → packets_in (e ∷ []) ≡ [] → packets_in (es ++ e ∷ []) ≡ packets_in es

@@ -16,13 +16,14 @@ use Rattle.sctp_rules.specs.Points.{AreApart}
 use Rattle.sctp_rules.specs.Based.{EpochWindows}
 use Rattle.sctp_rules.proofs.BasedLemmas.{unseen_is_now}
 use Rattle.sctp_rules.proofs.EpochLawsLemmas.{epoch_number_window, epoch_named_window}
+use Rattle.sctp_rules.proofs.ToolsLemmas.{among_covers}
 use Rattle.sctp_rx_rules.specs.View.{was_seen}
 use Rattle.sctp_rx_rules.specs.Read.{Carries, is_behind, shift_after}
 use Rattle.sctp_rx_rules.specs.Receives.{Receives}
 use Rattle.sctp_rx_rules.specs.Near.{IsWritten, AreEntries, AreFew, IsNearNext, AreNearNext, ReadsNear}
 use Rattle.sctp_rx_rules.specs.Resets.{base_now, IsWaitingFor, Comes}
 use Rattle.sctp_rx_rules.proofs.DeferralRowLemmas.{held_while, late_while, point_while}
-use Rattle.sctp_rx_rules.proofs.NearNumberLemmas.{among_covers, greatest}
+use Rattle.sctp_rx_rules.proofs.NearNumberLemmas.{greatest}
 use Rattle.sctp_rx_rules.proofs.NearTsnLemmas.{not_acknowledged, front, front_unseen, front_below}
 use Rattle.sctp_rx_rules.proofs.RowLemmas.{old_point, again}
 use Rattle.sctp_table.specs.Association.{Tcb}

@@ -1,7 +1,6 @@
 -- Each act of an end leads its claim as a receiver on: what it sends, hears in its acknowledgements, waits for and is asked, and
 -- so all of them.
-use Rattle.std.proofs.Common.{◌≡◌, ℕ, ◌^◌, ◌+◌, ◌<◌, ◌++◌, Bool, true, false, cond, Option, Some, None, List, [], ◌∷◌, length, map, All, refl, sym, ap, subst}
-use Rattle.std.specs.Prelude.{◌==◌}
+use Rattle.std.proofs.Common.{◌≡◌, ℕ, ◌^◌, ◌+◌, ◌<◌, ◌++◌, Bool, true, false, cond, Option, List, [], ◌∷◌, length, map, All, refl, sym, ap, subst}
 use Rattle.std.proofs.lemmas.List.Elements.{All-nil, All-cons}
 use Rattle.sctp_serial.specs.Messages as messages
 use Rattle.sctp_serial.specs.declared.api.StreamId.{StreamId}
@@ -20,7 +19,7 @@ use Rattle.sctp_rx.specs.ReassemblyQueue.{defer}
 use Rattle.sctp_table.specs.Acknowledging.{cleaned}
 use Rattle.sctp_table.specs.Association.{Tcb, Phase, CookieEchoed, CookieWait, Context}
 use Rattle.sctp_table.specs.Packets.{room, add_all}
-use Rattle.sctp_table.specs.Requests.{Request, Requests, Outcome, Unsettled, Done, Denied, ids, request_chunk, in_progress, is_final, outcome, answered_by, answered_if, answered_in, processed}
+use Rattle.sctp_table.specs.Requests.{Request, Outcome, Unsettled, Done, Denied, ids, request_chunk, in_progress, outcome, processed}
 use Rattle.sctp_table.specs.Resets.{is_ahead, on_outcome}
 use Rattle.sctp_table.specs.Sending.{is_small, data_chunk_of, data_chunks, fast_most}
 use Rattle.sctp_table.specs.Laws.{Call}
@@ -28,6 +27,7 @@ use Rattle.sctp_table_laws.specs.Mapped.{Carried}
 use Rattle.sctp_course.specs.Acts.{Making, point_of, IsAsked, IsDue, AsksNoIncoming, Answers, in_open, in_state, with_packet, fragments_of, SackAct, takes_sack, samples, counts_errors, before_sack, after_sack, SendingAct, asks, adds_ack, expires, adds_forward, forwards_later, asks_no_reset, asks_reset, adds_request, sends, sends_fast, before_sending, after_sending, TimeAct, advances, delay_ends, times_out, beats, times_init, times_cookie, times_request, wakes_request, before_time, after_time, CallAct, accepts, refuses, takes_message, sets_low_threshold, sets_priority, sets_max_message_size, before_call, after_call, ResetAct, prepares, defers, performs, processes, takes_response, adds_responses, before_reset, after_reset, InputAct, ends_packet, before_input, after_input}
 use Rattle.sctp_course.proofs.UntilLemmas.{light_sack, light_sending, light_time, light_call, light_reset}
 use Rattle.sctp_course.proofs.JoinActsLemmas.{Setting, InvAt}
+use Rattle.sctp_course.proofs.CallActsLemmas.{answers_leave}
 use Rattle.sctp_delivery.specs.Asks.{Ask, SaysIncoming}
 use Rattle.sctp_delivery.specs.StreamEpochs.{are_named, resets_told}
 use Rattle.sctp_delivery.proofs.ClaimLemmas.{Direction, transfer_of, SaysIn, ReceiverClaim, ReceiverPremises, ReceiverGoes}
@@ -78,19 +78,6 @@ outcome_tells : {P : Type 0} (s : ℕ) (o : Outcome) (c : Context P) → resets_
 outcome_tells s Unsettled c = refl
 outcome_tells s (Done streams) c = none_told s c.told.events (OnStreamsResetPerformed streams) refl
 outcome_tells s (Denied streams) c = none_told s c.told.events (OnStreamsResetFailed streams) refl
-
-answered_leaves : (o : Option Request) (now rto n result : ℕ) (q : Requests)
-    → ((answered_in o now rto n result q).last ≡ q.last) × ((answered_in o now rto n result q).result ≡ q.result)
-answered_leaves None now rto n result q = (refl, refl)
-answered_leaves (Some r) now rto n result q = its (r.number == n)
-  where
-    done : (b : Bool) → ((answered_by b now rto r q).last ≡ q.last) × ((answered_by b now rto r q).result ≡ q.result)
-    done true = (refl, refl)
-    done false = (refl, refl)
-
-    its : (a : Bool) → ((answered_if a now rto result r q).last ≡ q.last) × ((answered_if a now rto result r q).result ≡ q.result)
-    its true = done (is_final result)
-    its false = (refl, refl)
 
 module _ (message : ℕ → Message) (lifecycle : ℕ → Option ℕ) (mixed : Bool) (g : Setting) (call : Call) (from : Direction)
     (p : ReceiverPremises message lifecycle mixed g call from) (handed : List messages.Message) where
@@ -258,7 +245,7 @@ module _ (message : ℕ → Message) (lifecycle : ℕ → Option ℕ) (mixed : B
   goes_resets (processes n streams phase t m asked known) heard inv = λ x claim. absurd (no_incoming phase t m inv x claim n streams asked)
   goes_resets (takes_response wait n result sender receiver phase t m asked) heard inv =
       let act : ResetAct Carried call = takes_response wait n result sender receiver phase t m asked in
-      let same = answered_leaves t.requests.current m.context.now wait n result t.requests in
+      let same = answers_leave t.requests.current m.context.now wait n result t.requests in
       λ x claim.
       stays_by message lifecycle mixed from handed (in_open phase t m) (after_reset act) x claim
       (rest_changes message mixed handed t t.sender t.rtt _ x same.0 same.1 claim.shown)

@@ -5,6 +5,7 @@ use Rattle.std.specs.Prelude.{◌||◌, ◌==◌}
 use Rattle.std.specs.List.{list_all}
 use Rattle.std.proofs.lemmas.Bool.{cases_eq, both_ways, eqb-true, eq-eqb, ne_eqb, ltb-true, ltb-false}
 use Rattle.std.proofs.lemmas.List.Elements.{All-weaker}
+use Rattle.std.proofs.lemmas.Option.{slice_get_within}
 use Rattle.sctp_serial.specs.Messages as messages
 use Rattle.sctp_serial.specs.Unwrapped.{origin, words, wire}
 use Rattle.sctp_serial.specs.declared.api.StreamId.{StreamId}
@@ -32,7 +33,7 @@ use Rattle.sctp_course.specs.Acts.{IsDue, HasRequest, AsksNoIncoming, Answers}
 use Rattle.sctp_delivery.specs.Asks as asks
 use Rattle.sctp_delivery.specs.Asks.{named_in, request_for, AreAsked, SaysDone, SaysIncoming, HasPerformed, HasDeferred, IsAnswering}
 use Rattle.sctp_delivery.specs.StreamEpochs.{are_named, resets_told}
-use Rattle.sctp_delivery.proofs.AsksLemmas.{get_below, named_next, ask_is_performed}
+use Rattle.sctp_delivery.proofs.AsksLemmas.{named_next, ask_is_performed}
 use Rattle.sctp_delivery.proofs.AskedNextLemmas.{requests_of, next_ask, next_names}
 use Rattle.sctp_delivery.proofs.AnswersLemmas.{number_once, next_is_ask, last_is_ask, other_is_older}
 use Rattle.sctp_delivery.proofs.ClaimLemmas.{Direction, transfer_of, goes_in, IsKept, GoesOn, AsksStay, IsReceiving}
@@ -152,14 +153,14 @@ module _ (message : ℕ → Message) (mixed : Bool) (handed : List messages.Mess
     last_open last = elim answering [
       | inl p ↦ absurd (both_ways (is_final t.requests.result) (due.undone last) (elim p.result [ inl e ↦ ap is_final e | inr e ↦ ap is_final e.0 ]))
       | inr d ↦
-          let l = get_below x.asks h.at h.ask h.there in
-          let m = get_below x.asks x.done d.ask d.there in
+          let l = slice_get_within x.asks h.at h.ask h.there in
+          let m = slice_get_within x.asks x.done d.ask d.there in
           number_once t.tracker.first h.at x.done (omega (arith, l, few)) (omega (arith, m, few)) (sym number_is ∙ (eqb-true n t.requests.last last ∙ d.last))
     ]
 
     next_open : is_next n t.requests ≡ true → h.at ≡ x.done
     next_open next =
-        next_is_ask t.tracker.first x.done x.asks t.requests t.reassembly.deferred answering below order few h.at (get_below x.asks h.at h.ask h.there)
+        next_is_ask t.tracker.first x.done x.asks t.requests t.reassembly.deferred answering below order few h.at (slice_get_within x.asks h.at h.ask h.there)
         (subst (λ (m : ℕ). is_next m t.requests ≡ true) number_is next)
 
     at_is : h.at ≡ x.done

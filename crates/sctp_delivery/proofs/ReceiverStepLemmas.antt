@@ -24,7 +24,7 @@ use Rattle.sctp_course.proofs.JoinActsLemmas.{packets_both}
 use Rattle.sctp_delivery.specs.Asks.{Ask, IsAnswering}
 use Rattle.sctp_delivery.specs.StreamEpochs.{resets_told}
 use Rattle.sctp_delivery.proofs.ClaimLemmas.{Direction, transfer_of, goes_in, IsKept, GoesOn, AsksStay, SaysIn, first_in, IsReceiving, ReceivesIn, ReceiverClaim, ReceiverGoes}
-use Rattle.sctp_delivery.proofs.ResetEventsLemmas.{resets_in, told_counts, none_behind}
+use Rattle.sctp_delivery.proofs.ResetEventsLemmas.{resets_in, none_behind, told_same}
 use Rattle.sctp_delivery.proofs.SenderToolLemmas.{goes_none, goes_on, all_in_stay, told_in_stays}
 use Rattle.sctp_delivery.proofs.ReceiverDataLemmas.{Leads}
 
@@ -33,10 +33,6 @@ pub plain_says : (first least most : ℕ) (x : Direction) (chunk : ChunkTree) �
 plain_says first least most x (sack_chunk k) e = cc
 plain_says first least most x (re_config_chunk parameters) e = cc
 plain_says first least most x chunk e = tt
-
--- what else tells of no reset
-pub told_same : (s : ℕ) (es fs : List (events.Event Carried)) → resets_in fs ≡ resets_in es → resets_told s fs ≡ resets_told s es
-told_same s es fs e = sym (told_counts s fs) ∙ (ap (λ (xs : List (events.Event Carried)). resets_told s xs) e ∙ told_counts s es)
 
 -- with the same last request of the peer
 answers_by : (first done : ℕ) (asks : List Ask) (q r : Requests) (d : Option Deferred) → q.last ≡ r.last → q.result ≡ r.result → IsAnswering first done asks r d → IsAnswering first done asks q d

@@ -23,6 +23,7 @@ use Rattle.sctp_tx.specs.Sending.{Filling, Turned, appended, turned_if, turned, 
 use Rattle.sctp_table.specs.Calls.{refusal_events, ended}
 use Rattle.sctp_delivery.specs.Answered.{performed_in}
 use Rattle.sctp_delivery.specs.StreamEpochs.{are_named, performed_of, resets_told, failed_in}
+use Rattle.sctp_table_laws.specs.Mapped.{Carried}
 
 -- ---- events of resets
 
@@ -292,3 +293,6 @@ module _ {P : Type 0} where
   -- refusals
   pub resets_refused : (e : SendError) (l : Option ℕ) (t : Told P) → SameResets t (tell_all (ended l ++ refusal_events e) t)
   resets_refused e l t = told_none (ended l ++ refusal_events e) t (none_both (ended l) (refusal_events e) (none_ended P l) (none_refusal P e))
+
+pub told_same : (s : ℕ) (es fs : List (Event Carried)) → resets_in fs ≡ resets_in es → resets_told s fs ≡ resets_told s es
+told_same s es fs e = sym (told_counts s fs) ∙ (ap (λ (xs : List (Event Carried)). resets_told s xs) e ∙ told_counts s es)

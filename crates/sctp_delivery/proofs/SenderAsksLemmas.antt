@@ -2,15 +2,15 @@
 -- answer.
 use Rattle.std.proofs.Common.{◌≡◌, ℕ, zero, suc, ◌<◌, ◌≤◌, Bool, true, false, cond, inl, inr, Option, Some, None, List, [], ◌∷◌, ◌++◌, refl, sym, ap, ◌∙◌, subst, arith}
 use Rattle.std.specs.Prelude.{◌||◌, ◌==◌, option_map, slice_get}
-use Rattle.std.proofs.lemmas.Bool.{cases_eq, eq-eqb, ne_eqb, or_right}
+use Rattle.std.proofs.lemmas.Bool.{cases_eq, eq-eqb, ne_eqb}
 use Rattle.std.proofs.lemmas.Bool.Decides.{nat_tests}
+use Rattle.std.proofs.lemmas.Option.{same_Some}
 use Rattle.sctp_send_queue.specs.Queue.{Queue}
-use Rattle.sctp_rules.specs.State.{IsAmong, has}
+use Rattle.sctp_rules.specs.State.{has}
 use Rattle.sctp_rules.specs.Resets.{Epochs}
 use Rattle.sctp_tx_rules.specs.Asked.{AreSameAsked}
 use Rattle.sctp_table.specs.Requests.{Request, Requests, Unsettled, Done, outcome, outcome_by, outcome_if, is_final, is_success, awake, woken, put_off, answered_by, answered_if, answered_in}
 use Rattle.sctp_table.specs.Requests as requests
-use Rattle.sctp_course.proofs.JoinLemmas.{some_same}
 use Rattle.sctp_delivery.specs.Asks.{Ask, named_in, IsRequestOf, IsAsking}
 use Rattle.sctp_delivery.specs.StreamEpochs.{StreamEpoch, are_named, opened_if, reopened}
 use Rattle.sctp_delivery.proofs.AsksLemmas.{named_next}
@@ -63,7 +63,7 @@ module _ (first answered : ℕ) (asks : List Ask) where
       | inl n ↦ absurd (none_some r.current c n.1.none was)
       | inr k ↦
           let z = k.1 in
-          let says : IsRequestOf first answered z.ask c = subst (IsRequestOf first answered z.ask) (some_same z.request c (sym z.is ∙ was)) z.says in
+          let says : IsRequestOf first answered z.ask c = subst (IsRequestOf first answered z.ask) (same_Some z.request c (sym z.is ∙ was)) z.says in
           inr (
             k.0,
             record {
@@ -150,11 +150,6 @@ named_later s n m asks a there named l =
     let one : named_in s (suc n) asks ≡ suc (named_in s n asks) = named_next s n asks a there ∙ ap (λ (b : Bool). cond b (suc (named_in s n asks)) (named_in s n asks)) named in
     let up = named_up s (suc n) m asks (omega (arith, l)) in
     omega (arith, one, up)
-
-pub has_from : (k : ℕ) (ids : List ℕ) → IsAmong k ids → has k ids ≡ true
-has_from k [] a = absurd a
-has_from k (id ∷ ids) (inl e) = ap (λ (b : Bool). b || has k ids) (eq-eqb k id e)
-has_from k (id ∷ ids) (inr a) = or_right (k == id) (has k ids) (has_from k ids a)
 
 -- ---- streams that are told as reset
 

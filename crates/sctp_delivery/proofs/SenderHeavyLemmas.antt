@@ -32,7 +32,7 @@ use Rattle.sctp_tx_rules.specs.Rows.{AllCarry}
 use Rattle.sctp_tx_rules.proofs.AskedLemmas.{send_asked}
 use Rattle.sctp_tx_rules.proofs.BreakLemmas.{nacks_keep, expiries_keep, points_end}
 use Rattle.sctp_tx_rules.proofs.FollowLemmas.{others_follow}
-use Rattle.sctp_tx_rules.proofs.FollowPacketLemmas.{items_follow, sending_follows, fast_follows, hearing_follows}
+use Rattle.sctp_tx_rules.proofs.FollowPacketLemmas.{items_follow, sending_follows, fast_follows, hearing_follows, leaves_send as all_leaves}
 use Rattle.sctp_tx_rules.proofs.LedLemmas.{given_more}
 use Rattle.sctp_tx_rules.proofs.PointLemmas.{point_row}
 use Rattle.sctp_tx_rules.proofs.SendLemmas.{fast_row, send_row}
@@ -89,10 +89,6 @@ says_written message true first least most x f s = s
 says_written message false first least most x f s = s
 
 -- ---- SACKs are sending rules, and give nothing up
-
-all_leaves : (n c : ℕ) → list_all is_sending (replicate n (leave c)) ≡ true
-all_leaves zero c = refl
-all_leaves (suc n) c = all_leaves n c
 
 none_given : (n c : ℕ) → given_ups (replicate n (leave c)) ≡ []
 none_given zero c = refl

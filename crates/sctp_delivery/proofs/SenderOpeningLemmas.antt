@@ -42,6 +42,7 @@ use Rattle.sctp_delivery.proofs.ResetEventsLemmas.{resets_in, none_behind}
 use Rattle.sctp_delivery.proofs.SenderToolLemmas.{reports_none, reports_then, no_answer, tells_no_answer, SaysAll, SaysPackets}
 use Rattle.sctp_delivery.proofs.SenderAsksLemmas.{asking_stays}
 use Rattle.sctp_delivery.proofs.SenderLightLemmas.{tells_nothing, goes_through, goes_same, goes_adding}
+use Rattle.sctp_delivery.proofs.WithinLemmas.{none_numbered}
 
 -- ---- what waits is taken up by a new sender
 
@@ -110,12 +111,9 @@ module _ (message : ℕ → Message) (lifecycle : ℕ → Option ℕ) (mixed : B
 
   -- ---- what was said before it
 
-  none_numbered : (x : Direction) (q : Queue) → IsWaiting message lifecycle mixed q x → count (transfer_of x).sender ≡ 0
-  none_numbered x q h = ap (λ (o : rules.Sender). length o.numbered) h.sender
-
   data_none : (x : Direction) (q : Queue) (first least tsn : ℕ) (f : FragmentTree) → IsWaiting message lifecycle mixed q x → SaysData message first least (transfer_of x).sender tsn f → ⊥
   data_none x q first least tsn f h s =
-      let none = none_numbered x q h in
+      let none = none_numbered message lifecycle mixed x q h in
       let below = s.carries.below in
       omega (arith, none, below)
 

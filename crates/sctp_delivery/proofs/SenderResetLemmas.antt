@@ -6,6 +6,7 @@ use Rattle.std.specs.List.{list_all}
 use Rattle.std.proofs.lemmas.Bool.{cases_eq, eq-eqb, ne_eqb}
 use Rattle.std.proofs.lemmas.List.Elements.{All-nil, All-cons}
 use Rattle.std.proofs.lemmas.List.Folds.{list_all-append}
+use Rattle.std.proofs.lemmas.Option.{same_Some, slice_get_within}
 use Rattle.sctp_serial.specs.Unwrapped.{origin, words, wire}
 use Rattle.sctp_serial.specs.declared.types.tsn.Tsn.{Tsn}
 use Rattle.sctp_wire.specs.Parameter.{ParameterTree, outgoing_reset_request, reset_response}
@@ -20,7 +21,8 @@ use Rattle.sctp_outstanding.specs.Items.{begin_reset}
 use Rattle.sctp_rules.specs.State.{Message, Transfer, IsAmong, has, count}
 use Rattle.sctp_rules.specs.Rules.{Event as RuleEvent}
 use Rattle.sctp_rules.specs.Resets.{Epochs, transfers, restarts, send_request, commit, MayAll, go_all}
-use Rattle.sctp_rules.proofs.ToolsLemmas.{not_both}
+use Rattle.sctp_rules.proofs.ToolsLemmas.{not_both, has_from}
+use Rattle.sctp_rules.proofs.CommonLemmas.{get_last}
 use Rattle.sctp_tx_rules.specs.Shown.{Shows}
 use Rattle.sctp_tx_rules.specs.Asked.{Raises, AreRequested}
 use Rattle.sctp_tx_rules.specs.Following.{FollowsEpochs}
@@ -44,16 +46,15 @@ use Rattle.sctp_table_laws.specs.Mapped.{Carried}
 use Rattle.sctp_course.specs.Acts.{Making, in_open, with_context, with_chunk, IsAsked}
 use Rattle.sctp_course.specs.Course.{packets_in}
 use Rattle.sctp_course.proofs.JoinActsLemmas.{Setting, InvAt, packets_both}
-use Rattle.sctp_course.proofs.JoinLemmas.{some_same}
 use Rattle.sctp_course.proofs.ToldLemmas.{tells_prepared}
 use Rattle.sctp_delivery.specs.Asks.{Ask, SaysOutgoing, SaysDone, number_of, last_tsn_of, IsRequestOf, IsAsking, NoneCurrent}
 use Rattle.sctp_delivery.specs.StreamEpochs.{StreamEpoch, are_named, shut_if, shut, reopened, performed_of}
 use Rattle.sctp_delivery.proofs.AnswersLemmas.{number_after, response_settles}
-use Rattle.sctp_delivery.proofs.AsksLemmas.{get_below, ask_is_sent, ask_is_answered}
+use Rattle.sctp_delivery.proofs.AsksLemmas.{ask_is_sent, ask_is_answered}
 use Rattle.sctp_delivery.proofs.ClaimLemmas.{Direction, transfer_of, of_transfer, goes_out, IsKept, GoesOn, SaysOut, AreSo, SenderClaim, SenderGoes, SenderPremises}
 use Rattle.sctp_delivery.proofs.ReadingSackLemmas.{answer_is_heard}
 use Rattle.sctp_delivery.proofs.ResetEventsLemmas.{resets_prepared, performed_both, named_both, none_failed_both}
-use Rattle.sctp_delivery.proofs.SenderAsksLemmas.{asking_stays, asking_unsettled, done_ends, named_later, has_from, named_more, so_opened}
+use Rattle.sctp_delivery.proofs.SenderAsksLemmas.{asking_stays, asking_unsettled, done_ends, named_later, named_more, so_opened}
 use Rattle.sctp_delivery.proofs.SenderLightLemmas.{tells_nothing, goes_saying, goes_open}
 use Rattle.sctp_delivery.proofs.SenderToolLemmas.{transfer_more, of_transfers, all_transfers, goes_grows, same_packets, reports_none, asked_still, TellsNoAnswer, no_answer, tells_no_answer, step_claims}
 
@@ -246,10 +247,6 @@ module _ (message : ℕ → Message) (lifecycle : ℕ → Option ℕ) (mixed : B
   requests_alone [] = refl
   requests_alone (id ∷ ids) = requests_alone ids
 
-  get_last : {X : Type 0} (xs : List X) (y : X) → slice_get (xs ++ y ∷ []) (length xs) ≡ Some y
-  get_last [] y = refl
-  get_last (x ∷ xs) y = get_last xs y
-
   -- where none waits
   unasked : (first answered : ℕ) (asks : List Ask) (q : Queue) (r : Requests) → IsAsking first answered asks q r → r.current ≡ None → (length asks ≡ answered) × NoneCurrent q r.current
   unasked first answered asks q r h free = elim h.current [ inl n ↦ n | inr c ↦ absurd (none_some r.current c.1.request free c.1.is) ]
@@ -319,7 +316,7 @@ module _ (message : ℕ → Message) (lifecycle : ℕ → Option ℕ) (mixed : B
       let u : Tcb = request_started m.context.now (first_of ∷ others) t in
       let b : Making Carried = in_open phase u (with_context (record m.context { queue = r }) m) in
       let is_it : (c : Ask) → slice_get (x.asks ++ a ∷ []) x.answered ≡ Some c → a ≡ c = λ c e.
-      some_same a c (sym (subst (λ (n : ℕ). slice_get (x.asks ++ a ∷ []) n ≡ Some a) all (get_last x.asks a)) ∙ e) in
+      same_Some a c (sym (subst (λ (n : ℕ). slice_get (x.asks ++ a ∷ []) n ≡ Some a) all (get_last x.asks a)) ∙ e) in
       let follows : FollowsEpochs rules r (begin_reset items) = subst (λ (e : Epochs). FollowsEpochs e r (begin_reset items)) same z.follows in
       let shows : Shows message lifecycle mixed (transfer_of y) r (begin_reset items) = subst (λ (tr : Transfer). Shows message lifecycle mixed tr r (begin_reset items)) (sym transfer_is) z.shows in (
         y,
@@ -371,7 +368,7 @@ module _ (message : ℕ → Message) (lifecycle : ℕ → Option ℕ) (mixed : B
             | inl n ↦ absurd (none_some t.requests.current n.1.none is)
             | inr c ↦
                 let z = c.1 in
-                let says = subst (IsRequestOf t.identity.my_first x.answered z.ask) (some_same z.request r (sym z.is ∙ is)) z.says in
+                let says = subst (IsRequestOf t.identity.my_first x.answered z.ask) (same_Some z.request r (sym z.is ∙ is)) z.says in
                 record {
                   at = x.answered;
                   ask = z.ask;
@@ -403,10 +400,10 @@ module _ (message : ℕ → Message) (lifecycle : ℕ → Option ℕ) (mixed : B
   current_of : (first answered : ℕ) (asks : List Ask) (q : Queue) (r : Requests) → IsAsking first answered asks q r → (a : Ask) → slice_get asks answered ≡ Some a
       → (length asks ≡ suc answered) × ((s : ℕ) → has s a.streams ≡ true → (stream s q.streams).pause ≡ Resetting) × ((s : ℕ) → (stream s q.streams).pause ≡ Resetting → has s a.streams ≡ true)
   current_of first answered asks q r h a there = elim h.current [
-    | inl n ↦ let b = get_below asks answered a there in let e = n.0 in absurd (omega (arith, b, e))
+    | inl n ↦ let b = slice_get_within asks answered a there in let e = n.0 in absurd (omega (arith, b, e))
     | inr c ↦
         let z = c.1 in
-        let same : z.ask ≡ a = some_same z.ask a (sym z.there ∙ there) in
+        let same : z.ask ≡ a = same_Some z.ask a (sym z.there ∙ there) in
         (c.0, λ s e. z.resetting s (subst (λ (d : Ask). has s d.streams ≡ true) (sym same) e), λ s e. subst (λ (d : Ask). has s d.streams ≡ true) same (z.others s e))
   ]
 
@@ -452,7 +449,7 @@ module _ (message : ℕ → Message) (lifecycle : ℕ → Option ℕ) (mixed : B
         done = omega arith;
         answered = omega arith;
       } in
-      let over : (d : Ask) → slice_get x.asks (suc x.answered) ≡ Some d → ⊥ = λ d f. let below = get_below x.asks (suc x.answered) d f in let long = c.0 in omega (arith, below, long) in (
+      let over : (d : Ask) → slice_get x.asks (suc x.answered) ≡ Some d → ⊥ = λ d f. let below = slice_get_within x.asks (suc x.answered) d f in let long = c.0 in omega (arith, below, long) in (
         y,
         step_claims message lifecycle mixed from prepared prepared (in_open phase t m) b x y claim (record {
           goes = goes;

@@ -8,7 +8,7 @@ use Rattle.std.proofs.lemmas.Bool.{and_parts}
 use Rattle.sctp_wire.specs.Parameter.{ParameterTree}
 use Rattle.sctp_packet.specs.Chunk.{ChunkTree, FragmentTree, data_chunk, idata_chunk, sack_chunk, re_config_chunk, forward_tsn_chunk, i_forward_tsn_chunk}
 use Rattle.sctp_state.specs.Events as events
-use Rattle.sctp_state.specs.Events.{Told, SendPacket, OnLifecycleMessageDelivered}
+use Rattle.sctp_state.specs.Events.{Told, OnLifecycleMessageDelivered}
 use Rattle.sctp_rules.specs.State.{Message, ForwardPoint, Transfer, IsAmong, count}
 use Rattle.sctp_rules.specs.Rules.{Event, accept, begin, number, close, give_up, data_comes, late_comes, deliver, send_sack, leave, send_forward, forward_comes, forget, after}
 use Rattle.sctp_rules.specs.Resets.{Request, Epochs, ResetEvent, transfers, reset_stream, send_request, perform, commit, MayReset, goes, MayAll, go_all}
@@ -23,8 +23,8 @@ use Rattle.sctp_tx_rules.proofs.SendLemmas.{carries_along}
 use Rattle.sctp_table_laws.specs.Mapped.{Carried}
 use Rattle.sctp_course.specs.Acts.{Making}
 use Rattle.sctp_course.specs.Course.{packets_in}
-use Rattle.sctp_course.proofs.ToldLemmas.{is_light, is_quiet, TellsLightly, TellsQuietly}
-use Rattle.sctp_course.proofs.JoinActsLemmas.{packets_both}
+use Rattle.sctp_course.proofs.ToldLemmas.{is_quiet, TellsLightly, TellsQuietly}
+use Rattle.sctp_course.proofs.JoinActsLemmas.{packets_both, light_packets}
 use Rattle.sctp_delivery.specs.Asks.{Ask, request_for, AreAsked, SaysOutgoing, SaysIncoming}
 use Rattle.sctp_delivery.specs.Answered.{performed_in}
 use Rattle.sctp_delivery.specs.StreamEpochs.{StreamEpoch, shut, reopened, performed_of, failed_in}
@@ -329,11 +329,6 @@ module _ (message : ℕ → Message) (mixed : Bool) where
   receiver_stays x y g = subst (λ (z : Epochs). SameReceiver x.rules z) g.leads (same_along g.events x.rules g.all)
 
 -- ---- what is told lightly are no packets
-
-light_packets : (es : List (events.Event Carried)) → list_all is_light es ≡ true → packets_in es ≡ []
-light_packets [] h = refl
-light_packets (SendPacket p ∷ es) h = cc
-light_packets (e ∷ es) h = light_packets es (and_parts (is_light e) (list_all is_light es) h).1
 
 pub same_packets : (t u : Told Carried) → TellsLightly t u → packets_in u.events ≡ packets_in t.events
 same_packets t u l =

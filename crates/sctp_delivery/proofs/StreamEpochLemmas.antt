@@ -11,7 +11,7 @@ use Rattle.sctp_delivery.specs.Windows.{resets, KeepsStreams}
 use Rattle.sctp_delivery.specs.Proper.{reset_by, reset_at}
 use Rattle.sctp_delivery.specs.StreamEpochs.{StreamEpoch, are_named, shut, opened_if, performed_of, told_at, epochs_after, epochs_of, offer_epochs, epochs_along}
 
-one_each : (os : List Offer) (f : ℕ → StreamEpoch) → length (epochs_of os f) ≡ length os
+pub one_each : (os : List Offer) (f : ℕ → StreamEpoch) → length (epochs_of os f) ≡ length os
 one_each os f = length-map os (λ (o : Offer). (f o.message.stream).epoch)
 
 pub epochs_are_many : (x : Bool) (turns : List (Bool × Turn)) (w : Pair) (f : ℕ → StreamEpoch) → length (offer_epochs x turns w f) ≡ length (accepted x turns w)

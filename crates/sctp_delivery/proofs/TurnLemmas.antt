@@ -5,6 +5,7 @@ use Rattle.std.specs.List.{list_all}
 use Rattle.std.proofs.lemmas.List.{length-append, length-map}
 use Rattle.std.proofs.lemmas.List.Elements.{All-weaker}
 use Rattle.std.proofs.lemmas.Bool.{and_parts, and_from, eq-eqb}
+use Rattle.std.proofs.lemmas.Option.{slice_get_within}
 use Rattle.sctp_serial.specs.Messages as messages
 use Rattle.sctp_state.specs.Events.{Event}
 use Rattle.sctp_rules.specs.State.{Message, count, stream_of}
@@ -21,7 +22,6 @@ use Rattle.sctp_delivery.specs.Answered.{waiting_number, is_same, asked_by}
 use Rattle.sctp_delivery.specs.Asks.{Ask, number_of}
 use Rattle.sctp_delivery.specs.StreamEpochs.{StreamEpoch, shut, reopened, performed_of, epochs_of}
 use Rattle.sctp_delivery.specs.Windows.{Stamp, numbered, queue_of, stamped}
-use Rattle.sctp_delivery.proofs.AsksLemmas.{get_below}
 use Rattle.sctp_delivery.proofs.ClaimLemmas.{Direction, transfer_of, goes_out, goes_in, IsKept, GoesOn, AsksStay, first_out, first_in, AreSo, SendsIn, ReceivesIn, SenderClaim, ReceiverClaim}
 use Rattle.sctp_delivery.proofs.ResetEventsLemmas.{performed_both, told_both, none_failed_both}
 use Rattle.sctp_delivery.proofs.FilledLemmas.{fills, filled_goes, receives_filled}
@@ -239,7 +239,7 @@ module _ (message : ℕ → Message) (lifecycle : ℕ → Option ℕ) (f : ℕ �
       → AreOffered message lifecycle (transfer_of x).sender.accepted os → length before ≡ (transfer_of x).sender.accepted
       → ((p n : ℕ) → slice_get before p ≡ Some n → x.rules.epoch p ≡ n) → (p n : ℕ) → slice_get (before ++ epochs_of os f) p ≡ Some n → mid.rules.epoch p ≡ n
   offers_epochs mixed x mid os before offers so are many are_so p n e = elim (get_behind before (epochs_of os f) p n e) [
-    | inl a ↦ let l = get_below before p n a in offers.old p (omega (arith, l, many)) ∙ are_so p n a
+    | inl a ↦ let l = slice_get_within before p n a in offers.old p (omega (arith, l, many)) ∙ are_so p n a
     | inr b ↦
         let at : p ≡ (transfer_of x).sender.accepted + b.0 = b.1 ∙ ap (λ (m : ℕ). m + b.0) many in
         let r = offered_epochs os (transfer_of x).sender.accepted b.0 n are b.2 in
@@ -263,7 +263,7 @@ module _ (message : ℕ → Message) (lifecycle : ℕ → Option ℕ) (mixed : B
   -- it waited before
   asked_still : (a : Ask) → slice_get y.asks y.answered ≡ Some a → slice_get x.asks y.answered ≡ Some a → asked_by s t n ≤ a.upto
   asked_still a there before =
-      let l = get_below x.asks y.answered a before in
+      let l = slice_get_within x.asks y.answered a before in
       let o = kept.asked.order.2 in
       let same : y.answered ≡ x.answered = omega (arith, l, o, answered) in
       let was : slice_get x.asks x.answered ≡ Some a = ap (λ (k : ℕ). slice_get x.asks k) (sym same) ∙ before in

@@ -6,7 +6,7 @@ use Rattle.sctp_serial.specs.Unwrapped.{origin, words, wire}
 use Rattle.sctp_packet.specs.Chunk.{FragmentTree}
 use Rattle.sctp_send_queue.specs.Queue.{Queue, stream}
 use Rattle.sctp_outstanding.specs.Item.{Item}
-use Rattle.sctp_outstanding.specs.Items.{Items, next_number}
+use Rattle.sctp_outstanding.specs.Items.{Items}
 use Rattle.sctp_table.specs.Association.{Tcb, State, Closed, CookieWait, Open}
 use Rattle.sctp_rules.specs.State.{Message, Transfer, fragment, place_of, count, ordered_of, stream_of}
 use Rattle.sctp_rules.specs.Based.{EpochWindows}
@@ -14,26 +14,21 @@ use Rattle.sctp_rx_rules.specs.Near.{AreFew}
 use Rattle.sctp_rx_rules.proofs.NearNumberLemmas.{number_le_place}
 use Rattle.sctp_tx_rules.specs.Shown.{StandsFor, AreKept, Shows}
 use Rattle.sctp_tx_rules.proofs.ItemsLemmas.{kept_count}
+use Rattle.sctp_tx_rules.proofs.BreakLemmas.{next_counted}
 use Rattle.sctp_delivery.specs.Windows.{numbered, IsNearNext, KeepsWithin, IsWithin}
 use Rattle.sctp_delivery.proofs.ClaimLemmas.{Direction, transfer_of, IsKept, IsWaiting, IsSending, SendsIn}
 
 -- ---- what was numbered
 
 module _ (message : ℕ → Message) (lifecycle : ℕ → Option ℕ) (mixed : Bool) where
-  shown_count : (x : Transfer) (q : Queue) (s : Items) → Shows message lifecycle mixed x q s → next_number s ≡ origin + count x.sender
-  shown_count x q s h =
-      let p = h.items.point in
-      let c = kept_count message lifecycle x.sender x.acknowledged s.kept h.items.kept in
-      omega (arith, p, c)
-
-  none_numbered : (x : Direction) (q : Queue) → IsWaiting message lifecycle mixed q x → count (transfer_of x).sender ≡ 0
+  pub none_numbered : (x : Direction) (q : Queue) → IsWaiting message lifecycle mixed q x → count (transfer_of x).sender ≡ 0
   none_numbered x q w = ap count w.sender
 
   -- how many fragments the end has numbered
   pub numbered_is : (s : State) (q : Queue) (x : Direction) → SendsIn message lifecycle mixed s q x → numbered s ≡ count (transfer_of x).sender
   numbered_is Closed q x h = sym (none_numbered x q h)
   numbered_is (CookieWait tag first t1) q x h = sym (none_numbered x q h)
-  numbered_is (Open phase t) q x h = let e = shown_count (transfer_of x) q t.sender.outstanding.items h.shows in omega (arith, e)
+  numbered_is (Open phase t) q x h = let e = next_counted message lifecycle mixed (transfer_of x) q t.sender.outstanding.items h.shows in omega (arith, e)
 
 -- ---- the windows
 
@@ -99,7 +94,7 @@ module _ (message : ℕ → Message) (lifecycle : ℕ → Option ℕ) (mixed : B
   open_holds t h w =
       let s : Items = t.sender.outstanding.items in
       let c = kept_count message lifecycle now.sender now.acknowledged s.kept h.shows.items.kept in
-      let n = shown_count message lifecycle mixed now q s h.shows in
+      let n = next_counted message lifecycle mixed now q s h.shows in
       let i = w.items in
       let f = w.fragments in
       let m = h.shows.queue.few in
