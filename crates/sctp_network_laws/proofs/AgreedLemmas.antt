@@ -15,7 +15,7 @@ use Rattle.sctp_table_laws.specs.Mapped.{Mapping, Carried, as_bytes}
 use Rattle.sctp_course.specs.Course as course
 use Rattle.sctp_course.specs.Course.{Pair, Turn, Calls, Gives, Refuses, has_connected, emitted, given, foreign_if, turned, goes, start, state_of}
 use Rattle.sctp_course.specs.Agreement as agreement
-use Rattle.sctp_course.specs.Agreement.{Has, Notes, held_in, noted_by, Book, blank, new_book, writes, IsPlainCall, IsAllowed, AreAllowed, told_since, AgreesAlong}
+use Rattle.sctp_course.specs.Agreement.{Has, Notes, held_in, noted_by, Book, new_book, writes, IsPlainCall, IsAllowed, AreAllowed, told_since, AgreesAlong}
 use Rattle.sctp_course.proofs.AgreeCourseLemmas.{drop_told}
 use Rattle.sctp_course.proofs.AgreeWithinLemmas.{has_either}
 use Rattle.sctp_course.proofs.AgreeTurnsLemmas.{ends_agree}

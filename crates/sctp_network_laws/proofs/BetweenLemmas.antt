@@ -1,14 +1,13 @@
 -- What is delivered before and behind a block of the log, is delivered within it.
 use Rattle.std.proofs.Common.{◌≡◌, ◌⊎◌, inl, inr, ℕ, zero, suc, ◌<◌, ◌≤◌, ◌==◌, ◌||◌, Bool, true, false, Option, Some, None, List, [], ◌∷◌, ◌++◌, length, map, take, refl, sym, ap, subst, ◌∙◌, append-nil, arith}
 use Rattle.std.specs.Prelude.{slice_index, option_map, slice_get}
-use Rattle.std.proofs.lemmas.Bool.{cases_lt, eqb-true, or_right}
+use Rattle.std.proofs.lemmas.Bool.{cases_lt, eqb-true, or_right, or_cases}
 use Rattle.std.proofs.lemmas.Option.{slice_get_within}
 use Rattle.sctp_serial.specs.Messages.{Message}
 use Rattle.sctp_rules.specs.State.{has}
-use Rattle.sctp_rules.proofs.ToolsLemmas.{has_at, has_keeps}
+use Rattle.sctp_rules.proofs.ToolsLemmas.{has_at, has_keeps, not_both}
 use Rattle.sctp_delivery.specs.Accepted.{Offer}
 use Rattle.sctp_delivery.specs.Delivery.{message_at, Fits, SkippedAreGivenUp, IsReady}
-use Rattle.sctp_course.proofs.JoinLemmas.{not_both}
 use Rattle.sctp_network_laws.proofs.PrefixLemmas.{split_head, split_tail, length_front, index_front, fits_front}
 
 -- so far: what is offered, ready, given up and reported, by the beginning of these places
@@ -25,10 +24,6 @@ same_delivered o p m n g h r s places a b c d i =
 
 -- ---- places
 
-one_of : (a b : Bool) → (a || b) ≡ true → (a ≡ true) ⊎ (b ≡ true)
-one_of true b e = inl refl
-one_of false b e = inr e
-
 pub record IsAt (p : ℕ) (xs : List ℕ) : Type 0 where
   pub index : ℕ
   pub within : index < length xs
@@ -37,7 +32,7 @@ pub record IsAt (p : ℕ) (xs : List ℕ) : Type 0 where
 found : (p : ℕ) (xs : List ℕ) → has p xs ≡ true → IsAt p xs
 found p [] h = cc
 found p (q ∷ xs) h =
-    elim (one_of (p == q) (has p xs) h) [
+    elim (or_cases (p == q) (has p xs) h) [
       | inl e ↦ record { index = 0; within = omega arith; there = sym (eqb-true p q e) }
       | inr e ↦ let f = found p xs e in record { index = suc f.index; within = let l = f.within in omega (arith, l); there = f.there }
     ]
@@ -47,7 +42,7 @@ has_front p zero n xs l h = cc
 has_front p (suc m) zero xs l h = absurd (omega (arith, l))
 has_front p (suc m) (suc n) [] l h = cc
 has_front p (suc m) (suc n) (x ∷ xs) l h =
-    elim (one_of (p == x) (has p (take m xs)) h) [
+    elim (or_cases (p == x) (has p (take m xs)) h) [
       | inl e ↦ ap (λ (b : Bool). b || has p (take n xs)) e
       | inr e ↦ or_right (p == x) (has p (take n xs)) (has_front p m n xs (omega (arith, l)) e)
     ]
@@ -67,7 +62,7 @@ skipped_shorter offers ready gone places m n small f skipped p q o r first secon
 
     later : (j : IsAt p (take n places)) → (j.index < length (take m places)) ⊎ (length (take m places) ≤ j.index) → ⊥
     later j (inl l) =
-        not_both (has p (take m places))
+        not_both
         (subst (λ (z : ℕ). has z (take m places) ≡ true) (index_front m n places j.index small l ∙ j.there) (has_at (take m places) j.index l)) not_ready
     later j (inr l) =
         let within = k.within in
@@ -115,7 +110,7 @@ placed : (offers : List Offer) (places : List ℕ) (ready : List Message) → ma
 placed offers [] ready e q h = cc
 placed offers (p ∷ places) [] e q h = cc
 placed offers (p ∷ places) (m ∷ ready) e q h =
-    elim (one_of (q == p) (has q places) h) [
+    elim (or_cases (q == p) (has q places) h) [
       | inl same ↦ let l = offered_at offers p m (slice_get offers p) refl (front e) in let s = eqb-true q p same in omega (arith, l, s)
       | inr later ↦ placed offers places ready (rest e) q later
     ]

@@ -24,7 +24,7 @@ use Rattle.sctp_tx_rules.specs.Led.{delivered}
 use Rattle.sctp_table_laws.specs.Mapped.{Carried}
 use Rattle.sctp_state.specs.Events.{Event}
 use Rattle.sctp_network_table.specs.Judge as judge
-use Rattle.sctp_network_table.specs.Judge.{End, A, B, Entry, ready_by, ready, handed_out_by, handed_out, given_up_by}
+use Rattle.sctp_network_table.specs.Judge.{End, A, B, Entry, ready_by, ready, handed_out_by, handed_out}
 use Rattle.sctp_network_laws.specs.Courses.{is_a}
 use Rattle.sctp_network_laws.specs.Delivered.{offers_by, offers, happened_by, happened, reset_by, epochs_after, offer_epochs, gone, reported_by, reported}
 use Rattle.sctp_network_laws.proofs.WorldLemmas.{gone_more, numbers_of}

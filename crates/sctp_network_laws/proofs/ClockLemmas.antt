@@ -10,8 +10,8 @@ use Rattle.sctp_table_laws.specs.Mapped.{Carried}
 use Rattle.sctp_course.specs.Acts.{Making, PacketAct, begins, before_packets, after_packets, OpeningAct, connects, before_opening, after_opening, ClosingAct, closes, before_closing, after_closing, DataAct, takes_data, before_data, after_data, SackAct, takes_sack, before_sack, after_sack, SendingAct, asks, before_sending, after_sending, TimeAct, advances, before_time, after_time, CallAct, accepts, before_call, after_call, ResetAct, takes_response, before_reset, after_reset, HandoverAct, leaves, before_handover, after_handover, InputAct, ends_packet, before_input, after_input, Keeps}
 use Rattle.sctp_course.specs.Course.{Side, emitted, Turn, Calls, Gives, Refuses, as_heard, given, foreign_if, turned, state_of}
 use Rattle.sctp_course.proofs.ActsLemmas.{keeps_call}
-use Rattle.sctp_course.proofs.JoinLemmas.{not_both}
 use Rattle.sctp_delivery.specs.Proper.{clock}
+use Rattle.sctp_rules.proofs.ToolsLemmas.{not_both}
 
 abbrev SameClock : (before after : Making Carried) → Type 0
 SameClock m n = n.context.now ≡ m.context.now
@@ -91,7 +91,7 @@ moves (Calls (Advance now)) = true
 moves turn = false
 
 called_still : (call : Call) → moves (Calls call) ≡ false → (e : Endpoint Carried) → (called call e).standing.context.now ≡ e.standing.context.now
-called_still call none e = keeps_call call (stays call (λ now is. not_both (moves (Calls call)) (ap (λ (c : Call). moves (Calls c)) is) none)) e
+called_still call none e = keeps_call call (stays call (λ now is. not_both (ap (λ (c : Call). moves (Calls c)) is) none)) e
 
 given_still : (p : Option Carried) (checksum : ℕ) (x : Side) → clock (given p checksum x) ≡ clock x
 given_still None checksum x = refl

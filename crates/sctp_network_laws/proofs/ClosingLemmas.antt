@@ -10,19 +10,19 @@ use Rattle.sctp_reassembly.proofs.ExtendsLemmas.{extends_by}
 use Rattle.sctp_table.specs.Association.{Endpoint}
 use Rattle.sctp_table.specs.Shown.{Association}
 use Rattle.sctp_table.specs.Laws as table
-use Rattle.sctp_table.specs.Laws.{TakeMessage, endings}
+use Rattle.sctp_table.specs.Laws.{TakeMessage}
 use Rattle.sctp_table_laws.specs.Mapped.{Mapping, Carried, map_event, map_end, as_bytes}
 use Rattle.sctp_course.specs.Course as course
 use Rattle.sctp_course.specs.Course.{Pair, Turn, Calls, Gives, Refuses}
 use Rattle.sctp_course.specs.Handing.{handed_by, handed_at}
 use Rattle.sctp_course.specs.Handing as handing
-use Rattle.sctp_delivery.specs.Accepted.{Offer, accepted_at}
+use Rattle.sctp_delivery.specs.Accepted.{accepted_at}
 use Rattle.sctp_delivery.specs.Accepted as turns
 use Rattle.sctp_delivery.specs.Proper.{reset_by}
 use Rattle.sctp_network_table.specs.Judge as judge
-use Rattle.sctp_network_table.specs.Judge.{End, A, B, Entry, Called, Given, Foreign, GaveUp, Call, Connect, Shutdown, ready_by, handed_out_by, given_up_by}
+use Rattle.sctp_network_table.specs.Judge.{End, A, B, Entry, Given, Foreign, Call, ready_by, handed_out_by, given_up_by}
 use Rattle.sctp_network_table.specs.World as worlds
-use Rattle.sctp_network_table.specs.World.{Side, World, Action, CallOf, Give, GiveForeign, TellTime, ComesTo, told, skipped, Happens, Runs, side_of, other, news_of, association, associated_if, association_entries, told_entries, gone_entries, ready_entries, ready_before, calls, call_entry, after_call, tells_time, time_entry, after_time, clock, step_of}
+use Rattle.sctp_network_table.specs.World.{Side, World, Action, CallOf, Give, GiveForeign, TellTime, ComesTo, told, skipped, Happens, side_of, other, news_of, association, associated_if, association_entries, told_entries, gone_entries, ready_entries, ready_before, calls, call_entry, after_call, tells_time, time_entry, after_time, clock, step_of}
 use Rattle.sctp_network_laws.specs.Courses.{is_a, end_of, IsTurnOf}
 use Rattle.sctp_network_laws.specs.Delivered.{offers_by, happened_by, reported_by}
 use Rattle.sctp_network_laws.specs.Joined.{ended_by, times_ended, Stands}

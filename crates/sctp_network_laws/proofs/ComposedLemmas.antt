@@ -1,11 +1,11 @@
 -- A world that a new one was led to is led on by each run, and composes.
-use Rattle.std.proofs.Common.{◌≡◌, ◌⊎◌, inl, inr, ◌^◌, ◌<◌, ℕ, Bool, true, false, List, [], ◌∷◌, ◌++◌, length, refl, sym, ap, subst, ◌∙◌, append-nil, append_assoc, arith}
+use Rattle.std.proofs.Common.{◌≡◌, ◌⊎◌, inl, inr, ◌^◌, ◌<◌, ℕ, true, false, List, [], ◌∷◌, ◌++◌, length, refl, sym, ap, subst, ◌∙◌, append-nil, append_assoc, arith}
 use Rattle.std.specs.Prelude.{slice_index, All}
 use Rattle.std.specs.List.{list_any}
 use Rattle.std.proofs.lemmas.List.Elements.{All-nil, All-cons, All-head, All-tail, All-append}
+use Rattle.std.proofs.lemmas.Bool.{false_from_ne_true}
 use Rattle.sctp_serial.specs.Messages.{Message}
 use Rattle.sctp_rx.specs.Delivery as orders
-use Rattle.sctp_course.proofs.JoinLemmas.{not_both}
 use Rattle.sctp_course.proofs.CourseLemmas.{ends_joined}
 use Rattle.sctp_delivery.specs.Answered.{none_asked}
 use Rattle.sctp_delivery.specs.Windows.{no_stamps}
@@ -32,6 +32,7 @@ use Rattle.sctp_tx_rules.specs.Records.{are_distinct}
 use Rattle.sctp_network_laws.proofs.PointsLemmas.{IsDeliveredAt}
 use Rattle.sctp_network_laws.proofs.LastingLemmas.{first_pair, r, IsKept, course_delivers, delivered_front, epochs_front, none_failed, none_failed_front, once, rests, prefix, step, prefix_then, none_ready_then, delivered_beside, none_failed_beside, delivered_own, none_failed_own, ends_delivering, b_parted, stands_first, behind_first, logged_first}
 use Rattle.sctp_network_laws.proofs.ProperLemmas.{worlds_proper}
+use Rattle.sctp_rules.proofs.ToolsLemmas.{not_both}
 
 pub led_on : (w v : World) (actions : List Action) → IsLed w → All ActionFits actions → Runs actions w v → IsInBytes v → IsLed v
 led_on w v actions l fit r small = record {
@@ -75,10 +76,6 @@ led_before w u l front fit r e = record {
   bytes = in_bytes_before u w e l.bytes;
 }
 
-not_true : (b : Bool) → (b ≡ true → ⊥) → b ≡ false
-not_true true f = absurd (f refl)
-not_true false f = refl
-
 -- which kept the rules, where the later one does
 rules_before : (u v : World) → Extends u v → FollowsTheRules v → FollowsTheRules u
 rules_before u v e rules before entry behind is stands =
@@ -87,12 +84,12 @@ rules_before u v e rules before entry behind is stands =
   where
     not_asked : (x : End) → was_asked x v before ≡ false → was_asked x u before ≡ false
     not_asked A h =
-        not_true (was_asked A u before)
-        (λ t. not_both (was_asked A v before)
+        false_from_ne_true (was_asked A u before)
+        (λ t. not_both
         (subst (λ (ps : List (List ℕ)). list_any (asks A ps) before ≡ true) (sym e.b) (any_more A u.b.packets e.sent_b before t)) h)
     not_asked B h =
-        not_true (was_asked B u before)
-        (λ t. not_both (was_asked B v before)
+        false_from_ne_true (was_asked B u before)
+        (λ t. not_both
         (subst (λ (ps : List (List ℕ)). list_any (asks B ps) before ≡ true) (sym e.a) (any_more B u.a.packets e.sent_a before t)) h)
 
     may_before : (entry : Entry) → MayFollow v before entry → MayFollow u before entry

@@ -11,7 +11,7 @@ use Rattle.sctp_table.specs.Laws as table
 use Rattle.sctp_table.specs.Shown.{Association, association_in}
 use Rattle.sctp_table_laws.specs.Mapped.{Mapping, Carried, map_end, as_written, as_bytes}
 use Rattle.sctp_course.specs.Course as course
-use Rattle.sctp_course.specs.Course.{Pair, Turn, Calls, emitted, turned, goes, run, state_of, start, HasNotEnded, AreGiven}
+use Rattle.sctp_course.specs.Course.{Pair, Turn, Calls, emitted, turned, goes, run, state_of, HasNotEnded, AreGiven}
 use Rattle.sctp_course.specs.Handing.{handed_by}
 use Rattle.sctp_course.proofs.CourseLemmas.{Halves, before_run, goes_joined}
 use Rattle.sctp_course.proofs.HandingLemmas.{hands_at}
@@ -27,7 +27,7 @@ use Rattle.sctp_delivery.specs.GivenUp.{given_up_by, given_up_at}
 use Rattle.sctp_tx_rules.specs.Led.{delivered}
 use Rattle.sctp_delivery.specs.Ending as ending
 use Rattle.sctp_network_table.specs.Judge as judge
-use Rattle.sctp_network_table.specs.Judge.{End, A, B, same_end, all_unless, unrefused, Entry, Called, Given, Foreign, Answer, Sent, SentMany, accepted_in, accepted_by, Call, Connect, Shutdown, Close, Send, SendMany, Receive, Reset, SetPriority, SetMaxMessageSize, SetLowThreshold, HandOver, ready, handed_out}
+use Rattle.sctp_network_table.specs.Judge.{End, A, B, same_end, all_unless, unrefused, Entry, Called, Given, Foreign, Answer, Sent, SentMany, accepted_in, accepted_by, Call, Connect, Shutdown, Close, Send, SendMany, Receive, Reset, SetPriority, SetMaxMessageSize, SetLowThreshold, HandOver}
 use Rattle.sctp_network_table.specs.World.{Side, World, Action, CallOf, Give, GiveForeign, TellTime, ComesTo, told, skipped, Gives, Happens, Runs, side_of, settled, news_of, clock, calls, call_entry, after_call, tells_time, time_entry, after_time, step_of}
 use Rattle.sctp_network_laws.specs.Courses.{ActionFits, IsInBytes, is_a, end_of, hearing, IsTurnOf}
 use Rattle.sctp_network_laws.specs.Delivered.{gone, reported, AlongRun, SideIsWithin, AreWithin, stamp, stamped, stamps_after, IsTimely, KeepsWindows, asked_after, AreAnswered, KeepsRequests, asks_more, sets_more, offers_in, offers_by, offers, happened, OffersAreAccepted, OffersHaveEpochs}

@@ -17,25 +17,6 @@ use Rattle.sctp_network_laws.specs.Joined.{ended_by}
 
 -- ---- packets
 
-pub packets_both : (es fs : List (Event Carried)) → course.packets_in (es ++ fs) ≡ course.packets_in es ++ course.packets_in fs
-packets_both [] fs = refl
-packets_both (SendPacket p ∷ es) fs = ap (λ (ps : List Carried). p ∷ ps) (packets_both es fs)
-packets_both (OnConnected ∷ es) fs = packets_both es fs
-packets_both (OnClosed ∷ es) fs = packets_both es fs
-packets_both (OnConnectionRestarted ∷ es) fs = packets_both es fs
-packets_both (OnAborted kind text ∷ es) fs = packets_both es fs
-packets_both (OnError kind text ∷ es) fs = packets_both es fs
-packets_both (OnBufferedAmountLow id ∷ es) fs = packets_both es fs
-packets_both (OnTotalBufferedAmountLow ∷ es) fs = packets_both es fs
-packets_both (OnStreamsResetFailed ids ∷ es) fs = packets_both es fs
-packets_both (OnStreamsResetPerformed ids ∷ es) fs = packets_both es fs
-packets_both (OnIncomingStreamReset ids ∷ es) fs = packets_both es fs
-packets_both (OnLifecycleMessageFullySent id ∷ es) fs = packets_both es fs
-packets_both (OnLifecycleMessageMaybeExpired id ∷ es) fs = packets_both es fs
-packets_both (OnLifecycleMessageExpired id ∷ es) fs = packets_both es fs
-packets_both (OnLifecycleMessageDelivered id ∷ es) fs = packets_both es fs
-packets_both (OnLifecycleEnd id ∷ es) fs = packets_both es fs
-
 module _ (f : Mapping Carried (List ℕ)) where
   abbrev pub mapped : List (Event Carried) → List (Event (List ℕ))
   mapped es = map (map_event f) es

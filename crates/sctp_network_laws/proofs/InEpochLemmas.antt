@@ -23,6 +23,7 @@ use Rattle.sctp_network_laws.proofs.LoggedEpochLemmas.{epochs_along, epochs_both
 use Rattle.sctp_network_laws.proofs.PrefixLemmas.{none_before, Longer, one_is_longer, split_head, split_tail}
 use Rattle.sctp_network_laws.proofs.BlockLemmas.{IsBlock, AreBlocks, blocks_longer, IsReached, reached_more, run_more, same_front}
 use Rattle.sctp_network_laws.proofs.PointsLemmas.{own_or_beside, is_a_other}
+use Rattle.sctp_rules.proofs.CommonLemmas.{get_front}
 
 -- ---- where an entry stands
 
@@ -108,11 +109,6 @@ located all c k done (t ∷ rest) log longer early late e r h is =
     found (inr m) next = subst (λ (z : List Entry). IsLocated all c k z) (sym (passes m.between m.made)) (next m.between m.made)
 
 -- ---- places
-
-there_longer : {X : Type 0} (xs ys : List X) (n : ℕ) (x : X) → slice_get xs n ≡ Some x → slice_get (xs ++ ys) n ≡ Some x
-there_longer [] ys n x e = cc
-there_longer (y ∷ xs) ys zero x e = e
-there_longer (y ∷ xs) ys (suc n) x e = there_longer xs ys n x e
 
 there_too : {X Y : Type 0} (xs : List X) (ys : List Y) (n : ℕ) (x : X) → length xs ≡ length ys → slice_get xs n ≡ Some x → (y : Y) × (slice_get ys n ≡ Some y)
 there_too [] ys n x h e = cc
@@ -222,13 +218,13 @@ module _ (x : End) (all : List (Bool × Turn)) (c : Pair) (from : courses.Delive
   offer_of_all : slice_get (accepted (is_a x) all c) place ≡ Some offer.0
   offer_of_all =
       ap (λ (os : List Offer). slice_get os place) (ap (λ (es : List (Bool × Turn)). accepted (is_a x) es c) at.split ∙ accepted_both (is_a x) at.done (at.turn ∷ at.rest) c)
-      ∙ there_longer (accepted (is_a x) at.done c) (accepted (is_a x) (at.turn ∷ at.rest) (run at.done c)) place offer.0 offer.1
+      ∙ get_front (accepted (is_a x) at.done c) (accepted (is_a x) (at.turn ∷ at.rest) (run at.done c)) place offer.0 offer.1
 
   epoch_of_all : slice_get (epochs.offer_epochs (is_a x) all c all_open) place ≡ Some its_epoch.0
   epoch_of_all =
       ap (λ (ns : List ℕ). slice_get ns place)
       (ap (λ (es : List (Bool × Turn)). epochs.offer_epochs (is_a x) es c all_open) at.split ∙ epochs_go_on (is_a x) at.done (at.turn ∷ at.rest) c all_open)
-      ∙ there_longer (epochs.offer_epochs (is_a x) at.done c all_open)
+      ∙ get_front (epochs.offer_epochs (is_a x) at.done c all_open)
       (epochs.offer_epochs (is_a x) (at.turn ∷ at.rest) (run at.done c) (epochs.epochs_along (is_a x) at.done c all_open)) place its_epoch.0 its_epoch.1
 
   -- ---- between the resets

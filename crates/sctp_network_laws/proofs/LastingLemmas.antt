@@ -19,7 +19,7 @@ use Rattle.sctp_tx_rules.proofs.SackLemmas.{delivered_more}
 use Rattle.sctp_course.specs.Course as course
 use Rattle.sctp_course.specs.Course.{Pair, Turn, goes, run, start, HasNotEnded, AreGiven, MayTurn}
 use Rattle.sctp_course.specs.Handing.{ready_at, handed_at, readied}
-use Rattle.sctp_course.proofs.CourseLemmas.{before_run}
+use Rattle.sctp_course.proofs.CourseLemmas.{before_run, run_both, follows_more, follows_front}
 use Rattle.sctp_course.proofs.HandingLemmas.{handed_in_order, handed_prefix, first_halves}
 use Rattle.sctp_delivery.specs.Accepted.{Offer, accepted_at, accepted}
 use Rattle.sctp_delivery.specs.GivenUp.{told_by}
@@ -31,7 +31,7 @@ use Rattle.sctp_delivery.specs.Windows.{no_stamps}
 use Rattle.sctp_delivery.specs.Delivery as courses
 use Rattle.sctp_delivery.specs.Delivery.{AllAreDone, IsReady}
 use Rattle.sctp_delivery.specs.Ending as ending
-use Rattle.sctp_delivery.proofs.LawLemmas.{follows_front, accepted_more}
+use Rattle.sctp_delivery.proofs.LawLemmas.{accepted_more}
 use Rattle.sctp_delivery.proofs.CourseResetLemmas.{told_turned}
 use Rattle.sctp_delivery.proofs.ResetEventsLemmas.{failed_more}
 use Rattle.sctp_network_table.specs.Judge.{End, A, B, Entry, BecameReady, ready, handed_out, handed_out_by, ready_by, given_up_by}
@@ -59,17 +59,8 @@ use Rattle.sctp_network_laws.proofs.ClosingLemmas.{IsParted, parted_of, IsFront,
 
 -- ---- beginnings of courses
 
-run_both : (es fs : List (Bool × Turn)) (c : Pair) → run (es ++ fs) c ≡ run fs (run es c)
-run_both [] fs c = refl
-run_both (e ∷ es) fs c = run_both es fs (goes e.0 e.1 c)
-
 not_ended_front : (es fs : List (Bool × Turn)) (c : Pair) → HasNotEnded (run (es ++ fs) c) → HasNotEnded (run es c)
 not_ended_front es fs c h = before_run fs (run es c) (subst HasNotEnded (run_both es fs c) h)
-
-follows_more : (es : List (Bool × Turn)) (e : Bool × Turn) (c : Pair) → course.FollowsTheRules es c → MayTurn e.1 (course.side_of e.0 (run es c))
-    → course.FollowsTheRules (es ++ e ∷ []) c
-follows_more [] e c h may = (may, tt)
-follows_more (d ∷ es) e c h may = (h.0, follows_more es e (goes d.0 d.1 c) h.1 may)
 
 any_more : (test : (Bool × Turn) → Bool) (es : List (Bool × Turn)) (e : Bool × Turn) → list_any test es ≡ false → test e ≡ false → list_any test (es ++ e ∷ []) ≡ false
 any_more test [] e h k = ap (λ (b : Bool). b || false) k

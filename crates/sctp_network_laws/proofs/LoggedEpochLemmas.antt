@@ -1,13 +1,14 @@
 -- Epochs along a log: entry by entry, and over the entries of one event.
 use Rattle.std.proofs.Common.{◌≡◌, ℕ, ◌+◌, ◌==◌, ◌||◌, Bool, true, false, List, [], ◌∷◌, ◌++◌, length, refl, sym, ap, ◌∙◌, append_assoc}
 use Rattle.std.specs.List.{flat_map}
-use Rattle.std.proofs.lemmas.List.{length-append, length-map}
+use Rattle.std.proofs.lemmas.List.{length-append}
 use Rattle.std.proofs.lemmas.List.Folds.{list_any-append}
-use Rattle.sctp_state.specs.Events.{Event, OnStreamsResetPerformed}
 use Rattle.sctp_course.specs.Course.{Pair, Turn, goes, run}
 use Rattle.sctp_delivery.specs.Accepted.{Offer}
 use Rattle.sctp_delivery.specs.StreamEpochs as courses
 use Rattle.sctp_delivery.specs.StreamEpochs.{StreamEpoch, are_named, shut, opened_if, reopened, performed_of, epochs_of}
+use Rattle.sctp_delivery.proofs.StreamEpochLemmas.{one_each}
+use Rattle.sctp_delivery.proofs.ResetEventsLemmas.{named_both}
 use Rattle.sctp_network_table.specs.Judge.{End, Entry}
 use Rattle.sctp_network_laws.specs.Delivered.{offers_by, offers, happened_by, happened, reset_by, epochs_after, offer_epochs}
 use Rattle.sctp_network_laws.proofs.PrefixLemmas.{none_before, none_behind}
@@ -27,9 +28,6 @@ epochs_both x (e ∷ k) l f =
     ap (λ (ns : List ℕ). epochs_of (offers_by x e) f ++ ns) (epochs_both x k l (epochs_after x e f))
     ∙ sym (append_assoc (epochs_of (offers_by x e) f) (offer_epochs x k (epochs_after x e f)) (offer_epochs x l (epochs_along x k (epochs_after x e f))))
 
-one_each : (os : List Offer) (f : ℕ → StreamEpoch) → length (epochs_of os f) ≡ length os
-one_each os f = length-map os (λ (o : Offer). (f o.message.stream).epoch)
-
 pub epochs_are_many : (x : End) (log : List Entry) (f : ℕ → StreamEpoch) → length (offer_epochs x log f) ≡ length (offers x log)
 epochs_are_many x [] f = refl
 epochs_are_many x (e ∷ log) f =
@@ -47,11 +45,6 @@ none_offered x (e ∷ log) f h =
 
 -- ---- where nothing is reset
 
-names_both : {P : Type 0} (es fs : List (Event P)) → performed_of (es ++ fs) ≡ performed_of es ++ performed_of fs
-names_both [] fs = refl
-names_both (OnStreamsResetPerformed ids ∷ es) fs = ap (λ (ns : List ℕ). ids ++ ns) (names_both es fs) ∙ sym (append_assoc ids (performed_of es) (performed_of fs))
-names_both (e ∷ es) fs = names_both es fs
-
 reopened_both : (a b : List ℕ) (f : ℕ → StreamEpoch) (s : ℕ) → reopened (a ++ b) f s ≡ reopened b (reopened a f) s
 reopened_both a b f s = ap (λ (z : Bool). opened_if z (f s)) (list_any-append (λ i. i == s) a b) ∙ go (are_named a s) (are_named b s) (f s)
   where
@@ -67,7 +60,7 @@ told_along x (e ∷ log) f s h =
     told_along x log (epochs_after x e f) s (none_behind (reset_by x e) (flat_map (reset_by x) log) h)
     ∙ (ap (λ (ids : List ℕ). reopened (performed_of (happened x log)) (reopened (performed_of (happened_by x e)) (shut ids f)) s) (none_before (reset_by x e) (flat_map (reset_by x) log) h)
     ∙ (sym (reopened_both (performed_of (happened_by x e)) (performed_of (happened x log)) f s)
-    ∙ ap (λ (ids : List ℕ). reopened ids f s) (sym (names_both (happened_by x e) (happened x log)))))
+    ∙ ap (λ (ids : List ℕ). reopened ids f s) (sym (named_both (happened_by x e) (happened x log)))))
 
 -- over an event: what it resets stands in its first entry
 pub event_along : (x : End) (first : Entry) (more : List Entry) (f : ℕ → StreamEpoch) (s : ℕ) → flat_map (reset_by x) more ≡ []
@@ -75,7 +68,7 @@ pub event_along : (x : End) (first : Entry) (more : List Entry) (f : ℕ → Str
 event_along x first more f s h =
     told_along x more (epochs_after x first f) s h
     ∙ (sym (reopened_both (performed_of (happened_by x first)) (performed_of (happened x more)) (shut (reset_by x first) f) s)
-    ∙ ap (λ (ids : List ℕ). reopened ids (shut (reset_by x first) f) s) (sym (names_both (happened_by x first) (happened x more))))
+    ∙ ap (λ (ids : List ℕ). reopened ids (shut (reset_by x first) f) s) (sym (named_both (happened_by x first) (happened x more))))
 
 -- ---- streams that stand alike
 

@@ -61,10 +61,6 @@ pub held_both : (x : End) (h : Option Association) (k l : List Entry) → held_f
 held_both x h [] l = refl
 held_both x h (e ∷ k) l = held_both x (held_after x h e) k l
 
--- entries that tell no association
-abbrev pub IsQuiet : Entry → Type 0
-IsQuiet e = (x : End) (h : Option Association) → held_after x h e ≡ h
-
 abbrev pub AreQuiet : List Entry → Type 0
 AreQuiet l = (x : End) (h : Option Association) → held_from x h l ≡ h
 

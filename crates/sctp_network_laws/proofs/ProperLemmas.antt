@@ -15,7 +15,7 @@ use Rattle.sctp_course.specs.Course as course
 use Rattle.sctp_course.specs.Course.{Pair, Turn, Calls, turned, goes, start}
 use Rattle.sctp_delivery.specs.Accepted.{Offer, accepted_in}
 use Rattle.sctp_delivery.specs.Proper as courses
-use Rattle.sctp_delivery.specs.Proper.{Acceptance, accepted_then, gone_by, gone_at, reset_by, reset_at, forgone_then, IsProper, restores}
+use Rattle.sctp_delivery.specs.Proper.{Acceptance, accepted_then, gone_at, reset_by, reset_at, restores}
 use Rattle.sctp_delivery.proofs.ProperActsLemmas.{IsProperAt}
 use Rattle.sctp_delivery.proofs.ProperOffersLemmas.{shorter}
 use Rattle.sctp_delivery.proofs.ProperCourseLemmas.{Rests, Turns, accepted_now, goes_on, offers_back, at_first}
@@ -26,7 +26,6 @@ use Rattle.sctp_network_laws.specs.Courses.{ActionFits, IsInBytes, is_a, end_of,
 use Rattle.sctp_network_laws.specs.Delivered.{offers_by, offers, reset_in}
 use Rattle.sctp_network_laws.specs.Proper.{clock_if, clock_after, clock_from, clock, resets_if, resets_after, resets_from, resets, acceptances_by, acceptances, WorldsAreProper, AcceptancesAreOffers}
 use Rattle.sctp_network_laws.proofs.LoggedLemmas.{IsQuietOn, none_in_news}
-use Rattle.sctp_course.proofs.JoinLemmas.{not_both}
 use Rattle.sctp_network_laws.proofs.EventLemmas.{same_itself}
 use Rattle.sctp_network_laws.proofs.ClockLemmas.{moves, turn_still}
 use Rattle.sctp_network_laws.proofs.TellingLemmas.{not_other, call_resets, BeginsWith, call_begins, given_accepts, given_resets, foreign_accepts, foreign_resets}
@@ -35,6 +34,7 @@ use Rattle.sctp_network_laws.proofs.RunsLemmas.{runs_extends, happens_extends, f
 use Rattle.sctp_network_laws.proofs.PrefixLemmas.{split_head, split_tail}
 use Rattle.sctp_network_laws.proofs.BlockLemmas.{same_front}
 use Rattle.sctp_network_laws.proofs.DeliveredLemmas.{calls_log, time_side, time_log}
+use Rattle.sctp_rules.proofs.ToolsLemmas.{not_both}
 
 -- ---- a log, entry by entry
 
@@ -116,7 +116,7 @@ module _ (x : End) (all : List Acceptance) (resets : List ℕ) (now : ℕ) where
       go : (b : Bool) → same_end x y ≡ b → AllByRecursion (IsProperAt all resets now) (none_unless b g ++ given_up x more)
           → (AllByRecursion (IsProperAt all resets now) (given_up x more) → Each x (all ++ []) now resets more) → Each x all now resets (GaveUp y g ∷ more)
       go true is k rest = (λ e. k.0, rest k.1)
-      go false is k rest = (λ e. absurd (not_both (same_end x y) e is), rest k)
+      go false is k rest = (λ e. absurd (not_both e is), rest k)
   each_quiet (e ∷ more) h k = (tt, each_more more (each_quiet more h k))
 
 -- ---- one event at end x, which was `own` in the course and is `next`

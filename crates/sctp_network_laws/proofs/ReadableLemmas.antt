@@ -25,6 +25,7 @@ use Rattle.sctp_table_laws.proofs.SoundHeardLemmas.{emitted_fit}
 use Rattle.sctp_network_table.specs.Judge.{End, A, B, Entry}
 use Rattle.sctp_network_table.specs.World.{Side, World, Action, CallOf, Give, GiveForeign, TellTime, Told, ComesTo, told, skipped, Comes, Gives, Happens, Runs, fresh_side, packets_in, settled, step_of, after_call, after_time}
 use Rattle.sctp_network_laws.specs.Readable.{CanBeReadBack, IsReadableSide, IsReadable, GivesBytes, NewWorldsAreReadable, EachActionKeepsWorldsReadable, RunsKeepWorldsReadable}
+use Rattle.sctp_course.proofs.AddedLemmas.{all_get}
 
 -- ---- a packet
 
@@ -166,11 +167,6 @@ module _ (word_of : List ℕ → ℕ) where
 -- ---- both ends
 
 module _ {X : Type 0} (P : X → Type 0) where
-  all_at : (xs : List X) (n : ℕ) (x : X) → slice_get xs n ≡ Some x → All P xs → P x
-  all_at [] n x e h = absurd (cc)
-  all_at (y ∷ ys) zero x e h = subst (λ (o : Option X). IfSome o P) e (All-head P y ys h)
-  all_at (y ∷ ys) (suc n) x e h = all_at ys n x e (All-tail P y ys h)
-
   in_front : (xs ys : List X) (n : ℕ) → IfSome (slice_get (xs ++ ys) n) P → IfSome (slice_get xs n) P
   in_front [] ys n h = tt
   in_front (x ∷ xs) ys zero h = h
@@ -182,13 +178,13 @@ bytes_at side packet bytes e h = subst (λ (o : Option (List ℕ)). IfSome o Are
 module _ (f g : List ℕ → ℕ) where
   given_readable : (x : End) (packet : ℕ) (w v : World) → Gives x packet w v → GivesBytes w (Give packet x) → IsReadable f g w → IsReadable f g v
   given_readable A packet w v e small h = record {
-    a = told_readable f g A _ e.bytes w.a v.a w.log v.log e.told (all_at (CanBeReadBack g) w.b.packets packet e.bytes e.there h.b.packets)
+    a = told_readable f g A _ e.bytes w.a v.a w.log v.log e.told (all_get (CanBeReadBack g) w.b.packets packet e.bytes e.there h.b.packets)
         (bytes_at w.b packet e.bytes e.there small) h.a;
     b = subst (IsReadableSide g) (sym e.other_side) h.b;
   }
   given_readable B packet w v e small h = record {
     a = subst (IsReadableSide f) (sym e.other_side) h.a;
-    b = told_readable g f B _ e.bytes w.b v.b w.log v.log e.told (all_at (CanBeReadBack f) w.a.packets packet e.bytes e.there h.a.packets)
+    b = told_readable g f B _ e.bytes w.b v.b w.log v.log e.told (all_get (CanBeReadBack f) w.a.packets packet e.bytes e.there h.a.packets)
         (bytes_at w.a packet e.bytes e.there small) h.b;
   }
 

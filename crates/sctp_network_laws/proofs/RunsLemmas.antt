@@ -3,6 +3,7 @@ use Rattle.std.proofs.Common.{◌≡◌, ◌⊎◌, inl, inr, ℕ, ◌≤◌, Bo
 use Rattle.std.specs.Prelude.{All}
 use Rattle.std.specs.List.{flat_map, list_any}
 use Rattle.std.proofs.lemmas.List.Elements.{All-nil, All-head, All-tail}
+use Rattle.std.proofs.lemmas.Bool.{false_from_ne_true}
 use Rattle.rand_core.specs.Stream.{Stream}
 use Rattle.sctp_state.specs.Options.{Options}
 use Rattle.sctp_table.specs.Association.{Endpoint}
@@ -11,17 +12,17 @@ use Rattle.sctp_table_laws.specs.Sound.{OptionsFit}
 use Rattle.sctp_table_laws.specs.ReadBack.{as_carried}
 use Rattle.sctp_table_laws.proofs.SoundLawsLemmas.{is_new}
 use Rattle.sctp_course.specs.Course as course
-use Rattle.sctp_course.specs.Course.{Pair, Turn, Calls, Refuses, has_connected, MayCall, MayTurn, goes, run, start, new_side}
+use Rattle.sctp_course.specs.Course.{Pair, Turn, has_connected, MayCall, MayTurn, goes, run, start, new_side}
 use Rattle.sctp_network_table.specs.Judge.{End, A, B, Entry, Answer, Called, Call, Connect, Shutdown, Close, Send, SendMany, Receive, Reset, SetPriority, SetMaxMessageSize, SetLowThreshold, HandOver, connected_by, times_connected}
 use Rattle.sctp_network_table.specs.World.{Side, World, Action, CallOf, Give, GiveForeign, TellTime, ComesTo, told, skipped, Happens, Runs, settled, side_of, news_of, calls, call_entry, after_call, after_time, clock, answer_to, step_of, fresh_side, fresh_world}
 use Rattle.sctp_network_laws.specs.Courses.{ActionFits, IsInBytes, is_a, end_of, hearing, IsHearing, IsForeign, IsTurnOf, AreTurnsOf, WorldsHaveCourses}
 use Rattle.sctp_network_laws.specs.Joined.{asks, Stands, MayFollow, FollowsTheRules}
-use Rattle.sctp_course.proofs.JoinLemmas.{not_both}
 use Rattle.sctp_network_laws.proofs.EventLemmas.{Readable, connected_told}
 use Rattle.sctp_network_laws.proofs.NewsLemmas.{connected_by_told}
 use Rattle.sctp_network_laws.proofs.SidesLemmas.{Good, any_more}
 use Rattle.sctp_network_laws.proofs.StandingLemmas.{stands_front}
 use Rattle.sctp_network_laws.proofs.WorldLemmas.{Both, Extends, extends_same, extends_then, in_bytes_before, Stepped, steps}
+use Rattle.sctp_rules.proofs.ToolsLemmas.{not_both}
 
 -- ---- worlds grow
 
@@ -85,12 +86,8 @@ module _ (word_of : List ℕ → ℕ) (x : End) (log : List Entry) (others : Lis
       connected_told (as_bytes word_of) x 0 end.told
       (subst (λ (l : List Entry). 1 ≤ length (flat_map (connected_by x) l)) g.image.told (subst (λ (l : List End). 1 ≤ length l) (connected_by_told x log) h))
 
-  not_true : (b : Bool) → (b ≡ true → ⊥) → b ≡ false
-  not_true true f = absurd (f refl)
-  not_true false f = refl
-
   not_asked : (new : List (List ℕ)) → list_any (asks x (others ++ new)) log ≡ false → end.is_asked ≡ false
-  not_asked new none = not_true end.is_asked (λ e. not_both (list_any (asks x (others ++ new)) log) (any_more x others new log (g.asked e)) none)
+  not_asked new none = false_from_ne_true end.is_asked (λ e. not_both (any_more x others new log (g.asked e)) none)
 
   may_connect : (all new : List (List ℕ)) → all ≡ others ++ new → (1 ≤ times_connected x log) ⊎ (list_any (asks x all) log ≡ false)
       → (has_connected end.told ≡ true) ⊎ (end.is_asked ≡ false)

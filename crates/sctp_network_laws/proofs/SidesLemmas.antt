@@ -1,5 +1,5 @@
 -- A side of a world beside its side of a course, as one of the two ends goes on.
-use Rattle.std.proofs.Common.{◌≡◌, ℕ, zero, suc, ◌+◌, ◌||◌, ◌&&◌, Bool, true, false, Option, Some, None, List, [], ◌∷◌, ◌++◌, length, map, slice_get, refl, sym, ap, subst, ◌∙◌, append-nil, arith}
+use Rattle.std.proofs.Common.{◌≡◌, ℕ, ◌+◌, ◌||◌, ◌&&◌, Bool, true, false, Option, Some, None, List, [], ◌∷◌, ◌++◌, length, map, slice_get, refl, sym, ap, subst, ◌∙◌, append-nil, arith}
 use Rattle.std.specs.Prelude.{All}
 use Rattle.std.specs.List.{list_any}
 use Rattle.std.proofs.lemmas.List.{map-append}
@@ -14,13 +14,15 @@ use Rattle.sctp_table_laws.specs.Sound.{IsSound}
 use Rattle.sctp_table_laws.specs.ReadBack.{as_carried}
 use Rattle.sctp_course.specs.Course as course
 use Rattle.sctp_course.specs.Course.{took, emitted}
+use Rattle.sctp_course.proofs.JoinActsLemmas.{packets_both}
 use Rattle.sctp_network_table.specs.Judge.{End, same_end, Entry, Called, Given, Foreign, Timed, Associated, Emitted, Happened, GaveUp, BecameReady, held_after, held_from, held, given_up_by, given_up}
 use Rattle.sctp_network_table.specs.World.{Side, association, ready_at, packets_in, told_entries, news_of, settled}
 use Rattle.sctp_network_laws.specs.Courses.{told_by, told_in, IsImage}
 use Rattle.sctp_network_laws.specs.Joined.{asks, is_some_init}
-use Rattle.sctp_network_laws.proofs.EventLemmas.{packets_both, mapped, packets_mapped, entries_both, Readable}
+use Rattle.sctp_network_laws.proofs.EventLemmas.{mapped, packets_mapped, entries_both, Readable}
 use Rattle.sctp_network_laws.proofs.LoggedLemmas.{none_in_news, quiet_gone}
 use Rattle.sctp_network_laws.proofs.NewsLemmas.{told_both, news_own, news_other, held_both, held_own, held_other}
+use Rattle.sctp_rules.proofs.CommonLemmas.{get_front}
 
 -- ---- the first entry of an event
 
@@ -50,11 +52,6 @@ silent_news x y d e f side s = record {
 
 -- ---- what was given
 
-get_more : {X : Type 0} (xs ys : List X) (n : ℕ) (x : X) → slice_get xs n ≡ Some x → slice_get (xs ++ ys) n ≡ Some x
-get_more [] ys n x e = cc
-get_more (y ∷ xs) ys zero x e = e
-get_more (y ∷ xs) ys (suc n) x e = get_more xs ys n x e
-
 and_right : (a b c : Bool) → (b ≡ true → c ≡ true) → (a && b) ≡ true → (a && c) ≡ true
 and_right true b c f e = f e
 and_right false b c f e = e
@@ -66,7 +63,7 @@ some_more (Some bytes) p f e = ap is_some_init (f bytes refl) ∙ e
 asks_more : (x : End) (ps qs : List (List ℕ)) (e : Entry) → asks x ps e ≡ true → asks x (ps ++ qs) e ≡ true
 asks_more x ps qs (Given y clock packet) h =
     and_right (same_end x y) (is_some_init (slice_get ps packet)) (is_some_init (slice_get (ps ++ qs) packet))
-    (some_more (slice_get ps packet) (slice_get (ps ++ qs) packet) (λ bytes. get_more ps qs packet bytes)) h
+    (some_more (slice_get ps packet) (slice_get (ps ++ qs) packet) (λ bytes. get_front ps qs packet bytes)) h
 asks_more x ps qs (Called y clock call answer) h = h
 asks_more x ps qs (Foreign y clock bytes) h = h
 asks_more x ps qs (Timed y clock now) h = h

@@ -13,17 +13,17 @@ use Rattle.sctp_table.specs.Shown.{Association, association_in}
 use Rattle.sctp_table.specs.Laws as table
 use Rattle.sctp_table_laws.specs.Mapped.{Mapping, Carried, map_end}
 use Rattle.sctp_course.specs.Course as course
-use Rattle.sctp_course.specs.Course.{Turn, Calls, Gives, Refuses}
+use Rattle.sctp_course.specs.Course.{Turn, Calls}
 use Rattle.sctp_course.specs.Handing as handing
 use Rattle.sctp_course.specs.Handing.{new_behind, handed_by}
 use Rattle.sctp_delivery.specs.Accepted.{accepted_by, accepted_in}
 use Rattle.sctp_delivery.specs.GivenUp.{given_up_by}
 use Rattle.sctp_delivery.specs.Proper as turns
 use Rattle.sctp_delivery.specs.Proper.{reset_unless}
-use Rattle.sctp_network_table.specs.Judge.{End, A, B, same_end, same_association, same_numbers, all_unless, Call, Connect, Shutdown, Close, Send, SendMany, Receive, Reset, SetPriority, SetMaxMessageSize, SetLowThreshold, HandOver, Answer, Entry, Called, Given, Foreign, Timed, ready_by, handed_out_in, handed_out_by, given_up}
+use Rattle.sctp_network_table.specs.Judge.{End, A, B, same_end, same_association, same_numbers, all_unless, Call, Connect, Shutdown, Close, Send, SendMany, Receive, Reset, SetPriority, SetMaxMessageSize, SetLowThreshold, HandOver, Entry, Given, Foreign, ready_by, handed_out_in, handed_out_by, given_up}
 use Rattle.sctp_network_table.specs.Judge as judge
 use Rattle.sctp_network_table.specs.World as worlds
-use Rattle.sctp_network_table.specs.World.{Side, World, Action, CallOf, Give, GiveForeign, TellTime, ComesTo, told, skipped, Happens, side_of, other, association, ready_before, news_of, settled, recorded, handed_by as record_by, step_of, answer_to, call_entry, after_call, time_entry, after_time, clock}
+use Rattle.sctp_network_table.specs.World.{Side, told, other, association, ready_before, news_of, settled, handed_by as record_by, step_of, answer_to, call_entry, time_entry, clock}
 use Rattle.sctp_network_laws.specs.Courses.{hearing, IsHearing, IsForeign}
 use Rattle.sctp_network_laws.specs.Delivered.{offers_in, offers_by, happened_by, happened, reset_in, reset_by, gone, reported_by, reported}
 use Rattle.sctp_network_laws.proofs.EventLemmas.{same_itself}
@@ -41,7 +41,7 @@ not_other B = refl
 numbers_same : (a : Association) → same_numbers a a ≡ true
 numbers_same a = grind (arith, nat_tests)
 
-association_same : (a : Option Association) → same_association a a ≡ true
+pub association_same : (a : Option Association) → same_association a a ≡ true
 association_same None = refl
 association_same (Some a) = numbers_same a
 

@@ -1,12 +1,11 @@
 -- What an end makes of a call, a packet or bytes from elsewhere is a turn of the course.
-use Rattle.std.proofs.Common.{◌≡◌, inl, inr, ℕ, zero, suc, ◌≤◌, ◌<◌, ◌^◌, ◌==◌, ◌||◌, ◌&&◌, Bool, true, false, Option, Some, None, List, [], ◌∷◌, ◌++◌, length, take, drop, slice_get, refl, sym, ap, subst, ◌∙◌, append-nil}
+use Rattle.std.proofs.Common.{◌≡◌, inl, inr, ℕ, ◌≤◌, ◌<◌, ◌^◌, ◌==◌, ◌||◌, ◌&&◌, Bool, true, false, Option, Some, None, List, [], ◌∷◌, ◌++◌, length, take, drop, slice_get, refl, sym, ap, subst, ◌∙◌, append-nil}
 use Rattle.std.specs.Prelude.{All}
 use Rattle.std.specs.Int.{w32, from_be_bytes}
 use Rattle.std.specs.List.{list_any}
 use Rattle.std.proofs.lemmas.Nat.{from_be_bytes-to_be_bytes_4}
-use Rattle.std.proofs.lemmas.List.Elements.{All-head, All-tail}
 use Rattle.std.proofs.lemmas.List.Folds.{list_any-append}
-use Rattle.std.proofs.lemmas.Bool.{eqb-true, or_left, or_right}
+use Rattle.std.proofs.lemmas.Bool.{eqb-true, or_left, or_right, false_from_ne_true}
 use Rattle.sctp_wire.specs.Fields.{be16, be32}
 use Rattle.sctp_packet.specs.Chunk.{ChunkTree}
 use Rattle.sctp_packet.specs.Packet.{HeaderTree, PacketTree, FitsHeader, IsPacket, Accepts, lets_through, checksum_field, header_bytes, packet_bytes}
@@ -59,11 +58,6 @@ readable_after c d quiet small is t =
     subst (λ (es : List (Event Carried)). All Readable (course.packets_in es)) (sym (t.behind ∙ ap (λ (z : Told Carried). z.events ++ t.events) quiet))
     (all_readable c.options.mtu c.pack small is t.events t.can_be_read)
 
-pub get_all : {X : Type 0} (P : X → Type 0) (xs : List X) (n : ℕ) (x : X) → slice_get xs n ≡ Some x → All P xs → P x
-get_all P [] n x e h = cc
-get_all {X} P (y ∷ ys) zero x e h = subst P (ap (λ (o : Option X). elim o [ None ↦ x | Some z ↦ z ]) e) (All-head P y ys h)
-get_all P (y ∷ ys) (suc n) x e h = get_all P ys n x e (All-tail P y ys h)
-
 -- ---- an INIT
 
 tag_at : (h : HeaderTree) (word : ℕ) (cs : List ChunkTree) → FitsHeader h → from_be_bytes w32 (take 4 (drop 4 (packet_bytes h word cs))) ≡ h.verification_tag
@@ -75,10 +69,6 @@ tag_at h word cs fits = from_be_bytes-to_be_bytes_4 h.verification_tag fits.veri
 pub field_in : (h : HeaderTree) (word : ℕ) (cs : List ChunkTree) → word < 2 ^ 32 → checksum_field (packet_bytes h word cs) ≡ word
 unfolding packet_bytes
 field_in h word cs small = field_at h word (chunks_bytes cs) small
-
-not_true : (b : Bool) → (b ≡ true → ⊥) → b ≡ false
-not_true true f = absurd (f refl)
-not_true false f = refl
 
 -- ---- an end
 
@@ -233,7 +223,7 @@ module _ (word_of : List ℕ → ℕ) (x : End) (log : List Entry) (first : Entr
           )
       given_goes after (not_read fault is_fault refuses is) news logged =
           let no_it : passes ≡ false =
-          not_true passes (λ e. never_both_lem (policy_of side.socket.standing.context.options) (word_at by packet) packet fault (as_heard p sum) is_fault refuses (accepts_it e)) in
+          false_from_ne_true passes (λ e. never_both_lem (policy_of side.socket.standing.context.options) (word_at by packet) packet fault (as_heard p sum) is_fault refuses (accepts_it e)) in
           (Calls NoPacket, heard_turn (Calls NoPacket) false no_it refl, call_goes NoPacket tt after is news logged)
 
   -- ---- bytes from elsewhere

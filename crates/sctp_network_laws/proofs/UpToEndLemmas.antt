@@ -1,8 +1,9 @@
 -- The part of a run up to the first event that ends an association.
-use Rattle.std.proofs.Common.{◌≡◌, ◌⊎◌, inl, inr, ◌||◌, Bool, false, List, [], ◌∷◌, refl, sym, ap, subst, ◌∙◌}
+use Rattle.std.proofs.Common.{◌≡◌, ◌⊎◌, inl, inr, Bool, false, List, [], ◌∷◌, refl, sym, subst}
 use Rattle.std.specs.Prelude.{All}
 use Rattle.std.specs.List.{list_any}
 use Rattle.std.proofs.lemmas.List.Elements.{All-nil, All-cons, All-head, All-tail}
+use Rattle.std.proofs.lemmas.Bool.{or_from}
 use Rattle.sctp_delivery.specs.Answered.{Asked}
 use Rattle.sctp_delivery.specs.Windows.{Stamps}
 use Rattle.sctp_network_table.specs.World.{World, Action, Happens, Runs}
@@ -48,9 +49,6 @@ none_stand P (action ∷ actions) w v r n =
     let e : Extends w r.0 = happens_extends action w r.0 r.1 in
     ((λ st. absurd (n st)), none_stand P actions r.0 v r.2 (λ st. n (stands_front w.log e.more r.0.log e.logged st)))
 
-neither : (a b : Bool) → a ≡ false → b ≡ false → (a || b) ≡ false
-neither a b e f = ap (λ (z : Bool). z || b) e ∙ f
-
 pub up_to_end : (actions : List Action) (w v : World) → All ActionFits actions → (r : Runs actions w v) → Stands w.log → UpToEnd actions w v r
 up_to_end [] w v fit r stands = record {
   front = [];
@@ -82,7 +80,7 @@ up_to_end (action ∷ actions) w v fit r stands =
           later = rest.later;
           windows = λ s k. (k.0, rest.windows (stamps_after w r.0 s) k.1);
           requests = λ k h. (h.0, rest.requests (asked_after w r.0 k) h.1);
-          none_such = λ test k. neither (test action) (list_any test rest.front) (k.0 stands) (rest.none_such test k.1);
+          none_such = λ test k. or_from (test action) (list_any test rest.front) (k.0 stands) (rest.none_such test k.1);
           along_run = λ P h. ((λ st. h.0), rest.along_run P h.1);
           over = elim rest.over [
             | inl e ↦ inl e

@@ -14,6 +14,7 @@ use Rattle.sctp_table_laws.specs.Mapped.{Carried, as_written}
 use Rattle.sctp_table_laws.specs.ReadBack.{AreBytes}
 use Rattle.sctp_course.specs.Course as course
 use Rattle.sctp_course.specs.Course.{Pair, Turn, Calls, emitted, goes, turned}
+use Rattle.sctp_course.proofs.AddedLemmas.{all_get}
 use Rattle.sctp_delivery.specs.GivenUp as giving
 use Rattle.sctp_delivery.specs.GivenUp.{given_up_at}
 use Rattle.sctp_delivery.specs.Proper.{gone_given, gone_if, gone_by, gone_at}
@@ -23,7 +24,7 @@ use Rattle.sctp_network_laws.specs.Courses.{ActionFits, IsInBytes, is_a, end_of,
 use Rattle.sctp_network_laws.specs.Delivered.{gone}
 use Rattle.sctp_network_laws.proofs.EventLemmas.{Readable}
 use Rattle.sctp_network_laws.proofs.SidesLemmas.{Good, stays_good}
-use Rattle.sctp_network_laws.proofs.TurnsLemmas.{Goes, get_all, call_goes, given_goes, foreign_goes, skipped_goes}
+use Rattle.sctp_network_laws.proofs.TurnsLemmas.{Goes, call_goes, given_goes, foreign_goes, skipped_goes}
 
 -- ---- both sides
 
@@ -217,16 +218,16 @@ module _ (word_of_a word_of_b : List ℕ → ℕ) where
   step_give A n w u c small g h =
       let found = found_at (as_written word_of_b) (emitted c.b) n g.bytes (ap (λ (ps : List (List ℕ)). slice_get ps n) (sym h.b.image.packets) ∙ g.there) in
       let went = given_goes word_of_a A w.log (Given A w.a.socket.standing.context.now n) w.b.packets w.a c.a c.b (record { told = λ y. refl; quiet = λ y o. refl; gone = λ y. refl }) h.a u.a u.log
-      word_of_b n w.a.socket.standing.context.now found.0 (get_all Readable (emitted c.b) n found.0 found.1 h.b.readable) found.1
-      (g.there ∙ ap Some found.2) (subst AreBytes found.2 (get_all AreBytes w.b.packets n g.bytes g.there small.b)) refl
+      word_of_b n w.a.socket.standing.context.now found.0 (all_get Readable (emitted c.b) n found.0 found.1 h.b.readable) found.1
+      (g.there ∙ ap Some found.2) (subst AreBytes found.2 (all_get AreBytes w.b.packets n g.bytes g.there small.b)) refl
       w.a.socket.standing.context.pack.word_of (ap (λ (z : Endpoint (List ℕ)). z.standing.context.pack.word_of) h.a.image.socket) g.told.after
       (subst (λ (bytes : List ℕ). Takes bytes w.a.socket g.told.after) found.2 g.told.takes) g.told.side g.told.logged in
       stepped_a (Give n A) w u c refl h went.0 went.1 went.2 g.other_side
   step_give B n w u c small g h =
       let found = found_at (as_written word_of_a) (emitted c.a) n g.bytes (ap (λ (ps : List (List ℕ)). slice_get ps n) (sym h.a.image.packets) ∙ g.there) in
       let went = given_goes word_of_b B w.log (Given B w.b.socket.standing.context.now n) w.a.packets w.b c.b c.a (record { told = λ y. refl; quiet = λ y o. refl; gone = λ y. refl }) h.b u.b u.log
-      word_of_a n w.b.socket.standing.context.now found.0 (get_all Readable (emitted c.a) n found.0 found.1 h.a.readable) found.1
-      (g.there ∙ ap Some found.2) (subst AreBytes found.2 (get_all AreBytes w.a.packets n g.bytes g.there small.a)) refl
+      word_of_a n w.b.socket.standing.context.now found.0 (all_get Readable (emitted c.a) n found.0 found.1 h.a.readable) found.1
+      (g.there ∙ ap Some found.2) (subst AreBytes found.2 (all_get AreBytes w.a.packets n g.bytes g.there small.a)) refl
       w.b.socket.standing.context.pack.word_of (ap (λ (z : Endpoint (List ℕ)). z.standing.context.pack.word_of) h.b.image.socket) g.told.after
       (subst (λ (bytes : List ℕ). Takes bytes w.b.socket g.told.after) found.2 g.told.takes) g.told.side g.told.logged in
       stepped_b (Give n B) w u c refl h went.0 went.1 went.2 g.other_side
