@@ -3,7 +3,7 @@ use Rattle.std.proofs.Common.{◌≡◌, ℕ, ◌^◌, ◌<◌, ◌==◌, ◌&&�
 use Rattle.std.specs.Prelude.{nat_lt}
 use Rattle.std.specs.Option.{is_some}
 use Rattle.std.specs.List.{list_any, AllByRecursion}
-use Rattle.std.proofs.lemmas.Bool.{and_parts, ltb-true, or_right}
+use Rattle.std.proofs.lemmas.Bool.{and_parts, ltb-true, or_right, or_parts}
 use Rattle.std.proofs.lemmas.List.Elements.{All-nil, All-cons}
 use Rattle.sctp_packet.specs.Chunk.{ChunkTree}
 use Rattle.sctp_packet.specs.Packet.{HeaderTree}
@@ -14,14 +14,13 @@ use Rattle.sctp_table_laws.specs.Mapped.{Carried}
 use Rattle.sctp_table_laws.specs.Sound.{OptionsFit, FitsMessage}
 use Rattle.sctp_table_laws.specs.ReadBack.{AreBytes}
 use Rattle.sctp_course.specs.Course as course
-use Rattle.sctp_course.specs.Course.{Pair, Turn, Calls, Gives, emitted, goes, run, AreGiven}
+use Rattle.sctp_course.specs.Course.{Pair, Turn, Calls, Gives, emitted, goes, AreGiven}
 use Rattle.sctp_course.specs.Handing.{text}
 use Rattle.sctp_course.proofs.OpensLemmas.{one_opens}
 use Rattle.sctp_network_table.specs.Judge.{A, B}
 use Rattle.sctp_network_table.specs.World.{Action, CallOf, Give, GiveForeign, TellTime, step_of}
 use Rattle.sctp_network_laws.specs.Courses.{ActionFits, is_a, end_of, is_let_through, hearing, IsHearing, IsTurnOf, AreTurnsOf}
 use Rattle.sctp_network_runs.specs.Worlds.{is_foreign, NoneIsForeign}
-use Rattle.sctp_network_runs.proofs.NextLemmas.{neither_first, neither_rest}
 
 -- ---- where each checksum is 0, each packet is let through
 
@@ -79,8 +78,8 @@ turns_are (action ∷ actions) c none h =
     let at_a : Bool = is_a (end_of action) in
     let parts = and_parts (is_there (turn_of action) (course.side_of (not at_a) c)) (are_there (turns_of actions) (goes at_a (turn_of action) c)) h in (
       refl,
-      one_turn action c (neither_first (is_foreign action) (list_any is_foreign actions) none) parts.0,
-      turns_are actions (goes at_a (turn_of action) c) (neither_rest (is_foreign action) (list_any is_foreign actions) none) parts.1,
+      one_turn action c ((or_parts (is_foreign action) (list_any is_foreign actions) none).0) parts.0,
+      turns_are actions (goes at_a (turn_of action) c) ((or_parts (is_foreign action) (list_any is_foreign actions) none).1) parts.1,
     )
 
 -- ---- bytes

@@ -2,6 +2,7 @@
 use Rattle.std.proofs.Common.{◌≡◌, inr, ℕ, Bool, true, false, Some, List, [], ◌∷◌, ◌++◌, length, refl, sym, ap, subst, ◌∙◌, append-nil, append_assoc}
 use Rattle.std.specs.List.{flat_map, list_any}
 use Rattle.std.proofs.lemmas.Grind.{flat_map-append}
+use Rattle.std.proofs.lemmas.Bool.{or_parts}
 use Rattle.sctp_table.specs.Association.{Endpoint}
 use Rattle.sctp_network_table.specs.Judge.{End, A, Entry, Called, Given, Foreign, Timed, Associated, Emitted, Happened, GaveUp, BecameReady, Call, Connect, Shutdown, Close, Send, SendMany, Receive, Reset, SetPriority, SetMaxMessageSize, SetLowThreshold, HandOver}
 use Rattle.sctp_network_table.specs.World.{Side, World, Action, CallOf, Give, GiveForeign, TellTime, ComesTo, told, skipped, Happens, Runs, side_of, association, ready_at, news_of, clock, call_entry, after_call, time_entry, after_time}
@@ -10,7 +11,6 @@ use Rattle.sctp_network_laws.proofs.LoggedLemmas.{IsQuietOn, none_in_news}
 use Rattle.sctp_network_laws.proofs.PrefixLemmas.{none_behind, none_before}
 use Rattle.sctp_network_laws.proofs.DeliveredLemmas.{calls_log, time_log}
 use Rattle.sctp_network_laws.proofs.FollowsLemmas.{Each, follows_by}
-use Rattle.sctp_network_runs.proofs.NextLemmas.{neither_first, neither_rest}
 
 -- ---- calls of which the rules ask something
 
@@ -70,8 +70,8 @@ adds (TellTime x now) w u k e = (
 adds_run : (actions : List Action) (w v : World) → list_any asks_rules actions ≡ false → Runs actions w v → AddsNoRuled w.log v.log
 adds_run [] w v k r = ([], ap (λ (z : World). z.log) r ∙ sym (append-nil w.log), refl)
 adds_run (action ∷ actions) w v k r =
-    let one = adds action w r.0 (neither_first (asks_rules action) (list_any asks_rules actions) k) r.1 in
-    let rest = adds_run actions r.0 v (neither_rest (asks_rules action) (list_any asks_rules actions) k) r.2 in (
+    let one = adds action w r.0 ((or_parts (asks_rules action) (list_any asks_rules actions) k).0) r.1 in
+    let rest = adds_run actions r.0 v ((or_parts (asks_rules action) (list_any asks_rules actions) k).1) r.2 in (
       one.0 ++ rest.0,
       rest.1 ∙ (ap (λ (l : List Entry). l ++ rest.0) one.1 ∙ append_assoc w.log one.0 rest.0),
       flat_map-append ruled_by one.0 rest.0 ∙ (ap (λ (l : List Entry). l ++ ruled rest.0) one.2 ∙ rest.2),

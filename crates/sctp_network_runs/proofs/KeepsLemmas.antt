@@ -3,6 +3,7 @@ use Rattle.std.proofs.Common.{◌≡◌, ℕ, Bool, true, false, Some, List, [],
 use Rattle.std.specs.Prelude.{All}
 use Rattle.std.specs.List.{list_any}
 use Rattle.std.proofs.lemmas.List.Elements.{All-head, All-tail}
+use Rattle.std.proofs.lemmas.Bool.{or_parts}
 use Rattle.sctp_table.specs.Association.{Endpoint}
 use Rattle.sctp_table.specs.Laws.{NoPacket}
 use Rattle.sctp_table.specs.Wire.{field_of}
@@ -21,7 +22,7 @@ use Rattle.sctp_network_runs.specs.Worlds.{is_foreign, NoneIsForeign}
 use Rattle.sctp_network_laws.proofs.WorldLemmas.{Both, extends_then, in_bytes_before}
 use Rattle.sctp_network_laws.proofs.RunsLemmas.{runs_extends, happens_extends}
 use Rattle.sctp_network_laws.proofs.DeliveredLemmas.{stamp_same, stamps_same, asked_same}
-use Rattle.sctp_network_runs.proofs.NextLemmas.{neither_first, neither_rest, goes_next}
+use Rattle.sctp_network_runs.proofs.NextLemmas.{goes_next}
 
 -- a packet that isn't let through is heard as none
 abbrev pub is_of_none : Turn → Bool
@@ -71,8 +72,8 @@ module _ (word_of_a word_of_b : List ℕ → ℕ) where
   keeps (action ∷ actions) ((at_a, turn) ∷ es) w v c s fit none heard are r small h k =
       let u : World = r.0 in
       let here : IsInBytes w = in_bytes_before w v (extends_then w u v (happens_extends action w u r.1) (runs_extends actions u v r.2)) small in
-      let own : is_foreign action ≡ false = neither_first (is_foreign action) (list_any is_foreign actions) none in
-      let some : is_of_none turn ≡ false = neither_first (is_of_none turn) (list_any (λ (e : Bool × Turn). is_of_none e.1) es) heard in
+      let own : is_foreign action ≡ false = (or_parts (is_foreign action) (list_any is_foreign actions) none).0 in
+      let some : is_of_none turn ≡ false = (or_parts (is_of_none turn) (list_any (λ (e : Bool × Turn). is_of_none e.1) es) heard).0 in
       let both : Both word_of_a word_of_b u (goes at_a turn c) =
       subst (λ (b : Bool). Both word_of_a word_of_b u (goes b turn c)) (sym are.0)
       (goes_next word_of_a word_of_b action w u c turn own (All-head ActionFits action actions fit) here r.1 are.1 h) in (
@@ -81,7 +82,7 @@ module _ (word_of_a word_of_b : List ℕ → ℕ) where
           timely action w c turn s h some are.1 (subst (λ (b : Bool). windows.IsTimely turn (windows.stamp c) (windows.stamps_for b s)) are.0 k.1),
         )),
         keeps actions es u v (goes at_a turn c) (stamps_after w u s) (All-tail ActionFits action actions fit)
-            (neither_rest (is_foreign action) (list_any is_foreign actions) none) (neither_rest (is_of_none turn) (list_any (λ (e : Bool × Turn). is_of_none e.1) es) heard)
+            ((or_parts (is_foreign action) (list_any is_foreign actions) none).1) ((or_parts (is_of_none turn) (list_any (λ (e : Bool × Turn). is_of_none e.1) es) heard).1)
             are.2 r.2 small both
             (subst (λ (z : Stamps). windows.KeepsWindows es (goes at_a turn c) z) (sym (stamps_same word_of_a word_of_b at_a turn w u c s h both)) k.2),
       )
@@ -106,12 +107,12 @@ module _ (word_of_a word_of_b : List ℕ → ℕ) where
   keeps_requests (action ∷ actions) ((at_a, turn) ∷ es) w v c k fit none are r small h i =
       let u : World = r.0 in
       let here : IsInBytes w = in_bytes_before w v (extends_then w u v (happens_extends action w u r.1) (runs_extends actions u v r.2)) small in
-      let own : is_foreign action ≡ false = neither_first (is_foreign action) (list_any is_foreign actions) none in
+      let own : is_foreign action ≡ false = (or_parts (is_foreign action) (list_any is_foreign actions) none).0 in
       let both : Both word_of_a word_of_b u (goes at_a turn c) =
       subst (λ (b : Bool). Both word_of_a word_of_b u (goes b turn c)) (sym are.0)
       (goes_next word_of_a word_of_b action w u c turn own (All-head ActionFits action actions fit) here r.1 are.1 h) in (
         (λ stands. are_answered w c k h i.0),
         keeps_requests actions es u v (goes at_a turn c) (asked_after w u k) (All-tail ActionFits action actions fit)
-            (neither_rest (is_foreign action) (list_any is_foreign actions) none) are.2 r.2 small both
+            ((or_parts (is_foreign action) (list_any is_foreign actions) none).1) are.2 r.2 small both
             (subst (λ (z : Asked). requests.KeepsRequests es (goes at_a turn c) z) (sym (asked_same word_of_a word_of_b at_a turn w u c k h both)) i.1),
       )

@@ -1,15 +1,13 @@
 -- What may happen next at a world; and each course without bytes from elsewhere is that of a world.
-use Rattle.std.proofs.Common.{◌≡◌, ℕ, ◌||◌, ◌+◌, Bool, true, false, Option, Some, None, List, [], ◌∷◌, ◌++◌, length, map, slice_get, refl, sym, ap, subst, ◌∙◌, append-nil, arith}
+use Rattle.std.proofs.Common.{◌≡◌, ℕ, Bool, true, false, Option, Some, None, List, [], ◌∷◌, ◌++◌, map, slice_get, refl, sym, ap, subst, ◌∙◌, append-nil, arith}
 use Rattle.std.specs.Prelude.{All, option_map}
 use Rattle.std.specs.List.{list_any}
 use Rattle.std.proofs.lemmas.List.{map-append}
 use Rattle.std.proofs.lemmas.List.Elements.{All-head, All-tail}
-use Rattle.std.proofs.lemmas.Option.{slice_get-map}
-use Rattle.sctp_packet.specs.Chunk.{ChunkTree}
-use Rattle.sctp_packet.specs.Written.{chunks_bytes}
-use Rattle.sctp_packet.specs.Packet.{HeaderTree, PacketTree, Accepts, IsSized, lets_through, packet_bytes}
+use Rattle.std.proofs.lemmas.Option.{slice_get-map, same_Some}
+use Rattle.std.proofs.lemmas.Bool.{or_parts}
+use Rattle.sctp_packet.specs.Packet.{PacketTree, Accepts, IsSized, lets_through}
 use Rattle.sctp_packet.specs.declared.packet.PacketParseError.TheVariants.{InvalidChecksum}
-use Rattle.sctp_packet.proofs.PacketLemmas.{length_joined}
 use Rattle.sctp_state.specs.Options.{Options}
 use Rattle.sctp_state.specs.Events.{Event}
 use Rattle.sctp_table.specs.Association.{Endpoint}
@@ -19,23 +17,21 @@ use Rattle.sctp_table.specs.Wire.{field_of, word_at}
 use Rattle.sctp_table_laws.specs.Mapped.{Carried, as_written}
 use Rattle.sctp_table_laws.specs.HeardBack.{IsHearable, as_heard}
 use Rattle.sctp_table_laws.specs.ReadBack.{AreBytes}
-use Rattle.sctp_table_laws.proofs.HeardBackLemmas.{is_accepted}
+use Rattle.sctp_table_laws.proofs.HeardBackLemmas.{is_accepted, length_written}
 use Rattle.sctp_course.specs.Course as course
 use Rattle.sctp_course.specs.Course.{Pair, Turn, Calls, Refuses, emitted, given, foreign_if, turned, goes, run, start}
+use Rattle.sctp_course.proofs.JoinActsLemmas.{packets_both}
+use Rattle.sctp_course.proofs.AddedLemmas.{all_get}
 use Rattle.sctp_network_table.specs.Judge.{End, A, B, Call, Given}
 use Rattle.sctp_network_table.specs.World.{World, Action, CallOf, Give, GiveForeign, TellTime, Gives, Happens, Runs, clock, recorded, calls, tells_time, fresh_world}
 use Rattle.sctp_network_laws.specs.Courses.{ActionFits, IsInBytes, is_a, end_of, is_let_through, hearing, IsHearing, IsTurnOf, AreTurnsOf}
 use Rattle.sctp_network_runs.specs.Worlds.{is_foreign, NoneIsForeign, EmitsBytes, BothEmitBytes, CoursesHaveWorlds}
-use Rattle.sctp_network_laws.proofs.EventLemmas.{Readable, packets_both}
-use Rattle.sctp_network_laws.proofs.TurnsLemmas.{field_in, get_all}
+use Rattle.sctp_network_laws.proofs.EventLemmas.{Readable}
+use Rattle.sctp_network_laws.proofs.TurnsLemmas.{field_in}
 use Rattle.sctp_network_laws.proofs.WorldLemmas.{Both, all_front, Stepped, steps}
 use Rattle.sctp_network_laws.proofs.RunsLemmas.{fresh_both}
 
 -- ---- each packet of the other end is heard, or refused for its checksum
-
-length_of : (h : HeaderTree) (word : ℕ) (cs : List ChunkTree) → length (packet_bytes h word cs) ≡ 12 + length (chunks_bytes cs)
-unfolding packet_bytes
-length_of h word cs = length_joined h word (chunks_bytes cs)
 
 module _ (writes : List ℕ → ℕ) (p : Carried) (reads : Readable p) (s : Endpoint (List ℕ)) (by : List ℕ → ℕ) where
   abbrev packet : List ℕ
@@ -54,7 +50,7 @@ module _ (writes : List ℕ → ℕ) (p : Carried) (reads : Readable p) (s : End
   lenient_too = is_accepted writes p lenient hearable
 
   sized : IsSized packet
-  sized = record { low = omega (arith, length_of p.header sum p.chunks); high = lenient_too.short_enough }
+  sized = record { low = omega (arith, length_written p.header sum p.chunks); high = lenient_too.short_enough }
 
   hears_by : (b : Bool) → lets_through (policy_of s.standing.context.options) (word_at by packet) sum ≡ b → (t : Endpoint (List ℕ)) × Hears by packet s t
   hears_by true e =
@@ -70,17 +66,6 @@ module _ (writes : List ℕ → ℕ) (p : Carried) (reads : Readable p) (s : End
 
 there_in : (f : Carried → List ℕ) (packets : List (List ℕ)) (ps : List Carried) (n : ℕ) (p : Carried) → packets ≡ map f ps → slice_get ps n ≡ Some p → slice_get packets n ≡ Some (f p)
 there_in f packets ps n p e there = ap (λ (l : List (List ℕ)). slice_get l n) e ∙ (slice_get-map f ps n ∙ ap (option_map f) there)
-
-pub neither_first : (a b : Bool) → (a || b) ≡ false → a ≡ false
-neither_first true b e = cc
-neither_first false b e = refl
-
-pub neither_rest : (a b : Bool) → (a || b) ≡ false → b ≡ false
-neither_rest true b e = cc
-neither_rest false b e = e
-
-some_same : {X : Type 0} (x y : X) → Some x ≡ Some y → x ≡ y
-some_same x y e = cc
 
 one_there : {X : Type 0} (x : X) → (y : X) × (y ≡ x)
 one_there x = (x, refl)
@@ -99,7 +84,7 @@ next_time x now w = one_there (tells_time x now w)
 module _ (word_of_a word_of_b : List ℕ → ℕ) where
   give_a : (n : ℕ) (w : World) (c : Pair) → Both word_of_a word_of_b w c → (p : Carried) → slice_get (emitted c.b) n ≡ Some p → (u : World) × Gives A n w u
   give_a n w c h p there =
-      let t = hears word_of_b p (get_all Readable (emitted c.b) n p there h.b.readable) w.a.socket w.a.socket.standing.context.pack.word_of in (
+      let t = hears word_of_b p (all_get Readable (emitted c.b) n p there h.b.readable) w.a.socket w.a.socket.standing.context.pack.word_of in (
         recorded A (Given A (clock w.a.socket) n) t.0 w,
         record {
           bytes = as_written word_of_b p;
@@ -116,7 +101,7 @@ module _ (word_of_a word_of_b : List ℕ → ℕ) where
 
   give_b : (n : ℕ) (w : World) (c : Pair) → Both word_of_a word_of_b w c → (p : Carried) → slice_get (emitted c.a) n ≡ Some p → (u : World) × Gives B n w u
   give_b n w c h p there =
-      let t = hears word_of_a p (get_all Readable (emitted c.a) n p there h.a.readable) w.b.socket w.b.socket.standing.context.pack.word_of in (
+      let t = hears word_of_a p (all_get Readable (emitted c.a) n p there h.a.readable) w.b.socket w.b.socket.standing.context.pack.word_of in (
         recorded B (Given B (clock w.b.socket) n) t.0 w,
         record {
           bytes = as_written word_of_a p;
@@ -142,7 +127,7 @@ module _ (word_of_a word_of_b : List ℕ → ℕ) where
   one_hearing : (f g : List ℕ → ℕ) (n : ℕ) (end beside : course.Side) (t u : Turn) → IsHearing f g n end beside t → IsHearing f g n end beside u → t ≡ u
   one_hearing f g n end beside t u i j =
       i.heard
-      ∙ (ap (λ (p : Carried). hearing (is_let_through f g end.end.standing.context.options p) n (field_of g p.header p.is_summed p.chunks)) (some_same i.carried j.carried (sym i.there ∙ j.there))
+      ∙ (ap (λ (p : Carried). hearing (is_let_through f g end.end.standing.context.options p) n (field_of g p.header p.is_summed p.chunks)) (same_Some i.carried j.carried (sym i.there ∙ j.there))
       ∙ sym j.heard)
 
   one_turn : (action : Action) (t u : Turn) (c : Pair) → is_foreign action ≡ false → IsTurnOf word_of_a word_of_b action t c → IsTurnOf word_of_a word_of_b action u c → t ≡ u
@@ -167,10 +152,10 @@ module _ (word_of_a word_of_b : List ℕ → ℕ) where
   one_course (action ∷ actions) (e ∷ es) [] c none i j = absurd j
   one_course (action ∷ actions) ((at_a, t) ∷ es) ((at, u) ∷ fs) c none i j =
       let ends : at_a ≡ at = i.0 ∙ sym j.0 in
-      let turns : t ≡ u = one_turn action t u c (neither_first (is_foreign action) (list_any is_foreign actions) none) i.1 j.1 in
+      let turns : t ≡ u = one_turn action t u c ((or_parts (is_foreign action) (list_any is_foreign actions) none).0) i.1 j.1 in
       let same : (at_a, t) ≡ (at, u) = ap (λ (z : Bool). (z, t)) ends ∙ ap (λ (z : Turn). (at, z)) turns in
       let rest : es ≡ fs =
-      one_course actions es fs (goes at_a t c) (neither_rest (is_foreign action) (list_any is_foreign actions) none) i.2
+      one_course actions es fs (goes at_a t c) ((or_parts (is_foreign action) (list_any is_foreign actions) none).1) i.2
       (subst (λ (z : Bool × Turn). AreTurnsOf word_of_a word_of_b actions fs (goes z.0 z.1 c)) (sym same) j.2) in
       ap (λ (z : Bool × Turn). z ∷ es) same ∙ ap (λ (l : List (Bool × Turn)). (at, u) ∷ l) rest
 
@@ -223,14 +208,14 @@ module _ (word_of_a word_of_b : List ℕ → ℕ) where
   reaches [] (e ∷ es) w c fit none are bytes h = absurd are
   reaches (action ∷ actions) [] w c fit none are bytes h = absurd are
   reaches (action ∷ actions) (e ∷ es) w c fit none are bytes h =
-      let own : is_foreign action ≡ false = neither_first (is_foreign action) (list_any is_foreign actions) none in
+      let own : is_foreign action ≡ false = (or_parts (is_foreign action) (list_any is_foreign actions) none).0 in
       let n = next word_of_a word_of_b action w c e.1 own h are.1 in
       let small : IsInBytes w = in_bytes w c h (bytes_before (e ∷ es) c bytes) in
       let both : Both word_of_a word_of_b n.0 (goes (is_a (end_of action)) e.1 c) =
       goes_next word_of_a word_of_b action w n.0 c e.1 own (All-head ActionFits action actions fit) small n.1 are.1 h in
       let rest : Reaches actions n.0 (run es (goes e.0 e.1 c)) =
       reaches actions es n.0 (goes e.0 e.1 c) (All-tail ActionFits action actions fit)
-      (neither_rest (is_foreign action) (list_any is_foreign actions) none) are.2 bytes
+      ((or_parts (is_foreign action) (list_any is_foreign actions) none).1) are.2 bytes
       (subst (λ (b : Bool). Both word_of_a word_of_b n.0 (goes b e.1 c)) (sym are.0) both) in
       record { world = rest.world; runs = (n.0, n.1, rest.runs); both = rest.both }
 

@@ -3,6 +3,7 @@ use Rattle.std.proofs.Common.{◌≡◌, ℕ, ◌+◌, ◌-◌, ◌^◌, ◌<◌
 use Rattle.std.specs.Prelude.{All}
 use Rattle.std.specs.List.{flat_map, list_any}
 use Rattle.std.proofs.lemmas.Grind.{flat_map-append}
+use Rattle.std.proofs.lemmas.Bool.{or_parts}
 use Rattle.rand_core.specs.Stream.{Stream}
 use Rattle.sctp_outstanding.specs.Item.{Item}
 use Rattle.sctp_state.specs.Options.{Options, IsValid}
@@ -44,7 +45,7 @@ use Rattle.sctp_network_laws.proofs.BlockLemmas as block
 use Rattle.sctp_network_laws.proofs.BlockLemmas.{AreBlocks, run_more, IsReached, nothing_yet, reached_more}
 use Rattle.sctp_network_laws.proofs.DeliveredLemmas.{Delivering, delivering, stands_along}
 use Rattle.sctp_network_runs.proofs.ConnectsLemmas.{asks_rules, connects_first}
-use Rattle.sctp_network_runs.proofs.NextLemmas.{neither_first, neither_rest, one_course, in_bytes, Reaches, reaches}
+use Rattle.sctp_network_runs.proofs.NextLemmas.{one_course, in_bytes, Reaches, reaches}
 use Rattle.sctp_network_runs.proofs.KeepsLemmas.{AllAreHeard, keeps, keeps_requests}
 
 -- ---- no association is over
@@ -108,8 +109,8 @@ at_the_end (e ∷ es) c done log longer r h =
 none_from : (p : Action → Bool) (actions : List Action) (w v : World) (r : Runs actions w v) → list_any p actions ≡ false → KeepsFrom p actions w v r
 none_from p [] w v r none = tt
 none_from p (action ∷ actions) w v r none = (
-  (λ stands. neither_first (p action) (list_any p actions) none),
-  none_from p actions r.0 v r.2 (neither_rest (p action) (list_any p actions) none),
+  (λ stands. (or_parts (p action) (list_any p actions) none).0),
+  none_from p actions r.0 v r.2 ((or_parts (p action) (list_any p actions) none).1),
 )
 
 few_front : (x : End) (log early late : List Entry) → log ≡ early ++ late → length (offers x log) < 2 ^ 32 → length (offers x early) < 2 ^ 32
