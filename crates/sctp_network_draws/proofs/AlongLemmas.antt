@@ -1,27 +1,25 @@
 -- Two worlds along their runs: they show the same, since their courses are alike.
-use Rattle.std.proofs.Common.{◌≡◌, ◌⊎◌, inl, inr, ℕ, not, Bool, true, false, List, [], ◌∷◌, ◌++◌, length, map, refl, sym, ap, subst, ◌∙◌, append-nil, append_assoc, All}
-use Rattle.std.specs.Prelude.{⊤}
+use Rattle.std.proofs.Common.{◌≡◌, ℕ, Bool, false, List, [], ◌∷◌, ◌++◌, refl, sym, ap, subst, ◌∙◌, append_assoc, All}
 use Rattle.std.proofs.lemmas.List.Elements.{All-nil, All-head, All-tail}
-use Rattle.sctp_table.specs.Calls.{ready_in}
-use Rattle.sctp_table.specs.Laws.{endings}
 use Rattle.sctp_table_laws.specs.ReadBack.{AreBytes}
 use Rattle.sctp_course.specs.Course as course
-use Rattle.sctp_course.specs.Course.{Pair, Turn, turned, goes, run, HasNotEnded, AreGiven, start, state_of, MayTurn}
-use Rattle.sctp_course.specs.Agreement.{Draw, Has, AreDistinct}
+use Rattle.sctp_course.specs.Course.{Pair, Turn, goes, run, HasNotEnded, AreGiven, start, MayTurn}
+use Rattle.sctp_course.specs.Agreement.{Draw, AreDistinct}
+use Rattle.sctp_course.proofs.AgreeTurnsLemmas.{has_front}
+use Rattle.sctp_course.proofs.CourseLemmas.{follows_more, run_both}
 use Rattle.sctp_draws.specs.NamedChunks.{Names, AreNames}
 use Rattle.sctp_draws_course.specs.Pairing.{drawn, drawn_at, NoTagTwice}
-use Rattle.sctp_draws_course.specs.Alike.{AreAlike, ArePairsAlike, SameTurn, SameTurns, TurnIsAlike, ArePassed}
-use Rattle.sctp_draws_course.proofs.PairingLemmas.{has_left}
+use Rattle.sctp_draws_course.specs.Alike.{ArePairsAlike, SameTurn, SameTurns, TurnIsAlike, ArePassed}
 use Rattle.sctp_draws_course.proofs.PassLemmas.{images_pass}
 use Rattle.sctp_draws_course.proofs.LawLemmas.{are_always_alike}
 use Rattle.sctp_draws_course.proofs.WholeCourseLemmas.{packets_pass}
-use Rattle.sctp_network_table.specs.Judge.{End, A, B}
+use Rattle.sctp_network_table.specs.Judge.{A, B}
 use Rattle.sctp_network_table.specs.World.{World, Action, Happens, Runs}
-use Rattle.sctp_network_laws.specs.Courses.{ActionFits, IsInBytes, is_a, end_of, IsTurnOf, AreTurnsOf}
+use Rattle.sctp_network_laws.specs.Courses.{ActionFits, is_a, end_of, AreTurnsOf}
 use Rattle.sctp_network_laws.specs.Joined.{Stands}
 use Rattle.sctp_network_laws.specs.Delivered.{KeepsFrom}
 use Rattle.sctp_network_laws.proofs.JoinedLemmas.{given_of, none_ended}
-use Rattle.sctp_network_laws.proofs.WorldLemmas.{Both, Extends, extends_same, in_bytes_before, Stepped, steps}
+use Rattle.sctp_network_laws.proofs.WorldLemmas.{Both, Extends, in_bytes_before, Stepped, steps}
 use Rattle.sctp_network_laws.proofs.RunsLemmas.{happens_extends, runs_extends, may_turn, Ran, ran, fresh_both}
 use Rattle.sctp_network_draws.specs.Visible.{ShowTheSame}
 use Rattle.sctp_network_draws.specs.Alike.{ArePaired, AreComparable, ShowAlong, WorldsShowTheSame, NewWorldsArePaired, is_foreign, AreTagsApart, first_new, second_new}
@@ -29,15 +27,6 @@ use Rattle.sctp_network_draws.proofs.EventLemmas.{same_turn, event_shown}
 use Rattle.sctp_network_draws.proofs.EndingLemmas.{ended_or_none}
 
 -- ---- courses, turn by turn
-
-run_both : (es fs : List (Bool × Turn)) (c : Pair) → run (es ++ fs) c ≡ run fs (run es c)
-run_both [] fs c = refl
-run_both (e ∷ es) fs c = run_both es fs (goes e.0 e.1 c)
-
-follows_more : (es : List (Bool × Turn)) (e : Bool × Turn) (c : Pair) → course.FollowsTheRules es c → MayTurn e.1 (course.side_of e.0 (run es c))
-    → course.FollowsTheRules (es ++ e ∷ []) c
-follows_more [] e c h may = (may, tt)
-follows_more (d ∷ es) e c h may = (h.0, follows_more es e (goes d.0 d.1 c) h.1 may)
 
 same_more : (es fs : List (Bool × Turn)) (e f : Bool × Turn) → SameTurns es fs → f.0 ≡ e.0 → SameTurn e.1 f.1 → SameTurns (es ++ e ∷ []) (fs ++ f ∷ [])
 same_more [] [] e f h at same = (at, same, tt)
@@ -61,7 +50,7 @@ drawn_both (e ∷ es) fs c =
 
 distinct_front : (ds es : List Draw) → AreDistinct (ds ++ es) → AreDistinct ds
 distinct_front [] es h = tt
-distinct_front (d ∷ ds) es h = (λ e has. h.0 e (has_left e ds es has), distinct_front ds es h.1)
+distinct_front (d ∷ ds) es h = (λ e has. h.0 e (has_front e ds es has), distinct_front ds es h.1)
 
 once_front : (es fs : List (Bool × Turn)) (c : Pair) → NoTagTwice (es ++ fs) c → NoTagTwice es c
 once_front es fs c h = distinct_front (drawn es c) (drawn fs (run es c)) (subst AreDistinct (drawn_both es fs c) h)

@@ -9,22 +9,22 @@ use Rattle.sctp_packet.specs.Grammar.{carried}
 use Rattle.sctp_packet.specs.Packet.{PacketTree}
 use Rattle.sctp_state.specs.Events.{Event}
 use Rattle.sctp_state.specs.Options.{Options}
-use Rattle.sctp_table.specs.Association.{State, Closed, CookieWait, Open, Context, Standing, Endpoint, where_open}
+use Rattle.sctp_table.specs.Association.{State, Closed, CookieWait, Open, Context, Endpoint, where_open}
 use Rattle.sctp_table.specs.Calls.{ready_in}
 use Rattle.sctp_table.specs.Data.{on_data_if}
-use Rattle.sctp_table.specs.Input.{Heard, refusal, is_reported, on_unknown_if, on_standing, heard_if, violation, hear, hear_rest, hear_all, has_data, repeats_if, ended, handled, counts, taken_if}
-use Rattle.sctp_table.specs.Laws.{Call, Connect, Close, Shutdown, Send, SendMany, ResetStreams, TakeMessage, SetLowThreshold, SetPriority, SetMaxMessageSize, Advance, HandOver, Restore, Packet, NoPacket, called, endings, is_closed, ends, ended_after, ended_by, ended_unless, ended_in, ended_in_call, TellsEndings}
+use Rattle.sctp_table.specs.Input.{refusal, is_reported, on_unknown_if, on_standing, hear, hear_rest, hear_all, has_data, repeats_if, ended, counts, taken_if}
+use Rattle.sctp_table.specs.Laws.{Call, Connect, Packet, called, endings, is_closed, ends, ended_after, ended_by, ended_unless, ended_in_call, TellsEndings}
 use Rattle.sctp_table_laws.specs.Mapped.{Carried}
 use Rattle.sctp_table_laws.proofs.LawsLemmas.{tells_endings}
+use Rattle.sctp_table_laws.proofs.TellsLemmas.{endings_append}
 use Rattle.sctp_course.specs.Course as course
 use Rattle.sctp_course.specs.Course.{Pair, Turn, Calls, Gives, Refuses, emitted, as_heard, took, given, foreign_if, turned, run, MayCall, MayTurn, HasNotEnded, AreGiven, FollowsTheRules, start, state_of}
-use Rattle.sctp_course.proofs.UntilLemmas.{endings_both}
+use Rattle.sctp_course.proofs.AddedLemmas.{all_get}
 use Rattle.sctp_draws.specs.Laws.{is_flowing}
 use Rattle.sctp_draws_course.specs.Kinds.{IsKind, an_init, an_answer, an_echo, a_flow, AreOfAKind}
 use Rattle.sctp_network_table.specs.Judge.{End, A, B}
 use Rattle.sctp_network_table.specs.World.{World}
 use Rattle.sctp_network_laws.specs.Courses.{is_a}
-use Rattle.sctp_network_laws.proofs.TurnsLemmas.{get_all}
 use Rattle.sctp_network_laws.proofs.WorldLemmas.{Both}
 use Rattle.sctp_draws_course.proofs.WholeCourseLemmas.{packets_of_a_kind}
 
@@ -182,7 +182,7 @@ module _ (x y : course.Side) (quiet : x.end.standing.context.told.events ≡ [])
       inl (sum (called call x.end).standing.context.told.events (ap endings told ∙ (t.counted ∙ none_ended)))
     where
       sum : (es : List (Event Carried)) → endings es ≡ 0 → endings (x.told ++ es) ≡ 0
-      sum es e = omega (arith, endings_both x.told es, none, e)
+      sum es e = omega (arith, endings_append x.told es, none, e)
 
   plain_ends : (call : Call) → MayCall call x → (ended_in_call call x.end ≡ 0) ⊎ (is_closed (called call x.end).standing.state ≡ true)
   plain_ends (Packet p) may = absurd may
@@ -194,7 +194,7 @@ module _ (x y : course.Side) (quiet : x.end.standing.context.told.events ≡ [])
   given_ends n checksum (Some p) there kinds =
       call_ends (Packet (as_heard p checksum))
       (taken_or (refusal p.header.verification_tag (map carried p.chunks) (state_of x)) p.header.verification_tag (map carried p.chunks) (counts x.end)
-      (kind_behind p.chunks (get_all (λ (p : Carried). IsKind p.chunks) (emitted y) n p there kinds)))
+      (kind_behind p.chunks (all_get (λ (p : Carried). IsKind p.chunks) (emitted y) n p there kinds)))
 
   foreign_ends : (o : Option (List ℕ)) (p : PacketTree) → refusal p.header.verification_tag p.chunks (state_of x) ≡ o → Ends x (foreign_if o p x)
   foreign_ends None p is = inl none

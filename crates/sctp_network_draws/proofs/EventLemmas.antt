@@ -1,6 +1,6 @@
 -- One event in two worlds that are alike.
 use Rattle.std.proofs.Common.{◌≡◌, ◌⊎◌, inl, inr, ℕ, ◌+◌, ◌||◌, ◌==◌, not, Bool, true, false, Option, Some, None, List, [], ◌∷◌, ◌++◌, slice_get, refl, sym, ap, subst, ◌∙◌, All}
-use Rattle.sctp_state.specs.Events.{Event, GivenUp}
+use Rattle.sctp_state.specs.Events.{Event}
 use Rattle.sctp_state.specs.Options.{Options}
 use Rattle.sctp_table.specs.Association.{Context, Endpoint}
 use Rattle.sctp_table.specs.Calls.{ready_in}
@@ -12,21 +12,21 @@ use Rattle.sctp_table_laws.specs.HeardBack.{IsHearable}
 use Rattle.sctp_table_laws.proofs.HeardBackLemmas.{is_accepted}
 use Rattle.sctp_course.specs.Course as course
 use Rattle.sctp_course.specs.Course.{Pair, Turn, Calls, Gives, Refuses, emitted, turned, goes, state_of}
+use Rattle.sctp_course.proofs.AddedLemmas.{all_get}
 use Rattle.sctp_delivery.specs.Proper.{gone_by, gone_at}
 use Rattle.sctp_delivery.specs.Proper as proper
 use Rattle.sctp_draws.specs.NamedChunks.{Names}
 use Rattle.sctp_draws.specs.Names.{named_state}
 use Rattle.sctp_draws_course.specs.Alike as alike
 use Rattle.sctp_draws_course.specs.Alike.{AreTold, AreAlike, ArePairsAlike, ActsAlike, SameTurn, PassesAt, ArePassed}
-use Rattle.sctp_network_table.specs.Judge.{End, A, B, Entry, Called, Given, Timed, Call, Connect, Shutdown, Close, Send, SendMany, Receive, Reset, SetPriority, SetMaxMessageSize, SetLowThreshold, HandOver, given_up}
+use Rattle.sctp_network_table.specs.Judge.{End, A, B, Entry, Called, Given, Timed, given_up}
 use Rattle.sctp_network_table.specs.World.{Side, World, Action, CallOf, Give, GiveForeign, TellTime, Happens, settled, news_of, side_of, other, clock, answer_to, call_entry, after_call, time_entry, after_time, step_of}
 use Rattle.sctp_network_laws.specs.Courses.{is_a, end_of, is_let_through, hearing, IsHearing, IsTurnOf}
 use Rattle.sctp_network_laws.proofs.EventLemmas.{Readable}
 use Rattle.sctp_network_laws.proofs.BlockLemmas.{same_front}
 use Rattle.sctp_network_laws.proofs.SidesLemmas.{IsFirst, Good}
-use Rattle.sctp_network_laws.proofs.TurnsLemmas.{get_all}
 use Rattle.sctp_network_laws.proofs.WorldLemmas.{Both, Stepped}
-use Rattle.sctp_network_draws.specs.Visible.{without_record, shown_by, visible, ShowTheSame}
+use Rattle.sctp_network_draws.specs.Visible.{without_record, shown_by, ShowTheSame}
 use Rattle.sctp_network_draws.specs.Alike.{is_foreign}
 use Rattle.sctp_network_draws.proofs.VisibleLemmas.{packets_told, told_behind}
 use Rattle.sctp_network_draws.proofs.AnswerLemmas.{ready_named, answers_alike}
@@ -142,7 +142,7 @@ module _ (f : List ℕ → ℕ) where
   heard_given n end beside t h reads passes = (
     field_of f h.carried.header h.carried.is_summed h.carried.chunks,
     h.heard ∙ ap (λ (b : Bool). hearing b n (field_of f h.carried.header h.carried.is_summed h.carried.chunks))
-        (let_through end.end.standing.context.options h.carried (get_all Readable (emitted beside) n h.carried h.there reads) (get_all (PassesAt end) (emitted beside) n h.carried h.there passes)),
+        (let_through end.end.standing.context.options h.carried (all_get Readable (emitted beside) n h.carried h.there reads) (all_get (PassesAt end) (emitted beside) n h.carried h.there passes)),
   )
 
   same_given : (n : ℕ) (t u : Turn) → (k : ℕ) × (t ≡ Gives n k) → (m : ℕ) × (u ≡ Gives n m) → SameTurn t u

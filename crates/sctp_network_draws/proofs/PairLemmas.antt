@@ -1,8 +1,8 @@
 -- Two worlds that the same events lead on.
-use Rattle.std.proofs.Common.{◌≡◌, ◌⊎◌, inl, inr, Bool, true, false, List, [], ◌∷◌, ◌++◌, refl, sym, ap, subst, ◌∙◌, append-nil, append_assoc}
-use Rattle.sctp_network_table.specs.World.{World, Action, Happens, Runs, Lacks}
+use Rattle.std.proofs.Common.{◌≡◌, Bool, true, false, List, [], ◌∷◌, ◌++◌, refl, sym, ap, subst, ◌∙◌, append_assoc}
+use Rattle.sctp_network_table.specs.World.{World, Action, Happens, Runs}
 use Rattle.sctp_network_table.proofs.RunLemmas.{Runs-snoc, Runs-append}
-use Rattle.sctp_network_draws.specs.Pairs.{Both, BothUpToLack, RanOut, in_first, in_second}
+use Rattle.sctp_network_draws.specs.Pairs.{Both, RanOut, in_first, in_second}
 
 -- so far, of all these
 pub record SoFar (all rest : List Action) (w v x y : World) : Type 0 where
@@ -17,18 +17,6 @@ both_on all rest more action w v x y u z s next first second = record {
   split = s.split ∙ (ap (λ (r : List Action). s.front ++ r) next ∙ sym (append_assoc s.front (action ∷ []) more));
   both = record { first = Runs-snoc s.front action w x u s.both.first first; second = Runs-snoc s.front action v y z s.both.second second };
 }
-
-pub both_done : (all rest : List Action) (w v x y : World) → SoFar all rest w v x y → rest ≡ [] → Both all w v x y
-both_done all rest w v x y s none =
-    subst (λ (actions : List Action). Both actions w v x y) (sym (s.split ∙ (ap (λ (r : List Action). s.front ++ r) none ∙ append-nil s.front))) s.both
-
--- one of them lacks a packet, and both stand
-pub both_lack : (all rest more : List Action) (action : Action) (w v x y u z : World) → SoFar all rest w v x y → rest ≡ action ∷ more → Lacks action x ⊎ Lacks action y → u ≡ x → z ≡ y
-    → BothUpToLack all w v u z
-both_lack all rest more action w v x y u z s next lacks first second =
-    subst (λ (a : World). BothUpToLack all w v a z) (sym first)
-    (subst (λ (b : World). BothUpToLack all w v x b) (sym second)
-    (record { before = s.front; action = action; rest = more; split = s.split ∙ ap (λ (r : List Action). s.front ++ r) next; both = s.both; lacks = lacks }))
 
 whole : (all front rest more before after : List Action) (action a : Action) → all ≡ front ++ rest → rest ≡ action ∷ more → action ∷ [] ≡ before ++ a ∷ after
     → all ≡ (front ++ before) ++ a ∷ (after ++ more)

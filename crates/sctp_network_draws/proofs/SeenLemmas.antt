@@ -14,15 +14,15 @@ use Rattle.sctp_delivery.specs.Proper.{gone_by}
 use Rattle.sctp_draws_course.specs.Alike.{AreTold}
 use Rattle.sctp_network_table.specs.Judge.{End, Entry, BecameReady, same_association, given_up}
 use Rattle.sctp_network_table.specs.World.{Side, association_entries, association, told_entries, gone_entries, ready_entries, ready_before, ready_at, news_of, packets_in, settled}
-use Rattle.sctp_network_table.proofs.FirstRunLemmas.{same_self}
 use Rattle.sctp_network_laws.specs.Courses.{told_in}
 use Rattle.sctp_network_laws.proofs.EventLemmas.{mapped, entries_both, same_itself}
 use Rattle.sctp_network_laws.proofs.NewsLemmas.{told_both, news_own, one_association}
 use Rattle.sctp_network_laws.proofs.LoggedLemmas.{gone_news}
 use Rattle.sctp_network_laws.proofs.BlockLemmas.{same_front}
 use Rattle.sctp_network_laws.proofs.SidesLemmas.{IsFirst, Good}
+use Rattle.sctp_network_laws.proofs.TellingLemmas.{association_same}
 use Rattle.sctp_network_draws.specs.Visible.{shown_by, visible}
-use Rattle.sctp_network_draws.proofs.VisibleLemmas.{visible_both, none_associated, told_shown, packets_told}
+use Rattle.sctp_network_draws.proofs.VisibleLemmas.{visible_both, none_associated, told_shown}
 
 -- ---- what was told in a turn
 
@@ -111,10 +111,6 @@ module _ (word_of : List ℕ → ℕ) (x : End) (log longer : List Entry) (other
 
 -- ---- messages that became ready, in two ends
 
-same_one : (a : Option Association) → same_association a a ≡ true
-same_one None = refl
-same_one (Some a) = same_self a
-
 same_bool : (b c : Bool) → (b ≡ true → c ≡ true) → (c ≡ true → b ≡ true) → c ≡ b
 same_bool true c f g = f refl
 same_bool false true f g = sym (g refl)
@@ -138,8 +134,8 @@ module _ (x : End) (s u r w : State) (before : ready_in r ≡ ready_in s) (after
       → same_association (association_in r) (association_in w) ≡ same_association (association_in s) (association_in u)
   same_test stayed =
       same_bool (same_association (association_in s) (association_in u)) (same_association (association_in r) (association_in w))
-      (λ e. subst (λ (a : Option Association). same_association (association_in r) a ≡ true) (sym (stays (sym (one_association (association_in s) (association_in u) e)))) (same_one (association_in r)))
-      (λ e. subst (λ (a : Option Association). same_association (association_in s) a ≡ true) (sym (stayed (sym (one_association (association_in r) (association_in w) e)))) (same_one (association_in s)))
+      (λ e. subst (λ (a : Option Association). same_association (association_in r) a ≡ true) (sym (stays (sym (one_association (association_in s) (association_in u) e)))) (association_same (association_in r)))
+      (λ e. subst (λ (a : Option Association). same_association (association_in s) a ≡ true) (sym (stayed (sym (one_association (association_in r) (association_in w) e)))) (association_same (association_in s)))
 
   none_ready : ready_in u ≡ [] → ready_part x r w ≡ ready_part x s u
   none_ready none =

@@ -1,6 +1,5 @@
 -- What the log shows of two ends that were told alike.
-use Rattle.std.proofs.Common.{◌≡◌, ℕ, suc, ◌+◌, List, [], ◌∷◌, ◌++◌, length, map, refl, sym, ap, subst, ◌∙◌}
-use Rattle.std.specs.List.{flat_map}
+use Rattle.std.proofs.Common.{◌≡◌, ℕ, suc, ◌+◌, List, [], ◌∷◌, ◌++◌, length, refl, sym, ap, subst}
 use Rattle.std.proofs.lemmas.Grind.{flat_map-append}
 use Rattle.sctp_state.specs.Events.{Event, SendPacket, OnError, OnAborted}
 use Rattle.sctp_table_laws.specs.Mapped.{Mapping, Carried, map_event}

@@ -1,12 +1,12 @@
 -- Two worlds that differ in what their ends drew alone: until an association first ends they show the same.
-use Rattle.std.specs.Prelude.{◌≡◌, ℕ, Bool, true, false, List, [], ◌∷◌, All}
+use Rattle.std.specs.Prelude.{ℕ, Bool, true, false, List, [], ◌∷◌, All}
 use Rattle.rand_core.specs.Stream.{Stream}
 use Rattle.sctp_state.specs.Options.{Options, IsValid}
 use Rattle.sctp_table_laws.specs.Sound.{OptionsFit}
 use Rattle.sctp_course.specs.Course.{Pair, Turn, start}
 use Rattle.sctp_draws_course.specs.Pairing.{NoTagTwice}
 use Rattle.sctp_network_table.specs.World.{World, Action, GiveForeign, Runs, fresh_world}
-use Rattle.sctp_network_laws.specs.Courses.{ActionFits, IsInBytes, IsLed, AreTurnsOf}
+use Rattle.sctp_network_laws.specs.Courses.{ActionFits, IsInBytes, AreTurnsOf}
 use Rattle.sctp_network_laws.specs.Joined.{Stands, FollowsTheRules}
 use Rattle.sctp_network_laws.specs.Delivered.{KeepsFrom}
 use Rattle.sctp_network_draws.specs.Visible.{ShowTheSame}
