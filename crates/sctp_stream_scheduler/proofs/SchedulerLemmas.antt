@@ -8,7 +8,7 @@ use Rattle.std.specs.List.{AllByRecursion, list_any}
 use Rattle.std.specs.List.Sorted.{IsStrictlySortedBy}
 use Rattle.std.specs.Map.{lookup, remove_entry, keys_of}
 use Rattle.std.specs.BTreeMap.{is_at, insert_entry}
-use Rattle.sctp_stream_scheduler.specs.Scheduler.{Times, Scheduler, best, IsAhead, IsNext, Indexes, finish_time, finish_now, is_time, is_active, left, entered, set_bytes_remaining, turn_cmp, stream_in}
+use Rattle.sctp_stream_scheduler.specs.Scheduler.{Times, Scheduler, best, IsAhead, IsNext, Indexes, finish_time, finish_now, is_time, is_active, left, entered, accept, accepted_at, set_bytes_remaining, turn_cmp, stream_in}
 
 above : (m k : ℕ) → nat_cmp m k ≡ Less → m < k
 above m k e = grind (arith, nat_tests)
@@ -275,6 +275,23 @@ withdrawn id finish (e ∷ es) none = go (nat_cmp id e.0) refl none (withdrawn i
     go Equal q none ih = absurd (cc)
     go Greater q none ih = ap (λ o. cond (is_eq o) (insert_entry nat_cmp es id finish) (e ∷ remove_entry (is_at (nat_cmp id)) (insert_entry nat_cmp es id finish))) q ∙ ap (λ xs. e ∷ xs) (ih none)
 
+-- a stream that isn't active leaves nothing behind
+never_there : (id : ℕ) (es : Times) → finish_time id es ≡ None → remove_entry (is_at (nat_cmp id)) es ≡ es
+never_there id [] h = refl
+never_there id (e ∷ es) h = pick (is_at (nat_cmp id) e.0) h (never_there id es)
+  where
+    pick : (b : Bool) → cond b (Some e.1) (finish_time id es) ≡ None → (finish_time id es ≡ None → remove_entry (is_at (nat_cmp id)) es ≡ es) → cond b es (e ∷ remove_entry (is_at (nat_cmp id)) es) ≡ e ∷ es
+    pick true h ih = absurd (cc)
+    pick false h ih = ap (λ xs. e ∷ xs) (ih h)
+
+-- a stream that sends, and has nothing more to send
+pub leaves_once : (id bytes priority finish : ℕ) (s : Scheduler) (ts : Times) → bytes ≡ 0 → finish_time id s.times ≡ Some finish → ts ≡ remove_entry (is_at (nat_cmp id)) s.times → finish_time id ts ≡ None
+    → record s { times = ts; virtual_time = finish } ≡ set_bytes_remaining id bytes priority (accept id s)
+leaves_once id bytes priority finish s ts none there made absent =
+    ap (λ t. record s { times = t; virtual_time = finish }) (sym (never_there id ts absent) ∙ ap (remove_entry (is_at (nat_cmp id))) made)
+    ∙ ap (λ o. left id (accepted_at id o s)) (sym there)
+    ∙ ap (λ b. cond b (left id (accept id s)) (cond (is_active id (accept id s)) (accept id s) (entered id (finish_now bytes priority (accept id s)) (accept id s)))) (sym (ap (λ b. b == 0) none))
+
 -- the same of the scheduler: who had nothing to send, was told of, and leaves
 pub withdraws : (id bytes priority : ℕ) (s : Scheduler) → is_active id s ≡ false → left id (set_bytes_remaining id bytes priority s) ≡ s
 withdraws id bytes priority s absent = go (bytes == 0)
@@ -286,16 +303,8 @@ withdraws id bytes priority s absent = go (bytes == 0)
     times : Times → Scheduler
     times ts = record s { times = ts }
 
-    never_there : (es : Times) → finish_time id es ≡ None → remove_entry (is_at (nat_cmp id)) es ≡ es
-    never_there [] h = refl
-    never_there (e ∷ es) h = pick (is_at (nat_cmp id) e.0) h (never_there es)
-      where
-        pick : (b : Bool) → cond b (Some e.1) (finish_time id es) ≡ None → (finish_time id es ≡ None → remove_entry (is_at (nat_cmp id)) es ≡ es) → cond b es (e ∷ remove_entry (is_at (nat_cmp id)) es) ≡ e ∷ es
-        pick true h ih = absurd (cc)
-        pick false h ih = ap (λ xs. e ∷ xs) (ih h)
-
     gone : left id s ≡ s
-    gone = ap times (never_there s.times (none (finish_time id s.times) absent))
+    gone = ap times (never_there id s.times (none (finish_time id s.times) absent))
 
     go : (b : Bool) → left id (cond b (left id s) (cond (is_active id s) s (entered id (finish_now bytes priority s) s))) ≡ s
     go true = ap (left id) gone ∙ gone

@@ -1,5 +1,5 @@
 -- Which stream sends next: weighted fair queueing of streams (RFC 8260 section 3.6), without a draw.
-use Rattle.std.specs.Prelude.{◌≡◌, ◌==◌, ℕ, ◌+◌, ◌-◌, ◌*◌, ◌/◌, ◌^◌, ◌<◌, ◌≤◌, ◌⊎◌, Bool, false, if◌then◌else◌, List, [], ◌∷◌, min, max, nat_lt, is_some, Option, None, Some}
+use Rattle.std.specs.Prelude.{◌≡◌, ◌==◌, ℕ, ◌+◌, ◌-◌, ◌*◌, ◌/◌, ◌^◌, ◌<◌, ◌≤◌, ◌⊎◌, Bool, false, if◌then◌else◌, List, [], ◌∷◌, min, max, nat_lt, ⊤, is_some, Option, None, Some}
 use Rattle.std.specs.List.{AllByRecursion, list_any}
 use Rattle.std.specs.Option.{option_map}
 use Rattle.std.specs.Map.{lookup, remove_entry}
@@ -100,3 +100,13 @@ is_time finish (Some f) = f == finish
 -- the turns, of a finish time and a stream each, are those of the active streams
 abbrev pub Indexes : List (ℕ × ℕ) → Times → Type 0
 Indexes turns ts = (t : ℕ × ℕ) → list_any (is_at (turn_cmp t)) turns ≡ is_time t.0 (finish_time t.1 ts)
+
+-- the active streams where one alone is active, or else those of a map
+abbrev pub times_of : Option (ℕ × ℕ) → Times → Times
+times_of None ts = ts
+times_of (Some only) ts = only ∷ []
+
+-- where one alone stands apart, the map has none
+abbrev pub IsOnly : Option (ℕ × ℕ) → Times → Type 0
+IsOnly None ts = ⊤
+IsOnly (Some only) ts = ts ≡ []

@@ -6,9 +6,11 @@ ghost use Rattle.std.specs.Ordering.{nat_cmp};
 ghost use Rattle.std.specs.BTreeMap.{IsOrdered, is_at, insert_entry};
 ghost use Rattle.sctp_stream_scheduler.specs.Scheduler.{Indexes, IsNext, finish_time, best, stream_in};
 
+mod active_streams;
+
+use active_streams::ActiveStreams;
 use sctp_serial::StreamId;
 use std::alloc::{AllocError, Global};
-use std::collections::{BTreeMap, BTreeSet};
 use std::marker::Model;
 
 /// The streams that have something to send, each with the time at which its next message, or with interleaving its next
@@ -18,100 +20,18 @@ use std::marker::Model;
 /// number.
 #[derive(Drop)]
 pub struct StreamScheduler {
-    finish_times: BTreeMap<u16, u128>,
-    // the same by time
-    turns: BTreeSet<(u128, u16)>,
+    active: ActiveStreams,
     virtual_time: u128,
     is_interleaved: bool,
     max_payload: usize,
 }
 
 impl Model for StreamScheduler {
-    ghost use Rattle.sctp_stream_scheduler.specs.Scheduler.{Scheduler, Indexes};
+    ghost use Rattle.sctp_stream_scheduler.specs.Scheduler.{Scheduler};
 
     ghost Value = { Scheduler };
 
-    ghost view = { λ s. record { times = s.finish_times.entries; virtual_time = s.virtual_time; is_interleaved = s.is_interleaved; most_payload = s.max_payload } };
-
-    ghost invariant = { λ s. Indexes s.turns.keys s.finish_times.entries };
-}
-
-// Takes a stream out.
-fn leave(
-    finish_times: &mut BTreeMap<u16, u128>,
-    turns: &mut BTreeSet<(u128, u16)>,
-    id: u16,
-) -> Option<u128>
-    requires { Indexes turns.old.keys finish_times.old.entries }
-    ensures time { result ≡ finish_time id finish_times.old.entries }
-    ensures times { finish_times.new.entries ≡ remove_entry (is_at (nat_cmp id)) finish_times.old.entries }
-    ensures indexed { Indexes turns.new.keys finish_times.new.entries }
-{
-    let finish = finish_times.remove(&id)?;
-    turns.remove(&(finish, id));
-    Some(finish)
-}
-
-// Puts in a stream that isn't there.
-fn enter(
-    finish_times: &mut BTreeMap<u16, u128>,
-    turns: &mut BTreeSet<(u128, u16)>,
-    id: u16,
-    finish: u128,
-) -> Result<(), AllocError>
-    requires absent { finish_time id finish_times.old.entries ≡ None }
-    requires index { Indexes turns.old.keys finish_times.old.entries }
-    ensures ok { OnOk result (finish_times.new.entries ≡ insert_entry nat_cmp finish_times.old.entries id finish) }
-    ensures err { OnErr result (finish_times.new.entries ≡ finish_times.old.entries) }
-    ensures indexed { Indexes turns.new.keys finish_times.new.entries }
-{
-    turns.insert((finish, id))?;
-    match finish_times.insert(id, finish) {
-        Ok(_) => Ok(()),
-        Err(_) => {
-            turns.remove(&(finish, id));
-            Err(AllocError)
-        }
-    }
-}
-
-// Gives a stream that is there another time. Without memory nothing changes.
-fn renew(
-    finish_times: &mut BTreeMap<u16, u128>,
-    turns: &mut BTreeSet<(u128, u16)>,
-    id: u16,
-    finish: u128,
-    next: u128,
-) -> Result<(), AllocError>
-    requires there { finish_time id finish_times.old.entries ≡ Some finish }
-    requires index { Indexes turns.old.keys finish_times.old.entries }
-    ensures ok { OnOk result (finish_times.new.entries ≡ insert_entry nat_cmp (remove_entry (is_at (nat_cmp id)) finish_times.old.entries) id next) }
-    ensures absent { OnOk result (finish_time id (remove_entry (is_at (nat_cmp id)) finish_times.old.entries) ≡ None) }
-    ensures err { OnErr result (finish_times.new.entries ≡ finish_times.old.entries) }
-    ensures indexed { Indexes turns.new.keys finish_times.new.entries }
-{
-    if next == finish {
-        finish_times.insert(id, next)?;
-        return Ok(());
-    }
-    turns.insert((next, id))?;
-    turns.remove(&(finish, id));
-    finish_times.insert(id, next)?;
-    Ok(())
-}
-
-fn first_turn(finish_times: &BTreeMap<u16, u128>, turns: &BTreeSet<(u128, u16)>) -> Option<u16>
-    requires { Indexes turns.now.keys finish_times.now.entries }
-    ensures value { result ≡ option_map stream_in (best None finish_times.now.entries) }
-    ensures next { IfSome result (IsNext finish_times.now.entries) }
-    ensures none { IfNone result (finish_times.now.entries ≡ []) }
-    ensures ordered { IsOrdered nat_cmp finish_times.now }
-{
-    let _count = finish_times.len();
-    match turns.first() {
-        Some(turn) => Some(turn.1),
-        None => None,
-    }
+    ghost view = { λ s. record { times = s.active; virtual_time = s.virtual_time; is_interleaved = s.is_interleaved; most_payload = s.max_payload } };
 }
 
 impl StreamScheduler {
@@ -122,8 +42,7 @@ impl StreamScheduler {
         ensures { result ≡ scheduler max_payload }
     {
         StreamScheduler {
-            finish_times: BTreeMap::new(alloc),
-            turns: BTreeSet::new(alloc),
+            active: ActiveStreams::new(alloc),
             virtual_time: 0,
             is_interleaved: false,
             max_payload,
@@ -155,14 +74,14 @@ impl StreamScheduler {
         ensures value { result ≡ length self.now.times }
         ensures small { result < 2 ^ 63 }
     {
-        self.finish_times.len()
+        self.active.len()
     }
 
     /// Whether the stream has something to send.
     pub fn is_active(&self, id: StreamId) -> bool
         ensures { result ≡ is_active id.0 self.now }
     {
-        self.finish_times.contains_key(&id.0)
+        self.active.finish_time(id.0).is_some()
     }
 
     /// Tells how many bytes of its next message a stream has to send. With none it leaves. A stream that had none gets
@@ -178,14 +97,14 @@ impl StreamScheduler {
         ensures err { OnErr result (self.new ≡ self.old) }
     {
         if bytes == 0 {
-            leave(&mut self.finish_times, &mut self.turns, id.0);
+            self.active.leave(id.0);
             return Ok(());
         }
-        if self.finish_times.contains_key(&id.0) {
+        if self.active.finish_time(id.0).is_some() {
             return Ok(());
         }
         let finish = self.finish_at(self.virtual_time, bytes, priority);
-        enter(&mut self.finish_times, &mut self.turns, id.0, finish)
+        self.active.enter(id.0, finish)
     }
 
     /// The stream that is next.
@@ -194,7 +113,7 @@ impl StreamScheduler {
         ensures next { IfSome result (λ id. IsNext self.now.times id.0) }
         ensures none { IfNone result (self.now.times ≡ []) }
     {
-        match first_turn(&self.finish_times, &self.turns) {
+        match self.active.first() {
             Some(id) => Some(StreamId(id)),
             None => None,
         }
@@ -205,7 +124,7 @@ impl StreamScheduler {
         requires { IsTrue (is_active id.0 self.old) }
         ensures { self.new ≡ accept id.0 self.old }
     {
-        if let Some(finish) = leave(&mut self.finish_times, &mut self.turns, id.0) {
+        if let Some(finish) = self.active.leave(id.0) {
             self.virtual_time = finish;
         }
     }
@@ -214,7 +133,7 @@ impl StreamScheduler {
     pub fn leave(&mut self, id: StreamId)
         ensures { self.new ≡ left id.0 self.old }
     {
-        leave(&mut self.finish_times, &mut self.turns, id.0);
+        self.active.leave(id.0);
     }
 
     /// The stream sends, as `accept` says, if it is active, and then has so many bytes of its next message to send, as
@@ -227,12 +146,12 @@ impl StreamScheduler {
             return self.set_bytes_remaining(id, bytes, priority);
         };
         if bytes == 0 {
-            self.accept(id);
-            self.leave(id);
+            self.active.leave(id.0);
+            self.virtual_time = finish;
             return Ok(());
         }
         let next = self.finish_at(finish, bytes, priority);
-        renew(&mut self.finish_times, &mut self.turns, id.0, finish, next)?;
+        self.active.renew(id.0, finish, next)?;
         self.virtual_time = finish;
         Ok(())
     }
@@ -240,7 +159,7 @@ impl StreamScheduler {
     fn finish_time(&self, id: StreamId) -> Option<u128>
         ensures { result ≡ finish_time id.0 self.now.times }
     {
-        self.finish_times.get(&id.0).copied()
+        self.active.finish_time(id.0)
     }
 
     // The finish time of a stream that becomes active at this virtual time.

@@ -2,7 +2,7 @@ use Rattle.std.proofs.Common.{◌≡◌, ◌<◌, ℕ, List, [], ◌∷◌, leng
 use Rattle.std.specs.Option.{option_map}
 use Rattle.sctp_stream_scheduler.specs.Scheduler.{best, stream_in}
 use Rattle.sctp_stream_scheduler.proofs.SchedulerLemmas.{first_is_next, best_next, no_turns}
-use Rattle.sctp_stream_scheduler.proofs.stream_scheduler.first_turn.Goals as goal
+use Rattle.sctp_stream_scheduler.proofs.stream_scheduler.active_streams.first_turn.Goals as goal
 
 empty : (turns : List (ℕ × ℕ)) → (0 < length turns → false ≡ true) → turns ≡ []
 empty [] h = refl

@@ -1,6 +1,6 @@
 use Rattle.std.proofs.Common.{◌∙◌}
 use Rattle.sctp_stream_scheduler.proofs.SchedulerLemmas.{renewed, removed}
-use Rattle.sctp_stream_scheduler.proofs.stream_scheduler.renew.Goals as goal
+use Rattle.sctp_stream_scheduler.proofs.stream_scheduler.active_streams.renew.Goals as goal
 
 pub returns-then-next-finish-clause-ok : goal.returns-then-next-finish-clause-ok
 returns-then-next-finish-clause-ok c = c.in_ok-insert.ensures.entries ∙ renewed c.args.id c.args.next c.args.finish c.args.finish_times.now.entries c.insert.ensures.was_ordered c.requires.there

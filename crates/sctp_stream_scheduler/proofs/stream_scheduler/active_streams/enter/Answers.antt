@@ -1,7 +1,7 @@
 use Rattle.std.proofs.Common.{sym, subst}
 use Rattle.sctp_stream_scheduler.specs.Scheduler.{Indexes}
 use Rattle.sctp_stream_scheduler.proofs.SchedulerLemmas.{put_back}
-use Rattle.sctp_stream_scheduler.proofs.stream_scheduler.enter.Goals as goal
+use Rattle.sctp_stream_scheduler.proofs.stream_scheduler.active_streams.enter.Goals as goal
 
 pub returns-in-Err-clause-indexed : goal.returns-in-Err-clause-indexed
 returns-in-Err-clause-indexed c =
