@@ -101,7 +101,10 @@ arrives_settled x s hs late made none = rw late (ap (deliver s.next) (sym made) 
 
 no_items : (hs : List Held) → (length hs == 0) ≡ true → hs ≡ []
 no_items [] none = refl
-no_items (h ∷ hs) none = absurd (cc)
+no_items (h ∷ hs) none = absurd (omega (arith, is_zero (length (h ∷ hs)) none))
+  where
+    is_zero : (n : ℕ) → (n == 0) ≡ true → n ≡ 0
+    is_zero n e = grind (arith, nat_tests)
 
 -- the next message, of one fragment, comes where nothing is held
 pub whole_arrives : (x : Held) (s : OrderedStream) → (length s.held == 0) ≡ true → is_in_turn s.next (x ∷ []) ≡ true → ordered_arrival x s ≡ record { stream = record { next = suc s.next; held = [] }; messages = message_of_run (x ∷ []) ∷ [] }
@@ -118,10 +121,13 @@ whole_leaves x s n hs none turn same kept =
     made ∙ sym (ap (λ (d : OrderedDelivery). d.stream) (whole_arrives x s none turn))
   where
     state : ℕ → List Held → OrderedStream
-    state n hs = record { next = suc n; held = hs }
+    state k l = record { next = k; held = l }
 
-    made : record { next = n + 1; held = hs } ≡ state s.next []
-    made = ap (λ (n : ℕ). state n hs) same ∙ ap (state s.next) (kept ∙ no_items s.held none)
+    next : n + 1 ≡ suc s.next
+    next = omega (arith, same)
+
+    made : state (n + 1) hs ≡ state (suc s.next) []
+    made = ap (λ (k : ℕ). state k hs) next ∙ ap (state (suc s.next)) (kept ∙ no_items s.held none)
 
 pub none_completed : (hs : List Held) → NoneComplete (intervals_of hs) → completed hs ≡ []
 none_completed hs none = ap (λ (o : Option (List Held)). option_to_list (option_map message_of_run o)) (not_found is_complete (intervals_of hs) none)
